@@ -1,0 +1,7 @@
+// The names, entries and layouts that every part of the machine and its driver speak of.
+#![tactic(auto)]
+
+pub mod entries;
+pub mod layouts;
+pub mod names;
+pub mod refusals;

@@ -1,0 +1,57 @@
+use std::alloc::{AllocError, AllocFailed};
+
+/// A frame of the EPC, 4096 bytes, by its number from 0.
+#[derive(Clone, Copy, Debug, PartialEq, Eq)]
+pub struct Frame(pub u32);
+
+/// A logical processor, by its number from 0 to 15.
+#[derive(Clone, Copy, Debug, PartialEq, Eq)]
+pub struct Cpu(pub u8);
+
+/// Memory was refused. The only answer of this project that may come at any call which names it.
+#[derive(Clone, Copy, Debug, PartialEq, Eq)]
+pub struct Memory;
+
+impl From<AllocError> for Memory {
+    fn from(_error: AllocError) -> Memory {
+        Memory
+    }
+}
+
+impl<T: Drop> From<AllocFailed<T>> for Memory {
+    fn from(_error: AllocFailed<T>) -> Memory {
+        Memory
+    }
+}
+
+/// A page of an enclave: the enclave's number from 1, and the page's offset from the enclave's base in pages of 4096
+/// bytes.
+#[derive(Clone, Copy, Debug, PartialEq, Eq)]
+pub struct Page {
+    pub enclave: u16,
+    pub number: u32,
+}
+
+/// Read, write and execute permission, the bits R, W and X of SECINFO.FLAGS (Intel SDM volume 3D, SECINFO).
+#[derive(Clone, Copy, Debug, PartialEq, Eq)]
+pub struct Perm {
+    pub r: bool,
+    pub w: bool,
+    pub x: bool,
+}
+
+/// The type of an EPC page: PT_SECS, PT_TCS, PT_REG or PT_VA (Intel SDM volume 3D, EPCM).
+#[derive(Clone, Copy, Debug, PartialEq, Eq)]
+pub enum Kind {
+    Secs,
+    Tcs,
+    Reg,
+    Va,
+}
+
+/// A slot of a version array page: the frame that holds the page, and the slot's index from 0 to 511.
+#[derive(Clone, Copy, Debug, PartialEq, Eq)]
+pub struct SlotAt {
+    pub frame: Frame,
+    pub index: u16,
+}
