@@ -1,3 +1,9 @@
-pub mod Refusals
+pub mod Refusal
 pub mod Layouts
 pub mod Sealed
+pub mod Frames
+pub mod Processors
+pub mod Table
+pub mod Flat
+pub mod Sights
+pub mod Rules

@@ -1,0 +1,78 @@
+-- The text of a job: lines of words with one space between two, each line ended by a line feed.
+use Rattle.std.specs.Prelude.{ℕ, ◌+◌, Bool, true, false, List, [], ◌∷◌, ◌++◌, codes, map, flat_map}
+use Rattle.std.specs.List.{join_with_byte}
+use Rattle.std.specs.Fmt.{digits, decimal}
+use Rattle.sgx_types.specs.declared.names.Perm.{Perm}
+use Rattle.job_grammar.specs.declared.jobs.PageLine.{PageLine}
+use Rattle.job_grammar.specs.declared.jobs.PageLine.TheVariants.{Tcs, Reg}
+use Rattle.job_grammar.specs.declared.jobs.Op.{Op}
+use Rattle.job_grammar.specs.declared.jobs.Op.TheVariants.{Enter, Resume, Exit, Timer, Load, Store, Xadd, Set, Plus, OutLoad, OutStore}
+use Rattle.job_grammar.specs.Jobs.{EnclaveView, JobView}
+
+-- the words of a line
+abbrev pub Words : Type 0
+Words = List (List ℕ)
+
+-- `0x` and lower-case digits
+abbrev pub hexadecimal : ℕ → List ℕ
+hexadecimal n = codes "0x" ++ digits 16 false n
+
+-- enclave 1 is A, enclave 8 is H
+abbrev pub letter : ℕ → List ℕ
+letter enclave = (64 + enclave) ∷ []
+
+abbrev pub perm_word : Perm → List ℕ
+perm_word p = r_word p.r ++ w_word p.w ++ x_word p.x
+  where
+    r_word : Bool → List ℕ
+    r_word true = codes "r"
+    r_word false = []
+
+    w_word : Bool → List ℕ
+    w_word true = codes "w"
+    w_word false = []
+
+    x_word : Bool → List ℕ
+    x_word true = codes "x"
+    x_word false = []
+
+abbrev pub plain_word : Bool → Words
+plain_word true = codes "plain" ∷ []
+plain_word false = []
+
+abbrev pub page_words : PageLine → Words
+page_words (Tcs page ossa nssa plain) = codes "tcs" ∷ decimal page ∷ decimal ossa ∷ decimal nssa ∷ plain_word plain
+page_words (Reg first count perm value plain) = codes "reg" ∷ decimal first ∷ decimal count ∷ perm_word perm ∷ decimal value ∷ plain_word plain
+
+abbrev pub op_words : Op → Words
+op_words (Enter enclave tcs) = codes "eenter" ∷ letter enclave ∷ decimal tcs ∷ []
+op_words (Resume enclave tcs) = codes "eresume" ∷ letter enclave ∷ decimal tcs ∷ []
+op_words Exit = codes "eexit" ∷ []
+op_words Timer = codes "timer" ∷ []
+op_words (Load off) = codes "load" ∷ hexadecimal off ∷ []
+op_words (Store off value) = codes "store" ∷ hexadecimal off ∷ decimal value ∷ []
+op_words (Xadd off value) = codes "xadd" ∷ hexadecimal off ∷ decimal value ∷ []
+op_words (Set value) = codes "set" ∷ decimal value ∷ []
+op_words (Plus value) = codes "plus" ∷ decimal value ∷ []
+op_words (OutLoad enclave off) = codes "outload" ∷ letter enclave ∷ hexadecimal off ∷ []
+op_words (OutStore enclave off value) = codes "outstore" ∷ letter enclave ∷ hexadecimal off ∷ decimal value ∷ []
+
+-- the lines of the enclaves from this number on
+abbrev pub enclave_lines : ℕ → List EnclaveView → List Words
+enclave_lines n [] = []
+enclave_lines n (e ∷ es) = (codes "enclave" ∷ letter n ∷ hexadecimal e.base ∷ hexadecimal e.size ∷ []) ∷ map page_words e.lines ++ enclave_lines (n + 1) es
+
+-- the lines of the processors from this number on
+abbrev pub script_lines : ℕ → List (List Op) → List Words
+script_lines n [] = []
+script_lines n (script ∷ scripts) = (codes "cpu" ∷ decimal n ∷ []) ∷ map op_words script ++ script_lines (n + 1) scripts
+
+-- a job as its lines
+abbrev pub lines_of : JobView → List Words
+lines_of j = (codes "epc" ∷ decimal j.epc ∷ []) ∷ enclave_lines 1 j.enclaves ++ script_lines 0 j.scripts
+
+abbrev pub line_text : Words → List ℕ
+line_text words = join_with_byte 32 words ++ 10 ∷ []
+
+unfoldable pub job_text : JobView → List ℕ
+job_text j = flat_map line_text (lines_of j)

@@ -1,0 +1,109 @@
+ghost use Rattle.std.specs.Prelude.{◌≡◌, map};
+ghost use Rattle.job_grammar.specs.Jobs.{enclave_view};
+
+use io_edges::plans::PlanLine;
+use sgx_types::names::Perm;
+use std::marker::Model;
+
+/// When the reclaimer works: it begins below `low` free frames, stops at `high`, and looks at `scan` pages a pass.
+#[derive(Clone, Copy, Debug, PartialEq, Eq)]
+pub struct Marks {
+    pub low: u32,
+    pub high: u32,
+    pub scan: u32,
+}
+
+/// A line of an enclave's pages. Page numbers are offsets from the enclave's base in pages of 4096 bytes. A plain page
+/// is added and not measured further.
+#[derive(Clone, Copy, Debug, PartialEq, Eq)]
+pub enum PageLine {
+    /// A TCS page, whose `nssa` state save frames are the pages from `ossa` on.
+    Tcs {
+        page: u32,
+        ossa: u32,
+        nssa: u32,
+        plain: bool,
+    },
+    /// `count` REG pages from `first` on, every 8-byte word of which is `value`.
+    Reg {
+        first: u32,
+        count: u32,
+        perm: Perm,
+        value: u64,
+        plain: bool,
+    },
+}
+
+/// An enclave: its base and size in bytes, its pages, and the measurement that is expected of it.
+#[derive(Debug, Drop)]
+pub struct EnclaveJob {
+    pub base: u64,
+    pub size: u64,
+    pub lines: Vec<PageLine>,
+    pub expect: Option<[u8; 32]>,
+}
+
+/// An operation of a processor's script. Offsets are in bytes from the enclave's base.
+#[derive(Clone, Copy, Debug, PartialEq, Eq)]
+pub enum Op {
+    Enter { enclave: u16, tcs: u32 },
+    Resume { enclave: u16, tcs: u32 },
+    Exit,
+    Timer,
+    Load { off: u64 },
+    Store { off: u64, value: u64 },
+    Xadd { off: u64, value: u64 },
+    Set { value: u64 },
+    Plus { value: u64 },
+    OutLoad { enclave: u16, off: u64 },
+    OutStore { enclave: u16, off: u64, value: u64 },
+}
+
+/// What to run: the number of EPC frames, the reclaimer's marks, the sealing key, the first epoch and version, the
+/// enclaves from number 1 on, what the store does, and a script for each processor from 0 on. A job is always valid.
+#[derive(Debug, Drop)]
+pub struct Job {
+    epc: u32,
+    marks: Marks,
+    key: [u8; 32],
+    start_epoch: u64,
+    start_version: u64,
+    enclaves: Vec<EnclaveJob>,
+    plans: Vec<PlanLine>,
+    scripts: Vec<Vec<Op>>,
+}
+
+impl Model for Job {
+    ghost use Rattle.job_grammar.specs.Jobs.{JobView};
+
+    ghost Value = { JobView };
+
+    ghost use Rattle.job_grammar.specs.Kept.{view_of, IsKept};
+
+    ghost view = { view_of };
+
+    ghost invariant = { IsKept };
+}
+
+impl Job {
+    /// The number of EPC frames, from 1 to 4096.
+    pub fn epc(&self) -> u32
+        ensures { result ≡ self.now.epc }
+    {
+        self.epc
+    }
+
+    /// The enclaves, from number 1 on.
+    pub fn enclaves(&self) -> &[EnclaveJob]
+        ensures { map enclave_view result.now ≡ self.now.enclaves }
+    {
+        &self.enclaves
+    }
+
+    /// The script of each processor, from number 0 on.
+    pub fn scripts(&self) -> &[Vec<Op>]
+        ensures { map (λ script. script.items) result.now ≡ self.now.scripts }
+    {
+        &self.scripts
+    }
+}

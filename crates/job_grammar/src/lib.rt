@@ -1,0 +1,4 @@
+// Jobs: their text, what makes one valid, and what each actor has to do under one.
+#![tactic(auto)]
+
+pub mod jobs;

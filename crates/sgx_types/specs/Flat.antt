@@ -1,0 +1,232 @@
+-- Plain memory that is never evicted, and what each instruction that programs see does to it. It has no EPC, no frames,
+-- no translations and no epochs: it is the manual's view of enclaves that have all their memory.
+use Rattle.std.specs.Prelude.{ℕ, ◌==◌, ◌+◌, ◌*◌, ◌/◌, ◌%◌, ◌^◌, ◌&&◌, Bool, true, false, if◌then◌else◌, List, [], ◌∷◌, Option, Some, None, replicate, slice_index, nat_lt, is_some, is_none}
+use Rattle.sgx_types.specs.declared.entries.Entry.{Entry}
+use Rattle.sgx_types.specs.declared.entries.Event.{Event}
+use Rattle.sgx_types.specs.declared.entries.Event.TheVariants.{Did}
+use Rattle.sgx_types.specs.declared.entries.Actor.{Actor}
+use Rattle.sgx_types.specs.declared.entries.Actor.TheVariants as actors
+use Rattle.sgx_types.specs.declared.entries.Action.{Action}
+use Rattle.sgx_types.specs.declared.entries.Action.TheVariants.{Create, Add, Init, Enter, Exit, Load}
+use Rattle.sgx_types.specs.declared.entries.Answer.{Answer}
+use Rattle.sgx_types.specs.declared.entries.Answer.TheVariants as answers
+use Rattle.sgx_types.specs.declared.entries.PageInit.{PageInit}
+use Rattle.sgx_types.specs.declared.entries.PageInit.TheVariants as inits
+use Rattle.sgx_types.specs.declared.names.Page.{Page}
+use Rattle.sgx_types.specs.declared.names.Kind.{Kind}
+use Rattle.sgx_types.specs.declared.names.Kind.TheVariants as kinds
+use Rattle.sgx_types.specs.declared.names.Perm.{Perm}
+use Rattle.sgx_types.specs.Frames.{Content, Free, Holds, same_page, page_at}
+use Rattle.sgx_types.specs.Table.{Case, allowed, first_of_row, FrameSight, EnclaveSight, TcsSight, create_row, add_row, init_row, enter_row, exit_row, load_row}
+
+-- ---- the memory
+
+pub record FlatEnclave : Type 0 where
+  pub base : ℕ
+  pub size : ℕ
+  pub is_init : Bool
+
+-- 512 words of 8 bytes
+pub record FlatPage : Type 0 where
+  pub kind : Kind
+  pub perm : Perm
+  pub words : List ℕ
+
+-- inside an enclave by a TCS page
+pub record Inside : Type 0 where
+  pub enclave : ℕ
+  pub tcs : ℕ
+
+pub record FlatCpu : Type 0 where
+  pub inside : Option Inside
+  pub acc : ℕ
+
+-- the created enclaves, the added pages, the busy TCS pages, and the processors
+pub record FlatMemory : Type 0 where
+  pub enclaves : ℕ → Option FlatEnclave
+  pub pages : Page → Option FlatPage
+  pub is_busy : Page → Bool
+  pub cpus : ℕ → FlatCpu
+
+abbrev pub fresh : FlatMemory
+fresh = record { enclaves = λ n. None; pages = λ g. None; is_busy = λ g. false; cpus = λ p. record { inside = None; acc = 0 } }
+
+abbrev pub with_enclave : FlatMemory → ℕ → FlatEnclave → FlatMemory
+with_enclave m e x = record m { enclaves = λ n. if n == e then Some x else m.enclaves n }
+
+abbrev pub with_page : FlatMemory → Page → FlatPage → FlatMemory
+with_page m g x = record m { pages = λ q. if same_page q g then Some x else m.pages q }
+
+abbrev pub with_busy : FlatMemory → Page → Bool → FlatMemory
+with_busy m g b = record m { is_busy = λ q. if same_page q g then b else m.is_busy q }
+
+abbrev pub with_cpu : FlatMemory → ℕ → FlatCpu → FlatMemory
+with_cpu m p c = record m { cpus = λ q. if q == p then c else m.cpus q }
+
+abbrev pub page_words : Option FlatPage → List ℕ
+page_words None = replicate 512 0
+page_words (Some x) = x.words
+
+-- the words of a page, all zero where it was not added
+abbrev pub words_of : FlatMemory → Page → List ℕ
+words_of m g = page_words (m.pages g)
+
+-- the page of an offset in bytes
+abbrev pub at_offset : ℕ → ℕ → Page
+at_offset enclave off = page_at enclave (off / 4096)
+
+-- the index in its page of the word at an offset
+abbrev pub word_index : ℕ → ℕ
+word_index off = off % 4096 / 8
+
+-- the fields of a TCS page: OSSA in its third word, in bytes; CSSA and NSSA in the halves of its fourth
+abbrev pub tcs_fields : List ℕ → TcsSight
+tcs_fields words = record {
+  ossa = slice_index words 2 / 4096;
+  cssa = slice_index words 3 % 2 ^ 32;
+  nssa = slice_index words 3 / 2 ^ 32;
+}
+
+-- the words with which a page is added
+abbrev pub first_words : PageInit → List ℕ
+first_words (inits.Words v) = replicate 512 v
+first_words (inits.Tcs ossa nssa) = 0 ∷ 0 ∷ (ossa * 4096) ∷ (nssa * 2 ^ 32) ∷ replicate 508 0
+
+-- ---- what the rows see. What has no frame, translation or block to look at is given its harmless value.
+
+abbrev pub open_frame : FrameSight
+open_frame = record { is_beyond = false; content = Free; is_sealing = false; is_blocked = false }
+
+abbrev pub flat_content : Page → Option FlatPage → Content
+flat_content g None = Free
+flat_content g (Some x) = Holds g x.kind x.perm
+
+-- a page that was added is always there
+abbrev pub flat_frame : FlatMemory → Page → FrameSight
+flat_frame m g = record { is_beyond = false; content = flat_content g (m.pages g); is_sealing = false; is_blocked = false }
+
+abbrev pub enclave_sight_of : Option FlatEnclave → Option EnclaveSight
+enclave_sight_of None = None
+enclave_sight_of (Some x) = Some (record { size = x.size; is_init = x.is_init })
+
+abbrev pub enclave_sight : FlatMemory → ℕ → Option EnclaveSight
+enclave_sight m e = enclave_sight_of (m.enclaves e)
+
+abbrev pub reg_perm : Option FlatPage → Option Perm
+reg_perm None = None
+reg_perm (Some x) = perm_of x.kind x.perm
+  where
+    perm_of : Kind → Perm → Option Perm
+    perm_of kinds.Reg perm = Some perm
+    perm_of _ perm = None
+
+-- every added REG page of its enclave can be reached by a processor inside
+abbrev pub flat_translation : FlatMemory → Option Inside → ℕ → Option Perm
+flat_translation m None off = None
+flat_translation m (Some i) off = reg_perm (m.pages (at_offset i.enclave off))
+
+abbrev pub flat_enter_row : FlatMemory → ℕ → ℕ → ℕ → List Case
+flat_enter_row m p enclave tcs =
+    let fields = tcs_fields (words_of m (page_at enclave tcs)) in
+    enter_row enclave tcs (record {
+      is_inside = is_some (m.cpus p).inside;
+      enclave = enclave_sight m enclave;
+      tcs = flat_frame m (page_at enclave tcs);
+      tcs_busy = m.is_busy (page_at enclave tcs);
+      fields = fields;
+      ssa = flat_frame m (page_at enclave (fields.ossa + fields.cssa));
+    })
+
+-- ---- the step
+
+-- an instruction of a processor
+abbrev pub is_processors : Action → Bool
+is_processors (Enter enclave tcs tf sf) = true
+is_processors Exit = true
+is_processors (Load off) = true
+is_processors _ = false
+
+-- an instruction that programs see
+abbrev pub is_visible : Action → Bool
+is_visible (Create enclave f base size) = true
+is_visible (Add enclave number f kind perm init) = true
+is_visible (Init enclave expect) = true
+is_visible (Enter enclave tcs tf sf) = true
+is_visible Exit = true
+is_visible (Load off) = true
+is_visible _ = false
+
+-- the row of an instruction of processor p
+abbrev pub flat_cpu_row : FlatMemory → ℕ → Action → List Case
+flat_cpu_row m p (Enter enclave tcs tf sf) = flat_enter_row m p enclave tcs
+flat_cpu_row m p Exit = exit_row (is_some (m.cpus p).inside)
+flat_cpu_row m p (Load off) = load_row off (is_some (m.cpus p).inside) (flat_translation m (m.cpus p).inside off)
+flat_cpu_row m p _ = allowed
+
+-- the row of another instruction
+abbrev pub flat_build_row : FlatMemory → Action → List Case
+flat_build_row m (Create enclave f base size) = create_row enclave base size (is_some (m.enclaves enclave)) open_frame
+flat_build_row m (Add enclave number f kind perm init) = add_row number kind perm init (enclave_sight m enclave) (is_some (m.pages (page_at enclave number))) open_frame
+flat_build_row m (Init enclave expect) = init_row (enclave_sight m enclave)
+flat_build_row m _ = allowed
+
+-- flat memory takes an instruction that its row allows, and one of a processor only from a processor from 0 to 15
+abbrev pub accepts : FlatMemory → Actor → Action → Bool
+accepts m actor action = if is_processors action then by_cpu actor else is_none (first_of_row (flat_build_row m action))
+  where
+    by_cpu : Actor → Bool
+    by_cpu (actors.Cpu p) = nat_lt p.0 16 && is_none (first_of_row (flat_cpu_row m p.0 action))
+    by_cpu _ = false
+
+abbrev pub cpu_answer : FlatMemory → ℕ → Action → Answer
+cpu_answer m p (Enter enclave tcs tf sf) = answers.Cssa (tcs_fields (words_of m (page_at enclave tcs))).cssa
+cpu_answer m p (Load off) = answers.Value (loaded (m.cpus p).inside)
+  where
+    loaded : Option Inside → ℕ
+    loaded None = 0
+    loaded (Some i) = slice_index (words_of m (at_offset i.enclave off)) (word_index off)
+cpu_answer m p _ = answers.Plain
+
+-- what flat memory answers to an instruction that it takes
+abbrev pub flat_answer : FlatMemory → Actor → Action → Answer
+flat_answer m (actors.Cpu p) action = cpu_answer m p.0 action
+flat_answer m _ action = answers.Plain
+
+-- enters by a TCS page
+abbrev pub entered : FlatMemory → ℕ → ℕ → ℕ → ℕ → FlatMemory
+entered m p enclave tcs acc = with_busy (with_cpu m p (record { inside = Some (record { enclave = enclave; tcs = tcs }); acc = acc })) (page_at enclave tcs) true
+
+-- leaves the enclave, where it was inside
+abbrev pub left : FlatMemory → ℕ → FlatCpu → FlatMemory
+left m p c = leave c.inside
+  where
+    leave : Option Inside → FlatMemory
+    leave None = m
+    leave (Some i) = with_busy (with_cpu m p (record c { inside = None })) (page_at i.enclave i.tcs) false
+
+abbrev pub cpu_after : ℕ → Action → FlatMemory → FlatMemory
+cpu_after p (Enter enclave tcs tf sf) m = entered m p enclave tcs (tcs_fields (words_of m (page_at enclave tcs))).cssa
+cpu_after p Exit m = left m p (m.cpus p)
+cpu_after p _ m = m
+
+abbrev pub initialised : FlatMemory → ℕ → Option FlatEnclave → FlatMemory
+initialised m enclave None = m
+initialised m enclave (Some x) = with_enclave m enclave (record x { is_init = true })
+
+-- the memory after an instruction that it takes
+abbrev pub memory_after : Actor → Action → FlatMemory → FlatMemory
+memory_after actor (Create enclave frame base size) m = with_enclave m enclave (record { base = base; size = size; is_init = false })
+memory_after actor (Add enclave number frame kind perm init) m = with_page m (page_at enclave number) (record { kind = kind; perm = perm; words = first_words init })
+memory_after actor (Init enclave expect) m = initialised m enclave (m.enclaves enclave)
+memory_after (actors.Cpu p) action m = cpu_after p.0 action m
+memory_after actor action m = m
+
+-- a done instruction that flat memory does not take changes nothing
+abbrev pub event_after : Actor → Event → FlatMemory → FlatMemory
+event_after actor (Did action answer) m = if accepts m actor action then memory_after actor action m else m
+event_after actor _ m = m
+
+-- flat memory before a place
+abbrev pub flat : List Entry → FlatMemory
+flat [] = fresh
+flat (e ∷ past) = event_after e.actor e.event (flat past)

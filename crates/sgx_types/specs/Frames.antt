@@ -1,0 +1,119 @@
+-- What the entries before a place say of the EPC's frames. Entries stand newest first: `past` is what was done before.
+use Rattle.std.specs.Prelude.{ℕ, zero, suc, ◌+◌, ◌==◌, ◌&&◌, ◌||◌, not, Bool, true, false, if◌then◌else◌, List, [], ◌∷◌, Option, Some, None}
+use Rattle.sgx_types.specs.declared.entries.Entry.{Entry}
+use Rattle.sgx_types.specs.declared.entries.Event.{Event}
+use Rattle.sgx_types.specs.declared.entries.Event.TheVariants.{Did, Refused}
+use Rattle.sgx_types.specs.declared.entries.Action.TheVariants.{Epa, Create, Add, Block, EwbStart, Ewb, EldStart, Eld}
+use Rattle.sgx_types.specs.declared.entries.Answer.TheVariants.{Moved}
+use Rattle.sgx_types.specs.declared.names.Page.{Page}
+use Rattle.sgx_types.specs.declared.names.Kind.{Kind}
+use Rattle.sgx_types.specs.declared.names.Perm.{Perm}
+
+-- what a frame holds
+pub data Content : Type 0 where
+  Free : Content
+  IsVa : Content
+  SecsOf : (enclave : ℕ) → Content
+  Holds : (page : Page) → (kind : Kind) → (perm : Perm) → Content
+  IsLoading : Content
+
+abbrev pub same_page : Page → Page → Bool
+same_page a b = (a.enclave == b.enclave) && (a.number == b.number)
+
+abbrev pub page_at : ℕ → ℕ → Page
+page_at enclave number = record { enclave = enclave; number = number }
+
+abbrev pub added_by : Event → Page → Option (Kind × Perm) → Option (Kind × Perm)
+added_by (Did (Add enclave number frame kind perm init) answer) g before = if same_page (page_at enclave number) g then Some (kind, perm) else before
+added_by _ g before = before
+
+-- the kind and permissions with which a page was added
+abbrev pub added : List Entry → Page → Option (Kind × Perm)
+added [] g = None
+added (e ∷ past) g = added_by e.event g (added past g)
+
+-- a frame, and what it holds from now on
+pub record Put : Type 0 where
+  pub frame : ℕ
+  pub content : Content
+
+abbrev pub reloaded : Page → Option (Kind × Perm) → Content
+reloaded page None = IsLoading
+reloaded page (Some k) = Holds page k.0 k.1
+
+-- the frame whose content an event puts or takes
+abbrev pub put_by : Event → (Page → Option (Kind × Perm)) → Option Put
+put_by (Did (Epa f) answer) kinds = Some (record { frame = f.0; content = IsVa })
+put_by (Did (Create enclave f base size) answer) kinds = Some (record { frame = f.0; content = SecsOf enclave })
+put_by (Did (Add enclave number f kind perm init) answer) kinds = Some (record { frame = f.0; content = Holds (page_at enclave number) kind perm })
+put_by (Did (EldStart f page slot) answer) kinds = Some (record { frame = f.0; content = IsLoading })
+put_by (Did (Ewb f) answer) kinds = Some (record { frame = f.0; content = Free })
+put_by (Did (Eld f) (Moved page version tag)) kinds = Some (record { frame = f.0; content = reloaded page (kinds page) })
+put_by (Refused (Eld f) why) kinds = Some (record { frame = f.0; content = Free })
+put_by _ kinds = None
+
+abbrev pub held_after : Option Put → ℕ → Content → Content
+held_after None n before = before
+held_after (Some put) n before = if put.frame == n then put.content else before
+
+-- what a frame holds, by the last entry that put or took its content
+abbrev pub content : List Entry → ℕ → Content
+content [] n = Free
+content (e ∷ past) n = held_after (put_by e.event (added past)) n (content past n)
+
+abbrev pub sealing_after : Event → ℕ → Bool → Bool
+sealing_after (Did (EwbStart f slot) answer) n before = if f.0 == n then true else before
+sealing_after (Did (Ewb f) answer) n before = if f.0 == n then false else before
+sealing_after _ n before = before
+
+-- whether the page in a frame is on its way out
+abbrev pub is_sealing : List Entry → ℕ → Bool
+is_sealing [] n = false
+is_sealing (e ∷ past) n = sealing_after e.event n (is_sealing past n)
+
+abbrev pub is_put : Option Put → ℕ → Bool
+is_put None n = false
+is_put (Some put) n = put.frame == n
+
+abbrev pub is_block : Event → ℕ → Bool
+is_block (Did (Block f) answer) n = f.0 == n
+is_block _ n = false
+
+-- whether the page in a frame was blocked since it came there
+abbrev pub is_blocked : List Entry → ℕ → Bool
+is_blocked [] n = false
+is_blocked (e ∷ past) n = is_block e.event n || (not (is_put (put_by e.event (added past)) n) && is_blocked past n)
+
+-- the enclave whose TCS or REG page a frame holds
+abbrev pub enclave_in : Content → Option ℕ
+enclave_in (Holds page kind perm) = Some page.enclave
+enclave_in _ = None
+
+-- the frame holds this TCS or REG page
+abbrev pub is_page : Content → Page → Bool
+is_page (Holds page kind perm) g = same_page page g
+is_page _ g = false
+
+abbrev pub is_free : Content → Bool
+is_free Free = true
+is_free _ = false
+
+-- the least free one of so many frames from a number on, by what each holds
+abbrev pub free_from : (ℕ → Content) → ℕ → ℕ → Option ℕ
+free_from held n zero = None
+free_from held n (suc count) = if is_free (held n) then Some n else free_from held (n + 1) count
+
+-- the least free frame of an EPC with so many
+abbrev pub least_free : ℕ → (ℕ → Content) → Option ℕ
+least_free frames held = free_from held 0 frames
+
+abbrev pub frame_after : Event → Page → Option ℕ → Option ℕ
+frame_after (Did (Add enclave number f kind perm init) answer) g before = if same_page (page_at enclave number) g then Some f.0 else before
+frame_after (Did (Eld f) (Moved page version tag)) g before = if same_page page g then Some f.0 else before
+frame_after (Did (Ewb f) (Moved page version tag)) g before = if same_page page g then None else before
+frame_after _ g before = before
+
+-- the frame that a page was last put into, None where it went out since or was never added
+abbrev pub frame_of : List Entry → Page → Option ℕ
+frame_of [] g = None
+frame_of (e ∷ past) g = frame_after e.event g (frame_of past g)

@@ -1,0 +1,157 @@
+-- The rules that every trace keeps, whatever driver made it. A rule on an entry is a fact of the entries before it and
+-- of the entry; a rule on every place is a fact of the entries before the place, and is asked at the end too.
+use Rattle.std.specs.Prelude.{ℕ, ◌≡◌, ◌<◌, ◌/◌, Bool, true, false, List, [], ◌∷◌, Option, Some, None, IfSome}
+use Rattle.std.specs.List.{All}
+use Rattle.sgx_types.specs.declared.entries.Entry.{Entry}
+use Rattle.sgx_types.specs.declared.entries.Event.{Event}
+use Rattle.sgx_types.specs.declared.entries.Event.TheVariants.{Did, Refused}
+use Rattle.sgx_types.specs.declared.entries.Actor.{Actor}
+use Rattle.sgx_types.specs.declared.entries.Actor.TheVariants as actors
+use Rattle.sgx_types.specs.declared.entries.Action.{Action}
+use Rattle.sgx_types.specs.declared.entries.Action.TheVariants.{Epa, Create, Add, Init, Enter, Exit, Fill, Load}
+use Rattle.sgx_types.specs.declared.entries.Answer.{Answer}
+use Rattle.sgx_types.specs.declared.entries.Answer.TheVariants as answers
+use Rattle.sgx_types.specs.declared.names.Page.{Page}
+use Rattle.sgx_types.specs.declared.refusals.Refusal.{Refusal}
+use Rattle.sgx_types.specs.declared.refusals.Refusal.TheVariants as why
+use Rattle.sgx_types.specs.Frames.{Content, Free, content, is_sealing, is_page, page_at}
+use Rattle.sgx_types.specs.Processors.{Stay, stay, Pair, holds_number, translations}
+use Rattle.sgx_types.specs.Table.{first_of_row}
+use Rattle.sgx_types.specs.Flat.{FlatMemory, flat, accepts, flat_answer, is_visible}
+use Rattle.sgx_types.specs.Sights.{row_at}
+
+-- a rule on entries holds at each of them
+abbrev pub Along : (List Entry → Entry → Type 0) → List Entry → Type 0
+Along rule [] = Unit {0}
+Along rule (e ∷ past) = rule past e × Along rule past
+
+-- a fact of the entries before a place holds at each place, the end among them
+abbrev pub AtEachPlace : (List Entry → Type 0) → List Entry → Type 0
+AtEachPlace P [] = P []
+AtEachPlace P (e ∷ past) = P (e ∷ past) × AtEachPlace P past
+
+-- ---- Refusal: an instruction is done exactly where no case of its row holds, and else refused by the first that holds
+
+-- the form of answer that each row gives
+abbrev pub HasForm : Action → Answer → Type 0
+HasForm (Epa f) answer = answer ≡ answers.Plain
+HasForm (Create enclave f base size) answer = answer ≡ answers.Plain
+HasForm (Add enclave number f kind perm init) answer = answer ≡ answers.Plain
+HasForm (Init enclave expect) answer = (digest : List ℕ) × (answer ≡ answers.Hash digest)
+HasForm (Enter enclave tcs tf sf) answer = (cssa : ℕ) × (answer ≡ answers.Cssa cssa)
+HasForm Exit answer = answer ≡ answers.Plain
+HasForm (Fill number f) answer = answer ≡ answers.Plain
+HasForm (Load off) answer = (word : ℕ) × (answer ≡ answers.Value word)
+HasForm _ answer = Unit {0}
+
+-- whether an expected digest differs only the measurement can tell
+abbrev pub case_of : Action → Refusal → Option Refusal
+case_of (Init enclave expect) (why.BadMeasure made) = None
+case_of action refusal = Some refusal
+
+abbrev pub RefusalRule : ℕ → List Entry → Entry → Type 0
+RefusalRule frames past e = by_event e.event
+  where
+    by_event : Event → Type 0
+    by_event (Did action answer) = (first_of_row (row_at frames past e.actor action) ≡ None) × HasForm action answer
+    by_event (Refused action refusal) = first_of_row (row_at frames past e.actor action) ≡ case_of action refusal
+    by_event _ = Unit {0}
+
+-- ---- Flat: each instruction that programs see answers as memory that is never evicted
+
+-- a digest counts as no answer: the measurement decides it
+abbrev pub seen_answer : Answer → Answer
+seen_answer (answers.Hash digest) = answers.Plain
+seen_answer answer = answer
+
+pub record AnswersAsFlat (m : FlatMemory) (actor : Actor) (action : Action) (answer : Answer) : Type 0 where
+  pub taken : accepts m actor action ≡ true
+  pub same : seen_answer answer ≡ flat_answer m actor action
+
+abbrev pub FlatRule : List Entry → Entry → Type 0
+FlatRule past e = by_event e.event
+  where
+    by_event : Event → Type 0
+    by_event (Did action answer) = is_visible action ≡ true → AnswersAsFlat (flat past) e.actor action answer
+    by_event _ = Unit {0}
+
+-- ---- Fits: no frame beyond the EPC, no frame twice, no page twice
+
+-- the frames that an action names are below the number of frames
+abbrev pub NamesFrames : ℕ → Action → Type 0
+NamesFrames frames (Epa f) = f.0 < frames
+NamesFrames frames (Create enclave f base size) = f.0 < frames
+NamesFrames frames (Add enclave number f kind perm init) = f.0 < frames
+NamesFrames frames (Enter enclave tcs tf sf) = (tf.0 < frames) × (sf.0 < frames)
+NamesFrames frames (Fill number f) = f.0 < frames
+NamesFrames frames _ = Unit {0}
+
+-- what takes a frame takes a free one
+abbrev pub TakesFree : List Entry → Action → Type 0
+TakesFree past (Epa f) = content past f.0 ≡ Free
+TakesFree past (Create enclave f base size) = content past f.0 ≡ Free
+TakesFree past (Add enclave number f kind perm init) = content past f.0 ≡ Free
+TakesFree past _ = Unit {0}
+
+abbrev pub FitsRule : ℕ → List Entry → Entry → Type 0
+FitsRule frames past e = by_event e.event
+  where
+    by_event : Event → Type 0
+    by_event (Did action answer) = NamesFrames frames action × TakesFree past action
+    by_event _ = Unit {0}
+
+-- no page stands in two frames
+abbrev pub NoPageTwice : List Entry → Type 0
+NoPageTwice past = (m n : ℕ) (g : Page) → is_page (content past m) g ≡ true → is_page (content past n) g ≡ true → m ≡ n
+
+pub record Fits (frames : ℕ) (past : List Entry) : Type 0 where
+  pub entries : Along (FitsRule frames) past
+  pub pages : AtEachPlace NoPageTwice past
+
+-- ---- Stale: no translation is stale
+
+-- a frame that a processor uses holds this still, and is not on its way out
+pub record IsStill (before now : Content) (sealing : Bool) : Type 0 where
+  pub held : now ≡ before
+  pub settled : sealing ≡ false
+
+-- a translation leads to its page, in a frame that is not on its way out
+pub record IsCurrent (enclave : ℕ) (x : Pair) (now : Content) (sealing : Bool) : Type 0 where
+  pub page : is_page now (page_at enclave x.number) ≡ true
+  pub settled : sealing ≡ false
+
+pub record IsUndisturbed (past : List Entry) (p : ℕ) (t : Stay) : Type 0 where
+  pub tcs : IsStill t.tcs_held (content past t.seat.tcs_frame) (is_sealing past t.seat.tcs_frame)
+  pub ssa : IsStill t.ssa_held (content past t.seat.ssa_frame) (is_sealing past t.seat.ssa_frame)
+  pub translations : All (λ x. IsCurrent t.seat.enclave x (content past x.frame) (is_sealing past x.frame)) (translations past p)
+
+-- no processor inside has a stale translation
+abbrev pub NoneStale : List Entry → Type 0
+NoneStale past = (p : ℕ) → IfSome (stay past p) (IsUndisturbed past p)
+
+-- a done access is of a page of which its processor holds a translation
+abbrev pub StaleRule : List Entry → Entry → Type 0
+StaleRule past e = by_actor e.actor e.event
+  where
+    of_page : ℕ → ℕ → Type 0
+    of_page p off = holds_number (translations past p) (off / 4096) ≡ true
+
+    by_event : ℕ → Event → Type 0
+    by_event p (Did (Load off) answer) = of_page p off
+    by_event p _ = Unit {0}
+
+    by_actor : Actor → Event → Type 0
+    by_actor (actors.Cpu p) event = by_event p.0 event
+    by_actor _ event = Unit {0}
+
+pub record Stale (past : List Entry) : Type 0 where
+  pub entries : Along StaleRule past
+  pub places : AtEachPlace NoneStale past
+
+-- ---- the rules of the machine together
+
+pub record KeepsRules (frames : ℕ) (past : List Entry) : Type 0 where
+  pub refusal : Along (RefusalRule frames) past
+  pub flat : Along FlatRule past
+  pub fits : Fits frames past
+  pub stale : Stale past

@@ -1,0 +1,67 @@
+-- What the rows of the instruction table see, read from the entries before a place.
+use Rattle.std.specs.Prelude.{ℕ, ◌==◌, ◌+◌, ◌/◌, Bool, if◌then◌else◌, List, Option, Some, None, nat_le, is_some}
+use Rattle.sgx_types.specs.declared.entries.Entry.{Entry}
+use Rattle.sgx_types.specs.declared.entries.Actor.{Actor}
+use Rattle.sgx_types.specs.declared.entries.Actor.TheVariants as actors
+use Rattle.sgx_types.specs.declared.entries.Action.{Action}
+use Rattle.sgx_types.specs.declared.entries.Action.TheVariants.{Epa, Create, Add, Init, Enter, Exit, Fill, Load}
+use Rattle.sgx_types.specs.declared.names.Perm.{Perm}
+use Rattle.sgx_types.specs.Frames.{content, is_sealing, is_blocked, page_at}
+use Rattle.sgx_types.specs.Processors.{Seat, Stay, stay, Pair, holds_number, translations}
+use Rattle.sgx_types.specs.Table.{Case, allowed, FrameSight, epa_row, create_row, add_row, init_row, enter_row, exit_row, fill_row, load_row}
+use Rattle.sgx_types.specs.Flat.{FlatMemory, FlatPage, flat, enclave_sight, tcs_fields, words_of}
+
+-- a frame of an EPC with so many frames
+abbrev pub sight_at : ℕ → List Entry → ℕ → FrameSight
+sight_at frames past n = record {
+  is_beyond = nat_le frames n;
+  content = content past n;
+  is_sealing = is_sealing past n;
+  is_blocked = is_blocked past n;
+}
+
+abbrev pub enclave_of_stay : Option Stay → Option ℕ
+enclave_of_stay None = None
+enclave_of_stay (Some s) = Some s.seat.enclave
+
+abbrev pub perm_of_page : Option FlatPage → Option Perm
+perm_of_page None = None
+perm_of_page (Some x) = Some x.perm
+
+-- the permissions of the translation that a processor inside holds of a page, None where it holds none
+abbrev pub translation_at : List Entry → ℕ → Option Stay → ℕ → Option Perm
+translation_at past p None number = None
+translation_at past p (Some s) number = held (holds_number (translations past p) number)
+  where
+    held : Bool → Option Perm
+    held held_now = if held_now then perm_of_page ((flat past).pages (page_at s.seat.enclave number)) else None
+
+abbrev pub enter_row_at : ℕ → List Entry → ℕ → Seat → List Case
+enter_row_at frames past p seat =
+    let m = flat past in
+    enter_row seat.enclave seat.tcs (record {
+      is_inside = is_some (stay past p);
+      enclave = enclave_sight m seat.enclave;
+      tcs = sight_at frames past seat.tcs_frame;
+      tcs_busy = m.is_busy (page_at seat.enclave seat.tcs);
+      fields = tcs_fields (words_of m (page_at seat.enclave seat.tcs));
+      ssa = sight_at frames past seat.ssa_frame;
+    })
+
+-- the row of an instruction of processor p
+abbrev pub cpu_row_at : ℕ → List Entry → ℕ → Action → List Case
+cpu_row_at frames past p (Enter enclave tcs tf sf) = enter_row_at frames past p (record { enclave = enclave; tcs = tcs; tcs_frame = tf.0; ssa_frame = sf.0 })
+cpu_row_at frames past p Exit = exit_row (is_some (stay past p))
+cpu_row_at frames past p (Fill number f) = fill_row number (enclave_of_stay (stay past p)) (sight_at frames past f.0)
+cpu_row_at frames past p (Load off) = load_row off (is_some (stay past p)) (translation_at past p (stay past p) (off / 4096))
+cpu_row_at frames past p _ = allowed
+
+-- the row of an instruction, by its actor
+abbrev pub row_at : ℕ → List Entry → Actor → Action → List Case
+row_at frames past actor (Epa f) = epa_row (sight_at frames past f.0)
+row_at frames past actor (Create enclave f base size) = create_row enclave base size (is_some ((flat past).enclaves enclave)) (sight_at frames past f.0)
+row_at frames past actor (Add enclave number f kind perm init) =
+    add_row number kind perm init (enclave_sight (flat past) enclave) (is_some ((flat past).pages (page_at enclave number))) (sight_at frames past f.0)
+row_at frames past actor (Init enclave expect) = init_row (enclave_sight (flat past) enclave)
+row_at frames past (actors.Cpu p) action = cpu_row_at frames past p.0 action
+row_at frames past actor action = allowed

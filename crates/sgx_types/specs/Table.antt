@@ -1,0 +1,228 @@
+-- The instruction table: for each instruction the refusals in their order, as a function of what it looks at. The
+-- machine reads what an instruction looks at from its own state, the rule on refusals from the entries, and flat memory
+-- from itself, so that no row can mean two things.
+use Rattle.std.specs.Prelude.{ℕ, ◌==◌, ◌+◌, ◌/◌, ◌%◌, ◌^◌, ◌&&◌, ◌||◌, Bool, true, false, if◌then◌else◌, Option, Some, None, List, [], ◌∷◌, nat_le, nat_lt, not, is_none}
+use Rattle.std.specs.List.{list_any}
+use Rattle.sgx_types.specs.declared.refusals.Refusal.{Refusal}
+use Rattle.sgx_types.specs.declared.refusals.Refusal.TheVariants as why
+use Rattle.sgx_types.specs.declared.names.Kind.{Kind}
+use Rattle.sgx_types.specs.declared.names.Kind.TheVariants as kinds
+use Rattle.sgx_types.specs.declared.names.Perm.{Perm}
+use Rattle.sgx_types.specs.declared.entries.PageInit.{PageInit}
+use Rattle.sgx_types.specs.declared.entries.PageInit.TheVariants as inits
+use Rattle.sgx_types.specs.Frames.{Content, Free, IsVa, SecsOf, Holds, IsLoading, is_page, page_at}
+
+-- ---- rows
+
+infixr 5 ◌otherwise◌
+pub record Case : Type 0 where
+  pub holds : Bool
+  pub why : Refusal
+
+abbrev pub when : Bool → Refusal → Case
+when b r = record { holds = b; why = r }
+
+-- a row: its cases in order
+abbrev pub ◌otherwise◌ : Case → List Case → List Case
+c otherwise rest = c ∷ rest
+
+abbrev pub allowed : List Case
+allowed = []
+
+-- the first case that holds
+abbrev pub first_of_row : List Case → Option Refusal
+first_of_row [] = None
+first_of_row (c ∷ cases) = if c.holds then Some c.why else first_of_row cases
+
+-- ---- what an instruction sees of a frame
+
+pub record FrameSight : Type 0 where
+  pub is_beyond : Bool
+  pub content : Content
+  pub is_sealing : Bool
+  pub is_blocked : Bool
+
+abbrev pub is_loading : Content → Bool
+is_loading IsLoading = true
+is_loading _ = false
+
+abbrev pub is_valid : Content → Bool
+is_valid Free = false
+is_valid IsLoading = false
+is_valid _ = true
+
+abbrev pub is_tcs : Content → Bool
+is_tcs (Holds page kinds.Tcs perm) = true
+is_tcs _ = false
+
+abbrev pub is_reg : Content → Bool
+is_reg (Holds page kinds.Reg perm) = true
+is_reg _ = false
+
+-- the permissions of the page in a frame, None where no page is there
+abbrev pub perm_in : Content → Option Perm
+perm_in (Holds page kind perm) = Some perm
+perm_in _ = None
+
+abbrev pub allows_read : Option Perm → Bool
+allows_read None = false
+allows_read (Some perm) = perm.r
+
+abbrev pub allows_update : Option Perm → Bool
+allows_update None = false
+allows_update (Some perm) = perm.r && perm.w
+
+-- loading or sealing
+abbrev pub is_busy : FrameSight → Bool
+is_busy s = s.is_sealing || is_loading s.content
+
+-- ---- building an enclave
+
+-- a size is a power of two from two pages to 4096 pages, in bytes
+unfoldable pub is_lawful_size : ℕ → Bool
+is_lawful_size size = list_any (λ bits. size == 2 ^ bits) (13 ∷ 14 ∷ 15 ∷ 16 ∷ 17 ∷ 18 ∷ 19 ∷ 20 ∷ 21 ∷ 22 ∷ 23 ∷ 24 ∷ [])
+
+-- a base is a multiple of the size
+abbrev pub is_lawful : ℕ → ℕ → Bool
+is_lawful base size = is_lawful_size size && (base % size == 0)
+
+abbrev pub is_enclave : ℕ → Bool
+is_enclave enclave = nat_le 1 enclave && nat_le enclave 8
+
+abbrev pub epa_row : FrameSight → List Case
+epa_row s =
+    when s.is_beyond why.BadRange
+    otherwise when (is_busy s) why.Conflict
+    otherwise when (is_valid s.content) why.FrameBusy
+    otherwise allowed
+
+abbrev pub create_row : ℕ → ℕ → ℕ → Bool → FrameSight → List Case
+create_row enclave base size is_created s =
+    when (s.is_beyond || not (is_enclave enclave) || not (is_lawful base size)) why.BadRange
+    otherwise when is_created why.PageExists
+    otherwise when (is_busy s) why.Conflict
+    otherwise when (is_valid s.content) why.FrameBusy
+    otherwise allowed
+
+-- a kind that can be added, with the first bytes of that kind
+abbrev pub is_addable : Kind → PageInit → Bool
+is_addable kinds.Tcs (inits.Tcs ossa nssa) = true
+is_addable kinds.Reg (inits.Words value) = true
+is_addable _ _ = false
+
+abbrev pub has_no_perm : Perm → Bool
+has_no_perm perm = not perm.r && not perm.w && not perm.x
+
+-- W without R never, and a TCS has no permission
+abbrev pub is_lawful_perm : Kind → Perm → Bool
+is_lawful_perm kinds.Tcs perm = has_no_perm perm
+is_lawful_perm _ perm = perm.r || not perm.w
+
+-- the page, and a TCS's state save frames, of which there is one, lie in the enclave
+abbrev pub is_within : ℕ → ℕ → PageInit → Bool
+is_within size number (inits.Words value) = nat_lt number (size / 4096)
+is_within size number (inits.Tcs ossa nssa) = nat_lt number (size / 4096) && nat_le (ossa + nssa) (size / 4096) && not (nssa == 0)
+
+-- what is known of an enclave that was created
+pub record EnclaveSight : Type 0 where
+  pub size : ℕ
+  pub is_init : Bool
+
+abbrev pub add_row : ℕ → Kind → Perm → PageInit → Option EnclaveSight → Bool → FrameSight → List Case
+add_row number kind perm init None is_added s =
+    when s.is_beyond why.BadRange
+    otherwise when true why.Absent
+    otherwise allowed
+add_row number kind perm init (Some enclave) is_added s =
+    when s.is_beyond why.BadRange
+    otherwise when enclave.is_init why.IsInit
+    otherwise when (not (is_addable kind init)) why.BadKind
+    otherwise when (not (is_lawful_perm kind perm)) why.BadPerm
+    otherwise when (not (is_within enclave.size number init)) why.BadRange
+    otherwise when is_added why.PageExists
+    otherwise when (is_busy s) why.Conflict
+    otherwise when (is_valid s.content) why.FrameBusy
+    otherwise allowed
+
+-- without the measurement, which is compared last
+abbrev pub init_row : Option EnclaveSight → List Case
+init_row None = when true why.Absent otherwise allowed
+init_row (Some enclave) = when enclave.is_init why.IsInit otherwise allowed
+
+-- ---- entry and exit
+
+-- what the bytes of a TCS page say: OSSA in pages, and how many state save frames are used and there
+pub record TcsSight : Type 0 where
+  pub ossa : ℕ
+  pub cssa : ℕ
+  pub nssa : ℕ
+
+-- what `enter` sees
+pub record EnterSight : Type 0 where
+  pub is_inside : Bool
+  pub enclave : Option EnclaveSight
+  pub tcs : FrameSight
+  pub tcs_busy : Bool
+  pub fields : TcsSight
+  pub ssa : FrameSight
+
+-- the state save frame: a page of the enclave that may be read and written
+abbrev pub ssa_row : ℕ → ℕ → FrameSight → List Case
+ssa_row enclave number s =
+    when (is_busy s) why.Conflict
+    otherwise when (not (is_page s.content (page_at enclave number))) why.Absent
+    otherwise when (not (is_reg s.content)) why.BadKind
+    otherwise when s.is_blocked why.Blocked
+    otherwise when (not (allows_update (perm_in s.content))) why.NoPerm
+    otherwise allowed
+
+abbrev pub is_made : Option EnclaveSight → Bool
+is_made None = false
+is_made (Some enclave) = true
+
+abbrev pub is_ready : Option EnclaveSight → Bool
+is_ready None = false
+is_ready (Some enclave) = enclave.is_init
+
+abbrev pub enter_row : ℕ → ℕ → EnterSight → List Case
+enter_row enclave tcs s =
+    when s.is_inside why.WrongMode
+    otherwise when (s.tcs.is_beyond || s.ssa.is_beyond) why.BadRange
+    otherwise when (not (is_made s.enclave)) why.Absent
+    otherwise when (not (is_ready s.enclave)) why.NotInit
+    otherwise when (is_busy s.tcs) why.Conflict
+    otherwise when (not (is_page s.tcs.content (page_at enclave tcs))) why.Absent
+    otherwise when (not (is_tcs s.tcs.content)) why.BadKind
+    otherwise when s.tcs.is_blocked why.Blocked
+    otherwise when s.tcs_busy why.TcsBusy
+    otherwise when (s.fields.cssa == s.fields.nssa) why.NoFrame
+    otherwise ssa_row enclave (s.fields.ossa + s.fields.cssa) s.ssa
+
+abbrev pub exit_row : Bool → List Case
+exit_row is_inside =
+    when (not is_inside) why.WrongMode
+    otherwise allowed
+
+-- ---- translations and accesses
+
+-- `fill` of a page, by the enclave that the processor is inside
+abbrev pub fill_row : ℕ → Option ℕ → FrameSight → List Case
+fill_row number None s =
+    when true why.WrongMode
+    otherwise allowed
+fill_row number (Some enclave) s =
+    when s.is_beyond why.BadRange
+    otherwise when (is_busy s) why.Conflict
+    otherwise when (not (is_page s.content (page_at enclave number))) why.Absent
+    otherwise when s.is_blocked why.Blocked
+    otherwise when (not (is_reg s.content)) why.BadKind
+    otherwise allowed
+
+-- `load` at an offset in bytes, with the permissions of the translation that is held
+abbrev pub load_row : ℕ → Bool → Option Perm → List Case
+load_row off is_inside translation =
+    when (not is_inside) why.WrongMode
+    otherwise when (not (off % 8 == 0)) why.BadRange
+    otherwise when (is_none translation) why.Miss
+    otherwise when (not (allows_read translation)) why.NoPerm
+    otherwise allowed
