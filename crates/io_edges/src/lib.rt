@@ -1,0 +1,10 @@
+// Where bytes come from and go to. Each outside is a trait with a count of its faults, so that the same proved code
+// runs over memory and over the system.
+#![tactic(auto)]
+
+pub mod faults;
+pub mod mem_sink;
+pub mod mem_source;
+pub mod plans;
+pub mod sinks;
+pub mod sources;
