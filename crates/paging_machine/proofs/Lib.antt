@@ -1,5 +1,6 @@
 pub mod Tools
 pub mod Carry
-pub mod Build
-pub mod Inside
+pub mod BuildLaws
+pub mod ProcessorLaws
 pub mod Refused
+pub mod Bridge

@@ -28,8 +28,8 @@ use Rattle.paging_machine.specs.State.{State, sight, seat_of, seat_enclave, perm
 use Rattle.paging_machine.specs.Stands.{StandsBy, Stands, IsSound, Upholds, pair_of, seat_of_stay}
 use Rattle.paging_machine.proofs.Tools.{tested, not_false}
 use Rattle.paging_machine.proofs.Carry.{IsHeld, IsNext, upholds_more, held_before, once_before}
-use Rattle.paging_machine.proofs.Build.{sight_agrees, is_some-added_as}
-use Rattle.paging_machine.proofs.Inside.{mode_by_entries, enclave_by_entries, enter_sight, enter_sight_of, tcs_there, IsKindOf, holds_number-map, found_translation}
+use Rattle.paging_machine.proofs.BuildLaws.{sight_agrees, is_some-added_as}
+use Rattle.paging_machine.proofs.ProcessorLaws.{mode_by_entries, enclave_by_entries, enter_sight, enter_sight_of, tcs_there, IsKindOf, holds_number-map, found_translation}
 
 abbrev pub refused_by : Actor → Action → Refusal → Entry
 refused_by actor action refusal = record { actor = actor; event = Refused action refusal }

@@ -1,5 +1,9 @@
 // The machine: SGX1's instructions over one EPC, one at a time.
 #![tactic(auto)]
 
-/// The most frames that an EPC can have.
-pub const MOST_FRAMES: u32 = 4096;
+mod build;
+mod enclaves;
+pub mod machine;
+mod measure;
+mod processor;
+mod sights;

@@ -27,7 +27,7 @@ use Rattle.paging_machine.specs.State.{State, sight, seat_of, seat_enclave, perm
 use Rattle.paging_machine.specs.Stands.{StandsBy, Stands, IsUsable, IsTranslation, IsSeated, IsSound, Upholds, pair_of, seat_of_stay, inside_of_stay}
 use Rattle.paging_machine.proofs.Tools.{NoneHolds, none_holds, none_refused, neither, both_false, not_false, none_there, is_none-None, each_there, tested}
 use Rattle.paging_machine.proofs.Carry.{did_by, seat_at, stands_done, same_page-true, same_page-refl, IsHeld, IsNext, upholds_more, held_before, once_before}
-use Rattle.paging_machine.proofs.Build.{sight_agrees}
+use Rattle.paging_machine.proofs.BuildLaws.{sight_agrees}
 
 -- ---- what a frame that is a given page holds
 
