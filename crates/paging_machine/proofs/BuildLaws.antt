@@ -60,6 +60,9 @@ sound-put s f c sound free = record { seated = each_there s.inside (λ p. IsSeat
     seated : (p : ℕ) (seat : Seat) → IsSeated s.content s.is_sealing (s.cache p) seat → IsSeated (with_content s f c).content s.is_sealing (s.cache p) seat
     seated p seat h = record {
       tcs = usable seat.enclave seat.tcs_frame h.tcs;
+      tcs_page =
+          cond_both (f == seat.tcs_frame) c (s.content seat.tcs_frame) (λ v. is_page v (page_at seat.enclave seat.tcs) ≡ true)
+          (λ e. let same : f ≡ seat.tcs_frame = eqb-true f seat.tcs_frame e in absurd (cc (h.tcs.ours, free, same))) (λ _. h.tcs_page);
       ssa = usable seat.enclave seat.ssa_frame h.ssa;
       cache =
           All-weaker
