@@ -1,6 +1,10 @@
--- What a call of a sink does to the bytes that it was given, where it tells them.
-use Rattle.std.specs.Prelude.{ℕ, List, ◌++◌, Option, option_map}
+-- What calls of a sink do to the bytes that it was given, where it tells them.
+use Rattle.std.specs.Prelude.{◌≡◌, ◌<◌, ℕ, List, ◌++◌, length, take, Option, option_map}
 
 -- the bytes given so far, and then these
 abbrev pub followed_by : Option (List ℕ) → List ℕ → Option (List ℕ)
 followed_by given bytes = option_map (λ before. before ++ bytes) given
+
+-- of the text a front was given, but not all
+abbrev pub GivesPart : Option (List ℕ) → Option (List ℕ) → List ℕ → Type 0
+GivesPart before now text = (n : ℕ) × (n < length text) × (now ≡ followed_by before (take n text))

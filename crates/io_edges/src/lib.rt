@@ -3,8 +3,10 @@
 #![tactic(auto)]
 
 pub mod faults;
+pub mod giving;
 pub mod mem_sink;
 pub mod mem_source;
 pub mod plans;
+pub mod reading;
 pub mod sinks;
 pub mod sources;
