@@ -8,7 +8,7 @@ use crate::sources::Source;
 use std::alloc::{AllocError, Global};
 
 /// How many bytes are asked for in one call at most.
-const PIECE: usize = 1 << 16;
+const PIECE: usize = 1 << 14;
 
 /// Why a source was not read to its end.
 #[derive(Clone, Copy, Debug, PartialEq, Eq)]
@@ -52,29 +52,7 @@ pub fn read_all<S: Source>(alloc: Global, source: &mut S, limit: usize) -> Resul
     ensures err { OnErr result (TakesAtMost (limit + 1) (S.left source.old) (S.left source.new)) }
     ensures cause { HasCause (S.faults source.old) (S.faults source.new) (IsErrOf result ReadEnd.Failed) }
 {
-    let mut piece = vec![in alloc; 0u8; PIECE]?;
-    read_in_pieces(alloc, source, limit, &mut piece)
-}
-
-// Reads the source in pieces of the length of this slice.
-fn read_in_pieces<S: Source>(
-    alloc: Global,
-    source: &mut S,
-    limit: usize,
-    piece: &mut [u8],
-) -> Result<Vec<u8>, ReadEnd>
-    requires limit { limit ≤ 2 ^ 30 }
-    requires piece { 0 < length piece.old }
-
-    ensures within { IfOk result (λ bytes. vec_len bytes ≤ limit) }
-    ensures all { IfOk result (λ bytes. IfSome (S.left source.old) (λ left. bytes.items ≡ left)) }
-    ensures at_end { OnOk result (S.left source.new ≡ emptied (S.left source.old)) }
-
-    ensures too_long { IsErrOf result ReadEnd.TooLong → IfSome (S.left source.old) (λ left. limit < length left) }
-    ensures one_past { IsErrOf result ReadEnd.TooLong → S.left source.new ≡ fewer (limit + 1) (S.left source.old) }
-    ensures err { OnErr result (TakesAtMost (limit + 1) (S.left source.old) (S.left source.new)) }
-    ensures cause { HasCause (S.faults source.old) (S.faults source.new) (IsErrOf result ReadEnd.Failed) }
-{
+    let mut piece = [0u8; PIECE];
     let mut bytes = Vec::new(alloc);
     while bytes.len() <= limit {
         let room = piece.len().min(limit + 1 - bytes.len());

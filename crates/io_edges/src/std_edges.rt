@@ -7,7 +7,8 @@ use crate::sources::Source;
 use std::io::{Read, Write};
 use std::marker::Model;
 
-/// A source over a reader of the system. It doesn't tell what the reader has. Each error of the reader is a fault.
+/// A source over a reader of the system. It doesn't tell what the reader has. Each error of the reader is a fault, an
+/// interruption too.
 #[derive(Debug, Drop)]
 pub struct StdSource<R> {
     reader: R,
@@ -63,7 +64,8 @@ impl<R: Read> Source for StdSource<R> {
 }
 
 /// A sink over a writer of the system. It doesn't tell what the writer was given. Each error of the writer is a fault,
-/// and so is a call that takes no byte. The writer should hold nothing back: a buffer's own faults are not seen here.
+/// an interruption too, and so is a call that takes no byte. Hand in a writer that holds nothing back: a fault that
+/// comes when a buffer is emptied later is not seen here.
 #[derive(Debug, Drop)]
 pub struct StdSink<W> {
     writer: W,
