@@ -47,10 +47,13 @@ pub fn read_all<S: Source>(alloc: Global, source: &mut S, limit: usize) -> Resul
     ensures all { IfOk result (λ bytes. IfSome (S.left source.old) (λ left. bytes.items ≡ left)) }
     ensures at_end { OnOk result (S.left source.new ≡ emptied (S.left source.old)) }
 
-    ensures too_long { IsErrOf result ReadEnd.TooLong → IfSome (S.left source.old) (λ left. limit < length left) }
-    ensures one_past { IsErrOf result ReadEnd.TooLong → S.left source.new ≡ fewer (limit + 1) (S.left source.old) }
+    ensures too_long { IsErrOf result ReadEnd.TooLong →
+        IfSome (S.left source.old) (λ left. limit < length left) }
+    ensures one_past { IsErrOf result ReadEnd.TooLong →
+        S.left source.new ≡ fewer (limit + 1) (S.left source.old) }
     ensures err { OnErr result (TakesAtMost (limit + 1) (S.left source.old) (S.left source.new)) }
-    ensures cause { HasCause (S.faults source.old) (S.faults source.new) (IsErrOf result ReadEnd.Failed) }
+    ensures cause { HasCause (S.faults source.old) (S.faults source.new)
+        (IsErrOf result ReadEnd.Failed) }
 {
     let mut piece = [0u8; PIECE];
     let mut bytes = Vec::new(alloc);
@@ -74,11 +77,14 @@ fn read_piece<S: Source>(
     ensures bound { IfOk result (λ n. n ≤ length piece.old) }
     ensures len { IfOk result (λ n. vec_len bytes.new ≡ vec_len bytes.old + n) }
     ensures bytes { IfOk result (λ n. bytes.new.items ≡ bytes.old.items ++ take n piece.new) }
-    ensures read { IfOk result (λ n. HasRead (S.left source.old) (S.left source.new) (take n piece.new)) }
+    ensures read { IfOk result (λ n.
+        HasRead (S.left source.old) (S.left source.new) (take n piece.new)) }
     ensures at_end { IfOk result (λ n. n ≡ 0 → IfSome (S.left source.new) (λ left. left ≡ [])) }
-    ensures err { OnErr result (TakesAtMost (length piece.old) (S.left source.old) (S.left source.new)) }
+    ensures err { OnErr result
+        (TakesAtMost (length piece.old) (S.left source.old) (S.left source.new)) }
     ensures not_long { IsErrOf result ReadEnd.TooLong → ⊥ }
-    ensures cause { HasCause (S.faults source.old) (S.faults source.new) (IsErrOf result ReadEnd.Failed) }
+    ensures cause { HasCause (S.faults source.old) (S.faults source.new)
+        (IsErrOf result ReadEnd.Failed) }
 {
     let n = source.take(piece)?;
     bytes.extend_from_slice(&piece[..n])?;
