@@ -8,13 +8,43 @@ use Rattle.sgx_types.specs.declared.entries.Entry.{Entry}
 use Rattle.sgx_types.specs.declared.names.Page.{Page}
 use Rattle.sgx_types.specs.Frames.{Content, Put, added, put_by, held_after, content, is_sealing, same_page, is_page, page_at}
 use Rattle.sgx_types.specs.Processors.{Pair}
-use Rattle.sgx_types.specs.Rules.{Along, AtEachPlace, NoPageTwice, NoneStale, IsCurrent}
-use Rattle.sgxpage.specs.WorkedTraces.{first_trace, first_build, fill, enter, page_twice, adds_exchanged, fill_from_other_frame}
+use Rattle.sgx_types.specs.Rules.{Along, AtEachPlace, FlatRule, NoPageTwice, NoneStale, IsCurrent}
+use Rattle.sgxpage.specs.WorkedTraces.{first_trace, first_build, fill, enter, frame_beyond, frame_twice, page_twice, adds_exchanged, epa_by_reclaimer, no_fill, fill_from_other_frame}
 
 -- the count of a number's bits stays closed elsewhere
 pub first_size_is_lawful : is_power_of_two 0x10000 ≡ true
 unfolding ones
 first_size_is_lawful = refl
+
+-- ---- entries that answer as flat memory
+
+pub first_trace_flat : Along FlatRule first_trace
+unfolding ones
+first_trace_flat = search arith
+
+pub frame_beyond_flat : Along FlatRule frame_beyond
+unfolding ones
+frame_beyond_flat = search arith
+
+pub frame_twice_flat : Along FlatRule frame_twice
+unfolding ones
+frame_twice_flat = search arith
+
+pub adds_exchanged_flat : Along FlatRule adds_exchanged
+unfolding ones
+adds_exchanged_flat = search arith
+
+pub epa_by_reclaimer_flat : Along FlatRule epa_by_reclaimer
+unfolding ones
+epa_by_reclaimer_flat = search arith
+
+pub no_fill_flat : Along FlatRule no_fill
+unfolding ones
+no_fill_flat = search arith
+
+pub fill_from_other_frame_flat : Along FlatRule fill_from_other_frame
+unfolding ones
+fill_from_other_frame_flat = search arith
 
 -- ---- no page in two frames: page k comes into frame k + 2 alone
 

@@ -19,6 +19,7 @@ use Rattle.job_grammar.specs.Script.{frame_at, no_perm}
 
 -- ---- the job
 
+-- may be read and written
 abbrev pub rw_perm : Perm
 rw_perm = record { r = true; w = true; x = false }
 
@@ -47,6 +48,7 @@ first_job = record {
 abbrev pub did : Actor → Action → Answer → Entry
 did actor action answer = record { actor = actor; event = Did action answer }
 
+-- a processor by its number
 abbrev pub cpu : ℕ → Actor
 cpu p = Cpu (record { 0 = p })
 
@@ -98,6 +100,7 @@ exit = did (cpu 0) actions.Exit answers.Plain
 
 -- ---- the right trace
 
+-- the builder makes a version array, and builds the enclave of its three pages
 abbrev pub first_build : List Entry
 first_build = init ∷ add_sevens 4 ∷ add_ssa ∷ add_tcs ∷ create ∷ epa Builder 0 ∷ []
 
@@ -105,6 +108,7 @@ first_build = init ∷ add_sevens 4 ∷ add_ssa ∷ add_tcs ∷ create ∷ epa B
 abbrev pub run_after : List Entry → List Entry
 run_after build = exit ∷ load (cpu 0) 7 ∷ fill 4 ∷ enter 0 ∷ build
 
+-- the job's one trace
 abbrev pub first_trace : List Entry
 first_trace = run_after first_build
 

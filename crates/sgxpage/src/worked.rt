@@ -15,11 +15,12 @@ fn the_first_trace_keeps_the_table()
     ensures { Along (RefusalRule 6) first_trace }
 {}
 
+#[tactic(auto, using(crate::proofs::WorkedRules::first_trace_flat))]
 fn the_first_trace_answers_as_flat_memory()
     ensures { Along FlatRule first_trace }
 {}
 
-#[tactic(auto, using(crate::proofs::WorkedRules::first_size_is_lawful, crate::proofs::WorkedRules::first_trace_pages))]
+#[tactic(auto, using(crate::proofs::WorkedRules::first_trace_pages))]
 fn the_first_trace_fits()
     ensures { Fits 6 first_trace }
 {}
@@ -28,7 +29,7 @@ fn the_first_trace_has_nothing_stale()
     ensures { Stale first_trace }
 {}
 
-#[tactic(auto, using(crate::proofs::WorkedRules::first_size_is_lawful, crate::proofs::WorkedRules::first_trace_pages))]
+#[tactic(auto, using(crate::proofs::WorkedRules::first_size_is_lawful, crate::proofs::WorkedRules::first_trace_pages, crate::proofs::WorkedRules::first_trace_flat))]
 fn the_first_trace_keeps_the_rules()
     ensures { KeepsRules 6 first_trace }
 {}
@@ -51,6 +52,7 @@ fn a_frame_beyond_the_epc_breaks_the_table()
     ensures { ¬ Along (RefusalRule 6) frame_beyond }
 {}
 
+#[tactic(auto, using(crate::proofs::WorkedRules::frame_beyond_flat))]
 fn a_frame_beyond_the_epc_answers_as_flat_memory()
     ensures { Along FlatRule frame_beyond }
 {}
@@ -63,11 +65,12 @@ fn a_frame_taken_twice_breaks_the_script()
     ensures { ¬ Along (ScriptRule first_job) frame_twice }
 {}
 
+#[tactic(auto, using(crate::proofs::WorkedRules::frame_twice_flat))]
 fn a_frame_taken_twice_answers_as_flat_memory()
     ensures { Along FlatRule frame_twice }
 {}
 
-#[tactic(auto, using(crate::proofs::WorkedRules::first_size_is_lawful, crate::proofs::WorkedRules::page_twice_not_pages))]
+#[tactic(auto, using(crate::proofs::WorkedRules::page_twice_not_pages))]
 fn a_page_in_two_frames_does_not_fit()
     ensures { ¬ AtEachPlace NoPageTwice page_twice }
 {}
@@ -80,7 +83,7 @@ fn exchanged_adds_break_the_script()
     ensures { ¬ Along (ScriptRule first_job) adds_exchanged }
 {}
 
-#[tactic(auto, using(crate::proofs::WorkedRules::first_size_is_lawful, crate::proofs::WorkedRules::adds_exchanged_pages))]
+#[tactic(auto, using(crate::proofs::WorkedRules::first_size_is_lawful, crate::proofs::WorkedRules::adds_exchanged_pages, crate::proofs::WorkedRules::adds_exchanged_flat))]
 fn exchanged_adds_keep_the_rules()
     ensures { KeepsRules 6 adds_exchanged }
 {}
@@ -89,7 +92,7 @@ fn an_epa_by_the_reclaimer_breaks_the_script()
     ensures { ¬ Along (ScriptRule first_job) epa_by_reclaimer }
 {}
 
-#[tactic(auto, using(crate::proofs::WorkedRules::first_size_is_lawful, crate::proofs::WorkedRules::first_trace_pages))]
+#[tactic(auto, using(crate::proofs::WorkedRules::first_size_is_lawful, crate::proofs::WorkedRules::first_trace_pages, crate::proofs::WorkedRules::epa_by_reclaimer_flat))]
 fn an_epa_by_the_reclaimer_keeps_the_rules()
     ensures { KeepsRules 6 epa_by_reclaimer }
 {}
@@ -146,6 +149,7 @@ fn a_load_without_a_fill_breaks_the_table()
     ensures { ¬ Along (RefusalRule 6) no_fill }
 {}
 
+#[tactic(auto, using(crate::proofs::WorkedRules::no_fill_flat))]
 fn a_load_without_a_fill_answers_as_flat_memory()
     ensures { Along FlatRule no_fill }
 {}
@@ -154,11 +158,12 @@ fn a_fill_from_another_frame_breaks_the_table()
     ensures { ¬ Along (RefusalRule 6) fill_from_other_frame }
 {}
 
-#[tactic(auto, using(crate::proofs::WorkedRules::first_size_is_lawful, crate::proofs::WorkedRules::fill_from_other_frame_not_stale))]
+#[tactic(auto, using(crate::proofs::WorkedRules::fill_from_other_frame_not_stale))]
 fn a_fill_from_another_frame_leaves_a_stale_translation()
     ensures { ¬ AtEachPlace NoneStale fill_from_other_frame }
 {}
 
+#[tactic(auto, using(crate::proofs::WorkedRules::fill_from_other_frame_flat))]
 fn a_fill_from_another_frame_answers_as_flat_memory()
     ensures { Along FlatRule fill_from_other_frame }
 {}
@@ -183,7 +188,7 @@ fn a_load_by_another_processor_breaks_the_table()
     ensures { ¬ Along (RefusalRule 6) load_by_other_cpu }
 {}
 
-#[tactic(auto, using(crate::proofs::WorkedRules::first_size_is_lawful, crate::proofs::WorkedRules::first_trace_pages))]
+#[tactic(auto, using(crate::proofs::WorkedRules::first_trace_pages))]
 fn a_load_by_another_processor_fits()
     ensures { Fits 6 load_by_other_cpu }
 {}
@@ -204,7 +209,7 @@ fn a_run_without_an_exit_keeps_the_script()
     ensures { Along (ScriptRule first_job) no_exit }
 {}
 
-#[tactic(auto, using(crate::proofs::WorkedRules::first_size_is_lawful, crate::proofs::WorkedRules::first_trace_pages))]
+#[tactic(auto, using(crate::proofs::WorkedRules::first_size_is_lawful, crate::proofs::WorkedRules::first_trace_pages, crate::proofs::WorkedRules::first_trace_flat))]
 fn a_run_without_an_exit_keeps_the_rules()
     ensures { KeepsRules 6 no_exit }
 {}
