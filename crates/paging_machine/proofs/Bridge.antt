@@ -553,8 +553,8 @@ fill_state d p t cpu_in =
       inside = λ q. (cpu_column (λ x. seat_of_mode x.mode) d p q v cpu_in ∙ same_at (λ k. seat_of_mode (cpu_at d k).mode) p q) i;
       acc = λ q. (cpu_column (λ x. x.acc) d p q v cpu_in ∙ same_at (λ k. (cpu_at d k).acc) p q) i;
       cache = λ q. (cpu_column (λ x. x.cache) d p q v cpu_in
-        ∙ cond_both (p == q) (with_translation (cpu_at d p).cache t) (cpu_at d q).cache (λ xs. xs ≡ cond (p == q) (with_translation (cpu_at d q).cache t) (cpu_at d q).cache)
-        (λ e. rw e (ap (λ k. with_translation (cpu_at d k).cache t) (eqb-true p q e))) (λ e. rw e refl)) i;
+          ∙ cond_both (p == q) (with_translation (cpu_at d p).cache t) (cpu_at d q).cache (λ xs. xs ≡ cond (p == q) (with_translation (cpu_at d q).cache t) (cpu_at d q).cache)
+          (λ e. rw e (ap (λ k. with_translation (cpu_at d k).cache t) (eqb-true p q e))) (λ e. rw e refl)) i;
     }
 
 -- a TCS page that `enter` found, and its place

@@ -284,7 +284,7 @@ add_upheld s past a enclave number f kind perm init allowed sound h =
     let apart_from = unadded_apart s past stands g new in
     let by_entries = add_by number kind perm init _ _ _ _ _ _ (stands.enclaves enclave) same_added (sight_agrees s past stands f.0) allowed in
     let taken : accepts (flat past) a (Add enclave number f kind perm init) ≡ true =
-        is_none-None _ (add_open number kind perm init (enclave_sight_of ((flat past).enclaves enclave)) (is_some ((flat past).pages g)) (sight_at s.frames past f.0) by_entries) in
+    is_none-None _ (add_open number kind perm init (enclave_sight_of ((flat past).enclaves enclave)) (is_some ((flat past).pages g)) (sight_at s.frames past f.0) by_entries) in
     upholds_more (after_add s g f.0 kind perm init) past _ h.rules
     (record {
       sound = record { seated = (sound-put s f.0 (Holds g kind perm) sound free).seated };

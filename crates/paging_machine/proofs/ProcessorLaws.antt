@@ -197,15 +197,15 @@ enter_upheld s past p enclave tcs tf sf low allowed sound h =
     let ssa_flat = stands.words sf.0 save kinds.Reg ssa_held.perm ssa_held.holds in
     let ssa_same : s.content sf.0 ≡ flat_content save (m.pages save) = ssa_held.holds ∙ sym (ap (flat_content save) ssa_flat) in
     let by_entries : first_of_row (enter_row_at s.frames past p.0 seat) ≡ None =
-        ap (λ x. first_of_row (enter_row enclave tcs x))
-        (sym (enter_sight_of _ _ _ _ _ _ _ _ _ _ _ _ (mode_by_entries s past stands p.0) (ap enclave_sight_of (stands.enclaves enclave)) (sight_agrees s past stands tf.0) (stands.is_busy g) same_fields (sight_agrees s past stands sf.0)))
-        ∙ allowed in
+    ap (λ x. first_of_row (enter_row enclave tcs x))
+    (sym (enter_sight_of _ _ _ _ _ _ _ _ _ _ _ _ (mode_by_entries s past stands p.0) (ap enclave_sight_of (stands.enclaves enclave)) (sight_agrees s past stands tf.0) (stands.is_busy g) same_fields (sight_agrees s past stands sf.0)))
+    ∙ allowed in
     let by_flat : first_of_row (flat_enter_row m p.0 enclave tcs) ≡ None =
-        ap (λ x. first_of_row (enter_row enclave tcs x))
-        (sym (enter_sight_of _ _ _ _ _ _ _ _ _ _ _ _ (mode_in_flat s past stands p.0) (ap enclave_sight_of (stands.enclaves enclave))
-        (ap opened (tcs_held.holds ∙ sym (ap (flat_content g) tcs_flat))) (stands.is_busy g) same_fields
-        (ap opened (ssa_same ∙ ap (λ f. flat_content (page_at enclave (f.ossa + f.cssa)) (m.pages (page_at enclave (f.ossa + f.cssa)))) same_fields))))
-        ∙ enters_none enclave tcs (opened_sight v) (enters_opened enclave tcs v k) in
+    ap (λ x. first_of_row (enter_row enclave tcs x))
+    (sym (enter_sight_of _ _ _ _ _ _ _ _ _ _ _ _ (mode_in_flat s past stands p.0) (ap enclave_sight_of (stands.enclaves enclave))
+    (ap opened (tcs_held.holds ∙ sym (ap (flat_content g) tcs_flat))) (stands.is_busy g) same_fields
+    (ap opened (ssa_same ∙ ap (λ f. flat_content (page_at enclave (f.ossa + f.cssa)) (m.pages (page_at enclave (f.ossa + f.cssa)))) same_fields))))
+    ∙ enters_none enclave tcs (opened_sight v) (enters_opened enclave tcs v k) in
     let taken : accepts m (actors.Cpu p) (Enter enclave tcs tf sf) ≡ true = rw (lt-ltb p.0 16 low, by_flat) refl in
     upholds_more (after_enter s p.0 seat) past _ h.rules
     (record {
@@ -251,7 +251,6 @@ enter_upheld s past p enclave tcs tf sf low allowed sound h =
           ];
     })
 
-
 -- ---- exit
 
 exit_allowed : (b : Bool) → first_of_row (exit_row b) ≡ None → b ≡ true
@@ -276,7 +275,7 @@ exit_upheld s past p low allowed sound h =
     let by_flat : first_of_row (exit_row (is_some (m.cpus p.0).inside)) ≡ None = ap (λ b. first_of_row (exit_row b)) (sym (mode_in_flat s past stands p.0)) ∙ allowed in
     let taken : accepts m (actors.Cpu p) Exit ≡ true = rw (lt-ltb p.0 16 low, by_flat) refl in
     let same_seat : (g : Page) → is_seated_by (s.inside p.0) g ≡ is_inside_by (m.cpus p.0).inside g =
-        λ g. ap (λ o. is_seated_by o g) (stands.inside p.0) ∙ seated_same (stay past p.0) g ∙ sym (ap (λ o. is_inside_by o g) (stands.flat_inside p.0)) in
+    λ g. ap (λ o. is_seated_by o g) (stands.inside p.0) ∙ seated_same (stay past p.0) g ∙ sym (ap (λ o. is_inside_by o g) (stands.flat_inside p.0)) in
     upholds_more (after_exit s p.0) past _ h.rules
     (record {
       sound = sound-exit s p.0 sound;
@@ -314,18 +313,18 @@ exit_upheld s past p low allowed sound h =
 -- ---- fill
 
 -- what `fill` needs
-record Fills (enclave number : ℕ) (v : FrameSight) : Type 0 where
+pub record Fills (enclave number : ℕ) (v : FrameSight) : Type 0 where
   pub within : v.is_beyond ≡ false
   pub idle : is_busy v ≡ false
   pub page : not (is_page v.content (page_at enclave number)) ≡ false
   pub kind : not (is_reg v.content) ≡ false
 
-fills : (number enclave : ℕ) (v : FrameSight) → first_of_row (fill_row number (Some enclave) v) ≡ None → Fills enclave number v
+pub fills : (number enclave : ℕ) (v : FrameSight) → first_of_row (fill_row number (Some enclave) v) ≡ None → Fills enclave number v
 fills number enclave v allowed =
     let none = none_holds (fill_row number (Some enclave) v) allowed in
     record { within = none.0; idle = none.1.0; page = none.1.1.0; kind = none.1.1.1.1.0 }
 
-outside_refused : (number : ℕ) (v : FrameSight) → first_of_row (fill_row number None v) ≡ None → ⊥
+pub outside_refused : (number : ℕ) (v : FrameSight) → first_of_row (fill_row number None v) ≡ None → ⊥
 outside_refused number v allowed = false≢true (sym (none_holds (fill_row number None v) allowed).0)
 
 pub holds_number-map : (xs : List Translation) (n : ℕ) → holds_number (map pair_of xs) n ≡ is_some (translation_of xs n)
@@ -409,7 +408,7 @@ pub fill_upheld : (s : State) (past : List Entry) (p : Cpu) (t : Translation) �
 fill_upheld s past p t low allowed perm sound h =
     let stands = h.stands in
     let by_entries : first_of_row (fill_row t.number (enclave_of_stay (stay past p.0)) (sight_at s.frames past t.frame.0)) ≡ None =
-        fill_by t.number _ _ _ _ (ap seat_enclave (stands.inside p.0) ∙ enclave_by_entries (stay past p.0)) (sight_agrees s past stands t.frame.0) allowed in
+    fill_by t.number _ _ _ _ (ap seat_enclave (stands.inside p.0) ∙ enclave_by_entries (stay past p.0)) (sight_agrees s past stands t.frame.0) allowed in
     upholds_more (after_fill s p.0 t) past _ h.rules
     (record {
       sound = sound-fill s p.0 t allowed perm sound;
@@ -441,7 +440,7 @@ fill_upheld s past p t low allowed perm sound h =
 -- ---- load
 
 -- a translation that is found is of the page that was looked for, and has what each has
-found_there : (P : Translation → Type 0) (xs : List Translation) (n : ℕ) (t : Translation) → AllByRecursion P xs → translation_of xs n ≡ Some t → (t.number ≡ n) × P t
+pub found_there : (P : Translation → Type 0) (xs : List Translation) (n : ℕ) (t : Translation) → AllByRecursion P xs → translation_of xs n ≡ Some t → (t.number ≡ n) × P t
 found_there P [] n t h is = cc
 found_there P (x ∷ xs) n t h is = by_test (x.number == n) refl is (found_there P xs n t h.1)
   where
@@ -462,7 +461,7 @@ found_translation s past p off sound stands = by_stay (stay past p) refl
         let held : holds_number (translations past p) (off / 4096) ≡ true = rw (← stands.cache p, holds_number-map (s.cache p) (off / 4096), at) refl in
         let found = found_there (λ x. IsTranslation st.seat.enclave x (s.content x.frame.0) (s.is_sealing x.frame.0)) (s.cache p) (off / 4096) t (recursion_from_All _ (s.cache p) (seat_at s sound p st.seat is).cache) at in
         let page : (flat past).pages (page_at st.seat.enclave (off / 4096)) ≡ Some (record { kind = kinds.Reg; perm = t.perm; words = s.words t.frame.0 }) =
-            rw (← found.0) (stands.words t.frame.0 (page_at st.seat.enclave t.number) kinds.Reg t.perm found.1.page) in
+        rw (← found.0) (stands.words t.frame.0 (page_at st.seat.enclave t.number) kinds.Reg t.perm found.1.page) in
         rw (is, e, at, held, page) refl
 
     by_stay : (o : Option Stay) → stay past p ≡ o → translation s p (s.inside p) (off / 4096) ≡ translation_at past p (stay past p) (off / 4096)
@@ -489,7 +488,7 @@ reads s past p off sound stands allowed = by_mode (s.inside p) refl allowed
         let m = flat past in
         let same : st.seat ≡ seat = let i = stands.inside p in let some : seat_of_stay (stay past p) ≡ Some st.seat = ap seat_of_stay e in cc (i, some, is) in
         let page : m.pages (page_at st.seat.enclave (off / 4096)) ≡ Some (record { kind = kinds.Reg; perm = t.perm; words = s.words t.frame.0 }) =
-            rw (same, ← found.0) (stands.words t.frame.0 (page_at seat.enclave t.number) kinds.Reg t.perm found.1.page) in
+        rw (same, ← found.0) (stands.words t.frame.0 (page_at seat.enclave t.number) kinds.Reg t.perm found.1.page) in
         let inside : (m.cpus p).inside ≡ Some (record { enclave = st.seat.enclave; tcs = st.seat.tcs }) = stands.flat_inside p ∙ ap inside_of_stay e in
         let held : holds_number (translations past p) (off / 4096) ≡ true = rw (← stands.cache p, holds_number-map (s.cache p) (off / 4096), at) refl in
         record {
@@ -522,9 +521,9 @@ load_upheld s past p off low allowed sound h =
     let stands = h.stands in
     let k = reads s past p.0 off sound stands allowed in
     let by_entries : first_of_row (load_row off (is_some (stay past p.0)) (translation_at past p.0 (stay past p.0) (off / 4096))) ≡ None =
-        load_by off _ _ _ _ (mode_by_entries s past stands p.0) (k.machine ∙ sym k.entries) allowed in
+    load_by off _ _ _ _ (mode_by_entries s past stands p.0) (k.machine ∙ sym k.entries) allowed in
     let by_flat : first_of_row (load_row off (is_some (m.cpus p.0).inside) (flat_translation m (m.cpus p.0).inside off)) ≡ None =
-        load_by off _ _ _ _ (mode_in_flat s past stands p.0) (k.machine ∙ sym k.in_flat) allowed in
+    load_by off _ _ _ _ (mode_in_flat s past stands p.0) (k.machine ∙ sym k.in_flat) allowed in
     let taken : accepts m (actors.Cpu p) (Load off) ≡ true = rw (lt-ltb p.0 16 low, by_flat) refl in
     upholds_more s past _ h.rules
     (record {

@@ -40,11 +40,9 @@ pub record StandsBy (s : State) (past : List Entry) (m : FlatMemory) : Type 0 wh
   pub inside : (p : ℕ) → s.inside p ≡ seat_of_stay (stay past p)
   pub acc : (p : ℕ) → s.acc p ≡ (m.cpus p).acc
   pub cache : (p : ℕ) → map pair_of (s.cache p) ≡ translations past p
-
   -- a frame that holds a page has that page's flat words
   pub words : (n : ℕ) (g : Page) (kind : Kind) (perm : Perm) → s.content n ≡ Holds g kind perm
       → m.pages g ≡ Some (record { kind = kind; perm = perm; words = s.words n })
-
   -- flat memory has each processor where the entries have it
   pub flat_inside : (p : ℕ) → (m.cpus p).inside ≡ inside_of_stay (stay past p)
 

@@ -16,9 +16,8 @@ use sgx_types::entries::PageInit;
 use sgx_types::layouts::flags;
 use sgx_types::names::{Frame, Kind, Memory, Page, Perm};
 use sgx_types::refusals::Refusal;
-use sha2::{Digest, Sha256};
+use sha2::Digest;
 use std::alloc::Global;
-use std::mem;
 
 impl Machine {
     /// The first case that holds of the row of `epa`.
@@ -58,7 +57,13 @@ impl Machine {
     }
 
     /// The first case that holds of the row of `create`.
-    pub(crate) fn create_refusal(&self, enclave: u16, frame: Frame, base: u64, size: u64) -> Option<Refusal>
+    pub(crate) fn create_refusal(
+        &self,
+        enclave: u16,
+        frame: Frame,
+        base: u64,
+        size: u64,
+    ) -> Option<Refusal>
         ensures row { result ≡ first_of_row (create_row enclave base size (is_some ((state_of self.now).enclaves enclave)) (sight (state_of self.now) frame.0)) }
         ensures sound { IsSound (state_of self.now) }
     {
@@ -79,7 +84,15 @@ impl Machine {
     }
 
     /// The first case that holds of the row of `add`.
-    pub(crate) fn add_refusal(&self, enclave: u16, number: u32, frame: Frame, kind: Kind, perm: Perm, init: PageInit) -> Option<Refusal>
+    pub(crate) fn add_refusal(
+        &self,
+        enclave: u16,
+        number: u32,
+        frame: Frame,
+        kind: Kind,
+        perm: Perm,
+        init: PageInit,
+    ) -> Option<Refusal>
         ensures row { result ≡ first_of_row (add_row number kind perm init (enclave_sight_of ((state_of self.now).enclaves enclave))
             (is_some ((state_of self.now).added (page_at enclave number))) (sight (state_of self.now) frame.0)) }
         ensures sound { IsSound (state_of self.now) }
@@ -191,8 +204,17 @@ impl Machine {
         self.logs[place].update(block.as_slice());
     }
 
-    /// Marks an enclave initialised, and answers its measurement.
-    pub(crate) fn set_init(&mut self, enclave: u16) -> [u8; 32]
+    /// The measurement of an enclave so far.
+    pub(crate) fn measurement(&self, enclave: u16) -> [u8; 32]
+        requires { first_of_row (init_row (enclave_sight_of ((state_of self.now).enclaves enclave))) ≡ None }
+        ensures { IsSound (state_of self.now) }
+    {
+        let log = self.logs[usize::from(enclave)].clone().unwrap();
+        log.finalize()
+    }
+
+    /// Marks an enclave initialised.
+    pub(crate) fn set_init(&mut self, enclave: u16)
         requires { first_of_row (init_row (enclave_sight_of ((state_of self.old).enclaves enclave))) ≡ None }
         ensures done { state_of self.new ≡ after_init (state_of self.old) enclave }
         ensures cpus { length self.new.cpus ≡ length self.old.cpus }
@@ -203,8 +225,6 @@ impl Machine {
             is_init: true,
             ..found
         });
-        let log = mem::replace(&mut self.logs[place], Sha256::new());
-        log.finalize()
     }
 }
 
@@ -215,7 +235,12 @@ fn blank_notes(alloc: Global, pages: u64) -> Result<Vec<PageNote>, Memory>
     Ok(vec![in alloc; NO_NOTE; pages as usize]?)
 }
 
-pub(crate) fn write_note(pages: &mut Vec<Vec<PageNote>>, place: usize, number: usize, note: PageNote)
+pub(crate) fn write_note(
+    pages: &mut Vec<Vec<PageNote>>,
+    place: usize,
+    number: usize,
+    note: PageNote,
+)
     requires made { place < length (notes_of pages.old) }
     requires in_enclave { number < length (slice_index_or (notes_of pages.old) place []) }
     ensures written { notes_of pages.new ≡ with_note (notes_of pages.old) place number note }
@@ -313,9 +338,7 @@ fn is_within(size: u64, number: u32, init: PageInit) -> bool
     match init {
         PageInit::Words(_) => u64::from(number) < pages,
         PageInit::Tcs { ossa, nssa } => {
-            u64::from(number) < pages
-                && u64::from(ossa) + u64::from(nssa) <= pages
-                && nssa != 0
+            u64::from(number) < pages && u64::from(ossa) + u64::from(nssa) <= pages && nssa != 0
         }
     }
 }

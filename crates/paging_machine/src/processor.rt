@@ -4,7 +4,7 @@ ghost use Rattle.paging_machine.specs.Parts.{state_of, fields_of};
 ghost use Rattle.sgx_types.specs.Flat.{tcs_fields};
 ghost use Rattle.cached_translations.specs.Translations.{translation_of};
 ghost use Rattle.paging_machine.specs.Stands.{IsSound};
-ghost use Rattle.paging_machine.specs.State.{sight, seat_of, seat_enclave, translation, enter_row_of, after_enter, after_exit, after_fill};
+ghost use Rattle.paging_machine.specs.State.{sight, seat_of, seat_enclave, translation, enter_row_of, word_at, after_enter, after_exit, after_fill};
 
 use crate::build::write_note;
 use crate::enclaves::PageNote;
@@ -116,7 +116,14 @@ impl Machine {
     }
 
     /// The first case that holds of the row of `enter`.
-    pub(crate) fn enter_refusal(&self, cpu: Cpu, enclave: u16, tcs: u32, tcs_frame: Frame, ssa_frame: Frame) -> Option<Refusal>
+    pub(crate) fn enter_refusal(
+        &self,
+        cpu: Cpu,
+        enclave: u16,
+        tcs: u32,
+        tcs_frame: Frame,
+        ssa_frame: Frame,
+    ) -> Option<Refusal>
         requires { cpu.0 < length self.now.cpus }
         ensures row { result ≡ first_of_row (enter_row_of (state_of self.now) cpu.0 (seat_of enclave tcs tcs_frame.0 ssa_frame.0)) }
         ensures sound { IsSound (state_of self.now) }
@@ -189,6 +196,17 @@ impl Machine {
             return None;
         }
         cache.find(number as u32)
+    }
+
+    /// The word at an offset, through the translation that a processor holds of its page.
+    #[tactic(auto, using(crate::proofs::Reading::load_within))]
+    pub(crate) fn word(&self, cpu: Cpu, off: u64) -> u64
+        requires cpu_in { cpu.0 < length self.now.cpus }
+        requires allowed { first_of_row (load_row off (is_some ((state_of self.now).inside cpu.0)) (translation (state_of self.now) cpu.0 ((state_of self.now).inside cpu.0) (off / 4096))) ≡ None }
+        ensures { result ≡ word_at (state_of self.now) cpu.0 off }
+    {
+        let translation = self.find(cpu, off / 4096).unwrap();
+        self.epc.word(translation.frame, (off % 4096 / 8) as u16)
     }
 
     /// Takes a processor into an enclave, and answers CSSA.

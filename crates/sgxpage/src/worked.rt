@@ -197,8 +197,8 @@ fn a_load_by_the_builder_is_no_step_of_flat_memory()
     ensures { ¬ Along FlatRule load_by_builder }
 {}
 
-fn a_load_by_the_builder_keeps_the_table()
-    ensures { Along (RefusalRule 6) load_by_builder }
+fn a_load_by_the_builder_breaks_the_table()
+    ensures { ¬ Along (RefusalRule 6) load_by_builder }
 {}
 
 fn a_run_without_an_exit_is_not_ended()
@@ -236,7 +236,7 @@ fn a_wrong_run_breaks_a_rule() {
     a_load_by_another_processor_breaks_the_table();
     a_load_by_another_processor_fits();
     a_load_by_the_builder_is_no_step_of_flat_memory();
-    a_load_by_the_builder_keeps_the_table();
+    a_load_by_the_builder_breaks_the_table();
     a_run_without_an_exit_is_not_ended();
     a_run_without_an_exit_keeps_the_script();
     a_run_without_an_exit_keeps_the_rules();

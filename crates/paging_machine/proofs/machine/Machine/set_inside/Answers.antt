@@ -16,7 +16,7 @@ invariant_of-self c =
     let cpu_in : c.args.cpu.0 < length d.cpus = rw (← c.self.view_is) at c.requires.cpu_in in
     let place = enter_place d c.args.cpu.0 c.args.enclave c.args.tcs c.args.tcs_frame.0 c.args.ssa_frame.0 allowed c.self.invariant.framed in
     let cssa : c.tcs_fields-cssa.result.cssa ≡ (tcs_fields (words_at d.epc c.args.tcs_frame.0)).cssa =
-        rw (← c.self.view_is) at (ap (λ (f : TcsSight). f.cssa) c.tcs_fields-cssa.ensures) in
+    rw (← c.self.view_is) at (ap (λ (f : TcsSight). f.cssa) c.tcs_fields-cssa.ensures) in
     record {
       processors = rw length-set c.self.invariant.processors;
       logs = c.self.invariant.logs;
@@ -36,6 +36,6 @@ returns-clause-done c =
     let cpu_in : c.args.cpu.0 < length d.cpus = rw (← c.self.view_is) at c.requires.cpu_in in
     let place = enter_place d c.args.cpu.0 c.args.enclave c.args.tcs c.args.tcs_frame.0 c.args.ssa_frame.0 allowed c.self.invariant.framed in
     let cssa : c.tcs_fields-cssa.result.cssa ≡ (tcs_fields (words_at d.epc c.args.tcs_frame.0)).cssa =
-        rw (← c.self.view_is) at (ap (λ (f : TcsSight). f.cssa) c.tcs_fields-cssa.ensures) in
+    rw (← c.self.view_is) at (ap (λ (f : TcsSight). f.cssa) c.tcs_fields-cssa.ensures) in
     rw (c.write_note.ensures.written, c.from-place.ensures, c.note-added.ensures, c.seat.ensures, c.from.ensures, c.from-2.ensures, cssa, ← c.self.view_is)
     (enter_state d c.args.cpu.0 c.args.enclave c.args.tcs c.args.tcs_frame c.args.ssa_frame _ cpu_in place.0 place.1)

@@ -1,4 +1,4 @@
-use Rattle.std.proofs.Common.{ap, ◌∙◌, ◌≡◌, sym, ◌<◌, length, get_or, arith}
+use Rattle.std.proofs.Common.{ap, ◌∙◌, ◌≡◌, sym, ◌<◌, ◌^◌, length, get_or, arith}
 use Rattle.std.proofs.lemmas.List.{length-set}
 use Rattle.paging_machine.specs.Whole.{parts_of}
 use Rattle.paging_machine.specs.Parts.{state_of, cpu_at}
@@ -11,6 +11,7 @@ invariant_of-self c =
     let d = parts_of c.self.inside in
     let cpu_in : c.args.cpu.0 < length d.cpus = rw (← c.self.view_is) at c.requires.cpu_in in
     let there : c.index_mut.result.now ≡ cpu_at d c.args.cpu.0 = cpu_there d c.args.cpu.0 _ cpu_in (rw c.from.ensures at c.index_mut.ensures.value) in
+    let low : c.args.translation.number < 2 ^ 32 = omega arith in
     record {
       processors = rw length-set c.self.invariant.processors;
       logs = c.self.invariant.logs;
@@ -18,7 +19,7 @@ invariant_of-self c =
       framed = c.self.invariant.framed;
       small =
           rw (c.from.ensures, c.fill.ensures, there)
-          (small_set d c.args.cpu.0 _ cpu_in (All-with_translation _ _ c.args.translation (c.self.invariant.small c.args.cpu.0) (omega arith)) c.self.invariant.small);
+          (small_set d c.args.cpu.0 _ cpu_in (All-with_translation (λ t. t.number < 2 ^ 32) (cpu_at d c.args.cpu.0).cache c.args.translation (c.self.invariant.small c.args.cpu.0) low) c.self.invariant.small);
       sound =
           rw (c.from.ensures, c.fill.ensures, there)
           (sound-state _ _ (fill_state d c.args.cpu.0 c.args.translation cpu_in)
