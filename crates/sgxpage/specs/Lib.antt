@@ -1,2 +1,4 @@
 pub mod TraceText
 pub mod OutText
+pub mod Words
+pub mod Ending

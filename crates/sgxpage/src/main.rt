@@ -1,3 +1,9 @@
 #![tactic(auto)]
 
+mod actions;
+mod names;
+mod replies;
+mod trace;
+mod words;
+
 fn main() {}
