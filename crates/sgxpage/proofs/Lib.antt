@@ -1,3 +1,4 @@
 pub mod Digits
 pub mod LineLaws
-pub mod OutLaws
+pub mod EntryLaws
+pub mod NumberLaws

@@ -1,11 +1,9 @@
--- How a text grows by words.
-use Rattle.std.proofs.Common.{◌≡◌, ℕ, ◌+◌, ◌<◌, List, [], ◌∷◌, ◌++◌, length, map, take, drop, reverse, get_or, refl, sym, ap, ◌∙◌}
+-- How a text grows by words and lines.
+use Rattle.std.proofs.Common.{◌≡◌, ℕ, ◌+◌, ◌<◌, List, [], ◌∷◌, ◌++◌, length, map, take, drop, get_or, refl, sym, ap, ◌∙◌}
 use Rattle.std.specs.List.{join_with_byte}
-use Rattle.std.proofs.lemmas.List.{append_assoc, map_more, reverse-append, take_more}
+use Rattle.std.proofs.lemmas.List.{append_assoc, map_more}
 use Rattle.job_grammar.specs.Text.{Words, line_text}
-use Rattle.sgx_types.specs.declared.entries.Entry.{Entry}
 use Rattle.sgxpage.specs.declared.words.Word.{Word}
-use Rattle.sgxpage.specs.TraceText.{entry_text, entries_text}
 use Rattle.sgxpage.specs.Words.{word_text, with_words}
 
 pub with_words_append : (text : List ℕ) (words others : Words) → with_words (with_words text words) others ≡ with_words text (words ++ others)
@@ -17,7 +15,13 @@ pub with_words_more : (text : List ℕ) (words : List Word) (i : ℕ) (d : Word)
     → (with_words text (map word_text (take i words)) ++ 32 ∷ []) ++ word_text (get_or words i d) ≡ with_words text (map word_text (take (i + 1) words))
 with_words_more text words i d within =
     append_assoc (with_words text (map word_text (take i words))) (32 ∷ []) (word_text (get_or words i d))
-    ∙ sym (ap (with_words text) (map_more word_text words i d within) ∙ sym (with_words_append text (map word_text (take i words)) (word_text (get_or words i d) ∷ [])))
+    ∙ with_words_append text (map word_text (take i words)) (word_text (get_or words i d) ∷ [])
+    ∙ ap (with_words text) (sym (map_more word_text words i d within))
+
+-- a name, and what stands behind it
+pub with_words_named : (text name : List ℕ) (words : Words) → take 1 words ≡ name ∷ [] → with_words (text ++ 32 ∷ name) (drop 1 words) ≡ with_words text words
+with_words_named text name [] named = absurd cc
+with_words_named text name (word ∷ words) named = let e : name ≡ word = cc in ap (λ (w : List ℕ). with_words (text ++ 32 ∷ w) words) e
 
 -- a first word, and the others with a space before each
 append-join : (text first : List ℕ) (others : Words) → text ++ join_with_byte 32 (first ∷ others) ≡ with_words (text ++ first) others
@@ -28,19 +32,7 @@ append-join text first (word ∷ others) =
     ∙ append-join ((text ++ first) ++ 32 ∷ []) word others
     ∙ ap (λ (t : List ℕ). with_words t others) (append_assoc (text ++ first) (32 ∷ []) word)
 
--- a line
+-- a line, from its first word to its end
 pub line_text_cons : (text first : List ℕ) (others : Words) → with_words (text ++ first) others ++ 10 ∷ [] ≡ text ++ line_text (first ∷ others)
 line_text_cons text first others =
-    sym (sym (append_assoc text (join_with_byte 32 (first ∷ others)) (10 ∷ [])) ∙ ap (λ (t : List ℕ). t ++ 10 ∷ []) (append-join text first others))
-
--- a name, and what stands behind it
-pub with_words_named : (text name : List ℕ) (words : Words) → take 1 words ≡ name ∷ [] → with_words (text ++ 32 ∷ name) (drop 1 words) ≡ with_words text words
-with_words_named text name [] named = absurd cc
-with_words_named text name (word ∷ words) named = let e : name ≡ word = cc in ap (λ (w : List ℕ). with_words (text ++ 32 ∷ w) words) e
-
--- one more entry, where the oldest come first
-pub entries_text_more : (text : List ℕ) (entries : List Entry) (i : ℕ) (d : Entry) → i < length entries
-    → (text ++ entries_text (reverse (take i entries))) ++ entry_text (get_or entries i d) ≡ text ++ entries_text (reverse (take (i + 1) entries))
-entries_text_more text entries i d within =
-    append_assoc text (entries_text (reverse (take i entries))) (entry_text (get_or entries i d))
-    ∙ sym (ap (λ (es : List Entry). text ++ entries_text es) (ap reverse (take_more entries i d within) ∙ reverse-append (take i entries) (get_or entries i d ∷ [])))
+    ap (λ (t : List ℕ). t ++ 10 ∷ []) (sym (append-join text first others)) ∙ append_assoc text (join_with_byte 32 (first ∷ others)) (10 ∷ [])

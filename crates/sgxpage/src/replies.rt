@@ -32,7 +32,7 @@ pub fn print_out(alloc: Global, job: &Job, entries: &[Entry]) -> Result<Vec<u8>,
     Ok(text)
 }
 
-#[tactic(auto, using(crate::proofs::OutLaws::enclaves_more))]
+#[tactic(auto, using(crate::proofs::NumberLaws::enclaves_more))]
 fn push_enclaves(count: usize, entries: &[Entry], onto: &mut Vec<u8>) -> Result<(), Memory>
     ensures { OnOk result (
         onto.new.items ≡ onto.old.items
@@ -45,7 +45,7 @@ fn push_enclaves(count: usize, entries: &[Entry], onto: &mut Vec<u8>) -> Result<
     Ok(())
 }
 
-#[tactic(auto, using(crate::proofs::OutLaws::cpus_more))]
+#[tactic(auto, using(crate::proofs::NumberLaws::cpus_more))]
 fn push_cpus(count: usize, entries: &[Entry], onto: &mut Vec<u8>) -> Result<(), Memory>
     ensures { OnOk result (
         onto.new.items ≡ onto.old.items
@@ -59,7 +59,7 @@ fn push_cpus(count: usize, entries: &[Entry], onto: &mut Vec<u8>) -> Result<(), 
 }
 
 /// Writes the line of an enclave, where its EINIT has ended.
-#[tactic(auto, using(crate::proofs::OutLaws::enclave_lines_more))]
+#[tactic(auto, using(crate::proofs::EntryLaws::enclave_lines_more))]
 fn push_enclave(enclave: usize, entries: &[Entry], onto: &mut Vec<u8>) -> Result<(), Memory>
     ensures { OnOk result (
         onto.new.items ≡ onto.old.items
@@ -193,7 +193,7 @@ fn is_reply_by(cpu: usize, entry: &Entry) -> bool
 }
 
 /// Writes the line of a processor, and its replies.
-#[tactic(auto, using(crate::proofs::OutLaws::replies_more, crate::proofs::OutLaws::replies_same))]
+#[tactic(auto, using(crate::proofs::EntryLaws::replies_more, crate::proofs::EntryLaws::replies_same))]
 fn push_cpu(cpu: usize, entries: &[Entry], onto: &mut Vec<u8>) -> Result<(), Memory>
     ensures { OnOk result (
         onto.new.items ≡ onto.old.items

@@ -12,7 +12,7 @@ use sgx_types::refusals::Refusal;
 use std::alloc::Global;
 
 /// The text of a trace, whose entries are given oldest first.
-#[tactic(auto, using(crate::proofs::LineLaws::entries_text_more), unfolding(crate::specs::TraceText::trace_of))]
+#[tactic(auto, using(crate::proofs::EntryLaws::entries_text_more), unfolding(crate::specs::TraceText::trace_of))]
 pub fn print_trace(alloc: Global, entries: &[Entry]) -> Result<Vec<u8>, Memory>
     ensures { IfOk result (λ text. text.items ≡ trace_of (reverse entries.now)) }
 {
