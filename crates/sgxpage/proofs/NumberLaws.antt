@@ -23,9 +23,9 @@ lines_more : (lines : ℕ → List Words) (text : List ℕ) (first count : ℕ)
 lines_more lines text first count =
     let before = flat_map lines (numbers_from first count) in
     let more : before ++ lines (count + first) ≡ flat_map lines (numbers_from first (count + 1)) =
-        ap (λ (ls : List Words). before ++ ls) (sym (append-nil (lines (count + first))))
-        ∙ sym (flat_map-append lines (numbers_from first count) ((count + first) ∷ []))
-        ∙ ap (flat_map lines) (sym (numbers_more first count))
+    ap (λ (ls : List Words). before ++ ls) (sym (append-nil (lines (count + first))))
+    ∙ sym (flat_map-append lines (numbers_from first count) ((count + first) ∷ []))
+    ∙ ap (flat_map lines) (sym (numbers_more first count))
     in
     append_assoc text (flat_map line_text before) (flat_map line_text (lines (count + first)))
     ∙ ap (λ (t : List ℕ). text ++ t) (sym (flat_map-append line_text before (lines (count + first))))
