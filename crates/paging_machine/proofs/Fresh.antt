@@ -14,7 +14,8 @@ use Rattle.paging_machine.specs.declared.enclaves.Enclave.{Enclave}
 use Rattle.paging_machine.specs.State.{State, fresh}
 use Rattle.paging_machine.specs.Stands.{IsSound, StandsBy, Upholds}
 use Rattle.paging_machine.specs.Parts.{Parts, made, idle, state_of, held, note_at, no_note, kind_of, enclave_of, seat_of_mode, cpu_at}
-use Rattle.paging_machine.specs.Whole.{IsNoted, IsFramed}
+use Rattle.paging_machine.specs.Whole.{IsNoted, IsFramed, IsWhole, parts_of}
+use Rattle.paging_machine.specs.declared.machine.Machine.TheInside.{Inside}
 
 -- one item more
 pub replicate_more : {X : Type 0} (n : ℕ) (x : X) → replicate n x ++ x ∷ [] ≡ replicate (n + 1) x
@@ -92,3 +93,15 @@ framed_made frames cpus key epoch version pages n g kind perm is = let free = ap
 
 pub small_made : (frames cpus : ℕ) (key : List ℕ) (epoch version : ℕ) (p : ℕ) → All (λ t. t.number < 2 ^ 32) (cpu_at (made frames cpus key epoch version) p).cache
 small_made frames cpus key epoch version p = rw (like {X = Processor} cpus p idle) (All-nil (λ t. t.number < 2 ^ 32))
+
+pub whole_made : (m : Inside) (frames cpus : ℕ) (key : List ℕ) (epoch version : ℕ) → parts_of m ≡ made frames cpus key epoch version → length m.logs.items ≡ 9 → cpus ≤ 16 → IsWhole m
+whole_made m frames cpus key epoch version is logs few =
+    let count : length m.cpus.items ≡ cpus = ap (λ (d : Parts). length d.cpus) is ∙ length-replicate cpus idle in
+    record {
+      processors = rw count few;
+      logs = logs;
+      noted = subst (λ (d : Parts). IsNoted d.enclaves d.pages) (sym is) noted_made;
+      framed = subst (λ (d : Parts). IsFramed (state_of d).content d.pages) (sym is) (framed_made frames cpus key epoch version _);
+      small = subst (λ (d : Parts). (p : ℕ) → All (λ t. t.number < 2 ^ 32) (cpu_at d p).cache) (sym is) (small_made frames cpus key epoch version);
+      sound = subst (λ (d : Parts). IsSound (state_of d)) (sym is) (sound_made frames cpus key epoch version);
+    }

@@ -1,1 +1,5 @@
 pub mod WorkedRules
+pub mod Digits
+pub mod LineLaws
+pub mod EntryLaws
+pub mod NumberLaws

@@ -1,3 +1,5 @@
 pub mod TraceText
 pub mod OutText
 pub mod WorkedTraces
+pub mod Words
+pub mod Ending

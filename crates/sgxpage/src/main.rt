@@ -1,5 +1,10 @@
 #![tactic(auto)]
 
+mod actions;
+mod names;
+mod replies;
+mod trace;
+mod words;
 #[cfg(test)]
 mod worked;
 
