@@ -18,7 +18,7 @@ starting_at epoch = record { epoch = epoch; noted = [] }
 abbrev pub entered : Tracking → Tracking
 entered t = record t { noted = t.noted ++ t.epoch ∷ [] }
 
--- the list with one x fewer
+-- the list with one x fewer, and unchanged where it has none
 abbrev pub without : List ℕ → ℕ → List ℕ
 without [] x = []
 without (y ∷ ys) x = if y == x then ys else y ∷ without ys x
@@ -55,7 +55,7 @@ pub record IsDrained (t : Tracking) (block : ℕ) : Type 0 where
   pub began : block < t.epoch
   pub entered_since : All (λ n. block < n) t.noted
 
--- an epoch is another or the one before it
+-- n is the epoch or the one before it
 abbrev pub IsRecent : ℕ → ℕ → Type 0
 IsRecent epoch n = (n ≤ epoch) × (epoch ≤ n + 1)
 

@@ -7,7 +7,7 @@ use std::marker::Model;
 /// The greatest epoch, 2^40 - 1 (this project's own). An enclave that has reached it can be tracked no more.
 pub const LAST_EPOCH: u64 = (1 << 40) - 1;
 
-/// How many processors are inside an enclave at most.
+/// How many processors are inside an enclave at most (this project's own).
 pub const PROCESSORS: u32 = 16;
 
 /// The tracking of one enclave, which Intel SDM volume 3D leaves to the processor (ETRACK, EWB); this one, by epochs,

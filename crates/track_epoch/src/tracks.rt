@@ -6,7 +6,7 @@ ghost use Rattle.track_epoch.specs.Tracks.{track_of, LendsTrack};
 use crate::track::{LAST_EPOCH, Track};
 use std::marker::Model;
 
-/// How many enclaves there are at most. They are numbered from 1.
+/// How many enclaves there are at most (this project's own). They are numbered from 1.
 pub const ENCLAVES: usize = 8;
 
 /// The tracks of all enclaves. Contracts see them as a list, enclave 1 first.
