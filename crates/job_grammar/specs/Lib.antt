@@ -1,5 +1,6 @@
 pub mod Jobs
 pub mod Text
 pub mod Valid
+pub mod Reading
 pub mod Kept
 pub mod Script

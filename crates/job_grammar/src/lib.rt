@@ -2,3 +2,7 @@
 #![tactic(auto)]
 
 pub mod jobs;
+mod lines;
+mod numbers;
+pub mod refusals;
+mod words;
