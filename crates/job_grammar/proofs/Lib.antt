@@ -1,1 +1,3 @@
+pub mod LastItem
+pub mod LineLoop
 pub mod Numerals

@@ -2,5 +2,6 @@ pub mod Jobs
 pub mod Text
 pub mod Valid
 pub mod Reading
+pub mod Drafts
 pub mod Kept
 pub mod Script
