@@ -1,3 +1,6 @@
 pub mod LastItem
 pub mod LineLoop
+pub mod LineWords
 pub mod Numerals
+pub mod Splits
+pub mod WrittenJobs
