@@ -2,6 +2,7 @@ pub mod Jobs
 pub mod Text
 pub mod Valid
 pub mod Lines
+pub mod PageTables
 pub mod Reading
 pub mod Drafts
 pub mod Kept

@@ -1,5 +1,5 @@
 ghost use Rattle.std.specs.Prelude.{◌≡◌, map};
-ghost use Rattle.job_grammar.specs.Jobs.{enclave_view};
+ghost use Rattle.job_grammar.specs.Jobs.{enclave_view, first_page, page_count, is_tcs_line, is_reg_line, is_save_line};
 
 use io_edges::plans::PlanLine;
 use sgx_types::names::Perm;
@@ -32,6 +32,52 @@ pub enum PageLine {
         value: u64,
         plain: bool,
     },
+}
+
+impl PageLine {
+    /// The first page that it adds.
+    pub fn first(&self) -> u32
+        ensures { result ≡ first_page self.now }
+    {
+        match self {
+            PageLine::Tcs { page, .. } => *page,
+            PageLine::Reg { first, .. } => *first,
+        }
+    }
+
+    /// How many pages it adds.
+    pub fn count(&self) -> u32
+        ensures { result ≡ page_count self.now }
+    {
+        match self {
+            PageLine::Tcs { .. } => 1,
+            PageLine::Reg { count, .. } => *count,
+        }
+    }
+
+    /// Whether it adds a TCS page.
+    pub fn is_tcs(&self) -> bool
+        ensures { result ≡ is_tcs_line self.now }
+    {
+        matches!(self, PageLine::Tcs { .. })
+    }
+
+    /// Whether it adds REG pages.
+    pub fn is_reg(&self) -> bool
+        ensures { result ≡ is_reg_line self.now }
+    {
+        matches!(self, PageLine::Reg { .. })
+    }
+
+    /// Whether it adds REG pages that can be read and written, as those for saved state must be.
+    pub fn is_save(&self) -> bool
+        ensures { result ≡ is_save_line self.now }
+    {
+        match self {
+            PageLine::Tcs { .. } => false,
+            PageLine::Reg { perm, .. } => perm.r && perm.w,
+        }
+    }
 }
 
 /// An enclave: its base and size in bytes, its pages, and the measurement that is expected of it.

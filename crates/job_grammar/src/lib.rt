@@ -1,9 +1,11 @@
 // Jobs: their text, what makes one valid, and what each actor has to do under one.
 #![tactic(auto)]
 
+mod checks;
 mod drafts;
 pub mod jobs;
 mod lines;
 mod numbers;
+mod page_tables;
 pub mod refusals;
 mod words;

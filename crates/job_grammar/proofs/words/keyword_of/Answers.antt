@@ -10,3 +10,11 @@ returns-in-eenter c = rw (text_from_reads c.args.word.now (codes "eenter") (omeg
 pub returns-in-enclave : goal.returns-in-enclave
 unfolding keyword_of
 returns-in-enclave c = rw (text_from_reads c.args.word.now (codes "enclave") (omega arith) (search rules)) refl
+
+pub returns-in-eexit : goal.returns-in-eexit
+unfolding keyword_of
+returns-in-eexit c = rw (text_from_reads c.args.word.now (codes "eexit") (omega arith) (search rules)) refl
+
+pub returns-in-load : goal.returns-in-load
+unfolding keyword_of
+returns-in-load c = rw (text_from_reads c.args.word.now (codes "load") (omega arith) (search rules)) refl
