@@ -3,4 +3,5 @@ pub mod LineLoop
 pub mod LineWords
 pub mod Numerals
 pub mod Splits
+mod Worked
 pub mod WrittenJobs

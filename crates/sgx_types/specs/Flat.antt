@@ -61,7 +61,7 @@ abbrev pub with_busy : FlatMemory → Page → Bool → FlatMemory
 with_busy m g b = record m { is_busy = λ q. if same_page q g then b else m.is_busy q }
 
 abbrev pub with_cpu : FlatMemory → ℕ → FlatCpu → FlatMemory
-with_cpu m p c = record m { cpus = λ q. if q == p then c else m.cpus q }
+with_cpu m p c = record m { cpus = λ q. if p == q then c else m.cpus q }
 
 abbrev pub page_words : Option FlatPage → List ℕ
 page_words None = replicate 512 0
@@ -139,7 +139,7 @@ flat_enter_row m p enclave tcs =
 
 -- ---- the step
 
--- an instruction of a processor
+-- an instruction of a processor, among those that programs see
 abbrev pub is_processors : Action → Bool
 is_processors (Enter enclave tcs tf sf) = true
 is_processors Exit = true
@@ -189,37 +189,53 @@ cpu_answer m p _ = answers.Plain
 
 -- what flat memory answers to an instruction that it takes
 abbrev pub flat_answer : FlatMemory → Actor → Action → Answer
-flat_answer m (actors.Cpu p) action = cpu_answer m p.0 action
-flat_answer m _ action = answers.Plain
+flat_answer m actor action = if is_processors action then by_cpu actor else answers.Plain
+  where
+    by_cpu : Actor → Answer
+    by_cpu (actors.Cpu p) = cpu_answer m p.0 action
+    by_cpu _ = answers.Plain
 
 -- enters by a TCS page
 abbrev pub entered : FlatMemory → ℕ → ℕ → ℕ → ℕ → FlatMemory
 entered m p enclave tcs acc = with_busy (with_cpu m p (record { inside = Some (record { enclave = enclave; tcs = tcs }); acc = acc })) (page_at enclave tcs) true
 
--- leaves the enclave, where it was inside
-abbrev pub left : FlatMemory → ℕ → FlatCpu → FlatMemory
-left m p c = leave c.inside
-  where
-    leave : Option Inside → FlatMemory
-    leave None = m
-    leave (Some i) = with_busy (with_cpu m p (record c { inside = None })) (page_at i.enclave i.tcs) false
+-- inside by this TCS page
+abbrev pub is_inside_by : Option Inside → Page → Bool
+is_inside_by None g = false
+is_inside_by (Some i) g = same_page g (page_at i.enclave i.tcs)
+
+-- leaves the enclave, and the TCS page by which it was inside
+abbrev pub left : FlatMemory → ℕ → FlatMemory
+left m p = record m {
+  cpus = λ q. if p == q then record (m.cpus q) { inside = None } else m.cpus q;
+  is_busy = λ g. if is_inside_by (m.cpus p).inside g then false else m.is_busy g;
+}
 
 abbrev pub cpu_after : ℕ → Action → FlatMemory → FlatMemory
 cpu_after p (Enter enclave tcs tf sf) m = entered m p enclave tcs (tcs_fields (words_of m (page_at enclave tcs))).cssa
-cpu_after p Exit m = left m p (m.cpus p)
+cpu_after p Exit m = left m p
 cpu_after p _ m = m
 
-abbrev pub initialised : FlatMemory → ℕ → Option FlatEnclave → FlatMemory
-initialised m enclave None = m
-initialised m enclave (Some x) = with_enclave m enclave (record x { is_init = true })
+abbrev pub marked : Option FlatEnclave → Option FlatEnclave
+marked None = None
+marked (Some x) = Some (record x { is_init = true })
+
+abbrev pub initialised : FlatMemory → ℕ → FlatMemory
+initialised m enclave = record m { enclaves = λ n. if n == enclave then marked (m.enclaves n) else m.enclaves n }
+
+abbrev pub build_after : Action → FlatMemory → FlatMemory
+build_after (Create enclave frame base size) m = with_enclave m enclave (record { base = base; size = size; is_init = false })
+build_after (Add enclave number frame kind perm init) m = with_page m (page_at enclave number) (record { kind = kind; perm = perm; words = first_words init })
+build_after (Init enclave expect) m = initialised m enclave
+build_after _ m = m
 
 -- the memory after an instruction that it takes
 abbrev pub memory_after : Actor → Action → FlatMemory → FlatMemory
-memory_after actor (Create enclave frame base size) m = with_enclave m enclave (record { base = base; size = size; is_init = false })
-memory_after actor (Add enclave number frame kind perm init) m = with_page m (page_at enclave number) (record { kind = kind; perm = perm; words = first_words init })
-memory_after actor (Init enclave expect) m = initialised m enclave (m.enclaves enclave)
-memory_after (actors.Cpu p) action m = cpu_after p.0 action m
-memory_after actor action m = m
+memory_after actor action m = if is_processors action then by_cpu actor else build_after action m
+  where
+    by_cpu : Actor → FlatMemory
+    by_cpu (actors.Cpu p) = cpu_after p.0 action m
+    by_cpu _ = m
 
 -- a done instruction that flat memory does not take changes nothing
 abbrev pub event_after : Actor → Event → FlatMemory → FlatMemory

@@ -129,20 +129,18 @@ pub record IsUndisturbed (past : List Entry) (p : ℕ) (t : Stay) : Type 0 where
 abbrev pub NoneStale : List Entry → Type 0
 NoneStale past = (p : ℕ) → IfSome (stay past p) (IsUndisturbed past p)
 
+-- the actor is a processor that holds a translation of the page at an offset
+abbrev pub HoldsPageAt : List Entry → Actor → ℕ → Type 0
+HoldsPageAt past (actors.Cpu p) off = holds_number (translations past p.0) (off / 4096) ≡ true
+HoldsPageAt past _ off = ⊥
+
 -- a done access is of a page of which its processor holds a translation
 abbrev pub StaleRule : List Entry → Entry → Type 0
-StaleRule past e = by_actor e.actor e.event
+StaleRule past e = by_event e.event
   where
-    of_page : ℕ → ℕ → Type 0
-    of_page p off = holds_number (translations past p) (off / 4096) ≡ true
-
-    by_event : ℕ → Event → Type 0
-    by_event p (Did (Load off) answer) = of_page p off
-    by_event p _ = Unit {0}
-
-    by_actor : Actor → Event → Type 0
-    by_actor (actors.Cpu p) event = by_event p.0 event
-    by_actor _ event = Unit {0}
+    by_event : Event → Type 0
+    by_event (Did (Load off) answer) = HoldsPageAt past e.actor off
+    by_event _ = Unit {0}
 
 pub record Stale (past : List Entry) : Type 0 where
   pub entries : Along StaleRule past

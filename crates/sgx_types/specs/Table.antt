@@ -2,7 +2,7 @@
 -- machine reads what an instruction looks at from its own state, the rule on refusals from the entries, and flat memory
 -- from itself, so that no row can mean two things.
 use Rattle.std.specs.Prelude.{ℕ, ◌==◌, ◌+◌, ◌/◌, ◌%◌, ◌^◌, ◌&&◌, ◌||◌, Bool, true, false, if◌then◌else◌, Option, Some, None, List, [], ◌∷◌, nat_le, nat_lt, not, is_none}
-use Rattle.std.specs.List.{list_any}
+use Rattle.std.specs.Int.{is_power_of_two}
 use Rattle.sgx_types.specs.declared.refusals.Refusal.{Refusal}
 use Rattle.sgx_types.specs.declared.refusals.Refusal.TheVariants as why
 use Rattle.sgx_types.specs.declared.names.Kind.{Kind}
@@ -79,8 +79,8 @@ is_busy s = s.is_sealing || is_loading s.content
 -- ---- building an enclave
 
 -- a size is a power of two from two pages to 4096 pages, in bytes
-unfoldable pub is_lawful_size : ℕ → Bool
-is_lawful_size size = list_any (λ bits. size == 2 ^ bits) (13 ∷ 14 ∷ 15 ∷ 16 ∷ 17 ∷ 18 ∷ 19 ∷ 20 ∷ 21 ∷ 22 ∷ 23 ∷ 24 ∷ [])
+abbrev pub is_lawful_size : ℕ → Bool
+is_lawful_size size = is_power_of_two size && nat_le 8192 size && nat_le size (2 ^ 24)
 
 -- a base is a multiple of the size
 abbrev pub is_lawful : ℕ → ℕ → Bool

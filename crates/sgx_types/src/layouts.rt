@@ -32,6 +32,15 @@ impl Model for Record {
     ghost invariant = { λ r. length r.cipher.items ≡ 4096 };
 }
 
+/// The fields of a TCS page that this machine reads (Intel SDM volume 3D, TCS): OSSA as a byte offset in the enclave,
+/// and how many state save frames are in use and there are.
+#[derive(Clone, Copy, Debug, PartialEq, Eq)]
+pub struct TcsFields {
+    pub ossa: u64,
+    pub cssa: u32,
+    pub nssa: u32,
+}
+
 /// SECINFO.FLAGS of a page (Intel SDM volume 3D, SECINFO.FLAGS): R in bit 0, W in bit 1, X in bit 2, and the page
 /// type in bits 8 to 15.
 pub fn flags(kind: Kind, perm: Perm) -> u64

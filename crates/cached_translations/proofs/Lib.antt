@@ -1,0 +1,2 @@
+pub mod TranslationLaws
+pub mod RingLaws

@@ -1,0 +1,144 @@
+ghost use Rattle.std.specs.Prelude.{◌≡◌, ◌↔◌, [], length, IsTrue, IfOk};
+ghost use Rattle.cached_translations.specs.Translations.{translation_of, with_translation, FitsCache};
+
+use sgx_types::names::{Frame, Memory, Perm};
+use std::alloc::Global;
+use std::marker::Model;
+
+/// How many translations a processor holds at most (this project's own).
+pub const PLACES: usize = 64;
+
+/// A page of the enclave that a processor is inside, by its number in the enclave in pages of 4096 bytes, with the
+/// frame that holds it and its permissions.
+#[derive(Clone, Copy, Debug, PartialEq, Eq)]
+pub struct Translation {
+    pub number: u32,
+    pub frame: Frame,
+    pub perm: Perm,
+}
+
+/// The translations of one processor. Contracts see them as a list, oldest first, in which no page stands twice.
+#[derive(Debug, Drop)]
+pub struct Cache {
+    places: Vec<Translation>,
+    oldest: usize,
+}
+
+impl Model for Cache {
+    ghost use Rattle.std.specs.Prelude.{List};
+    ghost use Rattle.cached_translations.specs.declared.cache.Translation.{Translation};
+
+    ghost Value = { List Translation };
+
+    ghost use Rattle.cached_translations.specs.Ring.{from_oldest, IsRing};
+
+    ghost view = { from_oldest };
+
+    ghost invariant = { IsRing };
+}
+
+impl Cache {
+    /// An empty cache with all its places, so that filling it takes no memory.
+    pub fn new(alloc: Global) -> Result<Cache, Memory>
+        ensures { IfOk result (λ cache. cache ≡ []) }
+    {
+        Ok(Cache {
+            places: Vec::with_capacity(alloc, PLACES)?,
+            oldest: 0,
+        })
+    }
+
+    pub fn len(&self) -> usize
+        ensures value { result ≡ length self.now }
+        ensures fits { FitsCache self.now }
+    {
+        self.places.len()
+    }
+
+    pub fn is_empty(&self) -> bool
+        ensures { IsTrue result ↔ (self.now ≡ []) }
+    {
+        self.places.is_empty()
+    }
+
+    /// The translation of a page, where it is held.
+    pub fn find(&self, number: u32) -> Option<Translation>
+        ensures { result ≡ translation_of self.now number }
+    {
+        find_page(&self.places, number)
+    }
+
+    /// Adds a translation as the newest, and drops the oldest where all places are taken. A page that is held keeps
+    /// its translation and its place.
+    pub fn fill(&mut self, translation: Translation)
+        ensures { self.new ≡ with_translation self.old translation }
+    {
+        if self.find(translation.number).is_some() {
+            return;
+        }
+        if self.places.len() < PLACES {
+            self.places.push_reserved(translation);
+        } else {
+            self.places[self.oldest] = translation;
+            self.oldest = (self.oldest + 1) % PLACES;
+        }
+    }
+
+    /// Drops every translation, as each entry and each exit does.
+    pub fn clear(&mut self)
+        ensures { self.new ≡ [] }
+    {
+        self.places.clear();
+        self.oldest = 0;
+    }
+}
+
+// The first translation of a page.
+fn find_page(places: &[Translation], number: u32) -> Option<Translation>
+    ensures { result ≡ translation_of places.now number }
+{
+    places.iter().copied().find(|t| t.number == number)
+}
+
+#[cfg(test)]
+mod tests {
+    use super::*;
+    use std::test::Fail;
+
+    fn translation(number: u32, frame: u32) -> Translation {
+        Translation {
+            number,
+            frame: Frame(frame),
+            perm: Perm {
+                r: true,
+                w: false,
+                x: false,
+            },
+        }
+    }
+
+    #[test]
+    fn the_sixty_fifth_drops_the_oldest(rt: HostRuntime) -> Result<(), Fail> {
+        let mut cache = Cache::new(rt.alloc())?;
+        assert!(rt; cache.is_empty());
+        for number in 0..65 {
+            cache.fill(translation(number, number + 100));
+        }
+        assert_eq!(rt; cache.len(), 64);
+        assert_eq!(rt; cache.find(0), None);
+        assert_eq!(rt; cache.find(1), Some(translation(1, 101)));
+        assert_eq!(rt; cache.find(64), Some(translation(64, 164)));
+
+        // Filling page 1 again changes nothing, so it is still the oldest.
+        cache.fill(translation(1, 7));
+        assert_eq!(rt; cache.find(1), Some(translation(1, 101)));
+        cache.fill(translation(65, 165));
+        assert_eq!(rt; cache.find(1), None);
+        assert_eq!(rt; cache.find(2), Some(translation(2, 102)));
+
+        cache.clear();
+        assert_eq!(rt; cache.len(), 0);
+        assert_eq!(rt; cache.find(64), None);
+        Ok(())
+    }
+}

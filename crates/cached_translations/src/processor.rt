@@ -1,0 +1,57 @@
+ghost use Rattle.std.specs.Prelude.{◌≡◌, [], IfOk};
+ghost use Rattle.cached_translations.specs.declared.processor.Mode.TheVariants.{Outside};
+
+use crate::cache::Cache;
+use sgx_types::names::{Frame, Memory};
+use std::alloc::Global;
+
+/// Where a processor executes. Inside, it has entered by the thread control structure at page `tcs`; that page and
+/// the state save page stand in the two frames until it leaves, and `epoch` is the enclave's epoch at the entry.
+#[derive(Clone, Copy, Debug, PartialEq, Eq)]
+pub enum Mode {
+    Outside,
+    Inside {
+        enclave: u16,
+        tcs: u32,
+        tcs_frame: Frame,
+        ssa_frame: Frame,
+        epoch: u64,
+    },
+}
+
+/// A logical processor: its mode, the accumulator that enclave code works on, and its translations. The translations
+/// of the pages that its mode names stand there and not in the cache.
+#[derive(Debug, Drop)]
+pub struct Processor {
+    pub mode: Mode,
+    pub acc: u64,
+    pub cache: Cache,
+}
+
+impl Processor {
+    /// A processor outside, with accumulator 0 and no translation.
+    pub fn new(alloc: Global) -> Result<Processor, Memory>
+        ensures { IfOk result (λ cpu. cpu ≡ record { mode = Mode.Outside; acc = 0; cache = [] }) }
+    {
+        Ok(Processor {
+            mode: Mode::Outside,
+            acc: 0,
+            cache: Cache::new(alloc)?,
+        })
+    }
+}
+
+#[cfg(test)]
+mod tests {
+    use super::*;
+    use std::test::Fail;
+
+    #[test]
+    fn a_processor_starts_outside(rt: HostRuntime) -> Result<(), Fail> {
+        let cpu = Processor::new(rt.alloc())?;
+        assert_eq!(rt; cpu.mode, Mode::Outside);
+        assert_eq!(rt; cpu.acc, 0);
+        assert!(rt; cpu.cache.is_empty());
+        Ok(())
+    }
+}

@@ -1,0 +1,4 @@
+mod Marks
+pub mod Words
+mod Frames
+pub mod Columns

@@ -1,0 +1,5 @@
+pub mod FreeMap
+pub mod EntryView
+pub mod Words
+pub mod Epc
+pub mod Kept

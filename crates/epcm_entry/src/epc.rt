@@ -1,0 +1,338 @@
+ghost use Rattle.std.specs.Prelude.{◌≡◌, ◌<◌, ◌≤◌, ◌^◌, ◌||◌, true, false, length, count_by, position, Some, None, IsTrue, IfOk, OnOk, OnErr, IfSome, IfNone};
+ghost use Rattle.epcm_entry.specs.EntryView.{is_free, is_busy, is_valid, holding, outgoing, with_block, claim_answer};
+ghost use Rattle.epcm_entry.specs.Words.{words_of};
+ghost use Rattle.epcm_entry.specs.declared.entry_view.EntryView.TheVariants as views;
+ghost use Rattle.epcm_entry.specs.Epc.{IsEpc, entry_at, word_at, words_at, bytes_at, free_frames, is_free_frame, with_entry, with_word, with_words, cleared, first_free_of};
+
+use crate::entry_view::EntryView;
+use crate::free_map::FreeMap;
+use sgx_types::names::{Frame, Kind, Memory, Page, Perm};
+use sgx_types::refusals::Refusal;
+use std::alloc::Global;
+use std::marker::Model;
+
+/// The EPC with its EPCM: frames of 4096 bytes, each with an entry.
+#[derive(Debug, Drop)]
+pub struct Epc {
+    entries: Vec<EntryView>,
+    // The words of each frame, low byte first.
+    pages: Vec<[[u8; 8]; 512]>,
+    free: FreeMap,
+}
+
+impl Model for Epc {
+    ghost use Rattle.std.specs.Prelude.{List};
+    ghost use Rattle.epcm_entry.specs.declared.entry_view.EntryView.TheVariants as views;
+    ghost use Rattle.epcm_entry.specs.Epc.{EpcFrame};
+
+    ghost Value = { List EpcFrame };
+
+    ghost use Rattle.epcm_entry.specs.Kept.{epc_of, IsKept};
+
+    ghost view = { epc_of };
+
+    ghost invariant = { IsKept };
+}
+
+impl Epc {
+    /// An EPC whose frames, at most 4096, are free and zero.
+    pub fn new(alloc: Global, frames: u32) -> Result<Epc, Memory>
+        requires { frames ≤ 4096 }
+        ensures { IfOk result (λ epc. epc ≡ free_frames frames) }
+    {
+        let count = frames as usize;
+        Ok(Epc {
+            entries: vec![in alloc; EntryView::Free; count]?,
+            pages: vec![in alloc; [[0; 8]; 512]; count]?,
+            free: FreeMap::full(alloc, frames)?,
+        })
+    }
+
+    /// How many frames there are.
+    pub fn frames(&self) -> u32
+        ensures count { result ≡ length self.now }
+        ensures sound { IsEpc self.now }
+    {
+        self.entries.len() as u32
+    }
+
+    pub fn entry(&self, frame: Frame) -> EntryView
+        requires { frame.0 < length self.now }
+        ensures { result ≡ entry_at self.now frame.0 }
+    {
+        self.entries[frame.0 as usize]
+    }
+
+    /// How many frames are free.
+    pub fn free_count(&self) -> u32
+        ensures { result ≡ count_by is_free_frame self.now }
+    {
+        self.free.count()
+    }
+
+    /// The free frame with the least number.
+    pub fn first_free(&self) -> Option<Frame>
+        ensures { result ≡ first_free_of self.now }
+    {
+        let number = self.free.first()?;
+        Some(Frame(number))
+    }
+
+    /// Claims the page in a frame for an EWB: the page is sealing from then on. A busy frame is refused.
+    pub fn claim_seal(&mut self, frame: Frame) -> Result<(), Refusal>
+        requires within { frame.0 < length self.old }
+        requires taken { is_free (entry_at self.old frame.0) ≡ false }
+        ensures answer { result ≡ claim_answer (entry_at self.old frame.0) }
+        ensures done { OnOk result (self.new ≡ with_entry self.old frame.0 (outgoing (entry_at self.old frame.0))) }
+        ensures refused { OnErr result (self.new ≡ self.old) }
+    {
+        let entry = self.entry(frame);
+        if entry.is_busy() {
+            return Err(Refusal::Conflict);
+        }
+        self.put(frame, outgoing(entry));
+        Ok(())
+    }
+
+    /// Claims a free frame for an ELDU: it is Loading from then on. A busy frame is refused.
+    pub fn claim_load(&mut self, frame: Frame) -> Result<(), Refusal>
+        requires within { frame.0 < length self.old }
+        requires free_or_busy { (is_free (entry_at self.old frame.0) || is_busy (entry_at self.old frame.0)) ≡ true }
+        ensures answer { result ≡ claim_answer (entry_at self.old frame.0) }
+        ensures done { OnOk result (self.new ≡ with_entry self.old frame.0 views.Loading) }
+        ensures refused { OnErr result (self.new ≡ self.old) }
+    {
+        if self.entry(frame).is_busy() {
+            return Err(Refusal::Conflict);
+        }
+        self.put(frame, EntryView::Loading);
+        Ok(())
+    }
+
+    /// Puts a page into a frame that is free or Loading, neither blocked nor sealing. The frame's words stay.
+    pub fn set(&mut self, frame: Frame, page: Page, kind: Kind, perm: Perm)
+        requires within { frame.0 < length self.old }
+        requires vacant { is_valid (entry_at self.old frame.0) ≡ false }
+        ensures { self.new ≡ with_entry self.old frame.0 (holding page kind perm) }
+    {
+        self.put(
+            frame,
+            EntryView::Valid {
+                page,
+                kind,
+                perm,
+                blocked: None,
+                sealing: false,
+            },
+        );
+    }
+
+    /// Blocks the page in a frame at an epoch.
+    pub fn block(&mut self, frame: Frame, epoch: u64)
+        requires within { frame.0 < length self.old }
+        requires valid { is_valid (entry_at self.old frame.0) ≡ true }
+        requires idle { is_busy (entry_at self.old frame.0) ≡ false }
+        ensures { self.new ≡ with_entry self.old frame.0 (with_block (entry_at self.old frame.0) epoch) }
+    {
+        let entry = self.entry(frame);
+        self.put(frame, with_block(entry, epoch));
+    }
+
+    /// Makes a frame free, and its words 0.
+    pub fn clear(&mut self, frame: Frame)
+        requires { frame.0 < length self.old }
+        ensures { self.new ≡ cleared self.old frame.0 }
+    {
+        self.put(frame, EntryView::Free);
+        let page = &mut self.pages[frame.0 as usize];
+        page.fill([0; 8]);
+    }
+
+    fn put(&mut self, frame: Frame, entry: EntryView)
+        requires { frame.0 < length self.old }
+        ensures { self.new ≡ with_entry self.old frame.0 entry }
+    {
+        let index = frame.0 as usize;
+        let old = self.entries[index];
+        self.entries[index] = entry;
+        self.free.update(frame.0, old.is_free(), entry.is_free());
+    }
+
+    /// The 8 bytes of a frame from byte `8 * index` on, low byte first.
+    pub fn word(&self, frame: Frame, index: u16) -> u64
+        requires within { frame.0 < length self.now }
+        requires in_frame { index < 512 }
+        ensures { result ≡ word_at self.now frame.0 index }
+    {
+        let page = &self.pages[frame.0 as usize];
+        u64::from_le_bytes(page[usize::from(index)])
+    }
+
+    pub fn set_word(&mut self, frame: Frame, index: u16, value: u64)
+        requires within { frame.0 < length self.old }
+        requires in_frame { index < 512 }
+        ensures { self.new ≡ with_word self.old frame.0 index value }
+    {
+        let page = &mut self.pages[frame.0 as usize];
+        page[usize::from(index)] = value.to_le_bytes();
+    }
+
+    pub fn bytes(&self, frame: Frame) -> &[u8; 4096]
+        requires { frame.0 < length self.now }
+        ensures value { result.now ≡ bytes_at self.now frame.0 }
+        ensures words { words_of result.now ≡ words_at self.now frame.0 }
+    {
+        let page = &self.pages[frame.0 as usize];
+        page.as_flattened().as_array().unwrap()
+    }
+
+    pub fn set_bytes(&mut self, frame: Frame, from: &[u8; 4096])
+        requires { frame.0 < length self.old }
+        ensures { self.new ≡ with_words self.old frame.0 (words_of from.now) }
+    {
+        let page = &mut self.pages[frame.0 as usize];
+        page.copy_from_slice(from.as_chunks().0);
+    }
+}
+
+fn outgoing(entry: EntryView) -> EntryView
+    ensures { result ≡ outgoing entry }
+{
+    match entry {
+        EntryView::Valid {
+            page,
+            kind,
+            perm,
+            blocked,
+            ..
+        } => EntryView::Valid {
+            page,
+            kind,
+            perm,
+            blocked,
+            sealing: true,
+        },
+        other => other,
+    }
+}
+
+fn with_block(entry: EntryView, epoch: u64) -> EntryView
+    ensures { result ≡ with_block entry epoch }
+{
+    match entry {
+        EntryView::Valid {
+            page,
+            kind,
+            perm,
+            sealing,
+            ..
+        } => EntryView::Valid {
+            page,
+            kind,
+            perm,
+            blocked: Some(epoch),
+            sealing,
+        },
+        other => other,
+    }
+}
+
+#[cfg(test)]
+mod tests {
+    use super::*;
+    use std::process::Abort;
+    use std::test::Fail;
+
+    const PAGE: Page = Page {
+        enclave: 1,
+        number: 2,
+    };
+
+    const PERM: Perm = Perm {
+        r: true,
+        w: true,
+        x: false,
+    };
+
+    fn hold_page(rt: &impl Abort, epc: &mut Epc, number: u32) {
+        let frame = Frame(number);
+        assert!(rt; number < epc.frames());
+        assert_eq!(rt; epc.entry(frame), EntryView::Free);
+        epc.set(frame, PAGE, Kind::Reg, PERM);
+    }
+
+    fn free(rt: &impl Abort, epc: &mut Epc, number: u32) {
+        assert!(rt; number < epc.frames());
+        epc.clear(Frame(number));
+    }
+
+    // Frames, those taken from 0 on, those of them given back, and then the least free frame and the number of free ones.
+    #[test]
+    fn finds_the_least_free_frame(rt: HostRuntime) -> Result<(), Fail> {
+        let rows: [(u32, u32, &[u32], Option<Frame>, u32); 10] = [
+            (0, 0, &[], None, 0),
+            (1, 0, &[], Some(Frame(0)), 1),
+            (1, 1, &[], None, 0),
+            (64, 63, &[], Some(Frame(63)), 1),
+            (64, 64, &[], None, 0),
+            (65, 64, &[], Some(Frame(64)), 1),
+            (200, 200, &[199, 130], Some(Frame(130)), 2),
+            (200, 128, &[127, 64], Some(Frame(64)), 74),
+            (4096, 4096, &[4095], Some(Frame(4095)), 1),
+            (4096, 4095, &[0], Some(Frame(0)), 2),
+        ];
+        for (frames, taken, freed, first, count) in rows {
+            assert!(rt; frames <= 4096);
+            let mut epc = Epc::new(rt.alloc(), frames)?;
+            for number in 0..taken {
+                hold_page(&rt, &mut epc, number);
+            }
+            for number in freed {
+                free(&rt, &mut epc, *number);
+            }
+            assert_eq!(rt; epc.first_free(), first, "{frames} frames, {taken} taken");
+            assert_eq!(rt; epc.free_count(), count, "{frames} frames, {taken} taken");
+        }
+        Ok(())
+    }
+
+    #[test]
+    fn words_are_bytes_low_first(rt: HostRuntime) -> Result<(), Fail> {
+        let mut epc = Epc::new(rt.alloc(), 2)?;
+        epc.set_word(Frame(1), 511, 0x0807_0605_0403_0201);
+        assert_eq!(rt;
+            &epc.bytes(Frame(1))[4088..],
+            [1, 2, 3, 4, 5, 6, 7, 8].as_slice()
+        );
+        assert_eq!(rt; epc.word(Frame(1), 511), 0x0807_0605_0403_0201);
+        let mut from = [0; 4096];
+        from[9] = 2;
+        epc.set_bytes(Frame(0), &from);
+        assert_eq!(rt; epc.word(Frame(0), 1), 512);
+        epc.clear(Frame(1));
+        assert_eq!(rt; epc.word(Frame(1), 511), 0);
+        assert_eq!(rt; epc.word(Frame(0), 1), 512);
+        Ok(())
+    }
+
+    #[test]
+    fn claims_a_frame_once(rt: HostRuntime) -> Result<(), Fail> {
+        let mut epc = Epc::new(rt.alloc(), 2)?;
+        assert_eq!(rt; epc.claim_load(Frame(0)), Ok(()));
+        assert_eq!(rt; epc.claim_load(Frame(0)), Err(Refusal::Conflict));
+        assert_eq!(rt; epc.entry(Frame(0)), EntryView::Loading);
+        epc.set(Frame(0), PAGE, Kind::Reg, PERM);
+        epc.block(Frame(0), 7);
+        assert_eq!(rt; epc.claim_seal(Frame(0)), Ok(()));
+        assert_eq!(rt; epc.claim_seal(Frame(0)), Err(Refusal::Conflict));
+        let sealing = EntryView::Valid {
+            page: PAGE,
+            kind: Kind::Reg,
+            perm: PERM,
+            blocked: Some(7),
+            sealing: true,
+        };
+        assert_eq!(rt; epc.entry(Frame(0)), sealing);
+        Ok(())
+    }
+}

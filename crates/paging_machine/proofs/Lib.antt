@@ -1,0 +1,6 @@
+pub mod Tools
+pub mod Carry
+pub mod BuildLaws
+pub mod ProcessorLaws
+pub mod Refused
+pub mod Bridge

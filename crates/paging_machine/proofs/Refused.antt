@@ -1,0 +1,185 @@
+-- A refused instruction changes nothing, and is refused by the first case that holds by the entries too.
+use Rattle.std.proofs.Common.{◌≡◌, ℕ, ◌/◌, ◌==◌, not, Bool, true, false, cond, refl, sym, ap, ◌∙◌, ◌⊎◌, inl, inr, Option, Some, None, IfSome, List, [], ◌∷◌, is_some}
+use Rattle.std.proofs.lemmas.Bool.{false≢true}
+use Rattle.sgx_types.specs.declared.entries.Entry.{Entry}
+use Rattle.sgx_types.specs.declared.entries.Actor.{Actor}
+use Rattle.sgx_types.specs.declared.entries.Actor.TheVariants as actors
+use Rattle.sgx_types.specs.declared.entries.Action.{Action}
+use Rattle.sgx_types.specs.declared.entries.Action.TheVariants.{Epa, Create, Add, Init, Enter, Exit, Fill, Load}
+use Rattle.sgx_types.specs.declared.entries.PageInit.{PageInit}
+use Rattle.sgx_types.specs.declared.entries.Event.TheVariants.{Refused}
+use Rattle.sgx_types.specs.declared.refusals.Refusal.{Refusal}
+use Rattle.sgx_types.specs.declared.refusals.Refusal.TheVariants as why
+use Rattle.sgx_types.specs.declared.names.Cpu.{Cpu}
+use Rattle.sgx_types.specs.declared.names.Frame.{Frame}
+use Rattle.sgx_types.specs.declared.names.Page.{Page}
+use Rattle.sgx_types.specs.declared.names.Kind.{Kind}
+use Rattle.sgx_types.specs.declared.names.Kind.TheVariants as kinds
+use Rattle.sgx_types.specs.declared.names.Perm.{Perm}
+use Rattle.sgx_types.specs.Frames.{Content, content, is_blocked, is_sealing, is_page, page_at}
+use Rattle.sgx_types.specs.Processors.{Seat, Stay, stay, holds_number, translations}
+use Rattle.sgx_types.specs.Table.{Case, FrameSight, EnterSight, EnclaveSight, TcsSight, is_tcs, epa_row, create_row, add_row, init_row, enter_row, exit_row, fill_row, load_row, first_of_row}
+use Rattle.sgx_types.specs.Flat.{FlatEnclave, flat, enclave_sight_of, tcs_fields, words_of, page_words}
+use Rattle.sgx_types.specs.Sights.{sight_at, enter_row_at, enclave_of_stay, translation_at, row_at, perm_of_page}
+use Rattle.sgx_types.specs.Rules.{NoPageTwice, KeepsRules, case_of}
+use Rattle.cached_translations.specs.declared.cache.Translation.{Translation}
+use Rattle.cached_translations.specs.Translations.{translation_of}
+use Rattle.paging_machine.specs.State.{State, sight, seat_of, seat_enclave, perm_of_held, translation, row_of, enter_row_of}
+use Rattle.paging_machine.specs.Stands.{StandsBy, Stands, IsSound, Upholds, pair_of, seat_of_stay}
+use Rattle.paging_machine.proofs.Tools.{tested, not_false}
+use Rattle.paging_machine.proofs.Carry.{IsHeld, IsNext, upholds_more, held_before, once_before}
+use Rattle.paging_machine.proofs.BuildLaws.{sight_agrees, is_some-added_as}
+use Rattle.paging_machine.proofs.ProcessorLaws.{mode_by_entries, enclave_by_entries, enter_sight, enter_sight_of, tcs_there, IsKindOf, holds_number-map, found_translation}
+
+abbrev pub refused_by : Actor → Action → Refusal → Entry
+refused_by actor action refusal = record { actor = actor; event = Refused action refusal }
+
+-- an entry that leaves every column as it was
+pub refused_upheld : (s : State) (past : List Entry) (a : Actor) (action : Action) (refusal : Refusal) → Stands s (refused_by a action refusal ∷ past) → NoPageTwice (refused_by a action refusal ∷ past)
+    → IsHeld (refused_by a action refusal ∷ past) → first_of_row (row_at s.frames past a action) ≡ case_of action refusal → IsSound s
+    → Upholds s past → Upholds s (refused_by a action refusal ∷ past)
+refused_upheld s past a action refusal stands once held refused sound h =
+    upholds_more s past _ h.rules (record { sound = sound; stands = stands; refusal = refused; flat = tt; fits = tt; once = once; access = tt; held = held })
+
+-- ---- the rows by the state and by the entries
+
+pub epa_agrees : (s : State) (past : List Entry) (a : Actor) (f : Frame) → Stands s past → first_of_row (row_of s a (Epa f)) ≡ first_of_row (row_at s.frames past a (Epa f))
+epa_agrees s past a f stands = ap (λ v. first_of_row (epa_row v)) (sight_agrees s past stands f.0)
+
+create_row_same : (enclave base size : ℕ) (o o' : Option FlatEnclave) (v v' : FrameSight) → o ≡ o' → v ≡ v' → first_of_row (create_row enclave base size (is_some o) v) ≡ first_of_row (create_row enclave base size (is_some o') v')
+create_row_same enclave base size o o' v v' e e' = rw (e, e') refl
+
+pub create_agrees : (s : State) (past : List Entry) (a : Actor) (enclave : ℕ) (f : Frame) (base size : ℕ) → Stands s past
+    → first_of_row (row_of s a (Create enclave f base size)) ≡ first_of_row (row_at s.frames past a (Create enclave f base size))
+create_agrees s past a enclave f base size stands = create_row_same enclave base size _ _ _ _ (stands.enclaves enclave) (sight_agrees s past stands f.0)
+
+add_row_same : (number : ℕ) (kind : Kind) (perm : Perm) (init : PageInit) (o o' : Option FlatEnclave) (b b' : Bool) (v v' : FrameSight) → o ≡ o' → b ≡ b' → v ≡ v'
+    → first_of_row (add_row number kind perm init (enclave_sight_of o) b v) ≡ first_of_row (add_row number kind perm init (enclave_sight_of o') b' v')
+add_row_same number kind perm init o o' b b' v v' e1 e2 e3 = rw (e1, e2, e3) refl
+
+pub add_agrees : (s : State) (past : List Entry) (a : Actor) (enclave number : ℕ) (f : Frame) (kind : Kind) (perm : Perm) (init : PageInit) → Stands s past
+    → first_of_row (row_of s a (Add enclave number f kind perm init)) ≡ first_of_row (row_at s.frames past a (Add enclave number f kind perm init))
+add_agrees s past a enclave number f kind perm init stands =
+    add_row_same number kind perm init _ _ _ _ _ _ (stands.enclaves enclave)
+    (ap is_some (stands.added (page_at enclave number)) ∙ is_some-added_as ((flat past).pages (page_at enclave number))) (sight_agrees s past stands f.0)
+
+pub init_agrees : (s : State) (past : List Entry) (a : Actor) (enclave : ℕ) (expect : Option (List ℕ)) → Stands s past
+    → first_of_row (row_of s a (Init enclave expect)) ≡ first_of_row (row_at s.frames past a (Init enclave expect))
+init_agrees s past a enclave expect stands = ap (λ o. first_of_row (init_row (enclave_sight_of o))) (stands.enclaves enclave)
+
+pub exit_agrees : (s : State) (past : List Entry) (p : Cpu) → Stands s past → first_of_row (row_of s (actors.Cpu p) Exit) ≡ first_of_row (row_at s.frames past (actors.Cpu p) Exit)
+exit_agrees s past p stands = ap (λ b. first_of_row (exit_row b)) (mode_by_entries s past stands p.0)
+
+fill_row_same : (number : ℕ) (o o' : Option ℕ) (v v' : FrameSight) → o ≡ o' → v ≡ v' → first_of_row (fill_row number o v) ≡ first_of_row (fill_row number o' v')
+fill_row_same number o o' v v' e e' = rw (e, e') refl
+
+pub fill_agrees : (s : State) (past : List Entry) (p : Cpu) (number : ℕ) (f : Frame) → Stands s past
+    → first_of_row (row_of s (actors.Cpu p) (Fill number f)) ≡ first_of_row (row_at s.frames past (actors.Cpu p) (Fill number f))
+fill_agrees s past p number f stands =
+    fill_row_same number _ _ _ _ (ap seat_enclave (stands.inside p.0) ∙ enclave_by_entries (stay past p.0)) (sight_agrees s past stands f.0)
+
+load_row_same : (off : ℕ) (b b' : Bool) (o o' : Option Perm) → b ≡ b' → o ≡ o' → first_of_row (load_row off b o) ≡ first_of_row (load_row off b' o')
+load_row_same off b b' o o' e e' = rw (e, e') refl
+
+pub load_agrees : (s : State) (past : List Entry) (p : Cpu) (off : ℕ) → IsSound s → Stands s past → first_of_row (row_of s (actors.Cpu p) (Load off)) ≡ first_of_row (row_at s.frames past (actors.Cpu p) (Load off))
+load_agrees s past p off sound stands = load_row_same off _ _ _ _ (mode_by_entries s past stands p.0) (found_translation s past p.0 off sound stands)
+
+-- where the TCS page is not in its frame, the row does not come to its fields
+enter_elsewhere : (enclave tcs : ℕ) (v : EnterSight) (fields : TcsSight) → is_page v.tcs.content (page_at enclave tcs) ≡ false → first_of_row (enter_row enclave tcs v) ≡ first_of_row (enter_row enclave tcs (record v { fields = fields }))
+enter_elsewhere enclave tcs v fields other = rw other refl
+
+enter_otherwise : (enclave tcs : ℕ) (v : EnterSight) (fields : TcsSight) → is_tcs v.tcs.content ≡ false → first_of_row (enter_row enclave tcs v) ≡ first_of_row (enter_row enclave tcs (record v { fields = fields }))
+enter_otherwise enclave tcs v fields other = rw other refl
+
+pub enter_agrees : (s : State) (past : List Entry) (p : Cpu) (enclave tcs : ℕ) (tf sf : Frame) → Stands s past
+    → first_of_row (row_of s (actors.Cpu p) (Enter enclave tcs tf sf)) ≡ first_of_row (row_at s.frames past (actors.Cpu p) (Enter enclave tcs tf sf))
+enter_agrees s past p enclave tcs tf sf stands =
+    by_page (tested (is_page v.tcs.content g)) (tested (is_tcs v.tcs.content))
+    ∙ ap (λ x. first_of_row (enter_row enclave tcs x))
+    (enter_sight_of _ _ _ _ _ _ _ _ _ _ _ _ (mode_by_entries s past stands p.0) (ap enclave_sight_of (stands.enclaves enclave)) (sight_agrees s past stands tf.0) (stands.is_busy g) refl (sight_agrees s past stands sf.0))
+  where
+    g : Page
+    g = page_at enclave tcs
+
+    v : EnterSight
+    v = enter_sight s p.0 (seat_of enclave tcs tf.0 sf.0)
+
+    fields : TcsSight
+    fields = tcs_fields (words_of (flat past) g)
+
+    by_page : (is_page v.tcs.content g ≡ true) ⊎ (is_page v.tcs.content g ≡ false) → (is_tcs v.tcs.content ≡ true) ⊎ (is_tcs v.tcs.content ≡ false)
+        → first_of_row (enter_row enclave tcs v) ≡ first_of_row (enter_row enclave tcs (record v { fields = fields }))
+    by_page (inr other) is = enter_elsewhere enclave tcs v fields other
+    by_page (inl here) (inr other) = enter_otherwise enclave tcs v fields other
+    by_page (inl here) (inl is) =
+        let k = tcs_there (s.content tf.0) g here is in
+        let there = stands.words tf.0 g kinds.Tcs k.perm k.holds in
+        ap (λ x. first_of_row (enter_row enclave tcs (record v { fields = tcs_fields (page_words x) }))) (sym there)
+
+-- ---- refused entries
+
+-- an entry that no column sees
+pub stands_same : (s : State) (past : List Entry) (e : Entry) → ((n : ℕ) → content (e ∷ past) n ≡ content past n) → ((n : ℕ) → is_blocked (e ∷ past) n ≡ is_blocked past n)
+    → ((n : ℕ) → is_sealing (e ∷ past) n ≡ is_sealing past n) → ((p : ℕ) → stay (e ∷ past) p ≡ stay past p) → ((p : ℕ) → translations (e ∷ past) p ≡ translations past p)
+    → flat (e ∷ past) ≡ flat past → Stands s past → Stands s (e ∷ past)
+stands_same s past e c b q t x m stands = record {
+  content = λ n. stands.content n ∙ sym (c n);
+  is_blocked = λ n. stands.is_blocked n ∙ sym (b n);
+  is_sealing = λ n. stands.is_sealing n ∙ sym (q n);
+  enclaves = λ e. rw m (stands.enclaves e);
+  added = λ g. rw m (stands.added g);
+  is_busy = λ g. rw m (stands.is_busy g);
+  inside = λ p. stands.inside p ∙ ap seat_of_stay (sym (t p));
+  acc = λ p. rw m (stands.acc p);
+  cache = λ p. stands.cache p ∙ sym (x p);
+  words = λ n g kind perm at. rw m (stands.words n g kind perm at);
+  flat_inside = λ p. rw (m, t p) (stands.flat_inside p);
+}
+
+pub epa_refused : (s : State) (past : List Entry) (a : Actor) (f : Frame) (refusal : Refusal) → first_of_row (row_of s a (Epa f)) ≡ case_of (Epa f) refusal → IsSound s
+    → Upholds s past → Upholds s (refused_by a (Epa f) refusal ∷ past)
+epa_refused s past a f refusal refused sound h =
+    refused_upheld s past a (Epa f) refusal (stands_same s past _ (λ n. refl) (λ n. refl) (λ n. refl) (λ q. refl) (λ q. refl) refl h.stands) (once_before s.frames past h.rules)
+    (held_before s.frames past h.rules) (sym (epa_agrees s past a f h.stands) ∙ refused) sound h
+
+pub create_refused : (s : State) (past : List Entry) (a : Actor) (enclave : ℕ) (f : Frame) (base size : ℕ) (refusal : Refusal) → first_of_row (row_of s a (Create enclave f base size)) ≡ case_of (Create enclave f base size) refusal → IsSound s
+    → Upholds s past → Upholds s (refused_by a (Create enclave f base size) refusal ∷ past)
+create_refused s past a enclave f base size refusal refused sound h =
+    refused_upheld s past a (Create enclave f base size) refusal (stands_same s past _ (λ n. refl) (λ n. refl) (λ n. refl) (λ q. refl) (λ q. refl) refl h.stands) (once_before s.frames past h.rules)
+    (held_before s.frames past h.rules) (sym (create_agrees s past a enclave f base size h.stands) ∙ refused) sound h
+
+pub add_refused : (s : State) (past : List Entry) (a : Actor) (enclave number : ℕ) (f : Frame) (kind : Kind) (perm : Perm) (init : PageInit) (refusal : Refusal) → first_of_row (row_of s a (Add enclave number f kind perm init)) ≡ case_of (Add enclave number f kind perm init) refusal → IsSound s
+    → Upholds s past → Upholds s (refused_by a (Add enclave number f kind perm init) refusal ∷ past)
+add_refused s past a enclave number f kind perm init refusal refused sound h =
+    refused_upheld s past a (Add enclave number f kind perm init) refusal (stands_same s past _ (λ n. refl) (λ n. refl) (λ n. refl) (λ q. refl) (λ q. refl) refl h.stands) (once_before s.frames past h.rules)
+    (held_before s.frames past h.rules) (sym (add_agrees s past a enclave number f kind perm init h.stands) ∙ refused) sound h
+
+pub init_refused : (s : State) (past : List Entry) (a : Actor) (enclave : ℕ) (expect : Option (List ℕ)) (refusal : Refusal) → first_of_row (row_of s a (Init enclave expect)) ≡ case_of (Init enclave expect) refusal → IsSound s
+    → Upholds s past → Upholds s (refused_by a (Init enclave expect) refusal ∷ past)
+init_refused s past a enclave expect refusal refused sound h =
+    refused_upheld s past a (Init enclave expect) refusal (stands_same s past _ (λ n. refl) (λ n. refl) (λ n. refl) (λ q. refl) (λ q. refl) refl h.stands) (once_before s.frames past h.rules)
+    (held_before s.frames past h.rules) (sym (init_agrees s past a enclave expect h.stands) ∙ refused) sound h
+
+pub enter_refused : (s : State) (past : List Entry) (p : Cpu) (enclave tcs : ℕ) (tf sf : Frame) (refusal : Refusal) → first_of_row (row_of s (actors.Cpu p) (Enter enclave tcs tf sf)) ≡ case_of (Enter enclave tcs tf sf) refusal → IsSound s
+    → Upholds s past → Upholds s (refused_by (actors.Cpu p) (Enter enclave tcs tf sf) refusal ∷ past)
+enter_refused s past p enclave tcs tf sf refusal refused sound h =
+    refused_upheld s past (actors.Cpu p) (Enter enclave tcs tf sf) refusal (stands_same s past _ (λ n. refl) (λ n. refl) (λ n. refl) (λ q. refl) (λ q. refl) refl h.stands) (once_before s.frames past h.rules)
+    (held_before s.frames past h.rules) (sym (enter_agrees s past p enclave tcs tf sf h.stands) ∙ refused) sound h
+
+pub exit_refused : (s : State) (past : List Entry) (p : Cpu) (refusal : Refusal) → first_of_row (row_of s (actors.Cpu p) Exit) ≡ case_of Exit refusal → IsSound s
+    → Upholds s past → Upholds s (refused_by (actors.Cpu p) Exit refusal ∷ past)
+exit_refused s past p refusal refused sound h =
+    refused_upheld s past (actors.Cpu p) Exit refusal (stands_same s past _ (λ n. refl) (λ n. refl) (λ n. refl) (λ q. refl) (λ q. refl) refl h.stands) (once_before s.frames past h.rules)
+    (held_before s.frames past h.rules) (sym (exit_agrees s past p h.stands) ∙ refused) sound h
+
+pub fill_refused : (s : State) (past : List Entry) (p : Cpu) (number : ℕ) (f : Frame) (refusal : Refusal) → first_of_row (row_of s (actors.Cpu p) (Fill number f)) ≡ case_of (Fill number f) refusal → IsSound s
+    → Upholds s past → Upholds s (refused_by (actors.Cpu p) (Fill number f) refusal ∷ past)
+fill_refused s past p number f refusal refused sound h =
+    refused_upheld s past (actors.Cpu p) (Fill number f) refusal (stands_same s past _ (λ n. refl) (λ n. refl) (λ n. refl) (λ q. refl) (λ q. refl) refl h.stands) (once_before s.frames past h.rules)
+    (held_before s.frames past h.rules) (sym (fill_agrees s past p number f h.stands) ∙ refused) sound h
+
+pub load_refused : (s : State) (past : List Entry) (p : Cpu) (off : ℕ) (refusal : Refusal) → first_of_row (row_of s (actors.Cpu p) (Load off)) ≡ case_of (Load off) refusal → IsSound s
+    → Upholds s past → Upholds s (refused_by (actors.Cpu p) (Load off) refusal ∷ past)
+load_refused s past p off refusal refused sound h =
+    refused_upheld s past (actors.Cpu p) (Load off) refusal (stands_same s past _ (λ n. refl) (λ n. refl) (λ n. refl) (λ q. refl) (λ q. refl) refl h.stands) (once_before s.frames past h.rules)
+    (held_before s.frames past h.rules) (sym (load_agrees s past p off sound h.stands) ∙ refused) sound h

@@ -1,0 +1,116 @@
+-- The machine's parts as data, and the state that they make.
+use Rattle.std.specs.Prelude.{ℕ, ◌==◌, ◌+◌, ◌*◌, ◌/◌, ◌&&◌, Bool, true, false, if◌then◌else◌, List, [], ◌∷◌, map, Option, Some, None, slice_index_or, slice_index, slice_set, length, is_some}
+use Rattle.sgx_types.specs.declared.names.Page.{Page}
+use Rattle.sgx_types.specs.declared.names.Kind.{Kind}
+use Rattle.sgx_types.specs.declared.names.Kind.TheVariants as kinds
+use Rattle.sgx_types.specs.declared.names.Perm.{Perm}
+use Rattle.sgx_types.specs.declared.entries.AccessOp.{AccessOp}
+use Rattle.sgx_types.specs.declared.entries.AccessOp.TheVariants as accesses
+use Rattle.sgx_types.specs.declared.layouts.TcsFields.{TcsFields}
+use Rattle.sgx_types.specs.Frames.{Content, Free, IsVa, SecsOf, Holds, IsLoading}
+use Rattle.sgx_types.specs.Processors.{Seat}
+use Rattle.sgx_types.specs.Table.{TcsSight}
+use Rattle.sgx_types.specs.Flat.{FlatEnclave, tcs_fields}
+use Rattle.epcm_entry.specs.declared.entry_view.EntryView.{EntryView}
+use Rattle.epcm_entry.specs.declared.entry_view.EntryView.TheVariants as views
+use Rattle.epcm_entry.specs.EntryView.{block_of, goes_out}
+use Rattle.epcm_entry.specs.Epc.{EpcFrame, entry_at, words_at}
+use Rattle.cached_translations.specs.declared.processor.Processor.{Processor}
+use Rattle.cached_translations.specs.declared.processor.Mode.{Mode}
+use Rattle.cached_translations.specs.declared.processor.Mode.TheVariants.{Outside, Inside}
+use Rattle.paging_machine.specs.declared.enclaves.Enclave.{Enclave}
+use Rattle.paging_machine.specs.declared.enclaves.PageNote.{PageNote}
+use Rattle.paging_machine.specs.declared.enclaves.Added.{Added}
+use Rattle.paging_machine.specs.State.{State}
+
+-- the EPC, the enclaves and their pages by the enclave's number, the processors, and the numbers of the making
+pub record Parts : Type 0 where
+  pub epc : List EpcFrame
+  pub enclaves : List (Option Enclave)
+  pub pages : List (List PageNote)
+  pub cpus : List Processor
+  pub key : List ℕ
+  pub start_epoch : ℕ
+  pub start_version : ℕ
+
+-- ---- frames
+
+abbrev pub content_of : Page → Kind → Perm → Content
+content_of page kinds.Secs perm = SecsOf page.enclave
+content_of page kinds.Va perm = IsVa
+content_of page kinds.Tcs perm = Holds page kinds.Tcs perm
+content_of page kinds.Reg perm = Holds page kinds.Reg perm
+
+abbrev pub held : EntryView → Content
+held views.Free = Free
+held views.Loading = IsLoading
+held (views.Valid page kind perm blocked sealing) = content_of page kind perm
+
+-- ---- enclaves
+
+abbrev pub enclave_of : Option Enclave → Option FlatEnclave
+enclave_of None = None
+enclave_of (Some e) = Some (record { base = e.base; size = e.size; is_init = e.is_init })
+
+abbrev pub no_note : PageNote
+no_note = record { added = None; is_busy = false }
+
+abbrev pub note_at : Parts → ℕ → ℕ → PageNote
+note_at d enclave number = slice_index_or (slice_index_or d.pages enclave []) number no_note
+
+abbrev pub kind_of : Option Added → Option (Kind × Perm)
+kind_of None = None
+kind_of (Some x) = Some (x.kind, x.perm)
+
+-- ---- processors
+
+abbrev pub idle : Processor
+idle = record { mode = Outside; acc = 0; cache = [] }
+
+abbrev pub cpu_at : Parts → ℕ → Processor
+cpu_at d p = slice_index_or d.cpus p idle
+
+abbrev pub seat_of_mode : Mode → Option Seat
+seat_of_mode Outside = None
+seat_of_mode (Inside enclave tcs tf sf epoch) = Some (record { enclave = enclave; tcs = tcs; tcs_frame = tf.0; ssa_frame = sf.0 })
+
+-- ---- the state
+
+abbrev pub state_of : Parts → State
+state_of d = record {
+  frames = length d.epc;
+  content = λ n. held (entry_at d.epc n);
+  is_blocked = λ n. is_some (block_of (entry_at d.epc n));
+  is_sealing = λ n. goes_out (entry_at d.epc n);
+  words = λ n. words_at d.epc n;
+  enclaves = λ e. enclave_of (slice_index_or d.enclaves e None);
+  added = λ g. kind_of (note_at d g.enclave g.number).added;
+  is_busy = λ g. (note_at d g.enclave g.number).is_busy;
+  inside = λ p. seat_of_mode (cpu_at d p).mode;
+  acc = λ p. (cpu_at d p).acc;
+  cache = λ p. (cpu_at d p).cache;
+}
+
+-- ---- what readers answer
+
+-- the fields as the rows see them, with OSSA in pages
+abbrev pub fields_of : TcsFields → TcsSight
+fields_of f = record { ossa = f.ossa / 4096; cssa = f.cssa; nssa = f.nssa }
+
+abbrev pub tcs_of : Content → List ℕ → Option TcsFields
+tcs_of (Holds page kinds.Tcs perm) words = Some (record { ossa = slice_index words 2; cssa = (tcs_fields words).cssa; nssa = (tcs_fields words).nssa })
+tcs_of _ words = None
+
+abbrev pub allows : Perm → AccessOp → Bool
+allows perm accesses.Load = perm.r
+allows perm accesses.Store = perm.w
+allows perm accesses.Xadd = perm.r && perm.w
+
+-- an access can succeed: its page was added as a REG page, with the permission
+abbrev pub is_lawful_access : Option (Kind × Perm) → AccessOp → Bool
+is_lawful_access None op = false
+is_lawful_access (Some x) op = by_kind x.0
+  where
+    by_kind : Kind → Bool
+    by_kind kinds.Reg = allows x.1 op
+    by_kind _ = false

@@ -1,0 +1,78 @@
+-- The machine's state is what the entries make it, column by column and without a bound: beyond the last frame, enclave
+-- or processor there is nothing on either side.
+use Rattle.std.specs.Prelude.{ℕ, ◌≡◌, Bool, true, false, List, Option, Some, None, IfSome, map}
+use Rattle.std.specs.List.{All}
+use Rattle.sgx_types.specs.declared.entries.Entry.{Entry}
+use Rattle.sgx_types.specs.declared.names.Page.{Page}
+use Rattle.sgx_types.specs.declared.names.Kind.{Kind}
+use Rattle.sgx_types.specs.declared.names.Kind.TheVariants as kinds
+use Rattle.sgx_types.specs.declared.names.Perm.{Perm}
+use Rattle.sgx_types.specs.Frames.{Content, Holds, content, is_blocked, is_sealing, enclave_in, page_at}
+use Rattle.sgx_types.specs.Processors.{Seat, Stay, stay, Pair, translations}
+use Rattle.sgx_types.specs.Flat.{FlatMemory, FlatPage, Inside, flat}
+use Rattle.sgx_types.specs.Rules.{KeepsRules}
+use Rattle.cached_translations.specs.declared.cache.Translation.{Translation}
+use Rattle.paging_machine.specs.State.{State}
+
+abbrev pub seat_of_stay : Option Stay → Option Seat
+seat_of_stay None = None
+seat_of_stay (Some t) = Some t.seat
+
+abbrev pub inside_of_stay : Option Stay → Option Inside
+inside_of_stay None = None
+inside_of_stay (Some t) = Some (record { enclave = t.seat.enclave; tcs = t.seat.tcs })
+
+abbrev pub pair_of : Translation → Pair
+pair_of t = record { number = t.number; frame = t.frame.0 }
+
+abbrev pub added_as : Option FlatPage → Option (Kind × Perm)
+added_as None = None
+added_as (Some x) = Some (x.kind, x.perm)
+
+-- .. with the flat memory that the entries make
+pub record StandsBy (s : State) (past : List Entry) (m : FlatMemory) : Type 0 where
+  pub content : (n : ℕ) → s.content n ≡ content past n
+  pub is_blocked : (n : ℕ) → s.is_blocked n ≡ is_blocked past n
+  pub is_sealing : (n : ℕ) → s.is_sealing n ≡ is_sealing past n
+  pub enclaves : (e : ℕ) → s.enclaves e ≡ m.enclaves e
+  pub added : (g : Page) → s.added g ≡ added_as (m.pages g)
+  pub is_busy : (g : Page) → s.is_busy g ≡ m.is_busy g
+  pub inside : (p : ℕ) → s.inside p ≡ seat_of_stay (stay past p)
+  pub acc : (p : ℕ) → s.acc p ≡ (m.cpus p).acc
+  pub cache : (p : ℕ) → map pair_of (s.cache p) ≡ translations past p
+
+  -- a frame that holds a page has that page's flat words
+  pub words : (n : ℕ) (g : Page) (kind : Kind) (perm : Perm) → s.content n ≡ Holds g kind perm
+      → m.pages g ≡ Some (record { kind = kind; perm = perm; words = s.words n })
+
+  -- flat memory has each processor where the entries have it
+  pub flat_inside : (p : ℕ) → (m.cpus p).inside ≡ inside_of_stay (stay past p)
+
+abbrev pub Stands : State → List Entry → Type 0
+Stands s past = StandsBy s past (flat past)
+
+-- ---- what every state keeps
+
+-- a frame that a processor inside uses holds a page of its enclave, which is not on its way out
+pub record IsUsable (enclave : ℕ) (held : Content) (sealing : Bool) : Type 0 where
+  pub ours : enclave_in held ≡ Some enclave
+  pub settled : sealing ≡ false
+
+-- a translation leads to its page, with that page's permissions
+pub record IsTranslation (enclave : ℕ) (t : Translation) (held : Content) (sealing : Bool) : Type 0 where
+  pub page : held ≡ Holds (page_at enclave t.number) kinds.Reg t.perm
+  pub settled : sealing ≡ false
+
+-- a stay inside, by what the frames hold and which are on their way out
+pub record IsSeated (content : ℕ → Content) (is_sealing : ℕ → Bool) (held : List Translation) (seat : Seat) : Type 0 where
+  pub tcs : IsUsable seat.enclave (content seat.tcs_frame) (is_sealing seat.tcs_frame)
+  pub ssa : IsUsable seat.enclave (content seat.ssa_frame) (is_sealing seat.ssa_frame)
+  pub cache : All (λ t. IsTranslation seat.enclave t (content t.frame.0) (is_sealing t.frame.0)) held
+
+pub record IsSound (s : State) : Type 0 where
+  pub seated : (p : ℕ) → IfSome (s.inside p) (IsSeated s.content s.is_sealing (s.cache p))
+
+-- a state that stands for entries which keep the rules
+pub record Upholds (s : State) (past : List Entry) : Type 0 where
+  pub stands : Stands s past
+  pub rules : KeepsRules s.frames past

@@ -1,0 +1,153 @@
+-- The machine's state as functions of a frame, an enclave, a page and a processor, what an instruction sees of it, and
+-- what each instruction does to it.
+use Rattle.std.specs.Prelude.{ℕ, ◌==◌, ◌/◌, Bool, true, false, if◌then◌else◌, List, [], Option, Some, None, nat_le, is_some, slice_index}
+use Rattle.sgx_types.specs.declared.entries.Actor.{Actor}
+use Rattle.sgx_types.specs.declared.entries.Actor.TheVariants as actors
+use Rattle.sgx_types.specs.declared.entries.Action.{Action}
+use Rattle.sgx_types.specs.declared.entries.Action.TheVariants.{Epa, Create, Add, Init, Enter, Exit, Fill, Load}
+use Rattle.sgx_types.specs.declared.entries.PageInit.{PageInit}
+use Rattle.sgx_types.specs.declared.names.Kind.{Kind}
+use Rattle.sgx_types.specs.declared.names.Page.{Page}
+use Rattle.sgx_types.specs.declared.names.Perm.{Perm}
+use Rattle.sgx_types.specs.Frames.{Content, Free, IsVa, SecsOf, Holds, same_page, page_at}
+use Rattle.sgx_types.specs.Processors.{Seat}
+use Rattle.sgx_types.specs.Table.{Case, allowed, FrameSight, EnclaveSight, epa_row, create_row, add_row, init_row, enter_row, exit_row, fill_row, load_row}
+use Rattle.cached_translations.specs.declared.cache.Translation.{Translation}
+use Rattle.cached_translations.specs.Translations.{translation_of, with_translation}
+use Rattle.sgx_types.specs.Flat.{FlatEnclave, enclave_sight_of, marked, tcs_fields, first_words, word_index}
+
+pub record State : Type 0 where
+  pub frames : ℕ
+  pub content : ℕ → Content
+  pub is_blocked : ℕ → Bool
+  pub is_sealing : ℕ → Bool
+  pub words : ℕ → List ℕ
+  pub enclaves : ℕ → Option FlatEnclave
+  pub added : Page → Option (Kind × Perm)
+  pub is_busy : Page → Bool
+  pub inside : ℕ → Option Seat
+  pub acc : ℕ → ℕ
+  pub cache : ℕ → List Translation
+
+-- a machine that has done nothing yet
+abbrev pub fresh : ℕ → State
+fresh frames = record {
+  frames = frames;
+  content = λ n. Free;
+  is_blocked = λ n. false;
+  is_sealing = λ n. false;
+  words = λ n. [];
+  enclaves = λ e. None;
+  added = λ g. None;
+  is_busy = λ g. false;
+  inside = λ p. None;
+  acc = λ p. 0;
+  cache = λ p. [];
+}
+
+-- ---- what an instruction sees
+
+abbrev pub sight : State → ℕ → FrameSight
+sight s n = record { is_beyond = nat_le s.frames n; content = s.content n; is_sealing = s.is_sealing n; is_blocked = s.is_blocked n }
+
+abbrev pub seat_enclave : Option Seat → Option ℕ
+seat_enclave None = None
+seat_enclave (Some seat) = Some seat.enclave
+
+abbrev pub perm_of_held : Option Translation → Option Perm
+perm_of_held None = None
+perm_of_held (Some t) = Some t.perm
+
+-- the permissions of a translation that a processor inside holds
+abbrev pub translation : State → ℕ → Option Seat → ℕ → Option Perm
+translation s p None number = None
+translation s p (Some seat) number = perm_of_held (translation_of (s.cache p) number)
+
+abbrev pub enter_row_of : State → ℕ → Seat → List Case
+enter_row_of s p seat =
+    let fields = tcs_fields (s.words seat.tcs_frame) in
+    enter_row seat.enclave seat.tcs (record {
+      is_inside = is_some (s.inside p);
+      enclave = enclave_sight_of (s.enclaves seat.enclave);
+      tcs = sight s seat.tcs_frame;
+      tcs_busy = s.is_busy (page_at seat.enclave seat.tcs);
+      fields = fields;
+      ssa = sight s seat.ssa_frame;
+    })
+
+abbrev pub seat_of : ℕ → ℕ → ℕ → ℕ → Seat
+seat_of enclave tcs tf sf = record { enclave = enclave; tcs = tcs; tcs_frame = tf; ssa_frame = sf }
+
+abbrev pub cpu_row_of : State → ℕ → Action → List Case
+cpu_row_of s p (Enter enclave tcs tf sf) = enter_row_of s p (seat_of enclave tcs tf.0 sf.0)
+cpu_row_of s p Exit = exit_row (is_some (s.inside p))
+cpu_row_of s p (Fill number f) = fill_row number (seat_enclave (s.inside p)) (sight s f.0)
+cpu_row_of s p (Load off) = load_row off (is_some (s.inside p)) (translation s p (s.inside p) (off / 4096))
+cpu_row_of s p _ = allowed
+
+-- the row of an instruction
+abbrev pub row_of : State → Actor → Action → List Case
+row_of s actor (Epa f) = epa_row (sight s f.0)
+row_of s actor (Create enclave f base size) = create_row enclave base size (is_some (s.enclaves enclave)) (sight s f.0)
+row_of s actor (Add enclave number f kind perm init) =
+    add_row number kind perm init (enclave_sight_of (s.enclaves enclave)) (is_some (s.added (page_at enclave number))) (sight s f.0)
+row_of s actor (Init enclave expect) = init_row (enclave_sight_of (s.enclaves enclave))
+row_of s (actors.Cpu p) action = cpu_row_of s p.0 action
+row_of s actor action = allowed
+
+-- ---- what an instruction does
+
+abbrev pub with_content : State → ℕ → Content → State
+with_content s f c = record s {
+  content = λ n. if f == n then c else s.content n;
+  is_blocked = λ n. if f == n then false else s.is_blocked n;
+}
+
+abbrev pub after_epa : State → ℕ → State
+after_epa s f = with_content s f IsVa
+
+abbrev pub after_create : State → ℕ → ℕ → ℕ → ℕ → State
+after_create s enclave f base size = record (with_content s f (SecsOf enclave)) {
+  enclaves = λ e. if e == enclave then Some (record { base = base; size = size; is_init = false }) else s.enclaves e
+}
+
+abbrev pub after_add : State → Page → ℕ → Kind → Perm → PageInit → State
+after_add s g f kind perm init = record (with_content s f (Holds g kind perm)) {
+  words = λ n. if f == n then first_words init else s.words n;
+  added = λ q. if same_page q g then Some (kind, perm) else s.added q;
+}
+
+abbrev pub after_init : State → ℕ → State
+after_init s enclave = record s { enclaves = λ e. if e == enclave then marked (s.enclaves e) else s.enclaves e }
+
+abbrev pub after_enter : State → ℕ → Seat → State
+after_enter s p seat = record s {
+  inside = λ q. if p == q then Some seat else s.inside q;
+  cache = λ q. if p == q then [] else s.cache q;
+  acc = λ q. if p == q then (tcs_fields (s.words seat.tcs_frame)).cssa else s.acc q;
+  is_busy = λ q. if same_page q (page_at seat.enclave seat.tcs) then true else s.is_busy q;
+}
+
+-- seated by this TCS page
+abbrev pub is_seated_by : Option Seat → Page → Bool
+is_seated_by None g = false
+is_seated_by (Some seat) g = same_page g (page_at seat.enclave seat.tcs)
+
+abbrev pub after_exit : State → ℕ → State
+after_exit s p = record s {
+  inside = λ q. if p == q then None else s.inside q;
+  cache = λ q. if p == q then [] else s.cache q;
+  is_busy = λ g. if is_seated_by (s.inside p) g then false else s.is_busy g;
+}
+
+abbrev pub after_fill : State → ℕ → Translation → State
+after_fill s p t = record s { cache = λ q. if p == q then with_translation (s.cache q) t else s.cache q }
+
+-- the frame of a translation, the first where none is held
+abbrev pub frame_in : Option Translation → ℕ
+frame_in None = 0
+frame_in (Some t) = t.frame.0
+
+-- the word at an offset, by the translation of its page
+abbrev pub word_at : State → ℕ → ℕ → ℕ
+word_at s p off = slice_index (s.words (frame_in (translation_of (s.cache p) (off / 4096)))) (word_index off)

@@ -1,0 +1,310 @@
+ghost use Rattle.std.specs.Prelude.{◌≡◌, ◌<◌, ◌%◌, ◌==◌, is_some, slice_index, slice_index_or, OnOk, OnErr, length, Some, None};
+ghost use Rattle.sgx_types.specs.Frames.{page_at};
+ghost use Rattle.sgx_types.specs.Table.{is_enclave, is_lawful, is_lawful_size, is_addable, is_lawful_perm, is_within, first_of_row, epa_row, create_row, add_row, init_row};
+ghost use Rattle.sgx_types.specs.Flat.{enclave_sight_of, first_words};
+ghost use Rattle.epcm_entry.specs.Epc.{with_words};
+ghost use Rattle.paging_machine.specs.Parts.{state_of, note_at, no_note};
+ghost use Rattle.paging_machine.specs.State.{sight, after_epa, after_create, after_add, after_init};
+
+use crate::enclaves::{Added, Enclave, PageNote};
+use crate::machine::Machine;
+use crate::measure::{add_block, begun};
+use crate::sights::{is_busy, is_valid};
+use epcm_entry::epc::Epc;
+use sgx_types::entries::PageInit;
+use sgx_types::layouts::flags;
+use sgx_types::names::{Frame, Kind, Memory, Page, Perm};
+use sgx_types::refusals::Refusal;
+use sha2::{Digest, Sha256};
+use std::alloc::Global;
+use std::mem;
+
+impl Machine {
+    /// The first case that holds of the row of `epa`.
+    pub(crate) fn epa_refusal(&self, frame: Frame) -> Option<Refusal>
+        ensures { result ≡ first_of_row (epa_row (sight (state_of self.now) frame.0)) }
+    {
+        if frame.0 >= self.frames() {
+            return Some(Refusal::BadRange);
+        }
+        let entry = self.epc.entry(frame);
+        if is_busy(entry) {
+            return Some(Refusal::Conflict);
+        }
+        if is_valid(entry) {
+            return Some(Refusal::FrameBusy);
+        }
+        None
+    }
+
+    /// The enclave of a number, None exactly where it was not created.
+    pub(crate) fn enclave(&self, enclave: u16) -> Option<Enclave>
+        ensures { result ≡ slice_index_or self.now.enclaves enclave None }
+    {
+        self.enclaves.get(usize::from(enclave)).copied().flatten()
+    }
+
+    /// What is known of a page.
+    pub(crate) fn note(&self, enclave: u16, number: u32) -> PageNote
+        ensures { result ≡ note_at self.now enclave number }
+    {
+        match self.pages.get(usize::from(enclave)) {
+            Some(notes) => note_of(notes, number),
+            None => NO_NOTE,
+        }
+    }
+
+    /// The first case that holds of the row of `create`.
+    pub(crate) fn create_refusal(&self, enclave: u16, frame: Frame, base: u64, size: u64) -> Option<Refusal>
+        ensures { result ≡ first_of_row (create_row enclave base size (is_some ((state_of self.now).enclaves enclave)) (sight (state_of self.now) frame.0)) }
+    {
+        if frame.0 >= self.frames() || !is_enclave(enclave) || !is_lawful(base, size) {
+            return Some(Refusal::BadRange);
+        }
+        if self.enclave(enclave).is_some() {
+            return Some(Refusal::PageExists);
+        }
+        let entry = self.epc.entry(frame);
+        if is_busy(entry) {
+            return Some(Refusal::Conflict);
+        }
+        if is_valid(entry) {
+            return Some(Refusal::FrameBusy);
+        }
+        None
+    }
+
+    /// The first case that holds of the row of `add`.
+    pub(crate) fn add_refusal(&self, enclave: u16, number: u32, frame: Frame, kind: Kind, perm: Perm, init: PageInit) -> Option<Refusal>
+        ensures { result ≡ first_of_row (add_row number kind perm init (enclave_sight_of ((state_of self.now).enclaves enclave))
+            (is_some ((state_of self.now).added (page_at enclave number))) (sight (state_of self.now) frame.0)) }
+    {
+        if frame.0 >= self.frames() {
+            return Some(Refusal::BadRange);
+        }
+        let Some(found) = self.enclave(enclave) else {
+            return Some(Refusal::Absent);
+        };
+        if found.is_init {
+            return Some(Refusal::IsInit);
+        }
+        if !is_addable(kind, init) {
+            return Some(Refusal::BadKind);
+        }
+        if !is_lawful_perm(kind, perm) {
+            return Some(Refusal::BadPerm);
+        }
+        if !is_within(found.size, number, init) {
+            return Some(Refusal::BadRange);
+        }
+        if self.note(enclave, number).added.is_some() {
+            return Some(Refusal::PageExists);
+        }
+        let entry = self.epc.entry(frame);
+        if is_busy(entry) {
+            return Some(Refusal::Conflict);
+        }
+        if is_valid(entry) {
+            return Some(Refusal::FrameBusy);
+        }
+        None
+    }
+
+    /// The first case that holds of the row of `init`, but for the measurement.
+    pub(crate) fn init_refusal(&self, enclave: u16) -> Option<Refusal>
+        ensures { result ≡ first_of_row (init_row (enclave_sight_of ((state_of self.now).enclaves enclave))) }
+    {
+        let Some(found) = self.enclave(enclave) else {
+            return Some(Refusal::Absent);
+        };
+        if found.is_init {
+            return Some(Refusal::IsInit);
+        }
+        None
+    }
+
+    /// Makes a free frame a version array page.
+    pub(crate) fn set_va(&mut self, frame: Frame)
+        requires { first_of_row (epa_row (sight (state_of self.old) frame.0)) ≡ None }
+        ensures done { state_of self.new ≡ after_epa (state_of self.old) frame.0 }
+        ensures cpus { length self.new.cpus ≡ length self.old.cpus }
+    {
+        self.epc.set(frame, NO_PAGE, Kind::Va, NO_PERM);
+    }
+
+    /// Makes a free frame the SECS of a new enclave, whose measurement begins.
+    pub(crate) fn set_secs(
+        &mut self,
+        alloc: Global,
+        enclave: u16,
+        frame: Frame,
+        base: u64,
+        size: u64,
+    ) -> Result<(), Memory>
+        requires { first_of_row (create_row enclave base size (is_some ((state_of self.old).enclaves enclave)) (sight (state_of self.old) frame.0)) ≡ None }
+        ensures done { OnOk result (state_of self.new ≡ after_create (state_of self.old) enclave frame.0 base size) }
+        ensures refused { OnErr result (self.new ≡ self.old) }
+        ensures cpus { length self.new.cpus ≡ length self.old.cpus }
+    {
+        let notes = vec![in alloc; NO_NOTE; (size / 4096) as usize]?;
+        let place = usize::from(enclave);
+        self.pages[place] = notes;
+        self.logs[place] = begun(size);
+        self.enclaves[place] = Some(Enclave {
+            base,
+            size,
+            is_init: false,
+        });
+        let page = Page { enclave, number: 0 };
+        self.epc.set(frame, page, Kind::Secs, NO_PERM);
+        Ok(())
+    }
+
+    /// Puts a page into a free frame, and adds it to the measurement.
+    pub(crate) fn set_page(
+        &mut self,
+        page: Page,
+        frame: Frame,
+        kind: Kind,
+        perm: Perm,
+        init: PageInit,
+    )
+        requires { first_of_row (add_row page.number kind perm init (enclave_sight_of ((state_of self.old).enclaves page.enclave))
+            (is_some ((state_of self.old).added page)) (sight (state_of self.old) frame.0)) ≡ None }
+        ensures done { state_of self.new ≡ after_add (state_of self.old) page frame.0 kind perm init }
+        ensures cpus { length self.new.cpus ≡ length self.old.cpus }
+    {
+        let place = usize::from(page.enclave);
+        let number = page.number as usize;
+        let is_busy = self.note(page.enclave, page.number).is_busy;
+        let added = Some(Added { kind, perm });
+        self.pages[place][number] = PageNote { added, is_busy };
+        self.epc.set(frame, page, kind, perm);
+        write_words(&mut self.epc, frame, init);
+        let block = add_block(u64::from(page.number) * 4096, flags(kind, perm));
+        self.logs[place].update(block.as_slice());
+    }
+
+    /// Marks an enclave initialised, and answers its measurement.
+    pub(crate) fn set_init(&mut self, enclave: u16) -> [u8; 32]
+        requires { first_of_row (init_row (enclave_sight_of ((state_of self.old).enclaves enclave))) ≡ None }
+        ensures done { state_of self.new ≡ after_init (state_of self.old) enclave }
+        ensures cpus { length self.new.cpus ≡ length self.old.cpus }
+    {
+        let place = usize::from(enclave);
+        if let Some(found) = self.enclaves[place] {
+            self.enclaves[place] = Some(Enclave {
+                is_init: true,
+                ..found
+            });
+        }
+        let log = mem::replace(&mut self.logs[place], Sha256::new());
+        log.finalize()
+    }
+}
+
+// The 512 words with which a page is added.
+fn write_words(epc: &mut Epc, frame: Frame, init: PageInit)
+    requires { frame.0 < length epc.old }
+    ensures { epc.new ≡ with_words epc.old frame.0 (first_words init) }
+{
+    for index in 0..512 {
+        epc.set_word(frame, index, first_word(init, index));
+    }
+}
+
+// One word of a page that is added.
+fn first_word(init: PageInit, index: u16) -> u64
+    requires { index < 512 }
+    ensures { result ≡ slice_index (first_words init) index }
+{
+    match init {
+        PageInit::Words(value) => value,
+        PageInit::Tcs { ossa, nssa } => match index {
+            2 => u64::from(ossa) * 4096,
+            3 => u64::from(nssa) << 32,
+            _ => 0,
+        },
+    }
+}
+
+const NO_PAGE: Page = Page {
+    enclave: 0,
+    number: 0,
+};
+
+const NO_PERM: Perm = Perm {
+    r: false,
+    w: false,
+    x: false,
+};
+
+const NO_NOTE: PageNote = PageNote {
+    added: None,
+    is_busy: false,
+};
+
+fn note_of(notes: &[PageNote], number: u32) -> PageNote
+    ensures { result ≡ slice_index_or notes.now number no_note }
+{
+    match notes.get(number as usize) {
+        Some(note) => *note,
+        None => NO_NOTE,
+    }
+}
+
+fn is_enclave(enclave: u16) -> bool
+    ensures { result ≡ is_enclave enclave }
+{
+    1 <= enclave && enclave <= 8
+}
+
+fn is_lawful_size(size: u64) -> bool
+    ensures { result ≡ is_lawful_size size }
+{
+    size.is_power_of_two() && 8192 <= size && size <= 1 << 24
+}
+
+fn is_lawful(base: u64, size: u64) -> bool
+    ensures { result ≡ is_lawful base size }
+{
+    is_lawful_size(size) && is_multiple(base, size)
+}
+
+fn is_multiple(base: u64, size: u64) -> bool
+    ensures { 0 < size → result ≡ (base % size == 0) }
+{
+    size != 0 && base % size == 0
+}
+
+fn is_addable(kind: Kind, init: PageInit) -> bool
+    ensures { result ≡ is_addable kind init }
+{
+    matches!(
+        (kind, init),
+        (Kind::Tcs, PageInit::Tcs { .. }) | (Kind::Reg, PageInit::Words(_))
+    )
+}
+
+fn is_lawful_perm(kind: Kind, perm: Perm) -> bool
+    ensures { result ≡ is_lawful_perm kind perm }
+{
+    match kind {
+        Kind::Tcs => !perm.r && !perm.w && !perm.x,
+        _ => perm.r || !perm.w,
+    }
+}
+
+fn is_within(size: u64, number: u32, init: PageInit) -> bool
+    ensures { result ≡ is_within size number init }
+{
+    let pages = size / 4096;
+    match init {
+        PageInit::Words(_) => u64::from(number) < pages,
+        PageInit::Tcs { ossa, nssa } => {
+            u64::from(number) < pages
+                && u64::from(ossa) + u64::from(nssa) <= pages
+                && nssa != 0
+        }
+    }
+}

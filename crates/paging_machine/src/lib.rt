@@ -1,0 +1,9 @@
+// The machine: SGX1's instructions over one EPC, one at a time.
+#![tactic(auto)]
+
+mod build;
+mod enclaves;
+pub mod machine;
+mod measure;
+mod processor;
+mod sights;

@@ -1,0 +1,120 @@
+ghost use Rattle.std.specs.Prelude.{◌≡◌, ◌<◌, ◌≤◌, ◌^◌, ◌-◌, ◌||◌, ◌%◌, ◌/◌, count_by, length, is_some, IfOk, OnErr, nat_le};
+ghost use Rattle.std.specs.Option.{option_map};
+ghost use Rattle.sgx_types.specs.Frames.{least_free, page_at, is_page};
+ghost use Rattle.sgx_types.specs.Table.{is_loading, is_valid, is_tcs, is_reg, perm_in, allows_update, is_ready, first_of_row, epa_row};
+ghost use Rattle.sgx_types.specs.Flat.{enclave_sight_of, tcs_fields};
+ghost use Rattle.epcm_entry.specs.EntryView.{block_of, goes_out};
+ghost use Rattle.epcm_entry.specs.Epc.{entry_at, words_at, is_free_frame};
+ghost use Rattle.cached_translations.specs.Translations.{translation_of};
+ghost use Rattle.paging_machine.specs.Parts.{state_of, held, cpu_at, tcs_of, is_lawful_access};
+ghost use Rattle.paging_machine.specs.State.{sight, fresh};
+
+use crate::enclaves::{Enclave, PageNote};
+use crate::sights::is_tcs;
+use cached_translations::cache::Translation;
+use cached_translations::processor::{Mode, Processor};
+use epcm_entry::entry_view::EntryView;
+use epcm_entry::epc::Epc;
+use sgx_types::entries::AccessOp;
+use sgx_types::layouts::TcsFields;
+use sgx_types::names::{Cpu, Frame, Kind, Memory, Page};
+use sgx_types::refusals::Refusal;
+use sha2::{Digest, Sha256};
+use std::alloc::Global;
+use std::marker::Model;
+
+/// SGX1's instructions over one EPC, with up to 16 processors and enclaves from 1 to 8.
+#[derive(Drop)]
+pub struct Machine {
+    pub(crate) epc: Epc,
+    // By the enclave's number; place 0 stays empty.
+    pub(crate) enclaves: Vec<Option<Enclave>>,
+    pub(crate) pages: Vec<Vec<PageNote>>,
+    pub(crate) logs: Vec<Sha256>,
+    pub(crate) cpus: Vec<Processor>,
+    key: [u8; 32],
+    pub(crate) start_epoch: u64,
+    start_version: u64,
+}
+
+impl Model for Machine {
+    ghost use Rattle.paging_machine.specs.Parts.{Parts};
+
+    ghost Value = { Parts };
+
+    ghost use Rattle.paging_machine.specs.Whole.{parts_of, IsWhole};
+
+    ghost view = { parts_of };
+
+    ghost invariant = { IsWhole };
+}
+
+impl Machine {
+    /// How many frames the EPC has.
+    pub fn frames(&self) -> u32
+        ensures { result ≡ (state_of self.now).frames }
+    {
+        self.epc.frames()
+    }
+
+    /// How a processor stands: outside, or inside an enclave by a TCS page.
+    pub fn mode(&self, cpu: Cpu) -> Mode
+        requires { cpu.0 < length self.now.cpus }
+        ensures { result ≡ (cpu_at self.now cpu.0).mode }
+    {
+        self.cpus[usize::from(cpu.0)].mode
+    }
+
+    /// Whether a processor holds a translation of a page of its enclave, by the page's number.
+    pub fn holds(&self, cpu: Cpu, number: u32) -> bool
+        requires { cpu.0 < length self.now.cpus }
+        ensures { result ≡ is_some (translation_of (cpu_at self.now cpu.0).cache number) }
+    {
+        self.cpus[usize::from(cpu.0)].cache.find(number).is_some()
+    }
+
+    /// The free frame with the least number, None exactly where none is free.
+    pub fn first_free(&self) -> Option<Frame>
+        ensures { option_map (λ f. f.0) result ≡ least_free (state_of self.now).frames (state_of self.now).content }
+    {
+        self.epc.first_free()
+    }
+
+    /// How many frames are free.
+    pub fn free_count(&self) -> u32
+        ensures { result ≡ count_by is_free_frame self.now.epc }
+    {
+        self.epc.free_count()
+    }
+
+    /// The fields of the TCS page in a frame, None exactly where the frame holds no TCS.
+    pub fn tcs(&self, frame: Frame) -> Option<TcsFields>
+        ensures { result ≡ tcs_of ((state_of self.now).content frame.0) ((state_of self.now).words frame.0) }
+    {
+        if frame.0 >= self.frames() {
+            return None;
+        }
+        if !is_tcs(self.epc.entry(frame)) {
+            return None;
+        }
+        let ossa = self.epc.word(frame, 2);
+        let counts = self.epc.word(frame, 3);
+        Some(TcsFields {
+            ossa,
+            cssa: low_half(counts),
+            nssa: high_half(counts),
+        })
+    }
+}
+
+pub(crate) fn low_half(word: u64) -> u32
+    ensures { result ≡ word % 2 ^ 32 }
+{
+    (word % (1 << 32)) as u32
+}
+
+pub(crate) fn high_half(word: u64) -> u32
+    ensures { result ≡ word / 2 ^ 32 }
+{
+    (word >> 32) as u32
+}

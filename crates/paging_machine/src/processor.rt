@@ -1,0 +1,184 @@
+ghost use Rattle.std.specs.Prelude.{◌≡◌, ◌<◌, ◌/◌, ◌+◌, is_some, length};
+ghost use Rattle.sgx_types.specs.Table.{first_of_row, enter_row, ssa_row, exit_row, fill_row, load_row};
+ghost use Rattle.paging_machine.specs.Parts.{state_of, fields_of};
+ghost use Rattle.sgx_types.specs.Flat.{tcs_fields};
+ghost use Rattle.cached_translations.specs.Translations.{translation_of};
+ghost use Rattle.paging_machine.specs.State.{sight, seat_of, seat_enclave, translation, enter_row_of};
+
+use crate::machine::{Machine, high_half, low_half};
+use crate::sights::{allows_update, is_blocked, is_busy, is_page, is_reg, is_tcs, perm_in};
+use cached_translations::cache::Translation;
+use cached_translations::processor::Mode;
+use sgx_types::layouts::TcsFields;
+use sgx_types::names::{Cpu, Frame, Perm};
+use sgx_types::refusals::Refusal;
+
+impl Machine {
+    /// The enclave that a processor is inside.
+    fn enclave_inside(&self, cpu: Cpu) -> Option<u16>
+        requires { cpu.0 < length self.now.cpus }
+        ensures { result ≡ seat_enclave ((state_of self.now).inside cpu.0) }
+    {
+        match self.mode(cpu) {
+            Mode::Outside => None,
+            Mode::Inside { enclave, .. } => Some(enclave),
+        }
+    }
+
+    pub(crate) fn is_inside(&self, cpu: Cpu) -> bool
+        requires { cpu.0 < length self.now.cpus }
+        ensures { result ≡ is_some ((state_of self.now).inside cpu.0) }
+    {
+        matches!(self.mode(cpu), Mode::Inside { .. })
+    }
+
+    /// The first case that holds of the row of `exit`.
+    pub(crate) fn exit_refusal(&self, cpu: Cpu) -> Option<Refusal>
+        requires { cpu.0 < length self.now.cpus }
+        ensures { result ≡ first_of_row (exit_row (is_some ((state_of self.now).inside cpu.0))) }
+    {
+        if self.is_inside(cpu) {
+            None
+        } else {
+            Some(Refusal::WrongMode)
+        }
+    }
+
+    /// The first case that holds of the row of `fill`.
+    pub(crate) fn fill_refusal(&self, cpu: Cpu, number: u32, frame: Frame) -> Option<Refusal>
+        requires { cpu.0 < length self.now.cpus }
+        ensures { result ≡ first_of_row (fill_row number (seat_enclave ((state_of self.now).inside cpu.0)) (sight (state_of self.now) frame.0)) }
+    {
+        let Some(enclave) = self.enclave_inside(cpu) else {
+            return Some(Refusal::WrongMode);
+        };
+        if frame.0 >= self.frames() {
+            return Some(Refusal::BadRange);
+        }
+        let entry = self.epc.entry(frame);
+        if is_busy(entry) {
+            return Some(Refusal::Conflict);
+        }
+        if !is_page(entry, enclave, u64::from(number)) {
+            return Some(Refusal::Absent);
+        }
+        if is_blocked(entry) {
+            return Some(Refusal::Blocked);
+        }
+        if !is_reg(entry) {
+            return Some(Refusal::BadKind);
+        }
+        None
+    }
+
+    /// The fields of the TCS page in a frame.
+    fn tcs_fields(&self, frame: Frame) -> TcsFields
+        requires { frame.0 < (state_of self.now).frames }
+        ensures { fields_of result ≡ tcs_fields ((state_of self.now).words frame.0) }
+    {
+        let counts = self.epc.word(frame, 3);
+        TcsFields {
+            ossa: self.epc.word(frame, 2),
+            cssa: low_half(counts),
+            nssa: high_half(counts),
+        }
+    }
+
+    /// The first case that holds of the part of the row of `enter` that is on the state save frame.
+    fn ssa_refusal(&self, enclave: u16, number: u64, frame: Frame) -> Option<Refusal>
+        requires { frame.0 < (state_of self.now).frames }
+        ensures { result ≡ first_of_row (ssa_row enclave number (sight (state_of self.now) frame.0)) }
+    {
+        let entry = self.epc.entry(frame);
+        if is_busy(entry) {
+            return Some(Refusal::Conflict);
+        }
+        if !is_page(entry, enclave, number) {
+            return Some(Refusal::Absent);
+        }
+        if !is_reg(entry) {
+            return Some(Refusal::BadKind);
+        }
+        if is_blocked(entry) {
+            return Some(Refusal::Blocked);
+        }
+        if !allows_update(perm_in(entry)) {
+            return Some(Refusal::NoPerm);
+        }
+        None
+    }
+
+    /// The first case that holds of the row of `enter`.
+    pub(crate) fn enter_refusal(&self, cpu: Cpu, enclave: u16, tcs: u32, tcs_frame: Frame, ssa_frame: Frame) -> Option<Refusal>
+        requires { cpu.0 < length self.now.cpus }
+        ensures { result ≡ first_of_row (enter_row_of (state_of self.now) cpu.0 (seat_of enclave tcs tcs_frame.0 ssa_frame.0)) }
+    {
+        if self.is_inside(cpu) {
+            return Some(Refusal::WrongMode);
+        }
+        let frames = self.frames();
+        if tcs_frame.0 >= frames || ssa_frame.0 >= frames {
+            return Some(Refusal::BadRange);
+        }
+        let Some(found) = self.enclave(enclave) else {
+            return Some(Refusal::Absent);
+        };
+        if !found.is_init {
+            return Some(Refusal::NotInit);
+        }
+        let entry = self.epc.entry(tcs_frame);
+        if is_busy(entry) {
+            return Some(Refusal::Conflict);
+        }
+        if !is_page(entry, enclave, u64::from(tcs)) {
+            return Some(Refusal::Absent);
+        }
+        if !is_tcs(entry) {
+            return Some(Refusal::BadKind);
+        }
+        if is_blocked(entry) {
+            return Some(Refusal::Blocked);
+        }
+        if self.note(enclave, tcs).is_busy {
+            return Some(Refusal::TcsBusy);
+        }
+        let fields = self.tcs_fields(tcs_frame);
+        if fields.cssa == fields.nssa {
+            return Some(Refusal::NoFrame);
+        }
+        let number = fields.ossa / 4096 + u64::from(fields.cssa);
+        self.ssa_refusal(enclave, number, ssa_frame)
+    }
+
+    /// The first case that holds of the row of `load`.
+    pub(crate) fn load_refusal(&self, cpu: Cpu, off: u64) -> Option<Refusal>
+        requires { cpu.0 < length self.now.cpus }
+        ensures { result ≡ first_of_row (load_row off (is_some ((state_of self.now).inside cpu.0)) (translation (state_of self.now) cpu.0 ((state_of self.now).inside cpu.0) (off / 4096))) }
+    {
+        if !self.is_inside(cpu) {
+            return Some(Refusal::WrongMode);
+        }
+        if off % 8 != 0 {
+            return Some(Refusal::BadRange);
+        }
+        let Some(translation) = self.find(cpu, off / 4096) else {
+            return Some(Refusal::Miss);
+        };
+        if !translation.perm.r {
+            return Some(Refusal::NoPerm);
+        }
+        None
+    }
+
+    /// The translation that a processor holds of a page.
+    fn find(&self, cpu: Cpu, number: u64) -> Option<Translation>
+        requires { cpu.0 < length self.now.cpus }
+        ensures { result ≡ translation_of ((state_of self.now).cache cpu.0) number }
+    {
+        let cache = &self.cpus[usize::from(cpu.0)].cache;
+        if number >= 1 << 32 {
+            return None;
+        }
+        cache.find(number as u32)
+    }
+}
