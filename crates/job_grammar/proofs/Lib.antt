@@ -2,6 +2,8 @@ pub mod LastItem
 pub mod LineLoop
 pub mod LineWords
 pub mod Numerals
+pub mod PageLaws
 pub mod Splits
 mod Worked
+pub mod ViewLaws
 pub mod WrittenJobs

@@ -17,6 +17,11 @@ line_at table n = slice_index_or table n None
 abbrev pub IsTableOf : List PageLine → Table → Type 0
 IsTableOf lines table = (n : ℕ) → line_at table n ≡ find (covers n) lines
 
+-- the table is that of these lines, which add no page twice
+pub record Tells (table : Table) (lines : List PageLine) : Type 0 where
+  pub of : IsTableOf lines table
+  pub once : (n : ℕ) → count_by (covers n) lines ≤ 1
+
 -- the table with the pages of one line more, none of which it had before
 abbrev pub AddsLine : Table → Table → PageLine → Type 0
 AddsLine old new line = (n : ℕ) → (line_at new n ≡ (if covers n line then Some line else line_at old n)) × (covers n line ≡ true → line_at old n ≡ None)
@@ -28,4 +33,4 @@ pub record AreValidPages (pages : ℕ) (lines : List PageLine) : Type 0 where
 
 -- one table for each enclave
 abbrev pub AreTablesOf : List EnclaveView → List PageTable → Type 0
-AreTablesOf enclaves tables = AllZip (λ e t. IsTableOf e.lines t.lines.items) enclaves tables
+AreTablesOf enclaves tables = AllZip (λ e t. Tells t.lines.items e.lines) enclaves tables

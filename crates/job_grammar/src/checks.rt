@@ -1,35 +1,28 @@
-ghost use Rattle.std.specs.Prelude.{◌≡◌, ◌+◌, ◌^◌, ◌≤◌, ◌↔◌, List, true, map, vec_len, IsTrue, IfOk, MatchOption};
-ghost use Rattle.sgx_types.specs.Table.{is_lawful, is_lawful_size};
+ghost use Rattle.std.specs.Prelude.{◌≡◌, ◌+◌, ◌^◌, ◌≤◌, ◌↔◌, List, true, map, All, IsTrue, IfOk, MatchOption};
+ghost use Rattle.sgx_types.specs.Table.{is_lawful};
 ghost use Rattle.job_grammar.specs.Jobs.{enclave_view};
 ghost use Rattle.job_grammar.specs.Valid.{IsValidLine, HasSavePages, IsValidEnclave};
-ghost use Rattle.job_grammar.specs.PageTables.{IsTableOf, AreValidPages, AreTablesOf};
+ghost use Rattle.job_grammar.specs.PageTables.{IsTableOf, AreValidPages, Tells, AreTablesOf};
+ghost use Rattle.job_grammar.specs.declared.jobs.PageLine.{PageLine};
 
 use crate::jobs::{EnclaveJob, PageLine};
 use crate::page_tables::PageTable;
 use std::alloc::{AllocError, Global};
 
-/// The sizes of an enclave in bytes: the powers of two from two pages to 4096 pages.
-const SIZES: [u64; 12] = [
-    0x2000, 0x4000, 0x8000, 0x1_0000, 0x2_0000, 0x4_0000, 0x8_0000, 0x10_0000, 0x20_0000, 0x40_0000, 0x80_0000,
-    0x100_0000,
-];
-
 /// The end of the addresses that an enclave may have.
 const TOP: u64 = 1 << 47;
 
-#[tactic(auto, unfolding(sgx_types::specs::Table::is_lawful_size))]
-fn has_lawful_size(size: u64) -> bool
-    ensures lawful { result ≡ is_lawful_size size }
-    ensures low { IsTrue result → 8192 ≤ size }
-    ensures high { IsTrue result → size ≤ 2 ^ 24 }
-{
-    SIZES.contains(&size)
-}
-
+/// Whether the size of an enclave is a power of two from two pages to 4096 pages, its base a multiple of it, and all of
+/// it below `TOP`.
 fn has_valid_range(enclave: &EnclaveJob) -> bool
     ensures { IsTrue result ↔ (is_lawful enclave.now.base enclave.now.size ≡ true) × (enclave.now.base + enclave.now.size ≤ 2 ^ 47) }
 {
-    has_lawful_size(enclave.size) && enclave.base % enclave.size == 0 && enclave.base <= TOP - enclave.size
+    let size = enclave.size;
+    size.is_power_of_two()
+        && 8192 <= size
+        && size <= 1 << 24
+        && enclave.base % size == 0
+        && enclave.base <= TOP - size
 }
 
 /// Whether a line's numbers are in range, in an enclave of so many pages.
@@ -58,4 +51,54 @@ fn page_table(alloc: Global, pages: u64, lines: &[PageLine]) -> Result<Option<Pa
         }
     }
     Ok(Some(table))
+}
+
+/// Whether the state save pages of a TCS page are REG pages with R and W.
+fn has_save_pages(table: &PageTable, line: PageLine) -> bool
+    ensures { (lines : List PageLine) → Tells table.now.lines.items lines → (IsTrue result ↔ HasSavePages lines line) }
+{
+    let PageLine::Tcs { ossa, nssa, .. } = line else {
+        return true;
+    };
+    let first = u64::from(ossa);
+    for page in first..first + u64::from(nssa) {
+        if !table.is_save(page) {
+            return false;
+        }
+    }
+    true
+}
+
+/// The table of a valid enclave's pages. None where the enclave is not valid.
+fn enclave_table(alloc: Global, enclave: &EnclaveJob) -> Result<Option<PageTable>, AllocError>
+    ensures { IfOk result (λ found. MatchOption found (¬ IsValidEnclave (enclave_view enclave.now))
+        (λ table. IsValidEnclave (enclave_view enclave.now) × Tells table.lines.items enclave.now.lines.items)) }
+{
+    if !has_valid_range(enclave) {
+        return Ok(None);
+    }
+    let Some(table) = page_table(alloc, enclave.size / 4096, &enclave.lines)? else {
+        return Ok(None);
+    };
+    for line in &enclave.lines {
+        if !has_save_pages(&table, *line) {
+            return Ok(None);
+        }
+    }
+    Ok(Some(table))
+}
+
+/// The tables of valid enclaves. None where one is not valid.
+pub(crate) fn enclave_tables(alloc: Global, enclaves: &[EnclaveJob]) -> Result<Option<Vec<PageTable>>, AllocError>
+    ensures { IfOk result (λ found. MatchOption found (¬ All IsValidEnclave (map enclave_view enclaves.now))
+        (λ tables. All IsValidEnclave (map enclave_view enclaves.now) × AreTablesOf (map enclave_view enclaves.now) tables.items)) }
+{
+    let mut tables = Vec::new(alloc);
+    for enclave in enclaves {
+        let Some(table) = enclave_table(alloc, enclave)? else {
+            return Ok(None);
+        };
+        tables.push(table)?;
+    }
+    Ok(Some(tables))
 }

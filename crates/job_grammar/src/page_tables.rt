@@ -1,7 +1,8 @@
-ghost use Rattle.std.specs.Prelude.{◌≡◌, ◌+◌, ◌≤◌, ℕ, true, None, replicate, vec_len, IfOk, IsSome};
+ghost use Rattle.std.specs.Prelude.{◌≡◌, ◌+◌, ◌≤◌, ℕ, List, true, None, replicate, vec_len, IfOk, IsSome};
 ghost use Rattle.std.specs.Bool.{OnTrue, OnFalse};
-ghost use Rattle.job_grammar.specs.Jobs.{covers, first_page, page_count};
-ghost use Rattle.job_grammar.specs.PageTables.{line_at, AddsLine};
+ghost use Rattle.job_grammar.specs.Jobs.{covers, first_page, page_count, is_tcs_page, is_reg_page, is_save_page};
+ghost use Rattle.job_grammar.specs.PageTables.{line_at, AddsLine, Tells};
+ghost use Rattle.job_grammar.specs.declared.jobs.PageLine.{PageLine};
 
 use crate::jobs::PageLine;
 use std::alloc::{AllocError, Global};
@@ -27,6 +28,36 @@ impl PageTable {
         ensures { result ≡ line_at self.now.lines.items page }
     {
         self.lines.get(page as usize).copied().flatten()
+    }
+
+    /// Whether a page is a TCS page.
+    pub(crate) fn is_tcs(&self, page: u64) -> bool
+        ensures { (lines : List PageLine) → Tells self.now.lines.items lines → result ≡ is_tcs_page lines page }
+    {
+        match self.line(page) {
+            Some(line) => line.is_tcs(),
+            None => false,
+        }
+    }
+
+    /// Whether a page is a REG page.
+    pub(crate) fn is_reg(&self, page: u64) -> bool
+        ensures { (lines : List PageLine) → Tells self.now.lines.items lines → result ≡ is_reg_page lines page }
+    {
+        match self.line(page) {
+            Some(line) => line.is_reg(),
+            None => false,
+        }
+    }
+
+    /// Whether a page is a REG page with R and W.
+    pub(crate) fn is_save(&self, page: u64) -> bool
+        ensures { (lines : List PageLine) → Tells self.now.lines.items lines → result ≡ is_save_page lines page }
+    {
+        match self.line(page) {
+            Some(line) => line.is_save(),
+            None => false,
+        }
     }
 
     /// Adds the pages of a line, and answers whether none of them was added before.
