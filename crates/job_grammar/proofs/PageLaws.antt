@@ -1,5 +1,5 @@
 -- What the table of an enclave's pages says of its lines.
-use Rattle.std.proofs.Common.{◌≡◌, ℕ, suc, ◌+◌, ◌<◌, ◌≤◌, Bool, true, false, cond, ◌&&◌, ◌||◌, ◌⊎◌, List, [], ◌∷◌, ◌++◌, length, get_or, take, replicate, Option, Some, None, IsSome, is_some, count_by, find, All, refl, sym, ap, ◌∙◌, arith, inl, inr}
+use Rattle.std.proofs.Common.{◌≡◌, ℕ, zero, suc, ◌+◌, ◌<◌, ◌≤◌, Bool, true, false, cond, ◌&&◌, ◌||◌, ◌⊎◌, List, [], ◌∷◌, ◌++◌, length, get_or, take, replicate, Option, Some, None, IsSome, is_some, count_by, find, All, refl, sym, ap, ◌∙◌, arith, inl, inr}
 use Rattle.std.specs.List.{list_any}
 use Rattle.std.specs.Option.{option_map_or, option_or}
 use Rattle.std.proofs.lemmas.Bool.{cases_Bool, cases_lt, false≢true}
@@ -9,7 +9,7 @@ use Rattle.std.proofs.lemmas.List.Folds.{find-append}
 use Rattle.std.proofs.lemmas.List.Sums.{sum_by-cons, sum_by_push, sum_by-take-le, sum_by_more}
 use Rattle.job_grammar.specs.declared.jobs.PageLine.{PageLine}
 use Rattle.job_grammar.specs.declared.jobs.PageLine.TheVariants.{Tcs, Reg}
-use Rattle.job_grammar.specs.Jobs.{EnclaveView, covers, first_page, page_count}
+use Rattle.job_grammar.specs.Jobs.{EnclaveView, covers, first_page, page_count, lines_at}
 use Rattle.job_grammar.specs.Valid.{IsValidLine}
 use Rattle.job_grammar.specs.declared.page_tables.PageTable.{PageTable}
 use Rattle.job_grammar.specs.PageTables.{Table, line_at, IsTableOf, Tells, AddsLine, AreValidPages, AreTablesOf}
@@ -143,3 +143,17 @@ AreTablesOf-push [] [] e t of this = (this, tt)
 AreTablesOf-push [] (t' ∷ ts) e t of this = absurd of
 AreTablesOf-push (e' ∷ es) [] e t of this = absurd of
 AreTablesOf-push (e' ∷ es) (t' ∷ ts) e t of this = (of.0, AreTablesOf-push es ts e t of.1 this)
+
+-- the table at an index tells the lines of the enclave whose number is one more
+pub Tells-at : (es : List EnclaveView) (ts : List PageTable) (i : ℕ) (t : PageTable) → AreTablesOf es ts → i < length ts → t ≡ get_or ts i t → Tells t.lines.items (lines_at es (suc i))
+Tells-at [] [] i t of lt here = absurd (omega arith)
+Tells-at [] (t' ∷ ts) i t of lt here = absurd of
+Tells-at (e ∷ es) [] i t of lt here = absurd of
+Tells-at (e ∷ es) (t' ∷ ts) zero t of lt here = rw here of.0
+Tells-at (e ∷ es) (t' ∷ ts) (suc i) t of lt here = Tells-at es ts i t of.1 (omega arith) here
+
+pub lines_at-past : (es : List EnclaveView) (ts : List PageTable) (i : ℕ) → AreTablesOf es ts → length ts ≤ i → lines_at es (suc i) ≡ []
+lines_at-past [] ts i of le = refl
+lines_at-past (e ∷ es) [] i of le = absurd of
+lines_at-past (e ∷ es) (t ∷ ts) zero of le = absurd (omega arith)
+lines_at-past (e ∷ es) (t ∷ ts) (suc i) of le = lines_at-past es ts i of.1 (omega arith)

@@ -3,6 +3,7 @@ pub mod Text
 pub mod Valid
 pub mod Lines
 pub mod PageTables
+pub mod Checks
 pub mod Reading
 pub mod Drafts
 pub mod Kept

@@ -8,4 +8,5 @@ mod lines;
 mod numbers;
 mod page_tables;
 pub mod refusals;
+mod scripts;
 mod words;

@@ -1,0 +1,31 @@
+-- Validity in the parts in which it is checked.
+use Rattle.std.specs.Prelude.{◌≡◌, ℕ, ◌/◌, ◌≤◌, List, [], length, replicate, sum_by}
+use Rattle.job_grammar.specs.declared.jobs.Op.{Op}
+use Rattle.job_grammar.specs.declared.jobs.Op.TheVariants.{Load}
+use Rattle.job_grammar.specs.declared.jobs.PageLine.{PageLine}
+use Rattle.job_grammar.specs.Jobs.{EnclaveView, JobView, default_marks, is_reg_page, job_pages, needed}
+
+-- the job of these enclaves and scripts, with no option and no store line
+abbrev pub default_job : ℕ → List EnclaveView → List (List Op) → JobView
+default_job epc enclaves scripts = record {
+  epc = epc;
+  marks = default_marks epc;
+  key = replicate 32 0;
+  start_epoch = 1;
+  start_version = 1;
+  enclaves = enclaves;
+  plans = [];
+  scripts = scripts;
+}
+
+-- the numbers of frames, enclaves, pages, processors and operations are in range
+pub record HasValidCounts (j : JobView) : Type 0 where
+  pub some_frames : 1 ≤ j.epc
+  pub few_frames : j.epc ≤ 4096
+  pub enough_frames : needed j ≤ j.epc
+  pub some_enclaves : 1 ≤ length j.enclaves
+  pub few_enclaves : length j.enclaves ≤ 8
+  pub few_pages : job_pages j ≤ 4096
+  pub some_scripts : 1 ≤ length j.scripts
+  pub few_scripts : length j.scripts ≤ 16
+  pub few_ops : sum_by length j.scripts ≤ 100000
