@@ -1,8 +1,10 @@
 ghost use Rattle.std.specs.Prelude.{◌≡◌, map};
-ghost use Rattle.job_grammar.specs.Jobs.{enclave_view, first_page, page_count, is_tcs_line, is_reg_line, is_save_line};
+ghost use Rattle.job_grammar.specs.Jobs.{JobView, enclave_view, default_marks, first_page, page_count, is_tcs_line, is_reg_line, is_save_line, va_pages, needed};
 
+use crate::counts::{needed_by, va_pages_of};
 use io_edges::plans::PlanLine;
 use sgx_types::names::Perm;
+use std::alloc::Global;
 use std::marker::Model;
 
 /// When the reclaimer works: it begins below `low` free frames, stops at `high`, and looks at `scan` pages a pass.
@@ -11,6 +13,19 @@ pub struct Marks {
     pub low: u32,
     pub high: u32,
     pub scan: u32,
+}
+
+impl Marks {
+    /// The marks of a job that gives none: Linux's 32, 64 and 16, or less where the EPC has fewer than 128 frames.
+    pub(crate) fn of_frames(epc: u32) -> Self
+        ensures { result ≡ default_marks epc }
+    {
+        Marks {
+            low: (epc / 4).min(32),
+            high: (epc / 2).min(64),
+            scan: (epc / 4).min(16),
+        }
+    }
 }
 
 /// A line of an enclave's pages. Page numbers are offsets from the enclave's base in pages of 4096 bytes. A plain page
@@ -143,11 +158,61 @@ impl Model for Job {
 }
 
 impl Job {
+    ghost use Rattle.std.specs.Prelude.{map};
+    ghost use Rattle.job_grammar.specs.Valid.{IsValid};
+    ghost use Rattle.job_grammar.specs.Drafts.{script_ops};
+    ghost use Rattle.job_grammar.specs.Checks.{default_job};
+
+    /// The job of these enclaves and scripts, with no option and no store line.
+    pub(crate) fn new(alloc: Global, epc: u32, enclaves: Vec<EnclaveJob>, scripts: Vec<Vec<Op>>) -> Self
+        requires { IsValid (default_job epc (map enclave_view enclaves.items) (script_ops scripts.items)) }
+        ensures { result ≡ default_job epc (map enclave_view enclaves.items) (script_ops scripts.items) }
+    {
+        Job {
+            epc,
+            marks: Marks::of_frames(epc),
+            key: [0; 32],
+            start_epoch: 1,
+            start_version: 1,
+            enclaves,
+            plans: Vec::new(alloc),
+            scripts,
+        }
+    }
+
     /// The number of EPC frames, from 1 to 4096.
     pub fn epc(&self) -> u32
         ensures { result ≡ self.now.epc }
     {
         self.epc
+    }
+
+    /// When the reclaimer works.
+    pub fn marks(&self) -> Marks
+        ensures { result ≡ self.now.marks }
+    {
+        self.marks
+    }
+
+    /// The sealing key.
+    pub fn key(&self) -> &[u8; 32]
+        ensures { result.now ≡ self.now.key }
+    {
+        &self.key
+    }
+
+    /// The first epoch of each enclave, from 1 to 2^40 - 1.
+    pub fn start_epoch(&self) -> u64
+        ensures { result ≡ self.now.start_epoch }
+    {
+        self.start_epoch
+    }
+
+    /// The first version that is drawn, from 1.
+    pub fn start_version(&self) -> u64
+        ensures { result ≡ self.now.start_version }
+    {
+        self.start_version
     }
 
     /// The enclaves, from number 1 on.
@@ -157,10 +222,33 @@ impl Job {
         &self.enclaves
     }
 
+    /// What the store does.
+    pub fn plans(&self) -> &[PlanLine]
+        ensures { result.now ≡ self.now.plans }
+    {
+        &self.plans
+    }
+
     /// The script of each processor, from number 0 on.
     pub fn scripts(&self) -> &[Vec<Op>]
         ensures { map (λ script. script.items) result.now ≡ self.now.scripts }
     {
         &self.scripts
     }
+
+    /// How many version array pages the builder makes: as many as give a slot to every page, every enclave and each of
+    /// these pages.
+    pub fn va_pages(&self) -> u32
+        ensures { result ≡ va_pages self.now }
+    {
+        va_pages_of(&self.enclaves)
+    }
+}
+
+/// The least number of EPC frames with which the job can run: one for each enclave and each version array page, three for
+/// each processor, and one more.
+pub fn needed(job: &Job) -> u32
+    ensures { result ≡ needed job.now }
+{
+    needed_by(&job.enclaves, &job.scripts)
 }

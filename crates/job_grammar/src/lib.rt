@@ -2,7 +2,9 @@
 #![tactic(auto)]
 
 mod checks;
+mod counts;
 mod drafts;
+mod forms;
 pub mod jobs;
 mod lines;
 mod numbers;
