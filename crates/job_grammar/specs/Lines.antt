@@ -1,10 +1,11 @@
 -- The lines of a job one by one, and the words of each.
-use Rattle.std.specs.Prelude.{ℕ, ◌+◌, List, [], ◌∷◌, ◌++◌, codes, decimal, map}
+use Rattle.std.specs.Prelude.{ℕ, ◌+◌, ◌≤◌, ⊤, List, [], ◌∷◌, ◌++◌, codes, decimal, map, flat_map}
 use Rattle.job_grammar.specs.declared.jobs.Op.{Op}
+use Rattle.job_grammar.specs.declared.jobs.Op.TheVariants.{Enter, Resume, OutLoad, OutStore}
 use Rattle.job_grammar.specs.declared.lines.Line.{Line}
 use Rattle.job_grammar.specs.declared.lines.Line.TheVariants as lines
 use Rattle.job_grammar.specs.Jobs.{EnclaveView, JobView}
-use Rattle.job_grammar.specs.Text.{Words, hexadecimal, letter, page_words, op_words}
+use Rattle.job_grammar.specs.Text.{Words, hexadecimal, letter, page_words, op_words, line_text}
 
 abbrev pub line_words : Line → Words
 line_words (lines.Epc frames) = codes "epc" ∷ decimal frames ∷ []
@@ -25,3 +26,18 @@ lines_of_scripts n (script ∷ scripts) = lines.Cpu n ∷ map lines.Op script ++
 
 abbrev pub lines_of_job : JobView → List Line
 lines_of_job j = lines.Epc j.epc ∷ lines_of_enclaves 1 j.enclaves ++ lines_of_scripts 0 j.scripts
+
+abbrev pub lines_text : List Line → List ℕ
+lines_text lines = flat_map (λ line. line_text (line_words line)) lines
+
+-- the text of a job with these parts
+abbrev pub parts_text : ℕ → List EnclaveView → List (List Op) → List ℕ
+parts_text epc enclaves scripts = lines_text (lines.Epc epc ∷ lines_of_enclaves 1 enclaves ++ lines_of_scripts 0 scripts)
+
+-- the enclave that an operation names has a letter
+abbrev pub HasLetter : Op → Type 0
+HasLetter (Enter enclave tcs) = enclave ≤ 8
+HasLetter (Resume enclave tcs) = enclave ≤ 8
+HasLetter (OutLoad enclave off) = enclave ≤ 8
+HasLetter (OutStore enclave off value) = enclave ≤ 8
+HasLetter _ = ⊤

@@ -9,6 +9,7 @@ pub mod jobs;
 mod lines;
 mod numbers;
 mod page_tables;
+mod printing;
 pub mod refusals;
 mod scripts;
 mod words;
