@@ -4,8 +4,10 @@ pub mod LineWords
 pub mod Numerals
 pub mod PageLaws
 pub mod PrintedLines
+pub mod ReadJobs
 pub mod ScriptLaws
 pub mod Splits
 mod Worked
+pub mod ValidJobs
 pub mod ViewLaws
 pub mod WrittenJobs

@@ -1,9 +1,9 @@
 -- Validity in the parts in which it is checked.
-use Rattle.std.specs.Prelude.{◌≡◌, ℕ, ◌≤◌, ⊤, List, [], Option, Some, Result, Ok, Err, length, replicate, sum_by}
+use Rattle.std.specs.Prelude.{◌≡◌, ℕ, ◌≤◌, ◌⊎◌, ⊤, List, [], Option, Some, Result, Ok, Err, length, replicate, sum_by}
 use Rattle.job_grammar.specs.declared.jobs.Op.{Op}
 use Rattle.job_grammar.specs.declared.refusals.JobRefusal.{JobRefusal}
 use Rattle.job_grammar.specs.declared.refusals.JobRefusal.TheVariants as refusals
-use Rattle.job_grammar.specs.declared.refusals.JobKind.TheVariants.{NotYetBuilt}
+use Rattle.job_grammar.specs.declared.refusals.JobKind.TheVariants.{TooLong, NotYetBuilt}
 use Rattle.job_grammar.specs.Jobs.{EnclaveView, JobView, default_marks, job_pages, needed}
 use Rattle.job_grammar.specs.Valid.{IsValid, IsFirstForm}
 use Rattle.job_grammar.specs.Drafts.{DraftView}
@@ -50,3 +50,16 @@ abbrev pub Judges : DraftView → Result JobView JobRefusal → Type 0
 Judges d (Ok job) = IsAccepted d job
 Judges d (Err refusals.Memory) = ⊤
 Judges d (Err (refusals.Fault line kind)) = IsRefused d × (line ≡ 0) × (kind ≡ NotYetBuilt)
+
+-- ---- what a reader answers
+
+-- the job, unless memory ran out
+abbrev pub IsJob : Result JobView JobRefusal → JobView → Type 0
+IsJob (Ok found) job = found ≡ job
+IsJob (Err refusals.Memory) job = ⊤
+IsJob (Err (refusals.Fault line kind)) job = ⊥
+
+-- a fault is named by line 0
+abbrev pub IsEarlyRefusal : JobRefusal → Type 0
+IsEarlyRefusal refusals.Memory = ⊤
+IsEarlyRefusal (refusals.Fault line kind) = (line ≡ 0) × ((kind ≡ TooLong) ⊎ (kind ≡ NotYetBuilt))

@@ -2,9 +2,10 @@ ghost use Rattle.std.specs.Prelude.{◌≡◌, map};
 ghost use Rattle.job_grammar.specs.Jobs.{JobView, enclave_view, default_marks, first_page, page_count, is_tcs_line, is_reg_line, is_save_line, va_pages, needed};
 
 use crate::counts::{needed_by, va_pages_of};
+use crate::printing::push_job;
 use io_edges::plans::PlanLine;
 use sgx_types::names::Perm;
-use std::alloc::Global;
+use std::alloc::{AllocError, Global};
 use std::marker::Model;
 
 /// When the reclaimer works: it begins below `low` free frames, stops at `high`, and looks at `scan` pages a pass.
@@ -242,6 +243,20 @@ impl Job {
         ensures { result ≡ va_pages self.now }
     {
         va_pages_of(&self.enclaves)
+    }
+}
+
+impl Job {
+    ghost use Rattle.std.specs.Prelude.{IfOk, string_bytes};
+    ghost use Rattle.job_grammar.specs.Text.{job_text};
+
+    /// The one text of the job.
+    pub(crate) fn text(&self, alloc: Global) -> Result<String, AllocError>
+        ensures { IfOk result (λ text. string_bytes text ≡ job_text self.now) }
+    {
+        let mut text = String::new(alloc);
+        push_job(&mut text, self.epc, &self.enclaves, &self.scripts)?;
+        Ok(text)
     }
 }
 

@@ -10,6 +10,7 @@ mod lines;
 mod numbers;
 mod page_tables;
 mod printing;
+pub mod reader;
 pub mod refusals;
 mod scripts;
 mod words;
