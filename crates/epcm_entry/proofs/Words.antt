@@ -151,3 +151,10 @@ word_page page i n is = record { sized = rw length-set is.sized; words = All-set
 
 pub words-word_page : (page : List (List ℕ)) (i n : ℕ) → n < 2 ^ 64 → map (from_le_bytes w64) (set page i (to_le_bytes w64 n)) ≡ set (map (from_le_bytes w64) page) i n
 words-word_page page i n small = map-set (from_le_bytes w64) page i (to_le_bytes w64 n) ∙ ap (set (map (from_le_bytes w64) page) i) (from_le_bytes-to_le_bytes_8 n small)
+
+-- a page of one word over and over
+pub filled_page : (value : ℕ) → IsPage (replicate 512 (to_le_bytes w64 value))
+filled_page value = record { sized = length-replicate 512 (to_le_bytes w64 value); words = All-replicate IsWord 512 (to_le_bytes w64 value) (word_bytes value) }
+
+pub words-filled_page : (value : ℕ) → value < 2 ^ 64 → map (from_le_bytes w64) (replicate 512 (to_le_bytes w64 value)) ≡ replicate 512 value
+words-filled_page value fits = map-replicate (from_le_bytes w64) 512 (to_le_bytes w64 value) ∙ ap (replicate 512) (from_le_bytes-to_le_bytes_8 value fits)

@@ -1,4 +1,4 @@
-ghost use Rattle.std.specs.Prelude.{◌≡◌, ◌<◌, ◌≤◌, ◌^◌, ◌||◌, true, false, length, count_by, position, Some, None, IsTrue, IfOk, OnOk, OnErr, IfSome, IfNone};
+ghost use Rattle.std.specs.Prelude.{◌≡◌, ◌<◌, ◌≤◌, ◌^◌, ◌||◌, true, false, length, replicate, count_by, position, Some, None, IsTrue, IfOk, OnOk, OnErr, IfSome, IfNone};
 ghost use Rattle.epcm_entry.specs.EntryView.{is_free, is_busy, is_valid, holding, outgoing, with_block, claim_answer};
 ghost use Rattle.epcm_entry.specs.Words.{words_of};
 ghost use Rattle.epcm_entry.specs.declared.entry_view.EntryView.TheVariants as views;
@@ -175,6 +175,15 @@ impl Epc {
     {
         let page = &mut self.pages[frame.0 as usize];
         page[usize::from(index)] = value.to_le_bytes();
+    }
+
+    /// Makes every 8-byte word of a frame this value.
+    pub fn fill(&mut self, frame: Frame, value: u64)
+        requires { frame.0 < length self.old }
+        ensures { self.new ≡ with_words self.old frame.0 (replicate 512 value) }
+    {
+        let page = &mut self.pages[frame.0 as usize];
+        page.fill(value.to_le_bytes());
     }
 
     pub fn bytes(&self, frame: Frame) -> &[u8; 4096]

@@ -44,7 +44,8 @@ done_give sink slice n = record {
 abbrev pub room_of : SinkState → ℕ
 room_of sink = CAPACITY - length sink.given
 
--- a call fails where its number is among those that fail or no room is left, and takes the least of the piece, the slice and the room otherwise
+-- A call fails where its number is among those that fail or no room is left. Otherwise it takes the least of the
+-- piece, the slice and the room.
 abbrev pub give_of : SinkState → List ℕ → Given
 give_of sink slice =
     if list_any (λ number. number == one_more sink.calls) sink.fails || (room_of sink == 0)

@@ -42,7 +42,8 @@ done_take source slice n = record {
   slice = take n source.left ++ drop n slice;
 }
 
--- a call fails where its number is among those that fail, and gives the least of the piece, the slice and the rest otherwise
+-- A call fails where its number is among those that fail. Otherwise it gives the least of the piece, the slice and
+-- the rest.
 abbrev pub take_of : SourceState → List ℕ → Taken
 take_of source slice =
     if list_any (λ number. number == one_more source.calls) source.fails

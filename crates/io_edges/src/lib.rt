@@ -2,9 +2,15 @@
 // runs over memory and over the system.
 #![tactic(auto)]
 
+pub mod failed_edges;
 pub mod faults;
+pub mod giving;
 pub mod mem_sink;
 pub mod mem_source;
 pub mod plans;
+pub mod reading;
 pub mod sinks;
 pub mod sources;
+pub mod std_edges;
+#[cfg(test)]
+mod tests;

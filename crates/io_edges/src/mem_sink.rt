@@ -1,6 +1,5 @@
-ghost use Rattle.std.specs.Prelude.{◌≡◌, ◌<◌, ◌≤◌, length, take, Some, IfOk, OnErr, IsErr};
+ghost use Rattle.std.specs.Prelude.{◌≡◌, ◌<◌, ◌≤◌, length, Some, IfOk, IsErr};
 ghost use Rattle.io_edges.specs.Faults.{HasCause};
-ghost use Rattle.io_edges.specs.Sinks.{followed_by};
 
 use crate::faults::Failed;
 use crate::sinks::Sink;
@@ -36,7 +35,8 @@ impl Model for MemSink {
       faults = s.faults;
     } };
 
-    ghost invariant = { λ s. (vec_len s.bytes ≤ CAPACITY) × (CAPACITY ≤ vec_capacity s.bytes) × (1 ≤ s.piece) };
+    ghost invariant = { λ s.
+        (vec_len s.bytes ≤ CAPACITY) × (CAPACITY ≤ vec_capacity s.bytes) × (1 ≤ s.piece) };
 }
 
 impl MemSink {
@@ -85,10 +85,8 @@ impl Sink for MemSink {
         ensures answer { result ≡ (give_of self.old from.now).answer }
         ensures sink { self.new ≡ (give_of self.old from.now).sink }
 
+        // What a sink promises besides, where that doesn't follow from these two.
         ensures some { IfOk result (λ n. 1 ≤ n) }
-        ensures bound { IfOk result (λ n. n ≤ length from.now) }
-        ensures given { IfOk result (λ n. Some self.new.given ≡ followed_by (Some self.old.given) (take n from.now)) }
-        ensures err { OnErr result (Some self.new.given ≡ Some self.old.given) }
         ensures cause { HasCause self.old.faults self.new.faults (IsErr result) }
     {
         self.calls = self.calls.saturating_add(1);

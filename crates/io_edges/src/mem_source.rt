@@ -1,6 +1,6 @@
-ghost use Rattle.std.specs.Prelude.{◌≡◌, ◌<◌, ◌≤◌, length, drop, Some, IfOk, OnErr, OnSome, IfSome, IsErr};
+ghost use Rattle.std.specs.Prelude.{◌≡◌, ◌<◌, ◌≤◌, length, Some, IfOk, IsErr};
 ghost use Rattle.io_edges.specs.Faults.{HasCause};
-ghost use Rattle.io_edges.specs.Sources.{Gives, fewer};
+ghost use Rattle.io_edges.specs.Sources.{Gives};
 ghost use Rattle.io_edges.specs.MemSource.{new_source, take_of};
 
 use crate::faults::Failed;
@@ -81,12 +81,8 @@ impl Source for MemSource {
         ensures source { self.new ≡ (take_of self.old into.old).source }
         ensures slice { into.new ≡ (take_of self.old into.old).slice }
 
-        ensures bound { IfOk result (λ n. n ≤ length into.new) }
-        ensures length { length into.new ≡ length into.old }
+        // What a source promises besides, where that doesn't follow from these three.
         ensures given { IfOk result (λ n. Gives into.old into.new n self.old.left) }
-        ensures rest { IfOk result (λ n. Some self.new.left ≡ fewer n (Some self.old.left)) }
-        ensures err { OnErr result (Some self.new.left ≡ Some self.old.left) }
-        ensures err_slice { OnErr result (into.new ≡ into.old) }
         ensures cause { HasCause self.old.faults self.new.faults (IsErr result) }
     {
         self.calls = self.calls.saturating_add(1);

@@ -19,7 +19,8 @@ pub trait Sink {
         ensures bound { IfOk result (λ n. n ≤ length from.now) }
 
         // Where it tells, exactly the bytes that it took are appended.
-        ensures given { IfOk result (λ n. given self.new ≡ followed_by (given self.old) (take n from.now)) }
+        ensures given { IfOk result (λ n.
+            given self.new ≡ followed_by (given self.old) (take n from.now)) }
 
         // A call that fails takes nothing.
         ensures err { OnErr result (given self.new ≡ given self.old) }

@@ -7,7 +7,6 @@ pub mod PrintedLines
 pub mod ReadJobs
 pub mod ScriptLaws
 pub mod Splits
-mod Worked
 pub mod ValidJobs
 pub mod ViewLaws
 pub mod WrittenJobs

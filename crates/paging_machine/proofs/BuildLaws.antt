@@ -60,6 +60,9 @@ sound-put s f c sound free = record { seated = each_there s.inside (λ p. IsSeat
     seated : (p : ℕ) (seat : Seat) → IsSeated s.content s.is_sealing (s.cache p) seat → IsSeated (with_content s f c).content s.is_sealing (s.cache p) seat
     seated p seat h = record {
       tcs = usable seat.enclave seat.tcs_frame h.tcs;
+      tcs_page =
+          cond_both (f == seat.tcs_frame) c (s.content seat.tcs_frame) (λ v. is_page v (page_at seat.enclave seat.tcs) ≡ true)
+          (λ e. let same : f ≡ seat.tcs_frame = eqb-true f seat.tcs_frame e in absurd (cc (h.tcs.ours, free, same))) (λ _. h.tcs_page);
       ssa = usable seat.enclave seat.ssa_frame h.ssa;
       cache =
           All-weaker
@@ -281,7 +284,7 @@ add_upheld s past a enclave number f kind perm init allowed sound h =
     let apart_from = unadded_apart s past stands g new in
     let by_entries = add_by number kind perm init _ _ _ _ _ _ (stands.enclaves enclave) same_added (sight_agrees s past stands f.0) allowed in
     let taken : accepts (flat past) a (Add enclave number f kind perm init) ≡ true =
-        is_none-None _ (add_open number kind perm init (enclave_sight_of ((flat past).enclaves enclave)) (is_some ((flat past).pages g)) (sight_at s.frames past f.0) by_entries) in
+    is_none-None _ (add_open number kind perm init (enclave_sight_of ((flat past).enclaves enclave)) (is_some ((flat past).pages g)) (sight_at s.frames past f.0) by_entries) in
     upholds_more (after_add s g f.0 kind perm init) past _ h.rules
     (record {
       sound = record { seated = (sound-put s f.0 (Holds g kind perm) sound free).seated };

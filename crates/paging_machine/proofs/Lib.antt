@@ -4,3 +4,5 @@ pub mod BuildLaws
 pub mod ProcessorLaws
 pub mod Refused
 pub mod Bridge
+pub mod Reading
+pub mod StepLaws

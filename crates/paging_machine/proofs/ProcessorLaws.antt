@@ -45,7 +45,7 @@ tcs_there IsVa g here is = cc
 tcs_there (SecsOf enclave) g here is = cc
 tcs_there IsLoading g here is = cc
 
-reg_there : (c : Content) (g : Page) → is_page c g ≡ true → is_reg c ≡ true → IsKindOf c g kinds.Reg
+pub reg_there : (c : Content) (g : Page) → is_page c g ≡ true → is_reg c ≡ true → IsKindOf c g kinds.Reg
 reg_there (Holds page kinds.Reg perm) g here is = record { perm = perm; holds = ap (λ q. Holds q kinds.Reg perm) (same_page-true page g here) }
 reg_there (Holds page kinds.Secs perm) g here is = cc
 reg_there (Holds page kinds.Tcs perm) g here is = cc
@@ -74,7 +74,7 @@ mode_in_flat s past stands p = mode_by_entries s past stands p ∙ sym (ap is_so
 -- ---- enter
 
 -- what `enter` needs of what it sees
-record Enters (enclave tcs : ℕ) (v : EnterSight) : Type 0 where
+pub record Enters (enclave tcs : ℕ) (v : EnterSight) : Type 0 where
   pub outside : v.is_inside ≡ false
   pub tcs_within : v.tcs.is_beyond ≡ false
   pub ssa_within : v.ssa.is_beyond ≡ false
@@ -92,7 +92,7 @@ record Enters (enclave tcs : ℕ) (v : EnterSight) : Type 0 where
   pub ssa_open : v.ssa.is_blocked ≡ false
   pub ssa_perm : not (allows_update (perm_in v.ssa.content)) ≡ false
 
-enters : (enclave tcs : ℕ) (v : EnterSight) → first_of_row (enter_row enclave tcs v) ≡ None → Enters enclave tcs v
+pub enters : (enclave tcs : ℕ) (v : EnterSight) → first_of_row (enter_row enclave tcs v) ≡ None → Enters enclave tcs v
 enters enclave tcs v allowed =
     let none = none_holds (enter_row enclave tcs v) allowed in
     let within = neither v.tcs.is_beyond v.ssa.is_beyond none.1.0 in
@@ -165,15 +165,15 @@ enters_opened enclave tcs v h = record {
   ssa_perm = h.ssa_perm;
 }
 
-usable_there : {c : Content} {sealing : Bool} {enclave number : ℕ} {kind : Kind} {perm : Perm} → c ≡ Holds (page_at enclave number) kind perm → (sealing || is_loading c) ≡ false → IsUsable enclave c sealing
+pub usable_there : {c : Content} {sealing : Bool} {enclave number : ℕ} {kind : Kind} {perm : Perm} → c ≡ Holds (page_at enclave number) kind perm → (sealing || is_loading c) ≡ false → IsUsable enclave c sealing
 usable_there {c} {sealing} holds idle = record { ours = rw holds refl; settled = (neither sealing (is_loading c) idle).0 }
 
-sound-enter : (s : State) (p : ℕ) (seat : Seat) → IsSound s → IsUsable seat.enclave (s.content seat.tcs_frame) (s.is_sealing seat.tcs_frame) → IsUsable seat.enclave (s.content seat.ssa_frame) (s.is_sealing seat.ssa_frame)
+pub sound-enter : (s : State) (p : ℕ) (seat : Seat) → IsSound s → is_page (s.content seat.tcs_frame) (page_at seat.enclave seat.tcs) ≡ true → IsUsable seat.enclave (s.content seat.tcs_frame) (s.is_sealing seat.tcs_frame) → IsUsable seat.enclave (s.content seat.ssa_frame) (s.is_sealing seat.ssa_frame)
     → IsSound (after_enter s p seat)
-sound-enter s p seat sound tcs ssa = record {
+sound-enter s p seat sound page tcs ssa = record {
   seated = λ q.
       elim (p == q) as (λ b. IfSome (cond b (Some seat) (s.inside q)) (IsSeated s.content s.is_sealing (cond b [] (s.cache q)))) [
-        | true ↦ record { tcs = tcs; ssa = ssa; cache = All-nil _ }
+        | true ↦ record { tcs = tcs; tcs_page = page; ssa = ssa; cache = All-nil _ }
         | false ↦ sound.seated q
       ];
 }
@@ -197,19 +197,19 @@ enter_upheld s past p enclave tcs tf sf low allowed sound h =
     let ssa_flat = stands.words sf.0 save kinds.Reg ssa_held.perm ssa_held.holds in
     let ssa_same : s.content sf.0 ≡ flat_content save (m.pages save) = ssa_held.holds ∙ sym (ap (flat_content save) ssa_flat) in
     let by_entries : first_of_row (enter_row_at s.frames past p.0 seat) ≡ None =
-        ap (λ x. first_of_row (enter_row enclave tcs x))
-        (sym (enter_sight_of _ _ _ _ _ _ _ _ _ _ _ _ (mode_by_entries s past stands p.0) (ap enclave_sight_of (stands.enclaves enclave)) (sight_agrees s past stands tf.0) (stands.is_busy g) same_fields (sight_agrees s past stands sf.0)))
-        ∙ allowed in
+    ap (λ x. first_of_row (enter_row enclave tcs x))
+    (sym (enter_sight_of _ _ _ _ _ _ _ _ _ _ _ _ (mode_by_entries s past stands p.0) (ap enclave_sight_of (stands.enclaves enclave)) (sight_agrees s past stands tf.0) (stands.is_busy g) same_fields (sight_agrees s past stands sf.0)))
+    ∙ allowed in
     let by_flat : first_of_row (flat_enter_row m p.0 enclave tcs) ≡ None =
-        ap (λ x. first_of_row (enter_row enclave tcs x))
-        (sym (enter_sight_of _ _ _ _ _ _ _ _ _ _ _ _ (mode_in_flat s past stands p.0) (ap enclave_sight_of (stands.enclaves enclave))
-        (ap opened (tcs_held.holds ∙ sym (ap (flat_content g) tcs_flat))) (stands.is_busy g) same_fields
-        (ap opened (ssa_same ∙ ap (λ f. flat_content (page_at enclave (f.ossa + f.cssa)) (m.pages (page_at enclave (f.ossa + f.cssa)))) same_fields))))
-        ∙ enters_none enclave tcs (opened_sight v) (enters_opened enclave tcs v k) in
+    ap (λ x. first_of_row (enter_row enclave tcs x))
+    (sym (enter_sight_of _ _ _ _ _ _ _ _ _ _ _ _ (mode_in_flat s past stands p.0) (ap enclave_sight_of (stands.enclaves enclave))
+    (ap opened (tcs_held.holds ∙ sym (ap (flat_content g) tcs_flat))) (stands.is_busy g) same_fields
+    (ap opened (ssa_same ∙ ap (λ f. flat_content (page_at enclave (f.ossa + f.cssa)) (m.pages (page_at enclave (f.ossa + f.cssa)))) same_fields))))
+    ∙ enters_none enclave tcs (opened_sight v) (enters_opened enclave tcs v k) in
     let taken : accepts m (actors.Cpu p) (Enter enclave tcs tf sf) ≡ true = rw (lt-ltb p.0 16 low, by_flat) refl in
     upholds_more (after_enter s p.0 seat) past _ h.rules
     (record {
-      sound = sound-enter s p.0 seat sound (usable_there tcs_held.holds k.tcs_idle) (usable_there ssa_held.holds k.ssa_idle);
+      sound = sound-enter s p.0 seat sound (not_false _ k.tcs_page) (usable_there tcs_held.holds k.tcs_idle) (usable_there ssa_held.holds k.ssa_idle);
       stands =
           stands_done (after_enter s p.0 seat) past (actors.Cpu p) (Enter enclave tcs tf sf) (Cssa fields.cssa) taken
           (record {
@@ -251,7 +251,6 @@ enter_upheld s past p enclave tcs tf sf low allowed sound h =
           ];
     })
 
-
 -- ---- exit
 
 exit_allowed : (b : Bool) → first_of_row (exit_row b) ≡ None → b ≡ true
@@ -262,6 +261,11 @@ seated_same : (o : Option Stay) (g : Page) → is_seated_by (seat_of_stay o) g �
 seated_same None g = refl
 seated_same (Some t) g = refl
 
+pub sound-exit : (s : State) (p : ℕ) → IsSound s → IsSound (after_exit s p)
+sound-exit s p sound = record {
+  seated = λ q. elim (p == q) as (λ b. IfSome (cond b None (s.inside q)) (IsSeated s.content s.is_sealing (cond b [] (s.cache q)))) [ true ↦ tt | false ↦ sound.seated q ];
+}
+
 pub exit_upheld : (s : State) (past : List Entry) (p : Cpu) → p.0 < 16 → first_of_row (row_of s (actors.Cpu p) Exit) ≡ None → IsSound s
     → Upholds s past → Upholds (after_exit s p.0) (did_by (actors.Cpu p) Exit Plain ∷ past)
 exit_upheld s past p low allowed sound h =
@@ -271,12 +275,10 @@ exit_upheld s past p low allowed sound h =
     let by_flat : first_of_row (exit_row (is_some (m.cpus p.0).inside)) ≡ None = ap (λ b. first_of_row (exit_row b)) (sym (mode_in_flat s past stands p.0)) ∙ allowed in
     let taken : accepts m (actors.Cpu p) Exit ≡ true = rw (lt-ltb p.0 16 low, by_flat) refl in
     let same_seat : (g : Page) → is_seated_by (s.inside p.0) g ≡ is_inside_by (m.cpus p.0).inside g =
-        λ g. ap (λ o. is_seated_by o g) (stands.inside p.0) ∙ seated_same (stay past p.0) g ∙ sym (ap (λ o. is_inside_by o g) (stands.flat_inside p.0)) in
+    λ g. ap (λ o. is_seated_by o g) (stands.inside p.0) ∙ seated_same (stay past p.0) g ∙ sym (ap (λ o. is_inside_by o g) (stands.flat_inside p.0)) in
     upholds_more (after_exit s p.0) past _ h.rules
     (record {
-      sound = record {
-        seated = λ q. elim (p.0 == q) as (λ b. IfSome (cond b None (s.inside q)) (IsSeated s.content s.is_sealing (cond b [] (s.cache q)))) [ true ↦ tt | false ↦ sound.seated q ];
-      };
+      sound = sound-exit s p.0 sound;
       stands =
           stands_done (after_exit s p.0) past (actors.Cpu p) Exit Plain taken
           (record {
@@ -311,18 +313,18 @@ exit_upheld s past p low allowed sound h =
 -- ---- fill
 
 -- what `fill` needs
-record Fills (enclave number : ℕ) (v : FrameSight) : Type 0 where
+pub record Fills (enclave number : ℕ) (v : FrameSight) : Type 0 where
   pub within : v.is_beyond ≡ false
   pub idle : is_busy v ≡ false
   pub page : not (is_page v.content (page_at enclave number)) ≡ false
   pub kind : not (is_reg v.content) ≡ false
 
-fills : (number enclave : ℕ) (v : FrameSight) → first_of_row (fill_row number (Some enclave) v) ≡ None → Fills enclave number v
+pub fills : (number enclave : ℕ) (v : FrameSight) → first_of_row (fill_row number (Some enclave) v) ≡ None → Fills enclave number v
 fills number enclave v allowed =
     let none = none_holds (fill_row number (Some enclave) v) allowed in
     record { within = none.0; idle = none.1.0; page = none.1.1.0; kind = none.1.1.1.1.0 }
 
-outside_refused : (number : ℕ) (v : FrameSight) → first_of_row (fill_row number None v) ≡ None → ⊥
+pub outside_refused : (number : ℕ) (v : FrameSight) → first_of_row (fill_row number None v) ≡ None → ⊥
 outside_refused number v allowed = false≢true (sym (none_holds (fill_row number None v) allowed).0)
 
 pub holds_number-map : (xs : List Translation) (n : ℕ) → holds_number (map pair_of xs) n ≡ is_some (translation_of xs n)
@@ -346,7 +348,7 @@ map-with_translation xs t =
         rw length-map
         (elim (ltb 64 (length ys)) as (λ b. map pair_of (cond b (drop 1 ys) ys) ≡ cond b (drop 1 (map pair_of ys)) (map pair_of ys)) [ true ↦ map-drop-one ys | false ↦ refl ])
 
-All-with_translation : (P : Translation → Type 0) (ys : List Translation) (x : Translation) → All P ys → P x → All P (with_translation ys x)
+pub All-with_translation : (P : Translation → Type 0) (ys : List Translation) (x : Translation) → All P ys → P x → All P (with_translation ys x)
 All-with_translation P ys x h k =
     let pushed = All-push P ys x h k in
     cond_both (is_some (translation_of ys x.number)) ys (newest_translations (ys ++ x ∷ [])) (All P) (λ _. h)
@@ -362,6 +364,43 @@ perm_there c g perm here is same = by_kind (reg_there c g here is)
     by_kind : IsKindOf c g kinds.Reg → c ≡ Holds g kinds.Reg perm
     by_kind k = let at = k.holds in let e : Some k.perm ≡ Some perm = sym (ap perm_in at) ∙ same in let p : k.perm ≡ perm = cc in at ∙ ap (λ x. Holds g kinds.Reg x) p
 
+pub sound-fill : (s : State) (p : ℕ) (t : Translation) → first_of_row (fill_row t.number (seat_enclave (s.inside p)) (sight s t.frame.0)) ≡ None → perm_in (s.content t.frame.0) ≡ Some t.perm → IsSound s → IsSound (after_fill s p t)
+sound-fill s p t allowed perm sound = record {
+  seated = each_there s.inside (λ q. IsSeated s.content s.is_sealing (cond (p == q) (with_translation (s.cache q) t) (s.cache q))) (λ q seat is. seated q seat is (seat_at s sound q seat is));
+}
+  where
+    new : (seat : Seat) → first_of_row (fill_row t.number (Some seat.enclave) (sight s t.frame.0)) ≡ None → IsTranslation seat.enclave t (s.content t.frame.0) (s.is_sealing t.frame.0)
+    new seat k =
+        let need = fills t.number seat.enclave (sight s t.frame.0) k in
+        record {
+          page = perm_there (s.content t.frame.0) (page_at seat.enclave t.number) t.perm (not_false _ need.page) (not_false _ need.kind) perm;
+          settled = (neither (s.is_sealing t.frame.0) (is_loading (s.content t.frame.0)) need.idle).0;
+        }
+
+    seated : (q : ℕ) (seat : Seat) → s.inside q ≡ Some seat → IsSeated s.content s.is_sealing (s.cache q) seat → IsSeated s.content s.is_sealing (cond (p == q) (with_translation (s.cache q) t) (s.cache q)) seat
+    seated q seat is k = record {
+      tcs = k.tcs;
+      tcs_page = k.tcs_page;
+      ssa = k.ssa;
+      cache =
+          cond_both (p == q) (with_translation (s.cache q) t) (s.cache q) (All (λ x. IsTranslation seat.enclave x (s.content x.frame.0) (s.is_sealing x.frame.0)))
+          (λ e.
+          let here : s.inside p ≡ Some seat = ap s.inside (eqb-true p q e) ∙ is in
+          All-with_translation (λ x. IsTranslation seat.enclave x (s.content x.frame.0) (s.is_sealing x.frame.0)) (s.cache q) t k.cache (new seat (rw here at allowed)))
+          (λ _. k.cache);
+    }
+
+-- the frame of a `fill` that its row allows is one of the EPC's
+fill_within : (s : State) (p number f : ℕ) → first_of_row (fill_row number (seat_enclave (s.inside p)) (sight s f)) ≡ None → f < s.frames
+fill_within s p number f = by_mode (s.inside p)
+  where
+    by_mode : (o : Option Seat) → first_of_row (fill_row number (seat_enclave o) (sight s f)) ≡ None → f < s.frames
+    by_mode None k = absurd (outside_refused number (sight s f) k)
+    by_mode (Some seat) k = leb-false _ _ (fills number seat.enclave (sight s f) k).within
+
+fill_by : (number : ℕ) (o o' : Option ℕ) (v v' : FrameSight) → o ≡ o' → v ≡ v' → first_of_row (fill_row number o v) ≡ None → first_of_row (fill_row number o' v') ≡ None
+fill_by number o o' v v' e e' k = rw (← e, ← e') k
+
 -- the translation has the permissions of the page in its frame
 pub fill_upheld : (s : State) (past : List Entry) (p : Cpu) (t : Translation) → p.0 < 16 → first_of_row (row_of s (actors.Cpu p) (Fill t.number t.frame)) ≡ None
     → perm_in (s.content t.frame.0) ≡ Some t.perm → IsSound s
@@ -369,10 +408,10 @@ pub fill_upheld : (s : State) (past : List Entry) (p : Cpu) (t : Translation) �
 fill_upheld s past p t low allowed perm sound h =
     let stands = h.stands in
     let by_entries : first_of_row (fill_row t.number (enclave_of_stay (stay past p.0)) (sight_at s.frames past t.frame.0)) ≡ None =
-        fill_by t.number _ _ _ _ (ap seat_enclave (stands.inside p.0) ∙ enclave_by_entries (stay past p.0)) (sight_agrees s past stands t.frame.0) allowed in
+    fill_by t.number _ _ _ _ (ap seat_enclave (stands.inside p.0) ∙ enclave_by_entries (stay past p.0)) (sight_agrees s past stands t.frame.0) allowed in
     upholds_more (after_fill s p.0 t) past _ h.rules
     (record {
-      sound = record { seated = each_there s.inside (λ q. IsSeated s.content s.is_sealing (cond (p.0 == q) (with_translation (s.cache q) t) (s.cache q))) (λ q seat is. seated q seat is (seat_at s sound q seat is)) };
+      sound = sound-fill s p.0 t allowed perm sound;
       stands = record {
         content = stands.content;
         is_blocked = stands.is_blocked;
@@ -392,44 +431,16 @@ fill_upheld s past p t low allowed perm sound h =
       };
       refusal = (by_entries, refl);
       flat = λ seen. cc;
-      fits = (within (s.inside p.0) allowed, tt);
+      fits = (fill_within s p.0 t.number t.frame.0 allowed, tt);
       once = once_before s.frames past h.rules;
       access = tt;
       held = held_before s.frames past h.rules;
     })
-  where
-    fill_by : (number : ℕ) (o o' : Option ℕ) (v v' : FrameSight) → o ≡ o' → v ≡ v' → first_of_row (fill_row number o v) ≡ None → first_of_row (fill_row number o' v') ≡ None
-    fill_by number o o' v v' e e' k = rw (← e, ← e') k
-
-    within : (o : Option Seat) → first_of_row (fill_row t.number (seat_enclave o) (sight s t.frame.0)) ≡ None → t.frame.0 < s.frames
-    within None k = absurd (outside_refused t.number (sight s t.frame.0) k)
-    within (Some seat) k = leb-false _ _ (fills t.number seat.enclave (sight s t.frame.0) k).within
-
-    new : (seat : Seat) → first_of_row (fill_row t.number (Some seat.enclave) (sight s t.frame.0)) ≡ None → IsTranslation seat.enclave t (s.content t.frame.0) (s.is_sealing t.frame.0)
-    new seat k =
-        let need = fills t.number seat.enclave (sight s t.frame.0) k in
-        record {
-          page = perm_there (s.content t.frame.0) (page_at seat.enclave t.number) t.perm (not_false _ need.page) (not_false _ need.kind) perm;
-          settled = (neither (s.is_sealing t.frame.0) (is_loading (s.content t.frame.0)) need.idle).0;
-        }
-
-    seated : (q : ℕ) (seat : Seat) → s.inside q ≡ Some seat → IsSeated s.content s.is_sealing (s.cache q) seat
-        → IsSeated s.content s.is_sealing (cond (p.0 == q) (with_translation (s.cache q) t) (s.cache q)) seat
-    seated q seat is k = record {
-      tcs = k.tcs;
-      ssa = k.ssa;
-      cache =
-          cond_both (p.0 == q) (with_translation (s.cache q) t) (s.cache q) (All (λ x. IsTranslation seat.enclave x (s.content x.frame.0) (s.is_sealing x.frame.0)))
-          (λ e.
-          let here : s.inside p.0 ≡ Some seat = ap s.inside (eqb-true p.0 q e) ∙ is in
-          All-with_translation (λ x. IsTranslation seat.enclave x (s.content x.frame.0) (s.is_sealing x.frame.0)) (s.cache q) t k.cache (new seat (rw here at allowed)))
-          (λ _. k.cache);
-    }
 
 -- ---- load
 
 -- a translation that is found is of the page that was looked for, and has what each has
-found_there : (P : Translation → Type 0) (xs : List Translation) (n : ℕ) (t : Translation) → AllByRecursion P xs → translation_of xs n ≡ Some t → (t.number ≡ n) × P t
+pub found_there : (P : Translation → Type 0) (xs : List Translation) (n : ℕ) (t : Translation) → AllByRecursion P xs → translation_of xs n ≡ Some t → (t.number ≡ n) × P t
 found_there P [] n t h is = cc
 found_there P (x ∷ xs) n t h is = by_test (x.number == n) refl is (found_there P xs n t h.1)
   where
@@ -450,7 +461,7 @@ found_translation s past p off sound stands = by_stay (stay past p) refl
         let held : holds_number (translations past p) (off / 4096) ≡ true = rw (← stands.cache p, holds_number-map (s.cache p) (off / 4096), at) refl in
         let found = found_there (λ x. IsTranslation st.seat.enclave x (s.content x.frame.0) (s.is_sealing x.frame.0)) (s.cache p) (off / 4096) t (recursion_from_All _ (s.cache p) (seat_at s sound p st.seat is).cache) at in
         let page : (flat past).pages (page_at st.seat.enclave (off / 4096)) ≡ Some (record { kind = kinds.Reg; perm = t.perm; words = s.words t.frame.0 }) =
-            rw (← found.0) (stands.words t.frame.0 (page_at st.seat.enclave t.number) kinds.Reg t.perm found.1.page) in
+        rw (← found.0) (stands.words t.frame.0 (page_at st.seat.enclave t.number) kinds.Reg t.perm found.1.page) in
         rw (is, e, at, held, page) refl
 
     by_stay : (o : Option Stay) → stay past p ≡ o → translation s p (s.inside p) (off / 4096) ≡ translation_at past p (stay past p) (off / 4096)
@@ -477,7 +488,7 @@ reads s past p off sound stands allowed = by_mode (s.inside p) refl allowed
         let m = flat past in
         let same : st.seat ≡ seat = let i = stands.inside p in let some : seat_of_stay (stay past p) ≡ Some st.seat = ap seat_of_stay e in cc (i, some, is) in
         let page : m.pages (page_at st.seat.enclave (off / 4096)) ≡ Some (record { kind = kinds.Reg; perm = t.perm; words = s.words t.frame.0 }) =
-            rw (same, ← found.0) (stands.words t.frame.0 (page_at seat.enclave t.number) kinds.Reg t.perm found.1.page) in
+        rw (same, ← found.0) (stands.words t.frame.0 (page_at seat.enclave t.number) kinds.Reg t.perm found.1.page) in
         let inside : (m.cpus p).inside ≡ Some (record { enclave = st.seat.enclave; tcs = st.seat.tcs }) = stands.flat_inside p ∙ ap inside_of_stay e in
         let held : holds_number (translations past p) (off / 4096) ≡ true = rw (← stands.cache p, holds_number-map (s.cache p) (off / 4096), at) refl in
         record {
@@ -510,9 +521,9 @@ load_upheld s past p off low allowed sound h =
     let stands = h.stands in
     let k = reads s past p.0 off sound stands allowed in
     let by_entries : first_of_row (load_row off (is_some (stay past p.0)) (translation_at past p.0 (stay past p.0) (off / 4096))) ≡ None =
-        load_by off _ _ _ _ (mode_by_entries s past stands p.0) (k.machine ∙ sym k.entries) allowed in
+    load_by off _ _ _ _ (mode_by_entries s past stands p.0) (k.machine ∙ sym k.entries) allowed in
     let by_flat : first_of_row (load_row off (is_some (m.cpus p.0).inside) (flat_translation m (m.cpus p.0).inside off)) ≡ None =
-        load_by off _ _ _ _ (mode_in_flat s past stands p.0) (k.machine ∙ sym k.in_flat) allowed in
+    load_by off _ _ _ _ (mode_in_flat s past stands p.0) (k.machine ∙ sym k.in_flat) allowed in
     let taken : accepts m (actors.Cpu p) (Load off) ≡ true = rw (lt-ltb p.0 16 low, by_flat) refl in
     upholds_more s past _ h.rules
     (record {

@@ -2,3 +2,4 @@ pub mod State
 pub mod Stands
 pub mod Parts
 pub mod Whole
+pub mod Steps

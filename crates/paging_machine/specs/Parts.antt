@@ -1,5 +1,7 @@
 -- The machine's parts as data, and the state that they make.
 use Rattle.std.specs.Prelude.{ℕ, ◌==◌, ◌+◌, ◌*◌, ◌/◌, ◌&&◌, Bool, true, false, if◌then◌else◌, List, [], ◌∷◌, map, Option, Some, None, slice_index_or, slice_index, slice_set, length, is_some}
+use Rattle.std.specs.declared.vec.Vec.{Vec}
+use Rattle.std.specs.declared.alloc.Global.{Global}
 use Rattle.sgx_types.specs.declared.names.Page.{Page}
 use Rattle.sgx_types.specs.declared.names.Kind.{Kind}
 use Rattle.sgx_types.specs.declared.names.Kind.TheVariants as kinds
@@ -57,6 +59,12 @@ no_note = record { added = None; is_busy = false }
 
 abbrev pub note_at : Parts → ℕ → ℕ → PageNote
 note_at d enclave number = slice_index_or (slice_index_or d.pages enclave []) number no_note
+
+abbrev pub notes_of : Vec (Vec PageNote Global) Global → List (List PageNote)
+notes_of pages = map (λ notes. notes.items) pages.items
+
+abbrev pub with_note : List (List PageNote) → ℕ → ℕ → PageNote → List (List PageNote)
+with_note pages e n note = slice_set pages e (slice_set (slice_index_or pages e []) n note)
 
 abbrev pub kind_of : Option Added → Option (Kind × Perm)
 kind_of None = None

@@ -7,7 +7,7 @@ use Rattle.sgx_types.specs.declared.names.Page.{Page}
 use Rattle.sgx_types.specs.declared.names.Kind.{Kind}
 use Rattle.sgx_types.specs.declared.names.Kind.TheVariants as kinds
 use Rattle.sgx_types.specs.declared.names.Perm.{Perm}
-use Rattle.sgx_types.specs.Frames.{Content, Holds, content, is_blocked, is_sealing, enclave_in, page_at}
+use Rattle.sgx_types.specs.Frames.{Content, Holds, content, is_blocked, is_sealing, enclave_in, is_page, page_at}
 use Rattle.sgx_types.specs.Processors.{Seat, Stay, stay, Pair, translations}
 use Rattle.sgx_types.specs.Flat.{FlatMemory, FlatPage, Inside, flat}
 use Rattle.sgx_types.specs.Rules.{KeepsRules}
@@ -40,11 +40,9 @@ pub record StandsBy (s : State) (past : List Entry) (m : FlatMemory) : Type 0 wh
   pub inside : (p : ℕ) → s.inside p ≡ seat_of_stay (stay past p)
   pub acc : (p : ℕ) → s.acc p ≡ (m.cpus p).acc
   pub cache : (p : ℕ) → map pair_of (s.cache p) ≡ translations past p
-
   -- a frame that holds a page has that page's flat words
   pub words : (n : ℕ) (g : Page) (kind : Kind) (perm : Perm) → s.content n ≡ Holds g kind perm
       → m.pages g ≡ Some (record { kind = kind; perm = perm; words = s.words n })
-
   -- flat memory has each processor where the entries have it
   pub flat_inside : (p : ℕ) → (m.cpus p).inside ≡ inside_of_stay (stay past p)
 
@@ -66,6 +64,7 @@ pub record IsTranslation (enclave : ℕ) (t : Translation) (held : Content) (sea
 -- a stay inside, by what the frames hold and which are on their way out
 pub record IsSeated (content : ℕ → Content) (is_sealing : ℕ → Bool) (held : List Translation) (seat : Seat) : Type 0 where
   pub tcs : IsUsable seat.enclave (content seat.tcs_frame) (is_sealing seat.tcs_frame)
+  pub tcs_page : is_page (content seat.tcs_frame) (page_at seat.enclave seat.tcs) ≡ true
   pub ssa : IsUsable seat.enclave (content seat.ssa_frame) (is_sealing seat.ssa_frame)
   pub cache : All (λ t. IsTranslation seat.enclave t (content t.frame.0) (is_sealing t.frame.0)) held
 

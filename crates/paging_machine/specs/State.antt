@@ -108,7 +108,7 @@ after_epa s f = with_content s f IsVa
 
 abbrev pub after_create : State → ℕ → ℕ → ℕ → ℕ → State
 after_create s enclave f base size = record (with_content s f (SecsOf enclave)) {
-  enclaves = λ e. if e == enclave then Some (record { base = base; size = size; is_init = false }) else s.enclaves e
+  enclaves = λ e. if e == enclave then Some (record { base = base; size = size; is_init = false }) else s.enclaves e;
 }
 
 abbrev pub after_add : State → Page → ℕ → Kind → Perm → PageInit → State

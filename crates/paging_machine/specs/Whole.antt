@@ -1,7 +1,12 @@
 -- What is true of every machine.
-use Rattle.std.specs.Prelude.{ℕ, ◌≡◌, ◌<◌, ◌≤◌, ◌/◌, ◌^◌, All, map, Some, None, length, slice_index_or, []}
+use Rattle.std.specs.Prelude.{ℕ, ◌≡◌, ◌<◌, ◌≤◌, ◌/◌, ◌^◌, All, List, Option, map, Some, None, length, slice_index_or, []}
+use Rattle.sgx_types.specs.declared.names.Page.{Page}
+use Rattle.sgx_types.specs.declared.names.Kind.{Kind}
+use Rattle.sgx_types.specs.declared.names.Perm.{Perm}
+use Rattle.sgx_types.specs.Frames.{Content, Holds}
 use Rattle.paging_machine.specs.declared.machine.Machine.TheInside.{Inside}
 use Rattle.paging_machine.specs.declared.enclaves.Enclave.{Enclave}
+use Rattle.paging_machine.specs.declared.enclaves.PageNote.{PageNote}
 use Rattle.paging_machine.specs.Parts.{Parts, cpu_at, state_of}
 use Rattle.paging_machine.specs.Stands.{IsSound}
 
@@ -17,12 +22,20 @@ parts_of m = record {
 }
 
 -- a place for each enclave from 1 to 8, each created one with a note for each of its pages
+pub record IsNoted (enclaves : List (Option Enclave)) (pages : List (List PageNote)) : Type 0 where
+  pub enclaves_len : length enclaves ≡ 9
+  pub pages_len : length pages ≡ 9
+  pub unmade : (e : ℕ) → slice_index_or enclaves e None ≡ None → slice_index_or pages e [] ≡ []
+  pub made : (e : ℕ) (x : Enclave) → slice_index_or enclaves e None ≡ Some x → length (slice_index_or pages e []) ≡ x.size / 4096
+
+-- each page in a frame is one of its enclave's
+abbrev pub IsFramed : (ℕ → Content) → List (List PageNote) → Type 0
+IsFramed content pages = (n : ℕ) (g : Page) (kind : Kind) (perm : Perm) → content n ≡ Holds g kind perm → g.number < length (slice_index_or pages g.enclave [])
+
 pub record IsWhole (m : Inside) : Type 0 where
   pub processors : length m.cpus.items ≤ 16
-  pub enclaves : length m.enclaves.items ≡ 9
-  pub pages : length m.pages.items ≡ 9
   pub logs : length m.logs.items ≡ 9
-  pub unmade : (e : ℕ) → slice_index_or m.enclaves.items e None ≡ None → slice_index_or (parts_of m).pages e [] ≡ []
-  pub noted : (e : ℕ) (x : Enclave) → slice_index_or m.enclaves.items e None ≡ Some x → length (slice_index_or (parts_of m).pages e []) ≡ x.size / 4096
+  pub noted : IsNoted m.enclaves.items (parts_of m).pages
+  pub framed : IsFramed (state_of (parts_of m)).content (parts_of m).pages
   pub small : (p : ℕ) → All (λ t. t.number < 2 ^ 32) (cpu_at (parts_of m) p).cache
   pub sound : IsSound (state_of (parts_of m))

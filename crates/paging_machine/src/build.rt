@@ -1,9 +1,10 @@
-ghost use Rattle.std.specs.Prelude.{◌≡◌, ◌<◌, ◌%◌, ◌==◌, is_some, slice_index, slice_index_or, OnOk, OnErr, length, Some, None};
+ghost use Rattle.std.specs.Prelude.{◌≡◌, ◌<◌, ◌%◌, ◌==◌, is_some, slice_index, slice_index_or, replicate, IfOk, OnOk, OnErr, length, vec_len, [], Some, None};
 ghost use Rattle.sgx_types.specs.Frames.{page_at};
 ghost use Rattle.sgx_types.specs.Table.{is_enclave, is_lawful, is_lawful_size, is_addable, is_lawful_perm, is_within, first_of_row, epa_row, create_row, add_row, init_row};
 ghost use Rattle.sgx_types.specs.Flat.{enclave_sight_of, first_words};
 ghost use Rattle.epcm_entry.specs.Epc.{with_words};
-ghost use Rattle.paging_machine.specs.Parts.{state_of, note_at, no_note};
+ghost use Rattle.paging_machine.specs.Parts.{state_of, note_at, no_note, notes_of, with_note};
+ghost use Rattle.paging_machine.specs.Stands.{IsSound};
 ghost use Rattle.paging_machine.specs.State.{sight, after_epa, after_create, after_add, after_init};
 
 use crate::enclaves::{Added, Enclave, PageNote};
@@ -15,14 +16,14 @@ use sgx_types::entries::PageInit;
 use sgx_types::layouts::flags;
 use sgx_types::names::{Frame, Kind, Memory, Page, Perm};
 use sgx_types::refusals::Refusal;
-use sha2::{Digest, Sha256};
+use sha2::Digest;
 use std::alloc::Global;
-use std::mem;
 
 impl Machine {
     /// The first case that holds of the row of `epa`.
     pub(crate) fn epa_refusal(&self, frame: Frame) -> Option<Refusal>
-        ensures { result ≡ first_of_row (epa_row (sight (state_of self.now) frame.0)) }
+        ensures row { result ≡ first_of_row (epa_row (sight (state_of self.now) frame.0)) }
+        ensures sound { IsSound (state_of self.now) }
     {
         if frame.0 >= self.frames() {
             return Some(Refusal::BadRange);
@@ -39,7 +40,8 @@ impl Machine {
 
     /// The enclave of a number, None exactly where it was not created.
     pub(crate) fn enclave(&self, enclave: u16) -> Option<Enclave>
-        ensures { result ≡ slice_index_or self.now.enclaves enclave None }
+        ensures value { result ≡ slice_index_or self.now.enclaves enclave None }
+        ensures sound { IsSound (state_of self.now) }
     {
         self.enclaves.get(usize::from(enclave)).copied().flatten()
     }
@@ -55,8 +57,15 @@ impl Machine {
     }
 
     /// The first case that holds of the row of `create`.
-    pub(crate) fn create_refusal(&self, enclave: u16, frame: Frame, base: u64, size: u64) -> Option<Refusal>
-        ensures { result ≡ first_of_row (create_row enclave base size (is_some ((state_of self.now).enclaves enclave)) (sight (state_of self.now) frame.0)) }
+    pub(crate) fn create_refusal(
+        &self,
+        enclave: u16,
+        frame: Frame,
+        base: u64,
+        size: u64,
+    ) -> Option<Refusal>
+        ensures row { result ≡ first_of_row (create_row enclave base size (is_some ((state_of self.now).enclaves enclave)) (sight (state_of self.now) frame.0)) }
+        ensures sound { IsSound (state_of self.now) }
     {
         if frame.0 >= self.frames() || !is_enclave(enclave) || !is_lawful(base, size) {
             return Some(Refusal::BadRange);
@@ -75,9 +84,18 @@ impl Machine {
     }
 
     /// The first case that holds of the row of `add`.
-    pub(crate) fn add_refusal(&self, enclave: u16, number: u32, frame: Frame, kind: Kind, perm: Perm, init: PageInit) -> Option<Refusal>
-        ensures { result ≡ first_of_row (add_row number kind perm init (enclave_sight_of ((state_of self.now).enclaves enclave))
+    pub(crate) fn add_refusal(
+        &self,
+        enclave: u16,
+        number: u32,
+        frame: Frame,
+        kind: Kind,
+        perm: Perm,
+        init: PageInit,
+    ) -> Option<Refusal>
+        ensures row { result ≡ first_of_row (add_row number kind perm init (enclave_sight_of ((state_of self.now).enclaves enclave))
             (is_some ((state_of self.now).added (page_at enclave number))) (sight (state_of self.now) frame.0)) }
+        ensures sound { IsSound (state_of self.now) }
     {
         if frame.0 >= self.frames() {
             return Some(Refusal::BadRange);
@@ -112,7 +130,8 @@ impl Machine {
 
     /// The first case that holds of the row of `init`, but for the measurement.
     pub(crate) fn init_refusal(&self, enclave: u16) -> Option<Refusal>
-        ensures { result ≡ first_of_row (init_row (enclave_sight_of ((state_of self.now).enclaves enclave))) }
+        ensures row { result ≡ first_of_row (init_row (enclave_sight_of ((state_of self.now).enclaves enclave))) }
+        ensures sound { IsSound (state_of self.now) }
     {
         let Some(found) = self.enclave(enclave) else {
             return Some(Refusal::Absent);
@@ -146,7 +165,7 @@ impl Machine {
         ensures refused { OnErr result (self.new ≡ self.old) }
         ensures cpus { length self.new.cpus ≡ length self.old.cpus }
     {
-        let notes = vec![in alloc; NO_NOTE; (size / 4096) as usize]?;
+        let notes = blank_notes(alloc, size / 4096)?;
         let place = usize::from(enclave);
         self.pages[place] = notes;
         self.logs[place] = begun(size);
@@ -178,53 +197,70 @@ impl Machine {
         let number = page.number as usize;
         let is_busy = self.note(page.enclave, page.number).is_busy;
         let added = Some(Added { kind, perm });
-        self.pages[place][number] = PageNote { added, is_busy };
+        write_note(&mut self.pages, place, number, PageNote { added, is_busy });
         self.epc.set(frame, page, kind, perm);
         write_words(&mut self.epc, frame, init);
         let block = add_block(u64::from(page.number) * 4096, flags(kind, perm));
         self.logs[place].update(block.as_slice());
     }
 
-    /// Marks an enclave initialised, and answers its measurement.
-    pub(crate) fn set_init(&mut self, enclave: u16) -> [u8; 32]
+    /// The measurement of an enclave so far.
+    pub(crate) fn measurement(&self, enclave: u16) -> [u8; 32]
+        requires { first_of_row (init_row (enclave_sight_of ((state_of self.now).enclaves enclave))) ≡ None }
+        ensures { IsSound (state_of self.now) }
+    {
+        let log = self.logs[usize::from(enclave)].clone().unwrap();
+        log.finalize()
+    }
+
+    /// Marks an enclave initialised.
+    pub(crate) fn set_init(&mut self, enclave: u16)
         requires { first_of_row (init_row (enclave_sight_of ((state_of self.old).enclaves enclave))) ≡ None }
         ensures done { state_of self.new ≡ after_init (state_of self.old) enclave }
         ensures cpus { length self.new.cpus ≡ length self.old.cpus }
     {
+        let found = self.enclave(enclave).unwrap();
         let place = usize::from(enclave);
-        if let Some(found) = self.enclaves[place] {
-            self.enclaves[place] = Some(Enclave {
-                is_init: true,
-                ..found
-            });
-        }
-        let log = mem::replace(&mut self.logs[place], Sha256::new());
-        log.finalize()
+        self.enclaves[place] = Some(Enclave {
+            is_init: true,
+            ..found
+        });
     }
 }
 
-// The 512 words with which a page is added.
+// What is known of so many pages at first.
+fn blank_notes(alloc: Global, pages: u64) -> Result<Vec<PageNote>, Memory>
+    ensures { IfOk result (λ notes. notes.items ≡ replicate pages no_note) }
+{
+    Ok(vec![in alloc; NO_NOTE; pages as usize]?)
+}
+
+pub(crate) fn write_note(
+    pages: &mut Vec<Vec<PageNote>>,
+    place: usize,
+    number: usize,
+    note: PageNote,
+)
+    requires made { place < length (notes_of pages.old) }
+    requires in_enclave { number < length (slice_index_or (notes_of pages.old) place []) }
+    ensures written { notes_of pages.new ≡ with_note (notes_of pages.old) place number note }
+    ensures len { vec_len pages.new ≡ vec_len pages.old }
+{
+    pages[place][number] = note;
+}
+
+// The words with which a page is added.
 fn write_words(epc: &mut Epc, frame: Frame, init: PageInit)
     requires { frame.0 < length epc.old }
     ensures { epc.new ≡ with_words epc.old frame.0 (first_words init) }
 {
-    for index in 0..512 {
-        epc.set_word(frame, index, first_word(init, index));
-    }
-}
-
-// One word of a page that is added.
-fn first_word(init: PageInit, index: u16) -> u64
-    requires { index < 512 }
-    ensures { result ≡ slice_index (first_words init) index }
-{
     match init {
-        PageInit::Words(value) => value,
-        PageInit::Tcs { ossa, nssa } => match index {
-            2 => u64::from(ossa) * 4096,
-            3 => u64::from(nssa) << 32,
-            _ => 0,
-        },
+        PageInit::Words(value) => epc.fill(frame, value),
+        PageInit::Tcs { ossa, nssa } => {
+            epc.fill(frame, 0);
+            epc.set_word(frame, 2, u64::from(ossa) * 4096);
+            epc.set_word(frame, 3, u64::from(nssa) * (1 << 32));
+        }
     }
 }
 
@@ -302,9 +338,7 @@ fn is_within(size: u64, number: u32, init: PageInit) -> bool
     match init {
         PageInit::Words(_) => u64::from(number) < pages,
         PageInit::Tcs { ossa, nssa } => {
-            u64::from(number) < pages
-                && u64::from(ossa) + u64::from(nssa) <= pages
-                && nssa != 0
+            u64::from(number) < pages && u64::from(ossa) + u64::from(nssa) <= pages && nssa != 0
         }
     }
 }

@@ -1,6 +1,7 @@
 // The machine: SGX1's instructions over one EPC, one at a time.
 #![tactic(auto)]
 
+mod apply;
 mod build;
 mod enclaves;
 pub mod machine;

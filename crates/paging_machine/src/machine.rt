@@ -7,7 +7,8 @@ ghost use Rattle.epcm_entry.specs.EntryView.{block_of, goes_out};
 ghost use Rattle.epcm_entry.specs.Epc.{entry_at, words_at, is_free_frame};
 ghost use Rattle.cached_translations.specs.Translations.{translation_of};
 ghost use Rattle.paging_machine.specs.Parts.{state_of, held, cpu_at, tcs_of, is_lawful_access};
-ghost use Rattle.paging_machine.specs.State.{sight, fresh};
+ghost use Rattle.paging_machine.specs.State.{fresh};
+ghost use Rattle.paging_machine.specs.Stands.{IsSound};
 
 use crate::enclaves::{Enclave, PageNote};
 use crate::sights::is_tcs;
@@ -52,7 +53,8 @@ impl Model for Machine {
 impl Machine {
     /// How many frames the EPC has.
     pub fn frames(&self) -> u32
-        ensures { result ≡ (state_of self.now).frames }
+        ensures value { result ≡ (state_of self.now).frames }
+        ensures sound { IsSound (state_of self.now) }
     {
         self.epc.frames()
     }

@@ -1,14 +1,17 @@
-ghost use Rattle.std.specs.Prelude.{◌≡◌, ◌<◌, ◌/◌, ◌+◌, is_some, length};
-ghost use Rattle.sgx_types.specs.Table.{first_of_row, enter_row, ssa_row, exit_row, fill_row, load_row};
+ghost use Rattle.std.specs.Prelude.{◌≡◌, ◌<◌, ◌/◌, ◌+◌, is_some, length, [], None, Some};
+ghost use Rattle.sgx_types.specs.Table.{first_of_row, enter_row, ssa_row, exit_row, fill_row, load_row, perm_in};
 ghost use Rattle.paging_machine.specs.Parts.{state_of, fields_of};
 ghost use Rattle.sgx_types.specs.Flat.{tcs_fields};
 ghost use Rattle.cached_translations.specs.Translations.{translation_of};
-ghost use Rattle.paging_machine.specs.State.{sight, seat_of, seat_enclave, translation, enter_row_of};
+ghost use Rattle.paging_machine.specs.Stands.{IsSound};
+ghost use Rattle.paging_machine.specs.State.{sight, seat_of, seat_enclave, translation, enter_row_of, word_at, after_enter, after_exit, after_fill};
 
+use crate::build::write_note;
+use crate::enclaves::PageNote;
 use crate::machine::{Machine, high_half, low_half};
 use crate::sights::{allows_update, is_blocked, is_busy, is_page, is_reg, is_tcs, perm_in};
 use cached_translations::cache::Translation;
-use cached_translations::processor::Mode;
+use cached_translations::processor::{Mode, Processor};
 use sgx_types::layouts::TcsFields;
 use sgx_types::names::{Cpu, Frame, Perm};
 use sgx_types::refusals::Refusal;
@@ -17,9 +20,10 @@ impl Machine {
     /// The enclave that a processor is inside.
     fn enclave_inside(&self, cpu: Cpu) -> Option<u16>
         requires { cpu.0 < length self.now.cpus }
-        ensures { result ≡ seat_enclave ((state_of self.now).inside cpu.0) }
+        ensures value { result ≡ seat_enclave ((state_of self.now).inside cpu.0) }
+        ensures sound { IsSound (state_of self.now) }
     {
-        match self.mode(cpu) {
+        match self.cpus[usize::from(cpu.0)].mode {
             Mode::Outside => None,
             Mode::Inside { enclave, .. } => Some(enclave),
         }
@@ -27,15 +31,17 @@ impl Machine {
 
     pub(crate) fn is_inside(&self, cpu: Cpu) -> bool
         requires { cpu.0 < length self.now.cpus }
-        ensures { result ≡ is_some ((state_of self.now).inside cpu.0) }
+        ensures value { result ≡ is_some ((state_of self.now).inside cpu.0) }
+        ensures sound { IsSound (state_of self.now) }
     {
-        matches!(self.mode(cpu), Mode::Inside { .. })
+        matches!(self.cpus[usize::from(cpu.0)].mode, Mode::Inside { .. })
     }
 
     /// The first case that holds of the row of `exit`.
     pub(crate) fn exit_refusal(&self, cpu: Cpu) -> Option<Refusal>
         requires { cpu.0 < length self.now.cpus }
-        ensures { result ≡ first_of_row (exit_row (is_some ((state_of self.now).inside cpu.0))) }
+        ensures row { result ≡ first_of_row (exit_row (is_some ((state_of self.now).inside cpu.0))) }
+        ensures sound { IsSound (state_of self.now) }
     {
         if self.is_inside(cpu) {
             None
@@ -47,7 +53,8 @@ impl Machine {
     /// The first case that holds of the row of `fill`.
     pub(crate) fn fill_refusal(&self, cpu: Cpu, number: u32, frame: Frame) -> Option<Refusal>
         requires { cpu.0 < length self.now.cpus }
-        ensures { result ≡ first_of_row (fill_row number (seat_enclave ((state_of self.now).inside cpu.0)) (sight (state_of self.now) frame.0)) }
+        ensures row { result ≡ first_of_row (fill_row number (seat_enclave ((state_of self.now).inside cpu.0)) (sight (state_of self.now) frame.0)) }
+        ensures sound { IsSound (state_of self.now) }
     {
         let Some(enclave) = self.enclave_inside(cpu) else {
             return Some(Refusal::WrongMode);
@@ -109,9 +116,17 @@ impl Machine {
     }
 
     /// The first case that holds of the row of `enter`.
-    pub(crate) fn enter_refusal(&self, cpu: Cpu, enclave: u16, tcs: u32, tcs_frame: Frame, ssa_frame: Frame) -> Option<Refusal>
+    pub(crate) fn enter_refusal(
+        &self,
+        cpu: Cpu,
+        enclave: u16,
+        tcs: u32,
+        tcs_frame: Frame,
+        ssa_frame: Frame,
+    ) -> Option<Refusal>
         requires { cpu.0 < length self.now.cpus }
-        ensures { result ≡ first_of_row (enter_row_of (state_of self.now) cpu.0 (seat_of enclave tcs tcs_frame.0 ssa_frame.0)) }
+        ensures row { result ≡ first_of_row (enter_row_of (state_of self.now) cpu.0 (seat_of enclave tcs tcs_frame.0 ssa_frame.0)) }
+        ensures sound { IsSound (state_of self.now) }
     {
         if self.is_inside(cpu) {
             return Some(Refusal::WrongMode);
@@ -153,7 +168,8 @@ impl Machine {
     /// The first case that holds of the row of `load`.
     pub(crate) fn load_refusal(&self, cpu: Cpu, off: u64) -> Option<Refusal>
         requires { cpu.0 < length self.now.cpus }
-        ensures { result ≡ first_of_row (load_row off (is_some ((state_of self.now).inside cpu.0)) (translation (state_of self.now) cpu.0 ((state_of self.now).inside cpu.0) (off / 4096))) }
+        ensures row { result ≡ first_of_row (load_row off (is_some ((state_of self.now).inside cpu.0)) (translation (state_of self.now) cpu.0 ((state_of self.now).inside cpu.0) (off / 4096))) }
+        ensures sound { IsSound (state_of self.now) }
     {
         if !self.is_inside(cpu) {
             return Some(Refusal::WrongMode);
@@ -181,4 +197,103 @@ impl Machine {
         }
         cache.find(number as u32)
     }
+
+    /// The word at an offset, through the translation that a processor holds of its page.
+    #[tactic(auto, using(crate::proofs::Reading::load_within))]
+    pub(crate) fn word(&self, cpu: Cpu, off: u64) -> u64
+        requires cpu_in { cpu.0 < length self.now.cpus }
+        requires allowed { first_of_row (load_row off (is_some ((state_of self.now).inside cpu.0)) (translation (state_of self.now) cpu.0 ((state_of self.now).inside cpu.0) (off / 4096))) ≡ None }
+        ensures { result ≡ word_at (state_of self.now) cpu.0 off }
+    {
+        let translation = self.find(cpu, off / 4096).unwrap();
+        self.epc.word(translation.frame, (off % 4096 / 8) as u16)
+    }
+
+    /// Takes a processor into an enclave, and answers CSSA.
+    pub(crate) fn set_inside(
+        &mut self,
+        cpu: Cpu,
+        enclave: u16,
+        tcs: u32,
+        tcs_frame: Frame,
+        ssa_frame: Frame,
+    ) -> u32
+        requires cpu_in { cpu.0 < length self.old.cpus }
+        requires allowed { first_of_row (enter_row_of (state_of self.old) cpu.0 (seat_of enclave tcs tcs_frame.0 ssa_frame.0)) ≡ None }
+        ensures answer { result ≡ (tcs_fields ((state_of self.old).words tcs_frame.0)).cssa }
+        ensures done { state_of self.new ≡ after_enter (state_of self.old) cpu.0 (seat_of enclave tcs tcs_frame.0 ssa_frame.0) }
+        ensures cpus { length self.new.cpus ≡ length self.old.cpus }
+    {
+        let cssa = self.tcs_fields(tcs_frame).cssa;
+        let added = self.note(enclave, tcs).added;
+        let place = usize::from(enclave);
+        write_note(
+            &mut self.pages,
+            place,
+            tcs as usize,
+            PageNote {
+                added,
+                is_busy: true,
+            },
+        );
+        let mode = Mode::Inside {
+            enclave,
+            tcs,
+            tcs_frame,
+            ssa_frame,
+            epoch: self.start_epoch,
+        };
+        seat(&mut self.cpus[usize::from(cpu.0)], mode, u64::from(cssa));
+        cssa
+    }
+
+    /// Takes a processor out of its enclave.
+    pub(crate) fn set_outside(&mut self, cpu: Cpu)
+        requires cpu_in { cpu.0 < length self.old.cpus }
+        requires allowed { first_of_row (exit_row (is_some ((state_of self.old).inside cpu.0))) ≡ None }
+        ensures done { state_of self.new ≡ after_exit (state_of self.old) cpu.0 }
+        ensures cpus { length self.new.cpus ≡ length self.old.cpus }
+    {
+        let Mode::Inside { enclave, tcs, .. } = self.mode(cpu) else {
+            unreachable!()
+        };
+        let added = self.note(enclave, tcs).added;
+        let place = usize::from(enclave);
+        write_note(
+            &mut self.pages,
+            place,
+            tcs as usize,
+            PageNote {
+                added,
+                is_busy: false,
+            },
+        );
+        unseat(&mut self.cpus[usize::from(cpu.0)]);
+    }
+
+    /// Gives a processor the translation of a page in a frame.
+    pub(crate) fn set_translation(&mut self, cpu: Cpu, translation: Translation)
+        requires cpu_in { cpu.0 < length self.old.cpus }
+        requires allowed { first_of_row (fill_row translation.number (seat_enclave ((state_of self.old).inside cpu.0)) (sight (state_of self.old) translation.frame.0)) ≡ None }
+        requires perm { perm_in ((state_of self.old).content translation.frame.0) ≡ Some translation.perm }
+        ensures done { state_of self.new ≡ after_fill (state_of self.old) cpu.0 translation }
+        ensures cpus { length self.new.cpus ≡ length self.old.cpus }
+    {
+        self.cpus[usize::from(cpu.0)].cache.fill(translation);
+    }
+}
+
+fn seat(cpu: &mut Processor, mode: Mode, acc: u64)
+    ensures { cpu.new ≡ record { mode = mode; acc = acc; cache = [] } }
+{
+    cpu.mode = mode;
+    cpu.acc = acc;
+    cpu.cache.clear();
+}
+
+fn unseat(cpu: &mut Processor)
+    ensures { cpu.new ≡ record { mode = Mode.Outside; acc = cpu.old.acc; cache = [] } }
+{
+    cpu.mode = Mode::Outside;
+    cpu.cache.clear();
 }

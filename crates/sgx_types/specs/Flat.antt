@@ -1,6 +1,6 @@
 -- Plain memory that is never evicted, and what each instruction that programs see does to it. It has no EPC, no frames,
 -- no translations and no epochs: it is the manual's view of enclaves that have all their memory.
-use Rattle.std.specs.Prelude.{ℕ, ◌==◌, ◌+◌, ◌*◌, ◌/◌, ◌%◌, ◌^◌, ◌&&◌, Bool, true, false, if◌then◌else◌, List, [], ◌∷◌, Option, Some, None, replicate, slice_index, nat_lt, is_some, is_none}
+use Rattle.std.specs.Prelude.{ℕ, ◌==◌, ◌+◌, ◌*◌, ◌/◌, ◌%◌, ◌^◌, ◌&&◌, Bool, true, false, if◌then◌else◌, List, [], ◌∷◌, Option, Some, None, replicate, slice_index, slice_set, nat_lt, is_some, is_none}
 use Rattle.sgx_types.specs.declared.entries.Entry.{Entry}
 use Rattle.sgx_types.specs.declared.entries.Event.{Event}
 use Rattle.sgx_types.specs.declared.entries.Event.TheVariants.{Did}
@@ -87,10 +87,10 @@ tcs_fields words = record {
   nssa = slice_index words 3 / 2 ^ 32;
 }
 
--- the words with which a page is added
+-- the words with which a page is added: all alike, or OSSA in bytes in the third and NSSA in the upper half of the fourth
 abbrev pub first_words : PageInit → List ℕ
 first_words (inits.Words v) = replicate 512 v
-first_words (inits.Tcs ossa nssa) = 0 ∷ 0 ∷ (ossa * 4096) ∷ (nssa * 2 ^ 32) ∷ replicate 508 0
+first_words (inits.Tcs ossa nssa) = slice_set (slice_set (replicate 512 0) 2 (ossa * 4096)) 3 (nssa * 2 ^ 32)
 
 -- ---- what the rows see. What has no frame, translation or block to look at is given its harmless value.
 

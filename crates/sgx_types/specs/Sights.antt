@@ -1,5 +1,5 @@
 -- What the rows of the instruction table see, read from the entries before a place.
-use Rattle.std.specs.Prelude.{ℕ, ◌==◌, ◌+◌, ◌/◌, Bool, if◌then◌else◌, List, Option, Some, None, nat_le, is_some}
+use Rattle.std.specs.Prelude.{ℕ, ◌==◌, ◌+◌, ◌/◌, Bool, true, false, if◌then◌else◌, List, Option, Some, None, nat_le, is_some}
 use Rattle.sgx_types.specs.declared.entries.Entry.{Entry}
 use Rattle.sgx_types.specs.declared.entries.Actor.{Actor}
 use Rattle.sgx_types.specs.declared.entries.Actor.TheVariants as actors
@@ -8,7 +8,8 @@ use Rattle.sgx_types.specs.declared.entries.Action.TheVariants.{Epa, Create, Add
 use Rattle.sgx_types.specs.declared.names.Perm.{Perm}
 use Rattle.sgx_types.specs.Frames.{content, is_sealing, is_blocked, page_at}
 use Rattle.sgx_types.specs.Processors.{Seat, Stay, stay, Pair, holds_number, translations}
-use Rattle.sgx_types.specs.Table.{Case, allowed, FrameSight, epa_row, create_row, add_row, init_row, enter_row, exit_row, fill_row, load_row}
+use Rattle.sgx_types.specs.declared.refusals.Refusal.TheVariants as why
+use Rattle.sgx_types.specs.Table.{Case, allowed, when, ◌otherwise◌, FrameSight, epa_row, create_row, add_row, init_row, enter_row, exit_row, fill_row, load_row}
 use Rattle.sgx_types.specs.Flat.{FlatMemory, FlatPage, flat, enclave_sight, tcs_fields, words_of}
 
 -- a frame of an EPC with so many frames
@@ -56,6 +57,10 @@ cpu_row_at frames past p (Fill number f) = fill_row number (enclave_of_stay (sta
 cpu_row_at frames past p (Load off) = load_row off (is_some (stay past p)) (translation_at past p (stay past p) (off / 4096))
 cpu_row_at frames past p _ = allowed
 
+-- who is no processor is inside no enclave
+abbrev pub no_processor : List Case
+no_processor = when true why.WrongMode otherwise allowed
+
 -- the row of an instruction, by its actor
 abbrev pub row_at : ℕ → List Entry → Actor → Action → List Case
 row_at frames past actor (Epa f) = epa_row (sight_at frames past f.0)
@@ -64,4 +69,8 @@ row_at frames past actor (Add enclave number f kind perm init) =
     add_row number kind perm init (enclave_sight (flat past) enclave) (is_some ((flat past).pages (page_at enclave number))) (sight_at frames past f.0)
 row_at frames past actor (Init enclave expect) = init_row (enclave_sight (flat past) enclave)
 row_at frames past (actors.Cpu p) action = cpu_row_at frames past p.0 action
+row_at frames past actor (Enter enclave tcs tf sf) = no_processor
+row_at frames past actor Exit = no_processor
+row_at frames past actor (Fill number f) = no_processor
+row_at frames past actor (Load off) = no_processor
 row_at frames past actor action = allowed

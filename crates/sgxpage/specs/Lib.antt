@@ -1,2 +1,3 @@
 pub mod TraceText
 pub mod OutText
+pub mod WorkedTraces

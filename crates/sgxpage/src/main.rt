@@ -1,3 +1,6 @@
 #![tactic(auto)]
 
+#[cfg(test)]
+mod worked;
+
 fn main() {}

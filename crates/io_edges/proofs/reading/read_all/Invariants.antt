@@ -1,0 +1,13 @@
+use Rattle.std.proofs.Common.{◌≤◌, ◌+◌, ◌-◌, vec_len}
+use Rattle.io_edges.specs.Sources.{HasRead}
+use Rattle.io_edges.proofs.reading.read_all.Given as goal
+
+abbrev pub invariant-loop-piece : goal.invariant-loop-piece
+invariant-loop-piece g l = record {
+  read : HasRead (g.S.Source.left l.initial.source) (g.S.Source.left l.source) l.bytes.items;
+  short : vec_len l.bytes ≤ l.limit + 1;
+  not_fallen : g.S.Source.faults l.initial.source ≤ g.S.Source.faults l.source;
+}
+
+abbrev pub decreases-loop-piece : goal.decreases-loop-piece
+decreases-loop-piece g l = l.limit + 1 - vec_len l.bytes

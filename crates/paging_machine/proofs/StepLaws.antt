@@ -1,0 +1,101 @@
+-- A step takes a state that stands for its entries, and keeps the rules, on to one that does.
+use Rattle.std.proofs.Common.{ℕ, ◌≡◌, ◌<◌, ◌≤◌, refl, arith, rules, ◌⊎◌, inl, inr, Option, Some, None, List, ◌∷◌, cond, Bool, true, false, MatchOption, unwrap_or, is_some}
+use Rattle.sgx_types.specs.declared.entries.Entry.{Entry}
+use Rattle.sgx_types.specs.declared.entries.Actor.{Actor}
+use Rattle.sgx_types.specs.declared.entries.Actor.TheVariants as actors
+use Rattle.sgx_types.specs.declared.entries.Action.{Action}
+use Rattle.sgx_types.specs.declared.entries.Action.TheVariants.{Epa, Create, Add, Init, Enter, Exit, Fill, Load}
+use Rattle.sgx_types.specs.declared.entries.Answer.TheVariants as answers
+use Rattle.sgx_types.specs.declared.names.Cpu.{Cpu}
+use Rattle.sgx_types.specs.declared.names.Frame.{Frame}
+use Rattle.sgx_types.specs.declared.names.Perm.{Perm}
+use Rattle.sgx_types.specs.declared.refusals.Refusal.{Refusal}
+use Rattle.sgx_types.specs.declared.refusals.Refusal.TheVariants as why
+use Rattle.sgx_types.specs.declared.names.Kind.TheVariants as kinds
+use Rattle.sgx_types.specs.Frames.{Content, Free, IsVa, SecsOf, Holds, IsLoading}
+use Rattle.sgx_types.specs.Processors.{Seat}
+use Rattle.sgx_types.specs.Table.{EnclaveSight, init_row, first_of_row, perm_in, is_reg, fill_row}
+use Rattle.sgx_types.specs.Rules.{case_of}
+use Rattle.paging_machine.specs.State.{State, row_of, sight, seat_enclave, after_init}
+use Rattle.paging_machine.specs.Stands.{IsSound, Upholds}
+use Rattle.paging_machine.specs.Steps.{CanApply, IsDone, IsStep, did_by, refused_by, no_perm}
+use Rattle.paging_machine.proofs.BuildLaws.{epa_upheld, create_upheld, add_upheld, init_upheld}
+use Rattle.paging_machine.proofs.Tools.{not_false}
+use Rattle.paging_machine.proofs.ProcessorLaws.{fills, outside_refused, enter_upheld, exit_upheld, fill_upheld, load_upheld}
+use Rattle.paging_machine.proofs.Refused.{epa_refused, create_refused, add_refused, init_refused, enter_refused, exit_refused, fill_refused, load_refused}
+
+-- a row allows an instruction, or refuses it
+step_cases : (o : Option Refusal) (Done : Type 0) (made : Refusal → Entry) (e : Entry) (s t : State) (past : List Entry)
+    → (o ≡ None → Done → Upholds t (e ∷ past)) → ((r : Refusal) → o ≡ Some r → Upholds s (made r ∷ past))
+    → MatchOption o Done (λ r. (e ≡ made r) × (t ≡ s)) → Upholds t (e ∷ past)
+step_cases None Done made e s t past f g k = f refl k
+step_cases (Some r) Done made e s t past f g k = rw (k.0, k.1) (g r refl)
+
+-- the row of `init` knows nothing of the measurement
+init_case : (o : Option EnclaveSight) (enclave : ℕ) (expect : Option (List ℕ)) (r : Refusal) → first_of_row (init_row o) ≡ Some r → case_of (Init enclave expect) r ≡ Some r
+init_case None enclave expect r is = cc
+init_case (Some x) enclave expect r is = by_test x.is_init is
+  where
+    by_test : (b : Bool) → cond b (Some why.IsInit) None ≡ Some r → case_of (Init enclave expect) r ≡ Some r
+    by_test true k = cc
+    by_test false k = cc
+
+reg_has_perm : (c : Content) → is_reg c ≡ true → is_some (perm_in c) ≡ true
+reg_has_perm (Holds page kinds.Reg perm) is = refl
+reg_has_perm (Holds page kinds.Secs perm) is = cc
+reg_has_perm (Holds page kinds.Tcs perm) is = cc
+reg_has_perm (Holds page kinds.Va perm) is = cc
+reg_has_perm Free is = cc
+reg_has_perm IsVa is = cc
+reg_has_perm (SecsOf x) is = cc
+reg_has_perm IsLoading is = cc
+
+fill_some : (s : State) (p number f : ℕ) → first_of_row (fill_row number (seat_enclave (s.inside p)) (sight s f)) ≡ None → is_some (perm_in (s.content f)) ≡ true
+fill_some s p number f allowed = by_mode (s.inside p) allowed
+  where
+    by_mode : (o : Option Seat) → first_of_row (fill_row number (seat_enclave o) (sight s f)) ≡ None → is_some (perm_in (s.content f)) ≡ true
+    by_mode None k = absurd (outside_refused number (sight s f) k)
+    by_mode (Some seat) k = reg_has_perm (s.content f) (not_false _ (fills number seat.enclave (sight s f) k).kind)
+
+-- `fill` finds the permissions of a page
+pub fill_perm : (s : State) (p number f : ℕ) → first_of_row (fill_row number (seat_enclave (s.inside p)) (sight s f)) ≡ None → perm_in (s.content f) ≡ Some (unwrap_or (perm_in (s.content f)) no_perm)
+fill_perm s p number f allowed = by_perm (perm_in (s.content f)) (fill_some s p number f allowed)
+  where
+    by_perm : (o : Option Perm) → is_some o ≡ true → o ≡ Some (unwrap_or o no_perm)
+    by_perm None k = cc
+    by_perm (Some x) k = refl
+
+pub step_upheld : (s t : State) (past : List Entry) (cpus : ℕ) (a : Actor) (action : Action) (e : Entry) → cpus ≤ 16 → CanApply cpus a action → IsSound s
+    → IsStep s a action e t → Upholds s past → Upholds t (e ∷ past)
+step_upheld s t past cpus a (Epa f) e few can sound k h =
+    step_cases _ _ _ e s t past (λ allowed done. rw (done.0, done.1) (epa_upheld s past a f allowed sound h)) (λ r refused. epa_refused s past a f r refused sound h) k
+step_upheld s t past cpus a (Create enclave f base size) e few can sound k h =
+    step_cases _ _ _ e s t past (λ allowed done. rw (done.0, done.1) (create_upheld s past a enclave f base size allowed sound h))
+    (λ r refused. create_refused s past a enclave f base size r refused sound h) k
+step_upheld s t past cpus a (Add enclave number f kind perm init) e few can sound k h =
+    step_cases _ _ _ e s t past (λ allowed done. rw (done.0, done.1) (add_upheld s past a enclave number f kind perm init allowed sound h))
+    (λ r refused. add_refused s past a enclave number f kind perm init r refused sound h) k
+step_upheld s t past cpus a (Init enclave expect) e few can sound k h =
+    step_cases _ _ _ e s t past (λ allowed done. by_measure allowed done.0 done.1)
+    (λ r refused. init_refused s past a enclave expect r (rw (init_case _ enclave expect r refused) refused) sound h) k
+  where
+    by_measure : first_of_row (row_of s a (Init enclave expect)) ≡ None → (digest : List ℕ)
+        → ((e ≡ did_by a (Init enclave expect) (answers.Hash digest)) × (t ≡ after_init s enclave)) ⊎ ((e ≡ refused_by a (Init enclave expect) (why.BadMeasure digest)) × (t ≡ s))
+        → Upholds t (e ∷ past)
+    by_measure allowed digest (inl done) = rw (done.0, done.1) (init_upheld s past a enclave expect digest allowed sound h)
+    by_measure allowed digest (inr other) = rw (other.0, other.1) (init_refused s past a enclave expect (why.BadMeasure digest) allowed sound h)
+
+step_upheld s t past cpus (actors.Cpu p) (Enter enclave tcs tf sf) e few can sound k h =
+    step_cases _ _ _ e s t past (λ allowed done. rw (done.0, done.1) (enter_upheld s past p enclave tcs tf sf (omega arith) allowed sound h))
+    (λ r refused. enter_refused s past p enclave tcs tf sf r refused sound h) k
+step_upheld s t past cpus (actors.Cpu p) Exit e few can sound k h =
+    step_cases _ _ _ e s t past (λ allowed done. rw (done.0, done.1) (exit_upheld s past p (omega arith) allowed sound h)) (λ r refused. exit_refused s past p r refused sound h) k
+step_upheld s t past cpus (actors.Cpu p) (Fill number f) e few can sound k h =
+    step_cases _ _ _ e s t past
+    (λ allowed done. rw (done.0, done.1)
+        (fill_upheld s past p (record { number = number; frame = f; perm = unwrap_or (perm_in (s.content f.0)) no_perm }) (omega arith) allowed (fill_perm s p.0 number f.0 allowed) sound h))
+    (λ r refused. fill_refused s past p number f r refused sound h) k
+step_upheld s t past cpus (actors.Cpu p) (Load off) e few can sound k h =
+    step_cases _ _ _ e s t past (λ allowed done. rw (done.0, done.1) (load_upheld s past p off (omega arith) allowed sound h))
+    (λ r refused. load_refused s past p off r refused sound h) k
+step_upheld s t past cpus a action e few can sound k h = absurd can

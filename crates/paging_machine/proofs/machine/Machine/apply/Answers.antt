@@ -1,0 +1,49 @@
+use Rattle.std.proofs.Common.{◌≡◌, ◌≤◌, List, ◌∷◌, length}
+use Rattle.sgx_types.specs.declared.entries.Entry.{Entry}
+use Rattle.sgx_types.specs.declared.entries.Actor.{Actor}
+use Rattle.sgx_types.specs.declared.entries.Actor.TheVariants as actors
+use Rattle.sgx_types.specs.declared.entries.Action.{Action}
+use Rattle.sgx_types.specs.declared.entries.Action.TheVariants as actions
+use Rattle.paging_machine.specs.declared.machine.Machine.TheInside.{Inside}
+use Rattle.paging_machine.specs.Parts.{Parts, state_of}
+use Rattle.paging_machine.specs.Stands.{Upholds}
+use Rattle.paging_machine.specs.State.{State}
+use Rattle.paging_machine.specs.Steps.{IsStep, CanApply}
+use Rattle.paging_machine.specs.Whole.{IsWhole, parts_of}
+use Rattle.paging_machine.proofs.StepLaws.{step_upheld}
+use Rattle.paging_machine.proofs.machine.Machine.apply.Goals as goal
+
+-- what every machine keeps is all that a step's law asks
+upheld : (m : Inside) (now : Parts) (t : State) (a : Actor) (action : Action) (e : Entry) → parts_of m ≡ now → IsWhole m → CanApply (length now.cpus) a action
+    → IsStep (state_of now) a action e t → (past : List Entry) → Upholds (state_of now) past → Upholds t (e ∷ past)
+upheld m now t a action e is whole can step past h =
+    step_upheld (state_of now) t past (length now.cpus) a action e (rw (← is) whole.processors) can (rw (← is) whole.sound) step h
+
+pub returns-in_default-Epa-clause-history : goal.returns-in_default-Epa-clause-history
+returns-in_default-Epa-clause-history c = upheld c.self.inside c.args.self.now _ c.args.actor (actions.Epa _) _ c.self.view_is c.self.invariant tt c.epa-entry.ensures.step
+
+pub returns-in_ok-entry-in_default-Create-clause-history : goal.returns-in_ok-entry-in_default-Create-clause-history
+returns-in_ok-entry-in_default-Create-clause-history c =
+    upheld c.self.inside c.args.self.now _ c.args.actor (actions.Create c.in_default-Create.enclave c.in_default-Create.frame c.in_default-Create.base c.in_default-Create.size) _ c.self.view_is c.self.invariant tt c.in_ok-entry-in_default-Create.ensures.step
+
+pub returns-in_default-Add-clause-history : goal.returns-in_default-Add-clause-history
+returns-in_default-Add-clause-history c = upheld c.self.inside c.args.self.now _ c.args.actor (actions.Add _ _ _ _ _ _) _ c.self.view_is c.self.invariant tt c.add-entry.ensures.step
+
+pub returns-in_default-Init-clause-history : goal.returns-in_default-Init-clause-history
+returns-in_default-Init-clause-history c = upheld c.self.inside c.args.self.now _ c.args.actor (actions.Init _ _) _ c.self.view_is c.self.invariant tt c.init-entry.ensures.step
+
+pub returns-in-Cpu-Enter-clause-history : goal.returns-in-Cpu-Enter-clause-history
+returns-in-Cpu-Enter-clause-history c =
+    upheld c.self.inside c.args.self.now _ (actors.Cpu c.in-Cpu-Enter.cpu) (actions.Enter _ _ _ _) _ c.self.view_is c.self.invariant (rw (c.in-Cpu-Enter.is-0, c.in-Cpu-Enter.is-1) at c.requires) c.enter-entry.ensures.step
+
+pub returns-in-Cpu-Exit-clause-history : goal.returns-in-Cpu-Exit-clause-history
+returns-in-Cpu-Exit-clause-history c =
+    upheld c.self.inside c.args.self.now _ (actors.Cpu c.in-Cpu-Exit.cpu) actions.Exit _ c.self.view_is c.self.invariant (rw (c.in-Cpu-Exit.is-0, c.in-Cpu-Exit.is-1) at c.requires) c.exit-entry.ensures.step
+
+pub returns-in-Cpu-Fill-clause-history : goal.returns-in-Cpu-Fill-clause-history
+returns-in-Cpu-Fill-clause-history c =
+    upheld c.self.inside c.args.self.now _ (actors.Cpu c.in-Cpu-Fill.cpu) (actions.Fill _ _) _ c.self.view_is c.self.invariant (rw (c.in-Cpu-Fill.is-0, c.in-Cpu-Fill.is-1) at c.requires) c.fill-entry.ensures.step
+
+pub returns-in-Cpu-Load-clause-history : goal.returns-in-Cpu-Load-clause-history
+returns-in-Cpu-Load-clause-history c =
+    upheld c.self.inside c.args.self.now _ (actors.Cpu c.in-Cpu-Load.cpu) (actions.Load _) _ c.self.view_is c.self.invariant (rw (c.in-Cpu-Load.is-0, c.in-Cpu-Load.is-1) at c.requires) c.load-entry.ensures.step

@@ -1,0 +1,72 @@
+-- One instruction of the machine: its entry and the state after it, exactly by its row.
+use Rattle.std.specs.Prelude.{ℕ, ◌≡◌, ◌<◌, ◌⊎◌, Bool, true, false, List, Option, Some, None, MatchOption, unwrap_or}
+use Rattle.sgx_types.specs.declared.entries.Entry.{Entry}
+use Rattle.sgx_types.specs.declared.entries.Event.TheVariants.{Did, Refused}
+use Rattle.sgx_types.specs.declared.entries.Actor.{Actor}
+use Rattle.sgx_types.specs.declared.entries.Actor.TheVariants as actors
+use Rattle.sgx_types.specs.declared.entries.Action.{Action}
+use Rattle.sgx_types.specs.declared.entries.Action.TheVariants.{Epa, Create, Add, Init, Enter, Exit, Fill, Load}
+use Rattle.sgx_types.specs.declared.entries.Answer.{Answer}
+use Rattle.sgx_types.specs.declared.entries.Answer.TheVariants as answers
+use Rattle.sgx_types.specs.declared.refusals.Refusal.{Refusal}
+use Rattle.sgx_types.specs.declared.refusals.Refusal.TheVariants as why
+use Rattle.sgx_types.specs.declared.names.Frame.{Frame}
+use Rattle.sgx_types.specs.declared.names.Perm.{Perm}
+use Rattle.sgx_types.specs.Frames.{page_at}
+use Rattle.sgx_types.specs.Table.{first_of_row, perm_in}
+use Rattle.sgx_types.specs.Flat.{tcs_fields}
+use Rattle.paging_machine.specs.State.{State, row_of, seat_of, word_at, after_epa, after_create, after_add, after_init, after_enter, after_exit, after_fill}
+
+abbrev pub did_by : Actor → Action → Answer → Entry
+did_by actor action answer = record { actor = actor; event = Did action answer }
+
+abbrev pub refused_by : Actor → Action → Refusal → Entry
+refused_by actor action refusal = record { actor = actor; event = Refused action refusal }
+
+-- the instructions that are built yet, and whose actor each is
+abbrev pub CanApply : ℕ → Actor → Action → Type 0
+CanApply cpus actor (Epa f) = Unit {0}
+CanApply cpus actor (Create enclave f base size) = Unit {0}
+CanApply cpus actor (Add enclave number f kind perm init) = Unit {0}
+CanApply cpus actor (Init enclave expect) = Unit {0}
+CanApply cpus (actors.Cpu p) (Enter enclave tcs tf sf) = p.0 < cpus
+CanApply cpus (actors.Cpu p) Exit = p.0 < cpus
+CanApply cpus (actors.Cpu p) (Fill number f) = p.0 < cpus
+CanApply cpus (actors.Cpu p) (Load off) = p.0 < cpus
+CanApply cpus _ _ = ⊥
+
+-- the instructions that may need memory
+abbrev pub MayNeedMemory : Action → Type 0
+MayNeedMemory (Epa f) = Unit {0}
+MayNeedMemory (Create enclave f base size) = Unit {0}
+MayNeedMemory _ = ⊥
+
+abbrev pub no_perm : Perm
+no_perm = record { r = false; w = false; x = false }
+
+-- what an instruction that its row allows answers, but for `init`
+abbrev pub answer_of : State → Actor → Action → Answer
+answer_of s actor (Enter enclave tcs tf sf) = answers.Cssa (tcs_fields (s.words tf.0)).cssa
+answer_of s (actors.Cpu p) (Load off) = answers.Value (word_at s p.0 off)
+answer_of s actor action = answers.Plain
+
+-- the state after an instruction that its row allows
+abbrev pub after_of : State → Actor → Action → State
+after_of s actor (Epa f) = after_epa s f.0
+after_of s actor (Create enclave f base size) = after_create s enclave f.0 base size
+after_of s actor (Add enclave number f kind perm init) = after_add s (page_at enclave number) f.0 kind perm init
+after_of s actor (Init enclave expect) = after_init s enclave
+after_of s (actors.Cpu p) (Enter enclave tcs tf sf) = after_enter s p.0 (seat_of enclave tcs tf.0 sf.0)
+after_of s (actors.Cpu p) Exit = after_exit s p.0
+after_of s (actors.Cpu p) (Fill number f) = after_fill s p.0 (record { number = number; frame = f; perm = unwrap_or (perm_in (s.content f.0)) no_perm })
+after_of s actor action = s
+
+-- an instruction that its row allows is done; `init` answers a digest, or is refused where another was expected
+abbrev pub IsDone : State → Actor → Action → Entry → State → Type 0
+IsDone s actor (Init enclave expect) e s' =
+    (digest : List ℕ) × (((e ≡ did_by actor (Init enclave expect) (answers.Hash digest)) × (s' ≡ after_init s enclave)) ⊎ ((e ≡ refused_by actor (Init enclave expect) (why.BadMeasure digest)) × (s' ≡ s)))
+IsDone s actor action e s' = (e ≡ did_by actor action (answer_of s actor action)) × (s' ≡ after_of s actor action)
+
+-- .. and any other is refused by the first case that holds, and changes nothing
+abbrev pub IsStep : State → Actor → Action → Entry → State → Type 0
+IsStep s actor action e s' = MatchOption (first_of_row (row_of s actor action)) (IsDone s actor action e s') (λ refusal. (e ≡ refused_by actor action refusal) × (s' ≡ s))
