@@ -71,6 +71,11 @@ lines_in (Some e) = e.lines
 abbrev pub lines_at : List EnclaveView → ℕ → List PageLine
 lines_at es n = lines_in (enclave_at es n)
 
+-- the first page that a line adds
+abbrev pub first_page : PageLine → ℕ
+first_page (Tcs page ossa nssa plain) = page
+first_page (Reg first count perm value plain) = first
+
 -- how many pages a line adds
 abbrev pub page_count : PageLine → ℕ
 page_count (Tcs page ossa nssa plain) = 1

@@ -11,10 +11,10 @@ use Rattle.job_grammar.specs.Text.{job_text}
 
 -- ---- lines
 
--- one to 16 state save frames; all pages within the enclave, which has so many
+-- one to 16 state save frames; all pages within the enclave, which has so many; a value of 8 bytes
 abbrev pub IsValidLine : ℕ → PageLine → Type 0
 IsValidLine pages (Tcs page ossa nssa plain) = (1 ≤ nssa) × (nssa ≤ 16) × (page < pages) × (ossa + nssa ≤ pages)
-IsValidLine pages (Reg first count perm value plain) = (1 ≤ count) × (first + count ≤ pages) × (perm.r ≡ true)
+IsValidLine pages (Reg first count perm value plain) = (1 ≤ count) × (first + count ≤ pages) × (perm.r ≡ true) × (value < 2 ^ 64)
 
 -- each state save page of a TCS is a REG page with R and W
 abbrev pub HasSavePages : List PageLine → PageLine → Type 0

@@ -1,8 +1,11 @@
 ghost use Rattle.std.specs.Prelude.{◌≡◌, map};
-ghost use Rattle.job_grammar.specs.Jobs.{enclave_view};
+ghost use Rattle.job_grammar.specs.Jobs.{JobView, enclave_view, default_marks, first_page, page_count, is_tcs_line, is_reg_line, is_save_line, va_pages, needed};
 
+use crate::counts::{needed_by, va_pages_of};
+use crate::printing::push_job;
 use io_edges::plans::PlanLine;
 use sgx_types::names::Perm;
+use std::alloc::{AllocError, Global};
 use std::marker::Model;
 
 /// When the reclaimer works: it begins below `low` free frames, stops at `high`, and looks at `scan` pages a pass.
@@ -11,6 +14,19 @@ pub struct Marks {
     pub low: u32,
     pub high: u32,
     pub scan: u32,
+}
+
+impl Marks {
+    /// The marks of a job that gives none: Linux's 32, 64 and 16, or less where the EPC has fewer than 128 frames.
+    pub(crate) fn of_frames(epc: u32) -> Self
+        ensures { result ≡ default_marks epc }
+    {
+        Marks {
+            low: (epc / 4).min(32),
+            high: (epc / 2).min(64),
+            scan: (epc / 4).min(16),
+        }
+    }
 }
 
 /// A line of an enclave's pages. Page numbers are offsets from the enclave's base in pages of 4096 bytes. A plain page
@@ -32,6 +48,63 @@ pub enum PageLine {
         value: u64,
         plain: bool,
     },
+}
+
+impl PageLine {
+    ghost use Rattle.job_grammar.specs.Valid.{is_plain};
+
+    /// The first page that it adds.
+    pub fn first(&self) -> u32
+        ensures { result ≡ first_page self.now }
+    {
+        match self {
+            PageLine::Tcs { page, .. } => *page,
+            PageLine::Reg { first, .. } => *first,
+        }
+    }
+
+    /// How many pages it adds.
+    pub fn count(&self) -> u32
+        ensures { result ≡ page_count self.now }
+    {
+        match self {
+            PageLine::Tcs { .. } => 1,
+            PageLine::Reg { count, .. } => *count,
+        }
+    }
+
+    /// Whether its pages are added and not measured further.
+    pub fn is_plain(&self) -> bool
+        ensures { result ≡ is_plain self.now }
+    {
+        match self {
+            PageLine::Tcs { plain, .. } | PageLine::Reg { plain, .. } => *plain,
+        }
+    }
+
+    /// Whether it adds a TCS page.
+    pub fn is_tcs(&self) -> bool
+        ensures { result ≡ is_tcs_line self.now }
+    {
+        matches!(self, PageLine::Tcs { .. })
+    }
+
+    /// Whether it adds REG pages.
+    pub fn is_reg(&self) -> bool
+        ensures { result ≡ is_reg_line self.now }
+    {
+        matches!(self, PageLine::Reg { .. })
+    }
+
+    /// Whether it adds REG pages that can be read and written, as those for saved state must be.
+    pub fn is_save(&self) -> bool
+        ensures { result ≡ is_save_line self.now }
+    {
+        match self {
+            PageLine::Tcs { .. } => false,
+            PageLine::Reg { perm, .. } => perm.r && perm.w,
+        }
+    }
 }
 
 /// An enclave: its base and size in bytes, its pages, and the measurement that is expected of it.
@@ -86,11 +159,61 @@ impl Model for Job {
 }
 
 impl Job {
+    ghost use Rattle.std.specs.Prelude.{map};
+    ghost use Rattle.job_grammar.specs.Valid.{IsValid};
+    ghost use Rattle.job_grammar.specs.Drafts.{script_ops};
+    ghost use Rattle.job_grammar.specs.Checks.{default_job};
+
+    /// The job of these enclaves and scripts, with no option and no store line.
+    pub(crate) fn new(alloc: Global, epc: u32, enclaves: Vec<EnclaveJob>, scripts: Vec<Vec<Op>>) -> Self
+        requires { IsValid (default_job epc (map enclave_view enclaves.items) (script_ops scripts.items)) }
+        ensures { result ≡ default_job epc (map enclave_view enclaves.items) (script_ops scripts.items) }
+    {
+        Job {
+            epc,
+            marks: Marks::of_frames(epc),
+            key: [0; 32],
+            start_epoch: 1,
+            start_version: 1,
+            enclaves,
+            plans: Vec::new(alloc),
+            scripts,
+        }
+    }
+
     /// The number of EPC frames, from 1 to 4096.
     pub fn epc(&self) -> u32
         ensures { result ≡ self.now.epc }
     {
         self.epc
+    }
+
+    /// When the reclaimer works.
+    pub fn marks(&self) -> Marks
+        ensures { result ≡ self.now.marks }
+    {
+        self.marks
+    }
+
+    /// The sealing key.
+    pub fn key(&self) -> &[u8; 32]
+        ensures { result.now ≡ self.now.key }
+    {
+        &self.key
+    }
+
+    /// The first epoch of each enclave, from 1 to 2^40 - 1.
+    pub fn start_epoch(&self) -> u64
+        ensures { result ≡ self.now.start_epoch }
+    {
+        self.start_epoch
+    }
+
+    /// The first version that is drawn, from 1.
+    pub fn start_version(&self) -> u64
+        ensures { result ≡ self.now.start_version }
+    {
+        self.start_version
     }
 
     /// The enclaves, from number 1 on.
@@ -100,10 +223,47 @@ impl Job {
         &self.enclaves
     }
 
+    /// What the store does.
+    pub fn plans(&self) -> &[PlanLine]
+        ensures { result.now ≡ self.now.plans }
+    {
+        &self.plans
+    }
+
     /// The script of each processor, from number 0 on.
     pub fn scripts(&self) -> &[Vec<Op>]
         ensures { map (λ script. script.items) result.now ≡ self.now.scripts }
     {
         &self.scripts
     }
+
+    /// How many version array pages the builder makes: as many as give a slot to every page, every enclave and each of
+    /// these pages.
+    pub fn va_pages(&self) -> u32
+        ensures { result ≡ va_pages self.now }
+    {
+        va_pages_of(&self.enclaves)
+    }
+}
+
+impl Job {
+    ghost use Rattle.std.specs.Prelude.{IfOk, string_bytes};
+    ghost use Rattle.job_grammar.specs.Text.{job_text};
+
+    /// The one text of the job.
+    pub(crate) fn text(&self, alloc: Global) -> Result<String, AllocError>
+        ensures { IfOk result (λ text. string_bytes text ≡ job_text self.now) }
+    {
+        let mut text = String::new(alloc);
+        push_job(&mut text, self.epc, &self.enclaves, &self.scripts)?;
+        Ok(text)
+    }
+}
+
+/// The least number of EPC frames with which the job can run: one for each enclave and each version array page, three for
+/// each processor, and one more.
+pub fn needed(job: &Job) -> u32
+    ensures { result ≡ needed job.now }
+{
+    needed_by(&job.enclaves, &job.scripts)
 }

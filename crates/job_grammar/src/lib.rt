@@ -1,4 +1,16 @@
 // Jobs: their text, what makes one valid, and what each actor has to do under one.
 #![tactic(auto)]
 
+mod checks;
+mod counts;
+mod drafts;
+mod forms;
 pub mod jobs;
+mod lines;
+mod numbers;
+mod page_tables;
+mod printing;
+pub mod reader;
+pub mod refusals;
+mod scripts;
+mod words;

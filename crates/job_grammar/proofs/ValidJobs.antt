@@ -1,0 +1,135 @@
+-- A valid job has a text that is read, and a job that is accepted yet is determined by its lines.
+use Rattle.std.proofs.Common.{◌≡◌, ℕ, zero, suc, ◌+◌, ◌/◌, ◌^◌, ◌<◌, ◌≤◌, Bool, true, false, ◌&&◌, ◌||◌, List, [], ◌∷◌, ◌++◌, Option, None, length, map, flat_map, replicate, All, refl, sym, ap, ◌∙◌, arith, inl, inr}
+use Rattle.std.specs.List.{AllByRecursion, list_any}
+use Rattle.std.proofs.lemmas.Bool.{and_parts, or_cases, eqb-true, leb-true, false≢true}
+use Rattle.std.proofs.lemmas.List.Elements.{All-head, All-tail, All-weaker}
+use Rattle.io_edges.specs.declared.plans.PlanLine.{PlanLine}
+use Rattle.job_grammar.specs.declared.jobs.Marks.{Marks}
+use Rattle.job_grammar.specs.declared.jobs.PageLine.{PageLine}
+use Rattle.job_grammar.specs.declared.jobs.PageLine.TheVariants as pages
+use Rattle.job_grammar.specs.declared.jobs.Op.{Op}
+use Rattle.job_grammar.specs.declared.jobs.Op.TheVariants as ops
+use Rattle.job_grammar.specs.declared.lines.Line.{Line}
+use Rattle.job_grammar.specs.declared.lines.Line.TheVariants as lines
+use Rattle.job_grammar.specs.Jobs.{EnclaveView, JobView, covers, is_tcs_line, is_tcs_page, lines_at, default_marks}
+use Rattle.job_grammar.specs.Text.{lines_of, line_text, job_text}
+use Rattle.job_grammar.specs.Lines.{line_words, lines_text, lines_of_enclaves, lines_of_scripts, lines_of_job, HasLetter}
+use Rattle.job_grammar.specs.Valid.{IsValidLine, IsValidEnclave, IsValidOp, IsValid, AreFirstEnclaves, IsFirstForm}
+use Rattle.job_grammar.specs.Checks.{default_job}
+use Rattle.job_grammar.proofs.LineWords.{FitsPage, FitsOp, FitsLine}
+use Rattle.job_grammar.proofs.WrittenJobs.{job-written, unexpected}
+
+-- ---- the text, line by line
+
+lines_text-map : (ls : List Line) → lines_text ls ≡ flat_map line_text (map line_words ls)
+lines_text-map [] = refl
+lines_text-map (line ∷ ls) = ap (λ (rest : List ℕ). line_text (line_words line) ++ rest) (lines_text-map ls)
+
+pub job_text-lines : (j : JobView) → lines_text (lines_of_job j) ≡ job_text j
+unfolding job_text
+job_text-lines j = lines_text-map (lines_of_job j) ∙ ap (flat_map line_text) (job-written j)
+
+-- ---- the numbers of a valid job fit their words
+
+lawful-size : (e : EnclaveView) → IsValidEnclave e → e.size ≤ 2 ^ 24
+lawful-size e valid = let size = and_parts _ _ valid.range in let most = and_parts _ _ size.0 in leb-true _ _ most.1
+
+page-fits : (size : ℕ) (page : PageLine) → size ≤ 4096 → IsValidLine size page → FitsPage page
+page-fits size (pages.Tcs page ossa nssa plain) few valid = (omega (arith, valid), omega (arith, valid), omega (arith, valid))
+page-fits size (pages.Reg first count perm value plain) few valid = (omega (arith, valid), omega (arith, valid), valid.3, valid.2)
+
+append-fits : (xs ys : List Line) → AllByRecursion FitsLine xs → AllByRecursion FitsLine ys → AllByRecursion FitsLine (xs ++ ys)
+append-fits [] ys hx hy = hy
+append-fits (x ∷ xs) ys hx hy = (hx.0, append-fits xs ys hx.1 hy)
+
+pages-fit : (pages : ℕ) (ps : List PageLine) → pages ≤ 4096 → All (IsValidLine pages) ps → AllByRecursion FitsLine (map lines.Page ps)
+pages-fit pages [] few valid = tt
+pages-fit pages (p ∷ ps) few valid =
+    (page-fits pages p few (All-head (IsValidLine pages) p ps valid), pages-fit pages ps few (All-tail (IsValidLine pages) p ps valid))
+
+enclaves-fit : (n : ℕ) (es : List EnclaveView) → 1 ≤ n → n + length es ≤ 9 → All IsValidEnclave es → AllByRecursion FitsLine (lines_of_enclaves n es)
+enclaves-fit n [] low few valid = tt
+enclaves-fit n (e ∷ es) low few valid =
+    let first = All-head IsValidEnclave e es valid in
+    let size = lawful-size e first in
+    (((low, omega arith), omega (arith, first.top), omega arith),
+    append-fits (map lines.Page e.lines) (lines_of_enclaves (n + 1) es) (pages-fit (e.size / 4096) e.lines (omega arith) first.lines)
+    (enclaves-fit (n + 1) es (omega arith) (omega arith) (All-tail IsValidEnclave e es valid)))
+
+tcs-below : (size n : ℕ) (ps : List PageLine) → All (IsValidLine size) ps → is_tcs_page ps n ≡ true → n < size
+tcs-below size n [] valid is = absurd (false≢true is)
+tcs-below size n (p ∷ ps) valid is =
+    elim (or_cases (is_tcs_line p && covers n p) (is_tcs_page ps n) is) [
+      | inl here ↦ at-line p (All-head (IsValidLine size) p ps valid) here
+      | inr later ↦ tcs-below size n ps (All-tail (IsValidLine size) p ps valid) later
+    ]
+  where
+    at-line : (p : PageLine) → IsValidLine size p → (is_tcs_line p && covers n p) ≡ true → n < size
+    at-line (pages.Tcs page ossa nssa plain) valid is = let same : page ≡ n = eqb-true _ _ is in omega (arith, valid)
+    at-line (pages.Reg first count perm value plain) valid is = absurd (false≢true is)
+
+-- a TCS page that is found is of an enclave with a letter, and within it
+pub tcs-found : (es : List EnclaveView) (enclave tcs : ℕ) → All IsValidEnclave es → is_tcs_page (lines_at es enclave) tcs ≡ true → (1 ≤ enclave) × (enclave ≤ length es) × (tcs < 2 ^ 32)
+tcs-found es zero tcs valid is = absurd (false≢true is)
+tcs-found [] (suc n) tcs valid is = absurd (false≢true is)
+tcs-found (e ∷ es) (suc zero) tcs valid is =
+    let first = All-head IsValidEnclave e es valid in
+    let size = lawful-size e first in
+    let below = tcs-below (e.size / 4096) tcs e.lines first.lines is in
+    (omega arith, omega arith, omega arith)
+tcs-found (e ∷ es) (suc (suc n)) tcs valid is =
+    let later = tcs-found es (suc n) tcs (All-tail IsValidEnclave e es valid) is in
+    (omega arith, omega (arith, later), later.2)
+
+module _ (j : JobView) (valid : IsValid j) where
+  op-fits : (op : Op) → IsValidOp j op → FitsOp op
+  op-fits (ops.Enter enclave tcs) is = let found = tcs-found j.enclaves enclave tcs valid.enclaves is in ((found.0, omega (arith, found.1, valid.few_enclaves)), found.2)
+  op-fits ops.Exit is = tt
+  op-fits (ops.Load off) is = omega (arith, is)
+  op-fits _ is = absurd is
+
+  op-letter : (op : Op) → IsValidOp j op → HasLetter op
+  op-letter (ops.Enter enclave tcs) is = let found = tcs-found j.enclaves enclave tcs valid.enclaves is in omega (arith, found.1, valid.few_enclaves)
+  op-letter ops.Exit is = tt
+  op-letter (ops.Load off) is = tt
+  op-letter _ is = absurd is
+
+  ops-fit : (script : List Op) → All (IsValidOp j) script → AllByRecursion FitsLine (map lines.Op script)
+  ops-fit [] are = tt
+  ops-fit (op ∷ script) are = (op-fits op (All-head (IsValidOp j) op script are), ops-fit script (All-tail (IsValidOp j) op script are))
+
+  scripts-fit : (n : ℕ) (scripts : List (List Op)) → n + length scripts ≤ 16 → All (All (IsValidOp j)) scripts → AllByRecursion FitsLine (lines_of_scripts n scripts)
+  scripts-fit n [] few are = tt
+  scripts-fit n (script ∷ scripts) few are =
+      (omega arith,
+      append-fits (map lines.Op script) (lines_of_scripts (n + 1) scripts) (ops-fit script (All-head (All (IsValidOp j)) script scripts are))
+      (scripts-fit (n + 1) scripts (omega arith) (All-tail (All (IsValidOp j)) script scripts are)))
+
+  pub lines-fit : AllByRecursion FitsLine (lines_of_job j)
+  lines-fit =
+      (omega (arith, valid.few_frames),
+      append-fits (lines_of_enclaves 1 j.enclaves) (lines_of_scripts 0 j.scripts) (enclaves-fit 1 j.enclaves (omega arith) (omega (arith, valid.few_enclaves)) valid.enclaves)
+      (scripts-fit 0 j.scripts (omega (arith, valid.few_scripts)) valid.ops))
+
+  letters-of : (script : List Op) → All (IsValidOp j) script → All HasLetter script
+  letters-of script are = All-weaker (IsValidOp j) HasLetter op-letter script are
+
+  pub have_letters : All (All HasLetter) j.scripts
+  have_letters = All-weaker (All (IsValidOp j)) (All HasLetter) letters-of j.scripts valid.ops
+
+-- ---- a job that is accepted yet
+
+unexpected-first : (es : List EnclaveView) (scripts : List (List Op)) → AreFirstEnclaves es scripts → map unexpected es ≡ es
+unexpected-first [] scripts form = absurd form
+unexpected-first (e ∷ []) scripts form = let with : Option (List ℕ) → List EnclaveView = λ o. record e { expect = o } ∷ [] in ap with (sym form.0.unexpected)
+unexpected-first (e ∷ f ∷ es) scripts form = absurd form
+
+same-parts : (f : Marks → List ℕ → ℕ → ℕ → List EnclaveView → List PlanLine → JobView) {m m' : Marks} {k k' : List ℕ} {a a' b b' : ℕ} {es es' : List EnclaveView} {ps ps' : List PlanLine}
+    → m' ≡ m → k' ≡ k → a' ≡ a → b' ≡ b → es ≡ es' → ps' ≡ ps → f m k a b es ps ≡ f m' k' a' b' es' ps'
+same-parts f em ek ea eb ees eps = cc
+
+pub default_job-form : (j : JobView) → IsFirstForm j → default_job j.epc (map unexpected j.enclaves) j.scripts ≡ j
+default_job-form j form =
+    same-parts
+        (λ marks key epoch version enclaves plans. record { epc = j.epc; marks = marks; key = key; start_epoch = epoch; start_version = version; enclaves = enclaves; plans = plans; scripts = j.scripts })
+        form.marks form.key form.start_epoch form.start_version (unexpected-first j.enclaves j.scripts form.enclaves) form.plans

@@ -1,0 +1,9 @@
+use Rattle.std.proofs.Common.{◌∙◌}
+use Rattle.job_grammar.specs.Kept.{view_of}
+use Rattle.job_grammar.proofs.ValidJobs.{job_text-lines, have_letters}
+use Rattle.job_grammar.proofs.jobs.Job.text.Goals as goal
+
+pub returns : goal.returns
+returns c =
+    let written = rw (c.new-text.ensures.bytes, c.deref.ensures.value, c.deref-2.ensures.value) at c.in_ok-push_job.ensures in
+    rw (← c.self.view_is) (written ∙ job_text-lines (view_of c.self.inside))

@@ -1,0 +1,65 @@
+-- Validity in the parts in which it is checked.
+use Rattle.std.specs.Prelude.{◌≡◌, ℕ, ◌≤◌, ◌⊎◌, ⊤, List, [], Option, Some, Result, Ok, Err, length, replicate, sum_by}
+use Rattle.job_grammar.specs.declared.jobs.Op.{Op}
+use Rattle.job_grammar.specs.declared.refusals.JobRefusal.{JobRefusal}
+use Rattle.job_grammar.specs.declared.refusals.JobRefusal.TheVariants as refusals
+use Rattle.job_grammar.specs.declared.refusals.JobKind.TheVariants.{TooLong, NotYetBuilt}
+use Rattle.job_grammar.specs.Jobs.{EnclaveView, JobView, default_marks, job_pages, needed}
+use Rattle.job_grammar.specs.Valid.{IsValid, IsFirstForm}
+use Rattle.job_grammar.specs.Drafts.{DraftView}
+
+-- the job of these enclaves and scripts, with no option and no store line
+abbrev pub default_job : ℕ → List EnclaveView → List (List Op) → JobView
+default_job epc enclaves scripts = record {
+  epc = epc;
+  marks = default_marks epc;
+  key = replicate 32 0;
+  start_epoch = 1;
+  start_version = 1;
+  enclaves = enclaves;
+  plans = [];
+  scripts = scripts;
+}
+
+-- the numbers of frames, enclaves, pages, processors and operations are in range
+pub record HasValidCounts (j : JobView) : Type 0 where
+  pub some_frames : 1 ≤ j.epc
+  pub few_frames : j.epc ≤ 4096
+  pub enough_frames : needed j ≤ j.epc
+  pub some_enclaves : 1 ≤ length j.enclaves
+  pub few_enclaves : length j.enclaves ≤ 8
+  pub few_pages : job_pages j ≤ 4096
+  pub some_scripts : 1 ≤ length j.scripts
+  pub few_scripts : length j.scripts ≤ 16
+  pub few_ops : sum_by length j.scripts ≤ 100000
+
+-- ---- a draft that is checked
+
+-- the job is what the draft says, and accepted
+pub record IsAccepted (d : DraftView) (job : JobView) : Type 0 where
+  pub epc : d.epc ≡ Some job.epc
+  pub parts : job ≡ default_job job.epc d.enclaves d.scripts
+  pub valid : IsValid job
+  pub form : IsFirstForm job
+
+-- no job is what the draft says and accepted
+abbrev pub IsRefused : DraftView → Type 0
+IsRefused d = (job : JobView) → ¬ IsAccepted d job
+
+abbrev pub Judges : DraftView → Result JobView JobRefusal → Type 0
+Judges d (Ok job) = IsAccepted d job
+Judges d (Err refusals.Memory) = ⊤
+Judges d (Err (refusals.Fault line kind)) = IsRefused d × (line ≡ 0) × (kind ≡ NotYetBuilt)
+
+-- ---- what a reader answers
+
+-- the job, unless memory ran out
+abbrev pub IsJob : Result JobView JobRefusal → JobView → Type 0
+IsJob (Ok found) job = found ≡ job
+IsJob (Err refusals.Memory) job = ⊤
+IsJob (Err (refusals.Fault line kind)) job = ⊥
+
+-- a fault is named by line 0
+abbrev pub IsEarlyRefusal : JobRefusal → Type 0
+IsEarlyRefusal refusals.Memory = ⊤
+IsEarlyRefusal (refusals.Fault line kind) = (line ≡ 0) × ((kind ≡ TooLong) ⊎ (kind ≡ NotYetBuilt))

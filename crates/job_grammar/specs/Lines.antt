@@ -1,0 +1,43 @@
+-- The lines of a job one by one, and the words of each.
+use Rattle.std.specs.Prelude.{ℕ, ◌+◌, ◌≤◌, ⊤, List, [], ◌∷◌, ◌++◌, codes, decimal, map, flat_map}
+use Rattle.job_grammar.specs.declared.jobs.Op.{Op}
+use Rattle.job_grammar.specs.declared.jobs.Op.TheVariants.{Enter, Resume, OutLoad, OutStore}
+use Rattle.job_grammar.specs.declared.lines.Line.{Line}
+use Rattle.job_grammar.specs.declared.lines.Line.TheVariants as lines
+use Rattle.job_grammar.specs.Jobs.{EnclaveView, JobView}
+use Rattle.job_grammar.specs.Text.{Words, hexadecimal, letter, page_words, op_words, line_text}
+
+abbrev pub line_words : Line → Words
+line_words (lines.Epc frames) = codes "epc" ∷ decimal frames ∷ []
+line_words (lines.Enclave enclave base size) = codes "enclave" ∷ letter enclave ∷ hexadecimal base ∷ hexadecimal size ∷ []
+line_words (lines.Page page) = page_words page
+line_words (lines.Cpu number) = codes "cpu" ∷ decimal number ∷ []
+line_words (lines.Op op) = op_words op
+
+-- the enclaves from this number on
+abbrev pub lines_of_enclaves : ℕ → List EnclaveView → List Line
+lines_of_enclaves n [] = []
+lines_of_enclaves n (e ∷ es) = lines.Enclave n e.base e.size ∷ map lines.Page e.lines ++ lines_of_enclaves (n + 1) es
+
+-- the processors from this number on
+abbrev pub lines_of_scripts : ℕ → List (List Op) → List Line
+lines_of_scripts n [] = []
+lines_of_scripts n (script ∷ scripts) = lines.Cpu n ∷ map lines.Op script ++ lines_of_scripts (n + 1) scripts
+
+abbrev pub lines_of_job : JobView → List Line
+lines_of_job j = lines.Epc j.epc ∷ lines_of_enclaves 1 j.enclaves ++ lines_of_scripts 0 j.scripts
+
+abbrev pub lines_text : List Line → List ℕ
+lines_text lines = flat_map (λ line. line_text (line_words line)) lines
+
+-- the text of a job with these parts
+abbrev pub parts_text : ℕ → List EnclaveView → List (List Op) → List ℕ
+parts_text epc enclaves scripts = lines_text (lines.Epc epc ∷ lines_of_enclaves 1 enclaves ++ lines_of_scripts 0 scripts)
+
+-- the enclave that an operation names has a letter
+abbrev pub HasLetter : Op → Type 0
+HasLetter (Enter enclave tcs) = enclave ≤ 8
+HasLetter (Resume enclave tcs) = enclave ≤ 8
+HasLetter (OutLoad enclave off) = enclave ≤ 8
+HasLetter (OutStore enclave off value) = enclave ≤ 8
+HasLetter _ = ⊤

@@ -1,0 +1,155 @@
+-- Reading a job's text line by line and word by word, in any spelling of its numbers.
+use Rattle.std.specs.Prelude.{ℕ, ◌+◌, ◌-◌, ◌^◌, ◌&&◌, ◌==◌, not, Bool, true, false, if◌then◌else◌, List, [], ◌∷◌, Option, Some, None, option_and_then, length, take, drop, filter, nat_lt, nat_le, codes, bytes_eq}
+use Rattle.std.specs.List.{list_all, slice_split}
+use Rattle.std.specs.Char.{digit_value}
+use Rattle.std.specs.Str.Parse.{digits_value}
+use Rattle.sgx_types.specs.declared.names.Perm.{Perm}
+use Rattle.job_grammar.specs.declared.jobs.PageLine.{PageLine}
+use Rattle.job_grammar.specs.declared.jobs.PageLine.TheVariants as pages
+use Rattle.job_grammar.specs.declared.jobs.Op.{Op}
+use Rattle.job_grammar.specs.declared.jobs.Op.TheVariants as ops
+use Rattle.job_grammar.specs.declared.lines.Line.{Line}
+use Rattle.job_grammar.specs.declared.lines.Line.TheVariants as lines
+use Rattle.job_grammar.specs.declared.words.Keyword.{Keyword}
+use Rattle.job_grammar.specs.declared.words.Keyword.TheVariants as keywords
+use Rattle.job_grammar.specs.Text.{Words}
+
+infixl 10 ◌>>=◌
+abbrev pub ◌>>=◌ : {A B : Type 0} → Option A → (A → Option B) → Option B
+o >>= f = option_and_then f o
+
+-- ---- numbers
+
+-- one digit of the base or more
+abbrev pub is_numeral : ℕ → List ℕ → Bool
+is_numeral radix digits = nat_lt 0 (length digits) && list_all (λ c. nat_lt (digit_value c) radix) digits
+
+-- the value of digits, where it is below 2 ^ 64
+unfoldable pub numeral_of : ℕ → List ℕ → Option ℕ
+numeral_of radix digits =
+    if is_numeral radix digits && nat_lt (digits_value radix digits) (2 ^ 64) then Some (digits_value radix digits)
+    else None
+
+-- decimal digits, or `0x` and hexadecimal digits
+unfoldable pub number_of : List ℕ → Option ℕ
+number_of word = if bytes_eq (take 2 word) (codes "0x") then numeral_of 16 (drop 2 word) else numeral_of 10 word
+
+-- a number below 2 ^ 32
+unfoldable pub small_of : List ℕ → Option ℕ
+small_of word = do
+  n ← number_of word
+  if nat_lt n (2 ^ 32) then Some n else None
+
+-- ---- words
+
+-- the first words of a line, one more than any line of a job has
+unfoldable pub words_of : List ℕ → Words
+words_of line = take 7 (filter (λ word. not (length word == 0)) (slice_split (λ b. b == 32) line))
+
+unfoldable pub keyword_of : List ℕ → Option Keyword
+keyword_of word =
+    if bytes_eq word (codes "epc") then Some keywords.Epc
+    else (if bytes_eq word (codes "enclave") then Some keywords.Enclave
+    else (if bytes_eq word (codes "tcs") then Some keywords.Tcs
+    else (if bytes_eq word (codes "reg") then Some keywords.Reg
+    else (if bytes_eq word (codes "cpu") then Some keywords.Cpu
+    else (if bytes_eq word (codes "eenter") then Some keywords.Enter
+    else (if bytes_eq word (codes "eexit") then Some keywords.Exit
+    else (if bytes_eq word (codes "load") then Some keywords.Load
+    else None)))))))
+
+-- A is enclave 1, H is enclave 8
+unfoldable pub letter_of : List ℕ → Option ℕ
+letter_of (c ∷ []) = if nat_le 65 c && nat_le c 72 then Some (c - 64) else None
+letter_of _ = None
+
+abbrev pub perm_with : Bool → Bool → Perm
+perm_with w x = record { r = true; w = w; x = x }
+
+unfoldable pub perm_of : List ℕ → Option Perm
+perm_of word =
+    if bytes_eq word (codes "r") then Some (perm_with false false)
+    else (if bytes_eq word (codes "rw") then Some (perm_with true false)
+    else (if bytes_eq word (codes "rx") then Some (perm_with false true)
+    else (if bytes_eq word (codes "rwx") then Some (perm_with true true)
+    else None)))
+
+-- whether a line of pages ends in `plain`
+unfoldable pub plain_of : Words → Option Bool
+plain_of [] = Some false
+plain_of (word ∷ []) = if bytes_eq word (codes "plain") then Some true else None
+plain_of _ = None
+
+-- ---- lines, by the words after the first
+
+unfoldable pub epc_line : Words → Option Line
+epc_line (frames ∷ []) = do
+  n ← small_of frames
+  Some (lines.Epc n)
+epc_line _ = None
+
+unfoldable pub enclave_line : Words → Option Line
+enclave_line (enclave ∷ base ∷ size ∷ []) = do
+  e ← letter_of enclave
+  b ← number_of base
+  s ← number_of size
+  Some (lines.Enclave e b s)
+enclave_line _ = None
+
+unfoldable pub tcs_line : Words → Option Line
+tcs_line (page ∷ ossa ∷ nssa ∷ rest) = do
+  p ← small_of page
+  o ← small_of ossa
+  n ← small_of nssa
+  plain ← plain_of rest
+  Some (lines.Page (pages.Tcs p o n plain))
+tcs_line _ = None
+
+unfoldable pub reg_line : Words → Option Line
+reg_line (first ∷ count ∷ perm ∷ value ∷ rest) = do
+  f ← small_of first
+  c ← small_of count
+  p ← perm_of perm
+  v ← number_of value
+  plain ← plain_of rest
+  Some (lines.Page (pages.Reg f c p v plain))
+reg_line _ = None
+
+unfoldable pub cpu_line : Words → Option Line
+cpu_line (number ∷ []) = do
+  n ← small_of number
+  Some (lines.Cpu n)
+cpu_line _ = None
+
+unfoldable pub enter_line : Words → Option Line
+enter_line (enclave ∷ tcs ∷ []) = do
+  e ← letter_of enclave
+  t ← small_of tcs
+  Some (lines.Op (ops.Enter e t))
+enter_line _ = None
+
+unfoldable pub exit_line : Words → Option Line
+exit_line [] = Some (lines.Op ops.Exit)
+exit_line _ = None
+
+unfoldable pub load_line : Words → Option Line
+load_line (off ∷ []) = do
+  o ← number_of off
+  Some (lines.Op (ops.Load o))
+load_line _ = None
+
+abbrev pub line_with : Words → Keyword → Option Line
+line_with rest keywords.Epc = epc_line rest
+line_with rest keywords.Enclave = enclave_line rest
+line_with rest keywords.Tcs = tcs_line rest
+line_with rest keywords.Reg = reg_line rest
+line_with rest keywords.Cpu = cpu_line rest
+line_with rest keywords.Enter = enter_line rest
+line_with rest keywords.Exit = exit_line rest
+line_with rest keywords.Load = load_line rest
+
+unfoldable pub line_of : Words → Option Line
+line_of [] = None
+line_of (first ∷ rest) = do
+  keyword ← keyword_of first
+  line_with rest keyword

@@ -1,0 +1,91 @@
+ghost use Rattle.std.specs.Prelude.{◌≡◌, map, IfOk};
+ghost use Rattle.job_grammar.specs.Reading.{small_of, letter_of, perm_of, plain_of, words_of, keyword_of};
+
+use crate::numbers::number;
+use sgx_types::names::Perm;
+use std::alloc::{AllocError, Global};
+
+/// The first word of a line.
+#[derive(Clone, Copy, Debug, PartialEq, Eq)]
+pub(crate) enum Keyword {
+    Epc,
+    Enclave,
+    Tcs,
+    Reg,
+    Cpu,
+    Enter,
+    Exit,
+    Load,
+}
+
+/// The words of a line, as many as tell whether it has the words of a line of a job: none has more than six.
+pub(crate) fn words(alloc: Global, line: &[u8]) -> Result<Vec<&[u8]>, AllocError>
+    ensures { IfOk result (λ words. map (λ word. word.now) words.items ≡ words_of line.now) }
+{
+    line.split(|byte| *byte == b' ')
+        .filter(|word| !word.is_empty())
+        .take(7)
+        .collect(alloc)
+}
+
+#[tactic(auto, unfolding(crate::specs::Reading::keyword_of))]
+pub(crate) fn keyword_of(word: &[u8]) -> Option<Keyword>
+    ensures { result ≡ keyword_of word.now }
+{
+    match word {
+        b"epc" => Some(Keyword::Epc),
+        b"enclave" => Some(Keyword::Enclave),
+        b"tcs" => Some(Keyword::Tcs),
+        b"reg" => Some(Keyword::Reg),
+        b"cpu" => Some(Keyword::Cpu),
+        b"eenter" => Some(Keyword::Enter),
+        b"eexit" => Some(Keyword::Exit),
+        b"load" => Some(Keyword::Load),
+        _ => None,
+    }
+}
+
+/// A number below 2^32.
+#[tactic(auto, unfolding(crate::specs::Reading::small_of))]
+pub(crate) fn small(word: &[u8]) -> Option<u32>
+    ensures { result ≡ small_of word.now }
+{
+    u32::try_from(number(word)?).ok()
+}
+
+/// The number of the enclave that a letter stands for, from 1 for A to 8 for H.
+#[tactic(auto, unfolding(crate::specs::Reading::letter_of))]
+pub(crate) fn letter(word: &[u8]) -> Option<u16>
+    ensures { result ≡ letter_of word.now }
+{
+    match word {
+        [letter @ b'A'..=b'H'] => Some(u16::from(letter - b'A') + 1),
+        _ => None,
+    }
+}
+
+#[tactic(auto, unfolding(crate::specs::Reading::perm_of))]
+pub(crate) fn perm(word: &[u8]) -> Option<Perm>
+    ensures { result ≡ perm_of word.now }
+{
+    let (w, x) = match word {
+        b"r" => (false, false),
+        b"rw" => (true, false),
+        b"rx" => (false, true),
+        b"rwx" => (true, true),
+        _ => return None,
+    };
+    Some(Perm { r: true, w, x })
+}
+
+/// Whether a line of pages ends in `plain`.
+#[tactic(auto, unfolding(crate::specs::Reading::plain_of))]
+pub(crate) fn plain(words: &[&[u8]]) -> Option<bool>
+    ensures { result ≡ plain_of (map (λ word. word.now) words.now) }
+{
+    match words {
+        [] => Some(false),
+        [word] => (*word == b"plain".as_slice()).then_some(true),
+        _ => None,
+    }
+}
