@@ -101,7 +101,7 @@ whole_made m frames cpus key epoch version is logs few =
       processors = rw count few;
       logs = logs;
       noted = subst (λ (d : Parts). IsNoted d.enclaves d.pages) (sym is) noted_made;
-      framed = subst (λ (d : Parts). IsFramed (state_of d).content d.pages) (sym is) (framed_made frames cpus key epoch version _);
+      framed = subst (λ (d : Parts). IsFramed (state_of d).content d.pages) (sym is) (framed_made frames cpus key epoch version (replicate 9 []));
       small = subst (λ (d : Parts). (p : ℕ) → All (λ t. t.number < 2 ^ 32) (cpu_at d p).cache) (sym is) (small_made frames cpus key epoch version);
       sound = subst (λ (d : Parts). IsSound (state_of d)) (sym is) (sound_made frames cpus key epoch version);
     }

@@ -1,8 +1,8 @@
-ghost use Rattle.std.specs.Prelude.{◌≡◌, ◌≤◌, [], IfOk, length, replicate};
+ghost use Rattle.std.specs.Prelude.{◌≡◌, ◌≤◌, [], IfOk, None, length, replicate};
 ghost use Rattle.paging_machine.specs.Parts.{idle, made, notes_of, state_of};
 ghost use Rattle.paging_machine.specs.Stands.{Upholds};
 
-use crate::enclaves::PageNote;
+use crate::enclaves::{Enclave, PageNote};
 use crate::machine::Machine;
 use cached_translations::processor::Processor;
 use epcm_entry::epc::Epc;
@@ -32,7 +32,7 @@ impl Machine {
     {
         Ok(Machine {
             epc: Epc::new(alloc, frames)?,
-            enclaves: vec![in alloc; None; PLACES]?,
+            enclaves: no_enclaves(alloc)?,
             pages: blank_pages(alloc)?,
             logs: blank_logs(alloc)?,
             cpus: idle_processors(alloc, cpus)?,
@@ -41,6 +41,17 @@ impl Machine {
             start_version,
         })
     }
+}
+
+#[tactic(auto, using(crate::proofs::Fresh::replicate_more))]
+fn no_enclaves(alloc: Global) -> Result<Vec<Option<Enclave>>, Memory>
+    ensures { IfOk result (λ enclaves. enclaves.items ≡ replicate 9 None) }
+{
+    let mut enclaves = Vec::with_capacity(alloc, PLACES)?;
+    for _ in 0..PLACES {
+        enclaves.push(None)?;
+    }
+    Ok(enclaves)
 }
 
 #[tactic(auto, using(crate::proofs::Fresh::replicate_more))]
