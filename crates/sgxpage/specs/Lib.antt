@@ -3,3 +3,4 @@ pub mod OutText
 pub mod WorkedTraces
 pub mod Words
 pub mod Ending
+pub mod Books

@@ -1,6 +1,7 @@
 #![tactic(auto)]
 
 mod actions;
+mod book;
 mod names;
 mod replies;
 mod trace;
