@@ -20,6 +20,7 @@ pub enum EntryView {
 }
 
 impl EntryView {
+    /// A free frame holds nothing and is not being loaded.
     pub fn is_free(self) -> bool
         ensures { result ≡ is_free self }
     {

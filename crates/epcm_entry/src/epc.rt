@@ -54,6 +54,7 @@ impl Epc {
         self.entries.len() as u32
     }
 
+    /// The EPCM entry of a frame.
     pub fn entry(&self, frame: Frame) -> EntryView
         requires { frame.0 < length self.now }
         ensures { result ≡ entry_at self.now frame.0 }
@@ -74,6 +75,26 @@ impl Epc {
     {
         let number = self.free.first()?;
         Some(Frame(number))
+    }
+
+    /// The 8 bytes of a frame from byte `8 * index` on, low byte first.
+    pub fn word(&self, frame: Frame, index: u16) -> u64
+        requires within { frame.0 < length self.now }
+        requires in_frame { index < 512 }
+        ensures { result ≡ word_at self.now frame.0 index }
+    {
+        let page = &self.pages[frame.0 as usize];
+        u64::from_le_bytes(page[usize::from(index)])
+    }
+
+    /// The 4096 bytes of a frame.
+    pub fn bytes(&self, frame: Frame) -> &[u8; 4096]
+        requires { frame.0 < length self.now }
+        ensures value { result.now ≡ bytes_at self.now frame.0 }
+        ensures words { words_of result.now ≡ words_at self.now frame.0 }
+    {
+        let page = &self.pages[frame.0 as usize];
+        page.as_flattened().as_array().unwrap()
     }
 
     /// Claims the page in a frame for an EWB: the page is sealing from then on. A busy frame is refused.
@@ -146,26 +167,7 @@ impl Epc {
         page.fill([0; 8]);
     }
 
-    fn put(&mut self, frame: Frame, entry: EntryView)
-        requires { frame.0 < length self.old }
-        ensures { self.new ≡ with_entry self.old frame.0 entry }
-    {
-        let index = frame.0 as usize;
-        let old = self.entries[index];
-        self.entries[index] = entry;
-        self.free.update(frame.0, old.is_free(), entry.is_free());
-    }
-
-    /// The 8 bytes of a frame from byte `8 * index` on, low byte first.
-    pub fn word(&self, frame: Frame, index: u16) -> u64
-        requires within { frame.0 < length self.now }
-        requires in_frame { index < 512 }
-        ensures { result ≡ word_at self.now frame.0 index }
-    {
-        let page = &self.pages[frame.0 as usize];
-        u64::from_le_bytes(page[usize::from(index)])
-    }
-
+    /// Writes the 8 bytes of a frame from byte `8 * index` on, low byte first.
     pub fn set_word(&mut self, frame: Frame, index: u16, value: u64)
         requires within { frame.0 < length self.old }
         requires in_frame { index < 512 }
@@ -184,21 +186,24 @@ impl Epc {
         page.fill(value.to_le_bytes());
     }
 
-    pub fn bytes(&self, frame: Frame) -> &[u8; 4096]
-        requires { frame.0 < length self.now }
-        ensures value { result.now ≡ bytes_at self.now frame.0 }
-        ensures words { words_of result.now ≡ words_at self.now frame.0 }
-    {
-        let page = &self.pages[frame.0 as usize];
-        page.as_flattened().as_array().unwrap()
-    }
-
+    /// Writes the 4096 bytes of a frame.
     pub fn set_bytes(&mut self, frame: Frame, from: &[u8; 4096])
         requires { frame.0 < length self.old }
         ensures { self.new ≡ with_words self.old frame.0 (words_of from.now) }
     {
         let page = &mut self.pages[frame.0 as usize];
         page.copy_from_slice(from.as_chunks().0);
+    }
+
+    // The one place where an entry is written, so that the set of free frames stays with the entries.
+    fn put(&mut self, frame: Frame, entry: EntryView)
+        requires { frame.0 < length self.old }
+        ensures { self.new ≡ with_entry self.old frame.0 entry }
+    {
+        let index = frame.0 as usize;
+        let old = self.entries[index];
+        self.entries[index] = entry;
+        self.free.update(frame.0, old.is_free(), entry.is_free());
     }
 }
 

@@ -63,18 +63,21 @@ impl Secs {
         })
     }
 
+    /// The enclave's number, from 1.
     pub fn enclave(&self) -> u16
         ensures { result ≡ self.now.enclave }
     {
         self.enclave
     }
 
+    /// The first address of its range.
     pub fn base(&self) -> u64
         ensures { result ≡ self.now.base }
     {
         self.base
     }
 
+    /// The size of its range in bytes.
     pub fn size(&self) -> u64
         ensures size { result ≡ self.now.size }
         ensures sound { IsSecs self.now }
@@ -82,6 +85,7 @@ impl Secs {
         self.size
     }
 
+    /// Whether EINIT was done.
     pub fn is_init(&self) -> bool
         ensures { result ≡ self.now.is_init }
     {

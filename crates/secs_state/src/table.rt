@@ -8,8 +8,9 @@ use crate::secs::Secs;
 use std::marker::Model;
 
 /// The enclaves that were created, of A to H, which have the numbers 1 to 8.
-#[derive(Debug, Drop)]
+#[derive(Debug, Default, Drop)]
 pub struct SecsTable {
+    // Fields and no array: what a borrower of an array's element writes back could not be stated.
     a: Option<Secs>,
     b: Option<Secs>,
     c: Option<Secs>,
@@ -34,16 +35,7 @@ impl SecsTable {
     pub fn new() -> SecsTable
         ensures { result ≡ empty_table }
     {
-        SecsTable {
-            a: None,
-            b: None,
-            c: None,
-            d: None,
-            e: None,
-            f: None,
-            g: None,
-            h: None,
-        }
+        SecsTable::default()
     }
 
     /// The state of an enclave, which is None where it was not created.
