@@ -3,3 +3,4 @@ pub mod Digits
 pub mod LineLaws
 pub mod EntryLaws
 pub mod NumberLaws
+pub mod BookLaws
