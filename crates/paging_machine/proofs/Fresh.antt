@@ -1,19 +1,17 @@
 -- A machine that has done nothing yet stands for no entry.
-use Rattle.std.proofs.Common.{ℕ, suc, ◌≡◌, ◌<◌, ◌≤◌, ◌^◌, ◌+◌, Bool, true, false, refl, sym, ap, subst, ◌∙◌, ◌⊎◌, inl, inr, List, [], ◌∷◌, ◌++◌, Option, Some, None, length, replicate, get_or, map, is_some}
+use Rattle.std.proofs.Common.{ℕ, ◌≡◌, ◌<◌, ◌≤◌, ◌^◌, ◌+◌, refl, sym, ap, subst, ◌∙◌, ◌⊎◌, inl, inr, List, [], ◌∷◌, ◌++◌, Option, Some, None, length, replicate, get_or, is_some}
 use Rattle.std.specs.List.{All}
 use Rattle.std.proofs.lemmas.Bool.{cases_lt}
 use Rattle.std.proofs.lemmas.List.{get_or-replicate, get_or_past, length-replicate, replicate-append-replicate}
 use Rattle.std.proofs.lemmas.List.Elements.{All-nil}
-use Rattle.sgx_types.specs.declared.names.Page.{Page}
-use Rattle.sgx_types.specs.Frames.{Content, Holds}
 use Rattle.epcm_entry.specs.EntryView.{block_of, goes_out}
-use Rattle.epcm_entry.specs.Epc.{EpcFrame, free_frame, free_frames}
+use Rattle.epcm_entry.specs.Epc.{EpcFrame, free_frame}
 use Rattle.cached_translations.specs.declared.processor.Processor.{Processor}
 use Rattle.paging_machine.specs.declared.enclaves.PageNote.{PageNote}
 use Rattle.paging_machine.specs.declared.enclaves.Enclave.{Enclave}
-use Rattle.paging_machine.specs.State.{State, fresh}
-use Rattle.paging_machine.specs.Stands.{IsSound, StandsBy, Upholds}
-use Rattle.paging_machine.specs.Parts.{Parts, made, idle, state_of, held, note_at, no_note, kind_of, enclave_of, seat_of_mode, cpu_at}
+use Rattle.paging_machine.specs.State.{fresh}
+use Rattle.paging_machine.specs.Stands.{IsSound, Upholds}
+use Rattle.paging_machine.specs.Parts.{Parts, made, idle, state_of, held, no_note, kind_of, enclave_of, seat_of_mode, cpu_at}
 use Rattle.paging_machine.specs.Whole.{IsNoted, IsFramed, IsWhole, parts_of}
 use Rattle.paging_machine.specs.declared.machine.Machine.TheInside.{Inside}
 

@@ -1,5 +1,5 @@
 -- The machine's parts as data, and the state that they make.
-use Rattle.std.specs.Prelude.{ℕ, ◌==◌, ◌+◌, ◌*◌, ◌/◌, ◌&&◌, Bool, true, false, if◌then◌else◌, List, [], ◌∷◌, map, Option, Some, None, slice_index_or, slice_index, slice_set, length, is_some, replicate}
+use Rattle.std.specs.Prelude.{ℕ, ◌/◌, ◌&&◌, Bool, false, List, [], map, Option, Some, None, slice_index_or, slice_index, slice_set, length, is_some, replicate}
 use Rattle.std.specs.declared.vec.Vec.{Vec}
 use Rattle.std.specs.declared.alloc.Global.{Global}
 use Rattle.sgx_types.specs.declared.names.Page.{Page}

@@ -1,6 +1,4 @@
-use Rattle.std.proofs.Common.{◌≡◌, refl}
-use Rattle.paging_machine.specs.Parts.{made}
-use Rattle.paging_machine.specs.Whole.{parts_of}
+use Rattle.std.proofs.Common.{refl}
 use Rattle.paging_machine.proofs.Fresh.{whole_made}
 use Rattle.paging_machine.proofs.machine.Machine.new.Goals as goal
 
