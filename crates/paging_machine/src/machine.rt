@@ -74,6 +74,16 @@ impl Machine {
         self.cpus[usize::from(cpu.0)].cache.find(number).is_some()
     }
 
+    /// Whether an enclave was created and initialised.
+    pub fn is_init(&self, enclave: u16) -> bool
+        ensures { result ≡ is_ready (enclave_sight_of ((state_of self.now).enclaves enclave)) }
+    {
+        match self.enclave(enclave) {
+            Some(found) => found.is_init,
+            None => false,
+        }
+    }
+
     /// The free frame with the least number, None exactly where none is free.
     pub fn first_free(&self) -> Option<Frame>
         ensures { option_map (λ f. f.0) result ≡ least_free (state_of self.now).frames (state_of self.now).content }

@@ -29,3 +29,8 @@ pub record IsNext (actor : Actor) (action : Action) (b b' : BookView) : Type 0 w
   pub event : Event
   pub past : b'.past ≡ (let e : Entry = record { actor = actor; event = event } in e) ∷ b.past
   pub is_action : action_of event ≡ Some action
+
+-- the same machine, later
+pub record GoesOn (b b' : BookView) : Type 0 where
+  pub frames : b'.frames ≡ b.frames
+  pub cpus : b'.cpus ≡ b.cpus

@@ -2,8 +2,10 @@
 
 mod actions;
 mod book;
+mod homes;
 mod names;
 mod replies;
+mod run;
 mod trace;
 mod words;
 #[cfg(test)]
