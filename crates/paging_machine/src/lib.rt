@@ -9,3 +9,5 @@ mod making;
 mod measure;
 mod processor;
 mod sights;
+#[cfg(test)]
+mod tests;
