@@ -1,5 +1,5 @@
 -- A list whose last item is changed.
-use Rattle.std.proofs.Common.{◌≡◌, ℕ, zero, suc, List, [], ◌∷◌, ◌++◌, Option, Some, None, option_map, length, map, get_or, refl, ap, ◌∙◌, arith}
+use Rattle.std.proofs.Common.{◌≡◌, ℕ, zero, suc, List, [], ◌∷◌, ◌++◌, Some, None, length, map, get_or, refl, arith}
 use Rattle.std.proofs.Math.ListN.{set}
 use Rattle.job_grammar.specs.Drafts.{with_last}
 

@@ -1,5 +1,5 @@
 -- What is written of a line is words, and is read again as that line.
-use Rattle.std.proofs.Common.{◌≡◌, ℕ, ◌+◌, ◌^◌, ◌<◌, ◌≤◌, Bool, true, false, ltb, leb, ◌&&◌, List, [], ◌∷◌, ◌++◌, Option, Some, length, codes, decimal, refl, sym, ap, subst, ◌∙◌, arith, lit≤, inl, inr}
+use Rattle.std.proofs.Common.{◌≡◌, ℕ, ◌+◌, ◌^◌, ◌<◌, ◌≤◌, Bool, true, false, ltb, List, [], ◌∷◌, Some, length, decimal, refl, sym, ap, subst, arith, lit≤, inl, inr}
 use Rattle.std.specs.Char.{digit_value}
 use Rattle.std.specs.Fmt.{digits}
 use Rattle.std.specs.List.{list_all}
@@ -13,9 +13,9 @@ use Rattle.job_grammar.specs.declared.jobs.Op.{Op}
 use Rattle.job_grammar.specs.declared.jobs.Op.TheVariants as ops
 use Rattle.job_grammar.specs.declared.lines.Line.{Line}
 use Rattle.job_grammar.specs.declared.lines.Line.TheVariants as lines
-use Rattle.job_grammar.specs.Text.{Words, hexadecimal, letter, perm_word, plain_word, page_words, op_words}
+use Rattle.job_grammar.specs.Text.{hexadecimal, letter, perm_word, plain_word, page_words, op_words}
 use Rattle.job_grammar.specs.Lines.{line_words}
-use Rattle.job_grammar.specs.Reading.{small_of, letter_of, perm_with, perm_of, plain_of, keyword_of, number_of, epc_line, enclave_line, tcs_line, reg_line, cpu_line, enter_line, exit_line, load_line, line_of}
+use Rattle.job_grammar.specs.Reading.{small_of, letter_of, perm_with, perm_of, plain_of, keyword_of, epc_line, enclave_line, tcs_line, reg_line, cpu_line, enter_line, exit_line, load_line, line_of}
 use Rattle.job_grammar.proofs.Numerals.{number_of-decimal, number_of-hexadecimal}
 use Rattle.job_grammar.proofs.Splits.{is_word, AreWords}
 

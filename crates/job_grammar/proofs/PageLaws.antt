@@ -1,9 +1,9 @@
 -- What the table of an enclave's pages says of its lines.
-use Rattle.std.proofs.Common.{◌≡◌, ℕ, zero, suc, ◌+◌, ◌<◌, ◌≤◌, Bool, true, false, cond, ◌&&◌, ◌||◌, ◌⊎◌, List, [], ◌∷◌, ◌++◌, length, get_or, take, replicate, Option, Some, None, IsSome, is_some, count_by, find, All, refl, sym, ap, ◌∙◌, arith, inl, inr}
+use Rattle.std.proofs.Common.{◌≡◌, ℕ, zero, suc, ◌+◌, ◌<◌, ◌≤◌, Bool, true, false, cond, ◌&&◌, ◌||◌, ◌⊎◌, List, [], ◌∷◌, ◌++◌, length, get_or, take, replicate, Option, Some, None, IsSome, count_by, find, refl, sym, ap, ◌∙◌, arith, inl, inr}
 use Rattle.std.specs.List.{list_any}
 use Rattle.std.specs.Option.{option_map_or, option_or}
-use Rattle.std.proofs.lemmas.Bool.{cases_Bool, cases_lt, false≢true}
-use Rattle.std.proofs.lemmas.List.{get_or_past, get_or-replicate, length-replicate, take_more, take_all}
+use Rattle.std.proofs.lemmas.Bool.{cases_Bool, cases_lt}
+use Rattle.std.proofs.lemmas.List.{get_or_past, get_or-replicate, length-replicate}
 use Rattle.std.proofs.lemmas.List.Elements.{All-nil, All-push, All-get_or}
 use Rattle.std.proofs.lemmas.List.Folds.{find-append}
 use Rattle.std.proofs.lemmas.List.Sums.{sum_by-cons, sum_by_push, sum_by-take-le, sum_by_more}
@@ -26,9 +26,9 @@ found_or_not p (x ∷ xs) =
     elim (cases_Bool (p x)) [
       | inl passes ↦ inr (x, rw passes refl, rw (count, passes) (omega arith))
       | inr fails ↦ elim (found_or_not p xs) [
-          | inl none ↦ inl (rw fails none.0, rw (count, fails) (omega (arith, none.1)))
-          | inr some ↦ inr (some.0, rw fails some.1, rw (count, fails) (omega (arith, some.2)))
-        ]
+        | inl none ↦ inl (rw fails none.0, rw (count, fails) (omega (arith, none.1)))
+        | inr some ↦ inr (some.0, rw fails some.1, rw (count, fails) (omega (arith, some.2)))
+      ]
     ]
 
 -- no item of those that pass is also of kind q
@@ -88,9 +88,9 @@ once-more xs y old new n of adds once =
     let count = sum_by_push (λ z. cond (covers n z) 1 0) xs y in
     elim (cases_Bool (covers n y)) [
       | inl passes ↦ (let none = sym (of n) ∙ (adds n).1 passes in elim (found_or_not (covers n) xs) [
-          | inl zero_of ↦ rw (count, passes) (omega (arith, zero_of.1))
-          | inr some ↦ (let two = sym none ∙ some.1 in absurd cc)
-        ])
+        | inl zero_of ↦ rw (count, passes) (omega (arith, zero_of.1))
+        | inr some ↦ (let two = sym none ∙ some.1 in absurd cc)
+      ])
       | inr fails ↦ rw (count, fails) (omega (arith, once))
     ]
 

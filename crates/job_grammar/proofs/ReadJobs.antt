@@ -1,11 +1,11 @@
 -- A text that is a job's is read as that job and no other.
-use Rattle.std.proofs.Common.{◌≡◌, ℕ, List, Option, Some, None, Result, Ok, Err, map, refl, sym, ap, ◌∙◌}
+use Rattle.std.proofs.Common.{◌≡◌, ℕ, List, Some, Result, Ok, Err, map, refl, sym, ap, ◌∙◌}
 use Rattle.std.proofs.lemmas.Option.{same_Some}
+use Rattle.job_grammar.specs.declared.refusals.JobKind.{JobKind}
 use Rattle.job_grammar.specs.declared.refusals.JobRefusal.{JobRefusal}
 use Rattle.job_grammar.specs.declared.refusals.JobRefusal.TheVariants as refusals
 use Rattle.job_grammar.specs.Jobs.{JobView}
-use Rattle.job_grammar.specs.Text.{job_text}
-use Rattle.job_grammar.specs.Valid.{IsFirstForm, IsJobText}
+use Rattle.job_grammar.specs.Valid.{IsJobText}
 use Rattle.job_grammar.specs.Drafts.{DraftView, Refuses, read_text}
 use Rattle.job_grammar.specs.Checks.{default_job, IsAccepted, Judges, IsJob}
 use Rattle.job_grammar.proofs.WrittenJobs.{unexpected, draft_of, read_text-written}
@@ -37,3 +37,9 @@ module _ (bytes : List ℕ) (job : JobView) (is : IsJobText bytes job) where
       let mine : IsAccepted (draft_of job) found = rw (draft_is d read) accepted in
       let epc : job.epc ≡ found.epc = same_Some job.epc found.epc mine.epc in
       mine.parts ∙ ap (λ (n : ℕ). default_job n (map unexpected job.enclaves) job.scripts) (sym epc) ∙ default_job-form job is.form
+
+-- a text that has a job is not refused
+pub no_fault : (r : Result JobView JobRefusal) (line : ℕ) (kind : JobKind) (job : JobView) → IsJob r job → r ≡ Err (refusals.Fault line kind) → ⊥
+no_fault (Ok found) line kind job is e = absurd cc
+no_fault (Err refusals.Memory) line kind job is e = absurd cc
+no_fault (Err (refusals.Fault l k)) line kind job is e = is

@@ -1,6 +1,6 @@
 -- A valid job has a text that is read, and a job that is accepted yet is determined by its lines.
-use Rattle.std.proofs.Common.{◌≡◌, ℕ, zero, suc, ◌+◌, ◌/◌, ◌^◌, ◌<◌, ◌≤◌, Bool, true, false, ◌&&◌, ◌||◌, List, [], ◌∷◌, ◌++◌, Option, None, length, map, flat_map, replicate, All, refl, sym, ap, ◌∙◌, arith, inl, inr}
-use Rattle.std.specs.List.{AllByRecursion, list_any}
+use Rattle.std.proofs.Common.{◌≡◌, ℕ, zero, suc, ◌+◌, ◌/◌, ◌^◌, ◌<◌, ◌≤◌, true, ◌&&◌, List, [], ◌∷◌, ◌++◌, Option, length, map, flat_map, All, refl, sym, ap, ◌∙◌, arith, inl, inr}
+use Rattle.std.specs.List.{AllByRecursion}
 use Rattle.std.proofs.lemmas.Bool.{and_parts, or_cases, eqb-true, leb-true, false≢true}
 use Rattle.std.proofs.lemmas.List.Elements.{All-head, All-tail, All-weaker}
 use Rattle.io_edges.specs.declared.plans.PlanLine.{PlanLine}
@@ -11,13 +11,13 @@ use Rattle.job_grammar.specs.declared.jobs.Op.{Op}
 use Rattle.job_grammar.specs.declared.jobs.Op.TheVariants as ops
 use Rattle.job_grammar.specs.declared.lines.Line.{Line}
 use Rattle.job_grammar.specs.declared.lines.Line.TheVariants as lines
-use Rattle.job_grammar.specs.Jobs.{EnclaveView, JobView, covers, is_tcs_line, is_tcs_page, lines_at, default_marks}
-use Rattle.job_grammar.specs.Text.{lines_of, line_text, job_text}
-use Rattle.job_grammar.specs.Lines.{line_words, lines_text, lines_of_enclaves, lines_of_scripts, lines_of_job, HasLetter}
+use Rattle.job_grammar.specs.Jobs.{EnclaveView, JobView, covers, is_tcs_line, is_tcs_page, lines_at}
+use Rattle.job_grammar.specs.Text.{line_text, job_text}
+use Rattle.job_grammar.specs.Lines.{line_words, lines_text, lines_of_enclaves, lines_of_scripts, HasLetter}
 use Rattle.job_grammar.specs.Valid.{IsValidLine, IsValidEnclave, IsValidOp, IsValid, AreFirstEnclaves, IsFirstForm}
 use Rattle.job_grammar.specs.Checks.{default_job}
 use Rattle.job_grammar.proofs.LineWords.{FitsPage, FitsOp, FitsLine}
-use Rattle.job_grammar.proofs.WrittenJobs.{job-written, unexpected}
+use Rattle.job_grammar.proofs.WrittenJobs.{lines_of_job, job-written, unexpected}
 
 -- ---- the text, line by line
 
@@ -51,10 +51,11 @@ enclaves-fit : (n : ℕ) (es : List EnclaveView) → 1 ≤ n → n + length es �
 enclaves-fit n [] low few valid = tt
 enclaves-fit n (e ∷ es) low few valid =
     let first = All-head IsValidEnclave e es valid in
-    let size = lawful-size e first in
-    (((low, omega arith), omega (arith, first.top), omega arith),
-    append-fits (map lines.Page e.lines) (lines_of_enclaves (n + 1) es) (pages-fit (e.size / 4096) e.lines (omega arith) first.lines)
-    (enclaves-fit (n + 1) es (omega arith) (omega arith) (All-tail IsValidEnclave e es valid)))
+    let size = lawful-size e first in (
+      ((low, omega arith), omega (arith, first.top), omega arith),
+      append-fits (map lines.Page e.lines) (lines_of_enclaves (n + 1) es) (pages-fit (e.size / 4096) e.lines (omega arith) first.lines)
+          (enclaves-fit (n + 1) es (omega arith) (omega arith) (All-tail IsValidEnclave e es valid)),
+    )
 
 tcs-below : (size n : ℕ) (ps : List PageLine) → All (IsValidLine size) ps → is_tcs_page ps n ≡ true → n < size
 tcs-below size n [] valid is = absurd (false≢true is)
@@ -100,16 +101,18 @@ module _ (j : JobView) (valid : IsValid j) where
 
   scripts-fit : (n : ℕ) (scripts : List (List Op)) → n + length scripts ≤ 16 → All (All (IsValidOp j)) scripts → AllByRecursion FitsLine (lines_of_scripts n scripts)
   scripts-fit n [] few are = tt
-  scripts-fit n (script ∷ scripts) few are =
-      (omega arith,
-      append-fits (map lines.Op script) (lines_of_scripts (n + 1) scripts) (ops-fit script (All-head (All (IsValidOp j)) script scripts are))
-      (scripts-fit (n + 1) scripts (omega arith) (All-tail (All (IsValidOp j)) script scripts are)))
+  scripts-fit n (script ∷ scripts) few are = (
+    omega arith,
+    append-fits (map lines.Op script) (lines_of_scripts (n + 1) scripts) (ops-fit script (All-head (All (IsValidOp j)) script scripts are))
+        (scripts-fit (n + 1) scripts (omega arith) (All-tail (All (IsValidOp j)) script scripts are)),
+  )
 
   pub lines-fit : AllByRecursion FitsLine (lines_of_job j)
-  lines-fit =
-      (omega (arith, valid.few_frames),
-      append-fits (lines_of_enclaves 1 j.enclaves) (lines_of_scripts 0 j.scripts) (enclaves-fit 1 j.enclaves (omega arith) (omega (arith, valid.few_enclaves)) valid.enclaves)
-      (scripts-fit 0 j.scripts (omega (arith, valid.few_scripts)) valid.ops))
+  lines-fit = (
+    omega (arith, valid.few_frames),
+    append-fits (lines_of_enclaves 1 j.enclaves) (lines_of_scripts 0 j.scripts) (enclaves-fit 1 j.enclaves (omega arith) (omega (arith, valid.few_enclaves)) valid.enclaves)
+        (scripts-fit 0 j.scripts (omega (arith, valid.few_scripts)) valid.ops),
+  )
 
   letters-of : (script : List Op) → All (IsValidOp j) script → All HasLetter script
   letters-of script are = All-weaker (IsValidOp j) HasLetter op-letter script are
@@ -131,5 +134,5 @@ same-parts f em ek ea eb ees eps = cc
 pub default_job-form : (j : JobView) → IsFirstForm j → default_job j.epc (map unexpected j.enclaves) j.scripts ≡ j
 default_job-form j form =
     same-parts
-        (λ marks key epoch version enclaves plans. record { epc = j.epc; marks = marks; key = key; start_epoch = epoch; start_version = version; enclaves = enclaves; plans = plans; scripts = j.scripts })
-        form.marks form.key form.start_epoch form.start_version (unexpected-first j.enclaves j.scripts form.enclaves) form.plans
+    (λ marks key epoch version enclaves plans. record { epc = j.epc; marks = marks; key = key; start_epoch = epoch; start_version = version; enclaves = enclaves; plans = plans; scripts = j.scripts })
+    form.marks form.key form.start_epoch form.start_version (unexpected-first j.enclaves j.scripts form.enclaves) form.plans

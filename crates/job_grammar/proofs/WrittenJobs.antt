@@ -1,16 +1,15 @@
 -- The text of a job is read as that job's parts.
-use Rattle.std.proofs.Common.{◌≡◌, ℕ, ◌+◌, ◌==◌, ◌&&◌, Bool, true, false, cond, eqb, List, [], ◌∷◌, ◌++◌, length, map, flat_map, Option, Some, None, option_map, refl, sym, ap, ◌∙◌, append_assoc, append-nil, arith}
+use Rattle.std.proofs.Common.{◌≡◌, ℕ, ◌+◌, eqb, List, [], ◌∷◌, ◌++◌, length, map, flat_map, Option, Some, None, refl, sym, ap, ◌∙◌, append_assoc, append-nil, arith}
 use Rattle.std.specs.List.{AllByRecursion, join_with_byte, slice_split}
-use Rattle.std.proofs.lemmas.Bool.{eq-eqb, and_from}
+use Rattle.std.proofs.lemmas.Bool.{eq-eqb}
 use Rattle.std.proofs.lemmas.List.{length-append, map-append}
-use Rattle.std.proofs.lemmas.List.Concat.{flat_map-append}
 use Rattle.job_grammar.specs.declared.jobs.PageLine.{PageLine}
 use Rattle.job_grammar.specs.declared.jobs.Op.{Op}
 use Rattle.job_grammar.specs.declared.lines.Line.{Line}
 use Rattle.job_grammar.specs.declared.lines.Line.TheVariants as lines
 use Rattle.job_grammar.specs.Jobs.{EnclaveView, JobView}
 use Rattle.job_grammar.specs.Text.{Words, page_words, op_words, enclave_lines, script_lines, lines_of, line_text, job_text}
-use Rattle.job_grammar.specs.Lines.{line_words, lines_of_enclaves, lines_of_scripts, lines_of_job}
+use Rattle.job_grammar.specs.Lines.{line_words, lines_of_enclaves, lines_of_scripts, lines_of_parts}
 use Rattle.job_grammar.specs.Reading.{◌>>=◌, line_of, words_of}
 use Rattle.job_grammar.specs.Drafts.{DraftView, empty_draft, new_enclave, with_page, with_op, step, read_words, read_line, read_lines, read_text}
 use Rattle.job_grammar.proofs.LastItem.{with_last-push}
@@ -26,6 +25,9 @@ bind-assoc None f g = refl
 bind-assoc (Some x) f g = refl
 
 -- ---- the lines of a job are those of its text
+
+abbrev pub lines_of_job : JobView → List Line
+lines_of_job j = lines_of_parts j.epc j.enclaves j.scripts
 
 map-pages : (pages : List PageLine) (rest : List Line) → map line_words (map lines.Page pages ++ rest) ≡ map page_words pages ++ map line_words rest
 map-pages [] rest = refl
@@ -123,10 +125,12 @@ enclave-step epc done n base size e = rw (eq-eqb n (length done + 1) e) refl
 enclaves-steps : (epc : ℕ) (done : List EnclaveView) (n : ℕ) (es : List EnclaveView) → n ≡ length done + 1 → steps (with_enclaves epc done) (lines_of_enclaves n es) ≡ Some (with_enclaves epc (done ++ map unexpected es))
 enclaves-steps epc done n [] e = rw append-nil refl
 enclaves-steps epc done n (e ∷ es) k =
-    rw (enclave-step epc done n e.base e.size k,
-        steps-append (with_enclaves epc (done ++ new_enclave e.base e.size ∷ [])) (map lines.Page e.lines) (lines_of_enclaves (n + 1) es),
-        pages-steps epc done (new_enclave e.base e.size) [] e.lines,
-        enclaves-steps epc (done ++ unexpected e ∷ []) (n + 1) es (omega (arith, length-append done (unexpected e ∷ []))))
+    rw (
+      enclave-step epc done n e.base e.size k,
+      steps-append (with_enclaves epc (done ++ new_enclave e.base e.size ∷ [])) (map lines.Page e.lines) (lines_of_enclaves (n + 1) es),
+      pages-steps epc done (new_enclave e.base e.size) [] e.lines,
+      enclaves-steps epc (done ++ unexpected e ∷ []) (n + 1) es (omega (arith, length-append done (unexpected e ∷ []))),
+    )
     (simp append_assoc)
 
 abbrev with_scripts : DraftView → List (List Op) → DraftView
@@ -148,10 +152,12 @@ cpu-step d done n e = rw (eq-eqb n (length done) e) refl
 scripts-steps : (d : DraftView) (done : List (List Op)) (n : ℕ) (scripts : List (List Op)) → n ≡ length done → steps (with_scripts d done) (lines_of_scripts n scripts) ≡ Some (with_scripts d (done ++ scripts))
 scripts-steps d done n [] e = rw append-nil refl
 scripts-steps d done n (script ∷ scripts) e =
-    rw (cpu-step d done n e,
-        steps-append (with_scripts d (done ++ [] ∷ [])) (map lines.Op script) (lines_of_scripts (n + 1) scripts),
-        ops-steps d done [] script,
-        scripts-steps d (done ++ script ∷ []) (n + 1) scripts (omega (arith, length-append done (script ∷ []))))
+    rw (
+      cpu-step d done n e,
+      steps-append (with_scripts d (done ++ [] ∷ [])) (map lines.Op script) (lines_of_scripts (n + 1) scripts),
+      ops-steps d done [] script,
+      scripts-steps d (done ++ script ∷ []) (n + 1) scripts (omega (arith, length-append done (script ∷ []))),
+    )
     (simp append_assoc)
 
 -- what the lines of a job say
@@ -165,7 +171,9 @@ epc-step n = refl
 pub read_text-written : (j : JobView) → AllByRecursion FitsLine (lines_of_job j) → read_text (job_text j) ≡ Some (draft_of j)
 read_text-written j fits =
     text-steps j fits
-    ∙ rw (epc-step j.epc,
-        steps-append (with_enclaves j.epc []) (lines_of_enclaves 1 j.enclaves) (lines_of_scripts 0 j.scripts),
-        enclaves-steps j.epc [] 1 j.enclaves refl)
+    ∙ rw (
+      epc-step j.epc,
+      steps-append (with_enclaves j.epc []) (lines_of_enclaves 1 j.enclaves) (lines_of_scripts 0 j.scripts),
+      enclaves-steps j.epc [] 1 j.enclaves refl,
+    )
     (scripts-steps (with_enclaves j.epc (map unexpected j.enclaves)) [] 0 j.scripts refl)

@@ -1,5 +1,5 @@
 -- Validity in the parts in which it is checked.
-use Rattle.std.specs.Prelude.{◌≡◌, ℕ, ◌≤◌, ◌⊎◌, ⊤, List, [], Option, Some, Result, Ok, Err, length, replicate, sum_by}
+use Rattle.std.specs.Prelude.{◌≡◌, ℕ, ◌≤◌, ◌⊎◌, ⊤, List, [], Some, Result, Ok, Err, length, replicate, sum_by}
 use Rattle.job_grammar.specs.declared.jobs.Op.{Op}
 use Rattle.job_grammar.specs.declared.refusals.JobRefusal.{JobRefusal}
 use Rattle.job_grammar.specs.declared.refusals.JobRefusal.TheVariants as refusals

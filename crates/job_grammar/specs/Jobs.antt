@@ -1,9 +1,6 @@
 -- Jobs as contracts see them, and what their lines say.
-use Rattle.std.specs.Prelude.{ℕ, zero, suc, ◌≡◌, ◌==◌, ◌+◌, ◌*◌, ◌/◌, ◌&&◌, Bool, true, false, if◌then◌else◌, min, List, [], ◌∷◌, Option, Some, None, length, sum_by, nat_le, nat_lt, slice_get, find}
+use Rattle.std.specs.Prelude.{ℕ, zero, suc, ◌==◌, ◌+◌, ◌*◌, ◌/◌, ◌&&◌, Bool, true, false, min, List, [], Option, Some, None, length, sum_by, nat_le, nat_lt, slice_get, find}
 use Rattle.std.specs.List.{list_any}
-use Rattle.sgx_types.specs.declared.names.Perm.{Perm}
-use Rattle.sgx_types.specs.declared.names.Kind.{Kind}
-use Rattle.sgx_types.specs.declared.names.Kind.TheVariants as kinds
 use Rattle.io_edges.specs.declared.plans.PlanLine.{PlanLine}
 use Rattle.job_grammar.specs.declared.jobs.Marks.{Marks}
 use Rattle.job_grammar.specs.declared.jobs.PageLine.{PageLine}

@@ -4,7 +4,7 @@ use Rattle.job_grammar.specs.declared.jobs.Op.{Op}
 use Rattle.job_grammar.specs.declared.jobs.Op.TheVariants.{Enter, Resume, OutLoad, OutStore}
 use Rattle.job_grammar.specs.declared.lines.Line.{Line}
 use Rattle.job_grammar.specs.declared.lines.Line.TheVariants as lines
-use Rattle.job_grammar.specs.Jobs.{EnclaveView, JobView}
+use Rattle.job_grammar.specs.Jobs.{EnclaveView}
 use Rattle.job_grammar.specs.Text.{Words, hexadecimal, letter, page_words, op_words, line_text}
 
 abbrev pub line_words : Line → Words
@@ -24,15 +24,12 @@ abbrev pub lines_of_scripts : ℕ → List (List Op) → List Line
 lines_of_scripts n [] = []
 lines_of_scripts n (script ∷ scripts) = lines.Cpu n ∷ map lines.Op script ++ lines_of_scripts (n + 1) scripts
 
-abbrev pub lines_of_job : JobView → List Line
-lines_of_job j = lines.Epc j.epc ∷ lines_of_enclaves 1 j.enclaves ++ lines_of_scripts 0 j.scripts
+-- the lines of a job with these parts
+abbrev pub lines_of_parts : ℕ → List EnclaveView → List (List Op) → List Line
+lines_of_parts epc enclaves scripts = lines.Epc epc ∷ lines_of_enclaves 1 enclaves ++ lines_of_scripts 0 scripts
 
 abbrev pub lines_text : List Line → List ℕ
 lines_text lines = flat_map (λ line. line_text (line_words line)) lines
-
--- the text of a job with these parts
-abbrev pub parts_text : ℕ → List EnclaveView → List (List Op) → List ℕ
-parts_text epc enclaves scripts = lines_text (lines.Epc epc ∷ lines_of_enclaves 1 enclaves ++ lines_of_scripts 0 scripts)
 
 -- the enclave that an operation names has a letter
 abbrev pub HasLetter : Op → Type 0

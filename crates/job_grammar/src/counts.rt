@@ -63,10 +63,13 @@ pub(crate) fn needed_by(enclaves: &[EnclaveJob], scripts: &[Vec<Op>]) -> u32
 pub(crate) fn has_valid_counts(epc: u32, enclaves: &[EnclaveJob], scripts: &[Vec<Op>]) -> bool
     ensures { IsTrue result ↔ HasValidCounts (default_job epc (map enclave_view enclaves.now) (script_ops scripts.now)) }
 {
-    (1..=4096).contains(&epc)
-        && (1..=8).contains(&enclaves.len())
-        && (1..=16).contains(&scripts.len())
-        && total_pages(enclaves) <= 4096
-        && total_ops(scripts) <= 100_000
-        && needed_by(enclaves, scripts) <= epc
+    if !(1..=4096).contains(&epc)
+        || !(1..=8).contains(&enclaves.len())
+        || !(1..=16).contains(&scripts.len())
+        || 4096 < total_pages(enclaves)
+        || 100_000 < total_ops(scripts)
+    {
+        return false;
+    }
+    needed_by(enclaves, scripts) <= epc
 }

@@ -4,15 +4,9 @@ ghost use Rattle.job_grammar.specs.Drafts.{draft_view, enclave_views, script_ops
 
 use crate::jobs::{EnclaveJob, Op, PageLine};
 use crate::lines::{Line, line_of};
-use crate::refusals::{JobKind, JobRefusal};
+use crate::refusals::{JobRefusal, NOT_YET_BUILT};
 use crate::words::words;
 use std::alloc::Global;
-
-/// The refusal of every text that is not accepted yet.
-pub(crate) const NOT_YET_BUILT: JobRefusal = JobRefusal::Fault {
-    line: 0,
-    kind: JobKind::NotYetBuilt,
-};
 
 /// What the lines so far say, unchecked but for the order of the lines.
 #[derive(Debug, Drop)]

@@ -21,7 +21,12 @@ fn is_first_enclave(enclave: &EnclaveJob) -> bool
 
 /// Whether a job is of the form that is accepted yet: one enclave of plain pages that all fit, and one processor that
 /// enters, loads and exits.
-pub(crate) fn has_first_form(epc: u32, enclaves: &[EnclaveJob], tables: &[PageTable], scripts: &[Vec<Op>]) -> bool
+pub(crate) fn has_first_form(
+    epc: u32,
+    enclaves: &[EnclaveJob],
+    tables: &[PageTable],
+    scripts: &[Vec<Op>],
+) -> bool
     requires { AreTablesOf (map enclave_view enclaves.now) tables.now }
     ensures { IsTrue result ↔ IsFirstForm (default_job epc (map enclave_view enclaves.now) (script_ops scripts.now)) }
 {

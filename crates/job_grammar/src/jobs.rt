@@ -165,7 +165,12 @@ impl Job {
     ghost use Rattle.job_grammar.specs.Checks.{default_job};
 
     /// The job of these enclaves and scripts, with no option and no store line.
-    pub(crate) fn new(alloc: Global, epc: u32, enclaves: Vec<EnclaveJob>, scripts: Vec<Vec<Op>>) -> Self
+    pub(crate) fn new(
+        alloc: Global,
+        epc: u32,
+        enclaves: Vec<EnclaveJob>,
+        scripts: Vec<Vec<Op>>,
+    ) -> Self
         requires { IsValid (default_job epc (map enclave_view enclaves.items) (script_ops scripts.items)) }
         ensures { result ≡ default_job epc (map enclave_view enclaves.items) (script_ops scripts.items) }
     {
@@ -219,7 +224,8 @@ impl Job {
 
     /// The enclaves, from number 1 on.
     pub fn enclaves(&self) -> &[EnclaveJob]
-        ensures { map enclave_view result.now ≡ self.now.enclaves }
+        ensures value { map enclave_view result.now ≡ self.now.enclaves }
+        ensures valid { IsValid self.now }
     {
         &self.enclaves
     }

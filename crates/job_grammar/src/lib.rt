@@ -1,9 +1,9 @@
 // Jobs: their text, what makes one valid, and what each actor has to do under one.
 #![tactic(auto)]
 
-mod checks;
 mod counts;
 mod drafts;
+mod enclaves;
 mod forms;
 pub mod jobs;
 mod lines;

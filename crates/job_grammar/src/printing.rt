@@ -2,7 +2,7 @@ ghost use Rattle.std.specs.Prelude.{◌≡◌, ◌+◌, ◌≤◌, ◌++◌, All
 ghost use Rattle.job_grammar.specs.Jobs.{enclave_view};
 ghost use Rattle.job_grammar.specs.Text.{line_text};
 ghost use Rattle.job_grammar.specs.Drafts.{script_ops};
-ghost use Rattle.job_grammar.specs.Lines.{line_words, lines_text, lines_of_enclaves, lines_of_scripts, parts_text, HasLetter};
+ghost use Rattle.job_grammar.specs.Lines.{line_words, lines_text, lines_of_enclaves, lines_of_scripts, lines_of_parts, HasLetter};
 ghost use Rattle.job_grammar.specs.declared.lines.Line.TheVariants as lines;
 
 use crate::jobs::{EnclaveJob, Op, PageLine};
@@ -28,9 +28,25 @@ fn push_page(text: &mut String, page: PageLine) -> Result<(), AllocError>
     ensures { OnOk result (string_bytes text.new ≡ string_bytes text.old ++ line_text (line_words (lines.Page page))) }
 {
     match page {
-        PageLine::Tcs { page, ossa, nssa, plain: true } => writeln!(text, "tcs {page} {ossa} {nssa} plain"),
-        PageLine::Tcs { page, ossa, nssa, plain: false } => writeln!(text, "tcs {page} {ossa} {nssa}"),
-        PageLine::Reg { first, count, perm, value, plain } => {
+        PageLine::Tcs {
+            page,
+            ossa,
+            nssa,
+            plain: true,
+        } => writeln!(text, "tcs {page} {ossa} {nssa} plain"),
+        PageLine::Tcs {
+            page,
+            ossa,
+            nssa,
+            plain: false,
+        } => writeln!(text, "tcs {page} {ossa} {nssa}"),
+        PageLine::Reg {
+            first,
+            count,
+            perm,
+            value,
+            plain,
+        } => {
             let r = if perm.r { "r" } else { "" };
             let w = if perm.w { "w" } else { "" };
             let x = if perm.x { "x" } else { "" };
@@ -67,7 +83,11 @@ fn push_op(text: &mut String, op: Op) -> Result<(), AllocError>
             let letter = letter_of(enclave);
             writeln!(text, "outload {letter} 0x{off:x}")
         }
-        Op::OutStore { enclave, off, value } => {
+        Op::OutStore {
+            enclave,
+            off,
+            value,
+        } => {
             let letter = letter_of(enclave);
             writeln!(text, "outstore {letter} 0x{off:x} {value}")
         }
@@ -116,10 +136,15 @@ fn push_scripts(text: &mut String, scripts: &[Vec<Op>]) -> Result<(), AllocError
 }
 
 /// Writes the lines of a job with these parts.
-pub(crate) fn push_job(text: &mut String, epc: u32, enclaves: &[EnclaveJob], scripts: &[Vec<Op>]) -> Result<(), AllocError>
+pub(crate) fn push_job(
+    text: &mut String,
+    epc: u32,
+    enclaves: &[EnclaveJob],
+    scripts: &[Vec<Op>],
+) -> Result<(), AllocError>
     requires enclaves { length enclaves.now ≤ 8 }
     requires scripts { All (All HasLetter) (script_ops scripts.now) }
-    ensures { OnOk result (string_bytes text.new ≡ string_bytes text.old ++ parts_text epc (map enclave_view enclaves.now) (script_ops scripts.now)) }
+    ensures { OnOk result (string_bytes text.new ≡ string_bytes text.old ++ lines_text (lines_of_parts epc (map enclave_view enclaves.now) (script_ops scripts.now))) }
 {
     writeln!(text, "epc {epc}")?;
     push_enclaves(text, enclaves)?;

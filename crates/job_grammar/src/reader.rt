@@ -6,12 +6,12 @@ ghost use Rattle.job_grammar.specs.Valid.{IsJobText};
 ghost use Rattle.job_grammar.specs.Drafts.{draft_view};
 ghost use Rattle.job_grammar.specs.Checks.{Judges, IsJob, IsEarlyRefusal};
 
-use crate::checks::enclave_tables;
 use crate::counts::has_valid_counts;
-use crate::drafts::{Draft, NOT_YET_BUILT, read_draft};
+use crate::drafts::{Draft, read_draft};
+use crate::enclaves::enclave_tables;
 use crate::forms::has_first_form;
 use crate::jobs::Job;
-use crate::refusals::{JobKind, JobRefusal};
+use crate::refusals::{JobKind, JobRefusal, NOT_YET_BUILT};
 use crate::scripts::are_valid_scripts;
 use std::alloc::Global;
 
@@ -50,6 +50,7 @@ pub fn read_job(alloc: Global, bytes: &[u8]) -> Result<Job, JobRefusal>
     ensures only { (job : JobView) → IsJobText bytes.now job → IsJob result job }
     ensures too_long { (result ≡ Err (Fault 0 TooLong)) ↔ (2 ^ 24 < length bytes.now) }
     ensures kinds { IfErr result IsEarlyRefusal }
+    ensures not_yet { result ≡ Err (Fault 0 NotYetBuilt) → (job : JobView) → ¬ IsJobText bytes.now job }
 {
     if bytes.len() > MOST_BYTES {
         return Err(JobRefusal::Fault {
@@ -65,3 +66,6 @@ pub fn read_job(alloc: Global, bytes: &[u8]) -> Result<Job, JobRefusal>
     }
     Ok(job)
 }
+
+#[cfg(test)]
+mod tests;

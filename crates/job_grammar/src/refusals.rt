@@ -54,6 +54,12 @@ pub enum JobRefusal {
     Memory,
 }
 
+/// The refusal of every text that is not accepted yet.
+pub(crate) const NOT_YET_BUILT: JobRefusal = JobRefusal::Fault {
+    line: 0,
+    kind: JobKind::NotYetBuilt,
+};
+
 impl From<Memory> for JobRefusal {
     ghost from_gives = { λ _ refusal. refusal ≡ refusals.Memory };
 

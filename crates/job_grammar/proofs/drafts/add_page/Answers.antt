@@ -1,4 +1,4 @@
-use Rattle.std.proofs.Common.{◌++◌, ◌∷◌, [], refl, arith, rules}
+use Rattle.std.proofs.Common.{refl, arith}
 use Rattle.job_grammar.specs.Jobs.{enclave_view}
 use Rattle.job_grammar.specs.Drafts.{with_page}
 use Rattle.job_grammar.proofs.LastItem.{with_last-nil, with_last-set}

@@ -1,10 +1,10 @@
-use Rattle.std.proofs.Common.{◌≡◌, ℕ, ◌+◌, eqb, length, drop, List, refl, sym, ap, arith, rules, tests}
+use Rattle.std.proofs.Common.{eqb, length, refl, arith, rules, tests}
 use Rattle.std.specs.List.{slice_split}
 use Rattle.std.proofs.lemmas.Iterator.Consumers.{YieldsList-at, YieldsList-turn, YieldsList-end}
 use Rattle.std.proofs.lemmas.Iterator.Splits.{YieldsList-from_slice_split}
 use Rattle.std.proofs.lemmas.List.{length_push}
 use Rattle.std.proofs.lemmas.Result.{err_from_is_err_and}
-use Rattle.job_grammar.specs.Drafts.{draft_view, read_lines, read_text}
+use Rattle.job_grammar.specs.Drafts.{read_text}
 use Rattle.job_grammar.proofs.LineLoop.{goes_on, ends, is_done}
 use Rattle.job_grammar.proofs.drafts.read_draft.Goals as goal
 

@@ -10,14 +10,16 @@ returns c =
     let tells = rw (enclave, table) at c.requires in
     let answer = rw c.deref.ensures.value at c.is_first_script.ensures _ tells.0 in
     let pages = rw enclave at c.total_pages-pages.ensures in
-    rw (enclave, script)
-    (λ e. record {
-      marks = refl;
-      key = refl;
-      start_epoch = refl;
-      start_version = refl;
-      plans = refl;
-      few_pages = omega (arith, pages);
-      room = omega (arith, pages);
-      enclaves = (c.if-not-is_first_enclave.ensures.0 refl, answer.0 e);
-    }, λ form. answer.1 form.enclaves.1)
+    rw (enclave, script) (
+      λ e. record {
+        marks = refl;
+        key = refl;
+        start_epoch = refl;
+        start_version = refl;
+        plans = refl;
+        few_pages = omega (arith, pages);
+        room = omega (arith, pages);
+        enclaves = (c.if-not-is_first_enclave.ensures.0 refl, answer.0 e);
+      },
+      λ form. answer.1 form.enclaves.1,
+    )

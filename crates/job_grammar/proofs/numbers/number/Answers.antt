@@ -1,6 +1,4 @@
-use Rattle.std.proofs.Common.{sym, ◌∙◌}
-use Rattle.std.proofs.lemmas.Bool.{cond-true, cond-false}
-use Rattle.job_grammar.specs.Reading.{number_of, numeral_of}
+use Rattle.job_grammar.specs.Reading.{number_of}
 use Rattle.job_grammar.proofs.Numerals.{numeral_of-is}
 use Rattle.job_grammar.proofs.numbers.number.Goals as goal
 

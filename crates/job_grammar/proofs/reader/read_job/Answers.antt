@@ -1,9 +1,9 @@
 use Rattle.std.proofs.Common.{◌≡◌, sym, ap, ◌∙◌}
-use Rattle.std.proofs.lemmas.Bool.{true≢false}
+use Rattle.std.proofs.lemmas.Bool.{true≢false, not-false}
 use Rattle.std.proofs.lemmas.Result.{err_from_is_err_and}
 use Rattle.std.proofs.lemmas.Slice.Eq.{bytes_eq-Decides}
 use Rattle.job_grammar.specs.Text.{job_text}
-use Rattle.job_grammar.proofs.ReadJobs.{lines_give, draft_gives, accepted_is}
+use Rattle.job_grammar.proofs.ReadJobs.{lines_give, draft_gives, accepted_is, no_fault}
 use Rattle.job_grammar.proofs.reader.read_job.Goals as goal
 
 pub returns-in_err-draft-clause-only : goal.returns-in_err-draft-clause-only
@@ -24,3 +24,22 @@ returns-then-ne-clause-only c = λ job is.
 
 pub returns-clause-only : goal.returns-clause-only
 returns-clause-only c = λ job is. accepted_is c.args.bytes.now job is _ _ c.in_ok-draft.ensures c.in_ok-job.ensures
+
+pub returns-in_err-draft-clause-not_yet : goal.returns-in_err-draft-clause-not_yet
+returns-in_err-draft-clause-not_yet c = λ refused job is. no_fault _ 0 _ job (returns-in_err-draft-clause-only c job is) refused
+
+pub returns-in_err-job-clause-not_yet : goal.returns-in_err-job-clause-not_yet
+returns-in_err-job-clause-not_yet c = λ refused job is. no_fault _ 0 _ job (returns-in_err-job-clause-only c job is) refused
+
+pub returns-then-ne-clause-not_yet : goal.returns-then-ne-clause-not_yet
+returns-then-ne-clause-not_yet c = λ refused. returns-then-ne-clause-only c
+
+pub returns-clause-found : goal.returns-clause-found
+returns-clause-found c =
+    let equal = (bytes_eq-Decides c.as_bytes.result.now c.args.bytes.now).0 (not-false _ (sym c.if-ne.ensures)) in
+    record {
+      small = c.if-bytes-gt-MOST_BYTES.false;
+      text = sym equal ∙ c.as_bytes.ensures.value ∙ c.in_ok-text.ensures;
+      valid = c.in_ok-job.ensures.valid;
+      form = c.in_ok-job.ensures.form;
+    }

@@ -1,5 +1,4 @@
-use Rattle.std.proofs.Common.{◌≡◌, suc, ◌-◌, refl, ◌∙◌, arith, ltb-true, sym}
-use Rattle.job_grammar.specs.Jobs.{lines_at}
+use Rattle.std.proofs.Common.{◌≡◌, suc, ◌-◌, refl, arith, ltb-true, sym}
 use Rattle.job_grammar.proofs.PageLaws.{Tells-at, lines_at-past}
 use Rattle.job_grammar.proofs.scripts.is_tcs_of.Goals as goal
 

@@ -1,7 +1,6 @@
 use Rattle.std.proofs.Common.{refl, arith}
 use Rattle.std.proofs.lemmas.List.{take_all}
 use Rattle.std.proofs.lemmas.List.Elements.{All-more}
-use Rattle.job_grammar.specs.declared.jobs.Op.TheVariants.{Enter}
 use Rattle.job_grammar.specs.Valid.{IsValidOp}
 use Rattle.job_grammar.proofs.scripts.is_valid_script.Goals as goal
 

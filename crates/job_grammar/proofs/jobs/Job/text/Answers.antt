@@ -1,6 +1,6 @@
 use Rattle.std.proofs.Common.{◌∙◌}
 use Rattle.job_grammar.specs.Kept.{view_of}
-use Rattle.job_grammar.proofs.ValidJobs.{job_text-lines, have_letters}
+use Rattle.job_grammar.proofs.ValidJobs.{job_text-lines}
 use Rattle.job_grammar.proofs.jobs.Job.text.Goals as goal
 
 pub returns : goal.returns

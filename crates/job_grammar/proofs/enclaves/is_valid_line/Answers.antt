@@ -1,6 +1,6 @@
 use Rattle.std.proofs.Common.{◌<◌, ◌^◌, sym, ◌∙◌, arith, rules, leb-true}
-use Rattle.job_grammar.proofs.checks.is_valid_line.Goals as goal
-use Rattle.job_grammar.proofs.checks.is_valid_line.Goals.{then-count-ge1, else-count-ge1}
+use Rattle.job_grammar.proofs.enclaves.is_valid_line.Goals as goal
+use Rattle.job_grammar.proofs.enclaves.is_valid_line.Goals.{then-count-ge1, else-count-ge1}
 
 pub returns-then-from-pages-2 : goal.returns-then-from-pages-2
 returns-then-from-pages-2 c =

@@ -3,7 +3,7 @@ use Rattle.job_grammar.specs.Jobs.{enclave_view}
 use Rattle.job_grammar.specs.Valid.{IsValidEnclave}
 use Rattle.job_grammar.proofs.PageLaws.{AreTablesOf-push}
 use Rattle.job_grammar.proofs.ViewLaws.{All-view_at, views_more}
-use Rattle.job_grammar.proofs.checks.enclave_tables.Goals as goal
+use Rattle.job_grammar.proofs.enclaves.enclave_tables.Goals as goal
 
 pub returns-in_default : goal.returns-in_default
 returns-in_default c = λ all.

@@ -2,7 +2,7 @@ use Rattle.std.proofs.Common.{All, map, take}
 use Rattle.job_grammar.specs.Jobs.{enclave_view}
 use Rattle.job_grammar.specs.Valid.{IsValidEnclave}
 use Rattle.job_grammar.specs.PageTables.{AreTablesOf}
-use Rattle.job_grammar.proofs.checks.enclave_tables.Given as goal
+use Rattle.job_grammar.proofs.enclaves.enclave_tables.Given as goal
 
 abbrev pub invariant-loop-enclave : goal.invariant-loop-enclave
 invariant-loop-enclave l =

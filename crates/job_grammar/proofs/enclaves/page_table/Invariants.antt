@@ -1,6 +1,6 @@
 use Rattle.std.proofs.Common.{◌≡◌, take, vec_len}
 use Rattle.job_grammar.specs.PageTables.{IsTableOf, AreValidPages}
-use Rattle.job_grammar.proofs.checks.page_table.Given as goal
+use Rattle.job_grammar.proofs.enclaves.page_table.Given as goal
 
 abbrev pub invariant-loop-line : goal.invariant-loop-line
 invariant-loop-line l =

@@ -1,11 +1,11 @@
-use Rattle.std.proofs.Common.{◌≡◌, ◌<◌, ◌/◌, false, length, refl, arith}
+use Rattle.std.proofs.Common.{◌<◌, false, length, refl}
 use Rattle.std.proofs.lemmas.Bool.{false≢true}
 use Rattle.std.proofs.lemmas.List.{take_all}
 use Rattle.std.proofs.lemmas.List.Elements.{All-get_or, All-more}
 use Rattle.job_grammar.specs.declared.jobs.PageLine.TheVariants.{Tcs}
 use Rattle.job_grammar.specs.Valid.{HasSavePages}
 use Rattle.job_grammar.proofs.PageLaws.{valid_tells}
-use Rattle.job_grammar.proofs.checks.enclave_table.Goals as goal
+use Rattle.job_grammar.proofs.enclaves.enclave_table.Goals as goal
 
 pub returns-in_default : goal.returns-in_default
 returns-in_default c = λ valid.

@@ -30,17 +30,32 @@ fn is_valid_line(pages: u64, line: PageLine) -> bool
     ensures { IsTrue result ↔ IsValidLine pages line }
 {
     match line {
-        PageLine::Tcs { page, ossa, nssa, .. } => {
-            1 <= nssa && nssa <= 16 && u64::from(page) < pages && u64::from(ossa) + u64::from(nssa) <= pages
+        PageLine::Tcs {
+            page,
+            ossa,
+            nssa,
+            ..
+        } => {
+            1 <= nssa
+                && nssa <= 16
+                && u64::from(page) < pages
+                && u64::from(ossa) + u64::from(nssa) <= pages
         }
-        PageLine::Reg { first, count, perm, .. } => {
-            1 <= count && u64::from(first) + u64::from(count) <= pages && perm.r
-        }
+        PageLine::Reg {
+            first,
+            count,
+            perm,
+            ..
+        } => { 1 <= count && u64::from(first) + u64::from(count) <= pages && perm.r }
     }
 }
 
 /// The table of the pages of these lines. None where a line is out of range, or a page is added twice.
-fn page_table(alloc: Global, pages: u64, lines: &[PageLine]) -> Result<Option<PageTable>, AllocError>
+fn page_table(
+    alloc: Global,
+    pages: u64,
+    lines: &[PageLine],
+) -> Result<Option<PageTable>, AllocError>
     ensures { IfOk result (λ found. MatchOption found (¬ AreValidPages pages lines.now)
         (λ table. AreValidPages pages lines.now × IsTableOf lines.now table.lines.items)) }
 {
@@ -89,7 +104,10 @@ fn enclave_table(alloc: Global, enclave: &EnclaveJob) -> Result<Option<PageTable
 }
 
 /// The tables of valid enclaves. None where one is not valid.
-pub(crate) fn enclave_tables(alloc: Global, enclaves: &[EnclaveJob]) -> Result<Option<Vec<PageTable>>, AllocError>
+pub(crate) fn enclave_tables(
+    alloc: Global,
+    enclaves: &[EnclaveJob],
+) -> Result<Option<Vec<PageTable>>, AllocError>
     ensures { IfOk result (λ found. MatchOption found (¬ All IsValidEnclave (map enclave_view enclaves.now))
         (λ tables. All IsValidEnclave (map enclave_view enclaves.now) × AreTablesOf (map enclave_view enclaves.now) tables.items)) }
 {
