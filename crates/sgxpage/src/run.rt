@@ -68,7 +68,12 @@ fn build(alloc: Global, book: &mut Book, enclaves: &[EnclaveJob]) -> Result<Vec<
     Ok(homes)
 }
 
-fn build_enclave(alloc: Global, book: &mut Book, enclave: u16, made: &EnclaveJob) -> Result<Homes, Memory>
+fn build_enclave(
+    alloc: Global,
+    book: &mut Book,
+    enclave: u16,
+    made: &EnclaveJob,
+) -> Result<Homes, Memory>
     ensures { OnOk result (GoesOn book.old book.new) }
 {
     let mut homes = Homes::new(alloc, (made.size / 4096) as usize)?;
@@ -99,25 +104,72 @@ fn create(alloc: Global, book: &mut Book, enclave: u16, base: u64, size: u64) ->
     }
 }
 
-fn add_line(alloc: Global, book: &mut Book, homes: &mut Homes, enclave: u16, line: &PageLine) -> Result<(), Memory>
+fn add_line(
+    alloc: Global,
+    book: &mut Book,
+    homes: &mut Homes,
+    enclave: u16,
+    line: &PageLine,
+) -> Result<(), Memory>
     ensures { OnOk result (GoesOn book.old book.new) }
 {
     match *line {
-        PageLine::Tcs { page, ossa, nssa, .. } => {
-            let page = Page { enclave, number: page };
-            add(alloc, book, homes, page, Kind::Tcs, NO_PERM, PageInit::Tcs { ossa, nssa })
+        PageLine::Tcs {
+            page,
+            ossa,
+            nssa,
+            ..
+        } => {
+            let page = Page {
+                enclave,
+                number: page,
+            };
+            add(
+                alloc,
+                book,
+                homes,
+                page,
+                Kind::Tcs,
+                NO_PERM,
+                PageInit::Tcs { ossa, nssa },
+            )
         }
-        PageLine::Reg { first, count, perm, value, .. } => {
+        PageLine::Reg {
+            first,
+            count,
+            perm,
+            value,
+            ..
+        } => {
             for index in 0..count {
-                let page = Page { enclave, number: first.wrapping_add(index) };
-                add(alloc, book, homes, page, Kind::Reg, perm, PageInit::Words(value))?;
+                let page = Page {
+                    enclave,
+                    number: first.wrapping_add(index),
+                };
+                add(
+                    alloc,
+                    book,
+                    homes,
+                    page,
+                    Kind::Reg,
+                    perm,
+                    PageInit::Words(value),
+                )?;
             }
             Ok(())
         }
     }
 }
 
-fn add(alloc: Global, book: &mut Book, homes: &mut Homes, page: Page, kind: Kind, perm: Perm, init: PageInit) -> Result<(), Memory>
+fn add(
+    alloc: Global,
+    book: &mut Book,
+    homes: &mut Homes,
+    page: Page,
+    kind: Kind,
+    perm: Perm,
+    init: PageInit,
+) -> Result<(), Memory>
     ensures { OnOk result (GoesOn book.old book.new) }
 {
     let Some(frame) = book.first_free() else {
@@ -142,7 +194,12 @@ const NO_PERM: Perm = Perm {
     x: false,
 };
 
-fn play_all(alloc: Global, book: &mut Book, homes: &[Homes], scripts: &[Vec<Op>]) -> Result<(), Memory>
+fn play_all(
+    alloc: Global,
+    book: &mut Book,
+    homes: &[Homes],
+    scripts: &[Vec<Op>],
+) -> Result<(), Memory>
     requires few { length scripts.now ≤ 16 }
     requires cpus { length scripts.now ≤ book.old.cpus }
     ensures { OnOk result (GoesOn book.old book.new) }
@@ -153,7 +210,13 @@ fn play_all(alloc: Global, book: &mut Book, homes: &[Homes], scripts: &[Vec<Op>]
     Ok(())
 }
 
-fn play_script(alloc: Global, book: &mut Book, homes: &[Homes], cpu: Cpu, script: &[Op]) -> Result<(), Memory>
+fn play_script(
+    alloc: Global,
+    book: &mut Book,
+    homes: &[Homes],
+    cpu: Cpu,
+    script: &[Op],
+) -> Result<(), Memory>
     requires { cpu.0 < book.old.cpus }
     ensures { OnOk result (GoesOn book.old book.new) }
 {
@@ -176,7 +239,14 @@ fn play(alloc: Global, book: &mut Book, homes: &[Homes], cpu: Cpu, op: &Op) -> R
     }
 }
 
-fn enter(alloc: Global, book: &mut Book, homes: &[Homes], cpu: Cpu, enclave: u16, tcs: u32) -> Result<(), Memory>
+fn enter(
+    alloc: Global,
+    book: &mut Book,
+    homes: &[Homes],
+    cpu: Cpu,
+    enclave: u16,
+    tcs: u32,
+) -> Result<(), Memory>
     requires { cpu.0 < book.old.cpus }
     ensures { OnOk result (GoesOn book.old book.new) }
 {
@@ -212,7 +282,9 @@ fn frames_to_enter(book: &Book, homes: &[Homes], cpu: Cpu, enclave: u16, tcs: u3
 }
 
 fn home(homes: &[Homes], enclave: u16, number: u64) -> Option<Frame> {
-    homes.get(usize::from(enclave).saturating_sub(1))?.find(number)
+    homes
+        .get(usize::from(enclave).saturating_sub(1))?
+        .find(number)
 }
 
 // A load goes by a translation; where none is held, it is filled first.
@@ -226,7 +298,14 @@ fn load(alloc: Global, book: &mut Book, homes: &[Homes], cpu: Cpu, off: u64) -> 
     book.apply(alloc, Actor::Cpu(cpu), Action::Load { off })
 }
 
-fn fill(alloc: Global, book: &mut Book, homes: &[Homes], cpu: Cpu, enclave: u16, number: u64) -> Result<(), Memory>
+fn fill(
+    alloc: Global,
+    book: &mut Book,
+    homes: &[Homes],
+    cpu: Cpu,
+    enclave: u16,
+    number: u64,
+) -> Result<(), Memory>
     requires { cpu.0 < book.old.cpus }
     ensures { OnOk result (GoesOn book.old book.new) }
 {
