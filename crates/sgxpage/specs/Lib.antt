@@ -4,3 +4,4 @@ pub mod WorkedTraces
 pub mod Words
 pub mod Ending
 pub mod Books
+pub mod Runs

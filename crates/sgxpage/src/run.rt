@@ -1,5 +1,4 @@
 ghost use Rattle.std.specs.Prelude.{◌≡◌, ◌<◌, ◌≤◌, length, IfOk, OnOk};
-ghost use Rattle.job_grammar.specs.Valid.{IsValid};
 ghost use Rattle.sgxpage.specs.Books.{GoesOn};
 
 use crate::book::Book;
@@ -25,7 +24,6 @@ pub fn run(alloc: Global, job: &Job) -> Result<Book, Memory>
 fn opened(alloc: Global, job: &Job) -> Result<Book, Memory>
     ensures frames { IfOk result (λ book. book.frames ≡ job.now.epc) }
     ensures cpus { IfOk result (λ book. book.cpus ≡ length job.now.scripts) }
-    ensures valid { OnOk result (IsValid job.now) }
 {
     let machine = Machine::new(
         alloc,

@@ -1,0 +1,160 @@
+ghost use Rattle.std.specs.Prelude.{◌≡◌, IfOk, IfSome, OnOk};
+ghost use Rattle.io_edges.specs.Sinks.{followed_by};
+ghost use Rattle.job_grammar.specs.Valid.{IsJobText};
+ghost use Rattle.sgxpage.specs.Runs.{Gave, Ran, fault_text};
+
+use crate::job_faults::print_fault;
+use crate::replies::print_out;
+use crate::run::run;
+use crate::trace::print_trace;
+use io_edges::faults::Failed;
+use io_edges::giving::give_all;
+use io_edges::reading::{ReadEnd, read_all};
+use io_edges::sinks::Sink;
+use io_edges::sources::Source;
+use job_grammar::jobs::Job;
+use job_grammar::reader::read_job;
+use job_grammar::refusals::{JobKind, JobRefusal};
+use sgx_types::names::Memory;
+use std::alloc::Global;
+
+const MOST_BYTES: usize = 1 << 24;
+
+/// How a command ended (this project's own).
+#[derive(Clone, Copy, Debug, PartialEq, Eq)]
+pub enum Status {
+    /// It did all.
+    Done,
+
+    /// The job is none that is accepted.
+    BadJob,
+
+    /// The words of the command line are no command.
+    BadWords,
+
+    /// The job could not be read.
+    ReadFault,
+
+    /// A text could not be written.
+    WriteFault,
+
+    /// Memory was refused.
+    Memory,
+}
+
+impl Status {
+    /// The exit status of the program.
+    pub fn code(self) -> u8 {
+        match self {
+            Status::Done => 0,
+            Status::BadJob => 1,
+            Status::BadWords => 2,
+            Status::ReadFault => 3,
+            Status::WriteFault => 4,
+            Status::Memory => 5,
+        }
+    }
+}
+
+// Why a text was not given.
+enum Ungiven {
+    Failed,
+    Memory,
+}
+
+impl From<Memory> for Ungiven {
+    fn from(_error: Memory) -> Ungiven {
+        Ungiven::Memory
+    }
+}
+
+impl From<Failed> for Ungiven {
+    fn from(_error: Failed) -> Ungiven {
+        Ungiven::Failed
+    }
+}
+
+// Why there is no job.
+enum Unread {
+    Fault { line: u32, kind: JobKind },
+    Failed,
+    Memory,
+}
+
+impl From<ReadEnd> for Unread {
+    fn from(end: ReadEnd) -> Unread {
+        match end {
+            ReadEnd::TooLong => Unread::Fault {
+                line: 0,
+                kind: JobKind::TooLong,
+            },
+            ReadEnd::Failed => Unread::Failed,
+            ReadEnd::Memory => Unread::Memory,
+        }
+    }
+}
+
+impl From<JobRefusal> for Unread {
+    fn from(refusal: JobRefusal) -> Unread {
+        match refusal {
+            JobRefusal::Fault { line, kind } => Unread::Fault { line, kind },
+            JobRefusal::Memory => Unread::Memory,
+        }
+    }
+}
+
+/// Runs the job that a source gives. The text of its trace goes to `trace`, and its replies, or what is wrong with the
+/// job, go to `out`.
+pub fn run_command<J: Source, K: Sink, L: Sink>(alloc: Global, job: &mut J, out: &mut K, trace: &mut L) -> Status
+    ensures { result ≡ Status.Done → IfSome (J.left job.old) (λ bytes. Ran bytes (K.given out.old) (K.given out.new) (L.given trace.old) (L.given trace.new)) }
+{
+    let job = match read(alloc, job) {
+        Ok(job) => job,
+        Err(unread) => return tell(alloc, out, unread),
+    };
+    match run_over(alloc, &job, out, trace) {
+        Ok(()) => Status::Done,
+        Err(Ungiven::Failed) => Status::WriteFault,
+        Err(Ungiven::Memory) => Status::Memory,
+    }
+}
+
+fn run_over<K: Sink, L: Sink>(alloc: Global, job: &Job, out: &mut K, trace: &mut L) -> Result<(), Ungiven>
+    ensures { OnOk result (Gave job.now (K.given out.old) (K.given out.new) (L.given trace.old) (L.given trace.new)) }
+{
+    let book = run(alloc, job)?;
+    let trace_text = print_trace(alloc, book.entries())?;
+    let out_text = print_out(alloc, job, book.entries())?;
+    give_all(trace, &trace_text)?;
+    give_all(out, &out_text)?;
+    Ok(())
+}
+
+fn read<J: Source>(alloc: Global, source: &mut J) -> Result<Job, Unread>
+    ensures { IfOk result (λ job. IfSome (J.left source.old) (λ bytes. IsJobText bytes job)) }
+{
+    let bytes = read_all(alloc, source, MOST_BYTES)?;
+    Ok(read_job(alloc, &bytes)?)
+}
+
+fn tell<K: Sink>(alloc: Global, out: &mut K, unread: Unread) -> Status
+    ensures { result ≡ Status.Done → ⊥ }
+{
+    match unread {
+        Unread::Fault { line, kind } => match give_fault(alloc, out, line, kind) {
+            Ok(()) => Status::BadJob,
+            Err(Ungiven::Failed) => Status::WriteFault,
+            Err(Ungiven::Memory) => Status::Memory,
+        },
+        Unread::Failed => Status::ReadFault,
+        Unread::Memory => Status::Memory,
+    }
+}
+
+fn give_fault<K: Sink>(alloc: Global, out: &mut K, line: u32, kind: JobKind) -> Result<(), Ungiven>
+    ensures { OnOk result (K.given out.new ≡ followed_by (K.given out.old) (fault_text line kind)) }
+{
+    let text = print_fault(alloc, line, kind)?;
+    give_all(out, &text)?;
+    Ok(())
+}
