@@ -105,7 +105,12 @@ impl From<JobRefusal> for Unread {
 
 /// Runs the job that a source gives. The text of its trace goes to `trace`, and its replies, or what is wrong with the
 /// job, go to `out`.
-pub fn run_command<J: Source, K: Sink, L: Sink>(alloc: Global, job: &mut J, out: &mut K, trace: &mut L) -> Status
+pub fn run_command<J: Source, K: Sink, L: Sink>(
+    alloc: Global,
+    job: &mut J,
+    out: &mut K,
+    trace: &mut L,
+) -> Status
     ensures { result ≡ Status.Done → IfSome (J.left job.old) (λ bytes. Ran bytes (K.given out.old) (K.given out.new) (L.given trace.old) (L.given trace.new)) }
 {
     let job = match read(alloc, job) {
@@ -119,7 +124,12 @@ pub fn run_command<J: Source, K: Sink, L: Sink>(alloc: Global, job: &mut J, out:
     }
 }
 
-fn run_over<K: Sink, L: Sink>(alloc: Global, job: &Job, out: &mut K, trace: &mut L) -> Result<(), Ungiven>
+fn run_over<K: Sink, L: Sink>(
+    alloc: Global,
+    job: &Job,
+    out: &mut K,
+    trace: &mut L,
+) -> Result<(), Ungiven>
     ensures { OnOk result (Gave job.now (K.given out.old) (K.given out.new) (L.given trace.old) (L.given trace.new)) }
 {
     let book = run(alloc, job)?;
