@@ -23,7 +23,7 @@ chunk_words (suc n) bytes sized fits =
       sized = rw length-take (omega (arith, sized));
       fits = λ i. ⊎_elim
           (λ low. rw (get_or-take 8 bytes i 0 low) (fits i))
-          (λ past. let short : length (take 8 bytes) ≤ i = omega (arith, length-take 8 bytes, past) in rw (get_or_past (take 8 bytes) i 0 short) (omega arith))
+          (λ (past : 8 ≤ i). let short : length (take 8 bytes) ≤ i = omega (arith, length-take 8 bytes, past) in rw (get_or_past (take 8 bytes) i 0 short) (omega arith))
           (cases_lt i 8);
     })
     (chunk_words n (drop 8 bytes) (rw length-drop (omega (arith, sized))) (λ i. rw get_or-drop (fits (8 + i))))

@@ -8,6 +8,7 @@ use Rattle.sgx_types.specs.declared.refusals.Refusal.TheVariants as why
 use Rattle.epcm_entry.specs.declared.entry_view.EntryView.{EntryView}
 use Rattle.epcm_entry.specs.declared.entry_view.EntryView.TheVariants as views
 
+-- the frame holds nothing and is not being loaded
 abbrev pub is_free : EntryView → Bool
 is_free views.Free = true
 is_free _ = false

@@ -3,11 +3,15 @@ use Rattle.std.specs.Prelude.{◌≡◌, ◌<◌, ◌≤◌, ◌^◌, ℕ, Bool,
 use Rattle.std.specs.Option.{option_map}
 use Rattle.std.specs.Int.{w64, from_le_bytes}
 use Rattle.sgx_types.specs.declared.names.Frame.{Frame}
+use Rattle.sgx_types.specs.declared.names.Page.{Page}
+use Rattle.sgx_types.specs.declared.names.Kind.{Kind}
+use Rattle.sgx_types.specs.declared.names.Perm.{Perm}
 use Rattle.epcm_entry.specs.declared.entry_view.EntryView.{EntryView}
-use Rattle.epcm_entry.specs.declared.entry_view.EntryView.TheVariants.{Free}
-use Rattle.epcm_entry.specs.EntryView.{is_free}
+use Rattle.epcm_entry.specs.declared.entry_view.EntryView.TheVariants.{Free, Loading}
+use Rattle.epcm_entry.specs.EntryView.{is_free, holding, with_block, outgoing}
 use Rattle.epcm_entry.specs.Words.{zero_words, bytes_of}
 
+-- a frame's EPCM entry and its 512 words
 pub record EpcFrame : Type 0 where
   pub entry : EntryView
   pub words : List ℕ
@@ -20,21 +24,27 @@ free_frame = record { entry = Free; words = zero_words }
 abbrev pub frame_at : List EpcFrame → ℕ → EpcFrame
 frame_at epc f = slice_index_or epc f free_frame
 
+-- its EPCM entry
 abbrev pub entry_at : List EpcFrame → ℕ → EntryView
 entry_at epc f = (frame_at epc f).entry
 
+-- its words
 abbrev pub words_at : List EpcFrame → ℕ → List ℕ
 words_at epc f = (frame_at epc f).words
 
+-- one of its words
 abbrev pub word_at : List EpcFrame → ℕ → ℕ → ℕ
 word_at epc f index = slice_index (words_at epc f) index
 
+-- its 4096 bytes
 abbrev pub bytes_at : List EpcFrame → ℕ → List ℕ
 bytes_at epc f = bytes_of (words_at epc f)
 
+-- frames that hold nothing
 abbrev pub free_frames : ℕ → List EpcFrame
 free_frames n = replicate n free_frame
 
+-- the frame holds nothing and is not being loaded
 abbrev pub is_free_frame : EpcFrame → Bool
 is_free_frame frame = is_free frame.entry
 
@@ -45,6 +55,22 @@ first_free_of epc = option_map (λ f. record { 0 = f }) (position is_free_frame 
 -- the frame with another entry
 abbrev pub with_entry : List EpcFrame → ℕ → EntryView → List EpcFrame
 with_entry epc f entry = slice_set epc f (record { entry = entry; words = words_at epc f })
+
+-- the frame with a page that is neither blocked nor sealing
+abbrev pub with_page : List EpcFrame → ℕ → Page → Kind → Perm → List EpcFrame
+with_page epc f page kind perm = with_entry epc f (holding page kind perm)
+
+-- its page blocked at an epoch
+abbrev pub with_blocked : List EpcFrame → ℕ → ℕ → List EpcFrame
+with_blocked epc f epoch = with_entry epc f (with_block (entry_at epc f) epoch)
+
+-- its page sealing
+abbrev pub with_sealing : List EpcFrame → ℕ → List EpcFrame
+with_sealing epc f = with_entry epc f (outgoing (entry_at epc f))
+
+-- the frame Loading
+abbrev pub with_loading : List EpcFrame → ℕ → List EpcFrame
+with_loading epc f = with_entry epc f Loading
 
 -- the frame with other words
 abbrev pub with_words : List EpcFrame → ℕ → List ℕ → List EpcFrame

@@ -1,5 +1,5 @@
 ghost use Rattle.std.specs.Prelude.{◌≡◌};
-ghost use Rattle.epcm_entry.specs.EntryView.{is_free, is_busy};
+ghost use Rattle.epcm_entry.specs.EntryView.{is_free, is_busy, outgoing, with_block};
 
 use sgx_types::names::{Kind, Page, Perm};
 
@@ -20,6 +20,7 @@ pub enum EntryView {
 }
 
 impl EntryView {
+    /// A free frame holds nothing and is not being loaded.
     pub fn is_free(self) -> bool
         ensures { result ≡ is_free self }
     {
@@ -34,5 +35,49 @@ impl EntryView {
             self,
             EntryView::Loading | EntryView::Valid { sealing: true, .. }
         )
+    }
+
+    // The same page, sealing.
+    pub(crate) fn outgoing(self) -> EntryView
+        ensures { result ≡ outgoing self }
+    {
+        match self {
+            EntryView::Valid {
+                page,
+                kind,
+                perm,
+                blocked,
+                ..
+            } => EntryView::Valid {
+                page,
+                kind,
+                perm,
+                blocked,
+                sealing: true,
+            },
+            other => other,
+        }
+    }
+
+    // The same page, blocked at an epoch.
+    pub(crate) fn with_block(self, epoch: u64) -> EntryView
+        ensures { result ≡ with_block self epoch }
+    {
+        match self {
+            EntryView::Valid {
+                page,
+                kind,
+                perm,
+                sealing,
+                ..
+            } => EntryView::Valid {
+                page,
+                kind,
+                perm,
+                blocked: Some(epoch),
+                sealing,
+            },
+            other => other,
+        }
     }
 }

@@ -1,8 +1,7 @@
-ghost use Rattle.std.specs.Prelude.{◌≡◌, ◌<◌, ◌≤◌, ◌^◌, ◌||◌, true, false, length, replicate, count_by, position, Some, None, IsTrue, IfOk, OnOk, OnErr, IfSome, IfNone};
-ghost use Rattle.epcm_entry.specs.EntryView.{is_free, is_busy, is_valid, holding, outgoing, with_block, claim_answer};
+ghost use Rattle.std.specs.Prelude.{◌≡◌, ◌<◌, ◌≤◌, ◌||◌, true, false, length, replicate, count_by, IfOk, OnOk, OnErr};
+ghost use Rattle.epcm_entry.specs.EntryView.{is_free, is_busy, is_valid, claim_answer};
 ghost use Rattle.epcm_entry.specs.Words.{words_of};
-ghost use Rattle.epcm_entry.specs.declared.entry_view.EntryView.TheVariants as views;
-ghost use Rattle.epcm_entry.specs.Epc.{IsEpc, entry_at, word_at, words_at, bytes_at, free_frames, is_free_frame, with_entry, with_word, with_words, cleared, first_free_of};
+ghost use Rattle.epcm_entry.specs.Epc.{IsEpc, entry_at, word_at, words_at, bytes_at, free_frames, is_free_frame, first_free_of, with_entry, with_page, with_blocked, with_sealing, with_loading, with_word, with_words, cleared};
 
 use crate::entry_view::EntryView;
 use crate::free_map::FreeMap;
@@ -22,7 +21,6 @@ pub struct Epc {
 
 impl Model for Epc {
     ghost use Rattle.std.specs.Prelude.{List};
-    ghost use Rattle.epcm_entry.specs.declared.entry_view.EntryView.TheVariants as views;
     ghost use Rattle.epcm_entry.specs.Epc.{EpcFrame};
 
     ghost Value = { List EpcFrame };
@@ -56,6 +54,7 @@ impl Epc {
         self.entries.len() as u32
     }
 
+    /// The EPCM entry of a frame.
     pub fn entry(&self, frame: Frame) -> EntryView
         requires { frame.0 < length self.now }
         ensures { result ≡ entry_at self.now frame.0 }
@@ -78,19 +77,39 @@ impl Epc {
         Some(Frame(number))
     }
 
+    /// The 8 bytes of a frame from byte `8 * index` on, low byte first.
+    pub fn word(&self, frame: Frame, index: u16) -> u64
+        requires within { frame.0 < length self.now }
+        requires in_frame { index < 512 }
+        ensures { result ≡ word_at self.now frame.0 index }
+    {
+        let page = &self.pages[frame.0 as usize];
+        u64::from_le_bytes(page[usize::from(index)])
+    }
+
+    /// The 4096 bytes of a frame.
+    pub fn bytes(&self, frame: Frame) -> &[u8; 4096]
+        requires { frame.0 < length self.now }
+        ensures value { result.now ≡ bytes_at self.now frame.0 }
+        ensures words { words_of result.now ≡ words_at self.now frame.0 }
+    {
+        let page = &self.pages[frame.0 as usize];
+        page.as_flattened().as_array().unwrap()
+    }
+
     /// Claims the page in a frame for an EWB: the page is sealing from then on. A busy frame is refused.
     pub fn claim_seal(&mut self, frame: Frame) -> Result<(), Refusal>
         requires within { frame.0 < length self.old }
         requires taken { is_free (entry_at self.old frame.0) ≡ false }
         ensures answer { result ≡ claim_answer (entry_at self.old frame.0) }
-        ensures done { OnOk result (self.new ≡ with_entry self.old frame.0 (outgoing (entry_at self.old frame.0))) }
+        ensures done { OnOk result (self.new ≡ with_sealing self.old frame.0) }
         ensures refused { OnErr result (self.new ≡ self.old) }
     {
         let entry = self.entry(frame);
         if entry.is_busy() {
             return Err(Refusal::Conflict);
         }
-        self.put(frame, outgoing(entry));
+        self.put(frame, entry.outgoing());
         Ok(())
     }
 
@@ -99,7 +118,7 @@ impl Epc {
         requires within { frame.0 < length self.old }
         requires free_or_busy { (is_free (entry_at self.old frame.0) || is_busy (entry_at self.old frame.0)) ≡ true }
         ensures answer { result ≡ claim_answer (entry_at self.old frame.0) }
-        ensures done { OnOk result (self.new ≡ with_entry self.old frame.0 views.Loading) }
+        ensures done { OnOk result (self.new ≡ with_loading self.old frame.0) }
         ensures refused { OnErr result (self.new ≡ self.old) }
     {
         if self.entry(frame).is_busy() {
@@ -113,7 +132,7 @@ impl Epc {
     pub fn set(&mut self, frame: Frame, page: Page, kind: Kind, perm: Perm)
         requires within { frame.0 < length self.old }
         requires vacant { is_valid (entry_at self.old frame.0) ≡ false }
-        ensures { self.new ≡ with_entry self.old frame.0 (holding page kind perm) }
+        ensures { self.new ≡ with_page self.old frame.0 page kind perm }
     {
         self.put(
             frame,
@@ -132,10 +151,10 @@ impl Epc {
         requires within { frame.0 < length self.old }
         requires valid { is_valid (entry_at self.old frame.0) ≡ true }
         requires idle { is_busy (entry_at self.old frame.0) ≡ false }
-        ensures { self.new ≡ with_entry self.old frame.0 (with_block (entry_at self.old frame.0) epoch) }
+        ensures { self.new ≡ with_blocked self.old frame.0 epoch }
     {
         let entry = self.entry(frame);
-        self.put(frame, with_block(entry, epoch));
+        self.put(frame, entry.with_block(epoch));
     }
 
     /// Makes a frame free, and its words 0.
@@ -148,26 +167,7 @@ impl Epc {
         page.fill([0; 8]);
     }
 
-    fn put(&mut self, frame: Frame, entry: EntryView)
-        requires { frame.0 < length self.old }
-        ensures { self.new ≡ with_entry self.old frame.0 entry }
-    {
-        let index = frame.0 as usize;
-        let old = self.entries[index];
-        self.entries[index] = entry;
-        self.free.update(frame.0, old.is_free(), entry.is_free());
-    }
-
-    /// The 8 bytes of a frame from byte `8 * index` on, low byte first.
-    pub fn word(&self, frame: Frame, index: u16) -> u64
-        requires within { frame.0 < length self.now }
-        requires in_frame { index < 512 }
-        ensures { result ≡ word_at self.now frame.0 index }
-    {
-        let page = &self.pages[frame.0 as usize];
-        u64::from_le_bytes(page[usize::from(index)])
-    }
-
+    /// Writes the 8 bytes of a frame from byte `8 * index` on, low byte first.
     pub fn set_word(&mut self, frame: Frame, index: u16, value: u64)
         requires within { frame.0 < length self.old }
         requires in_frame { index < 512 }
@@ -186,15 +186,7 @@ impl Epc {
         page.fill(value.to_le_bytes());
     }
 
-    pub fn bytes(&self, frame: Frame) -> &[u8; 4096]
-        requires { frame.0 < length self.now }
-        ensures value { result.now ≡ bytes_at self.now frame.0 }
-        ensures words { words_of result.now ≡ words_at self.now frame.0 }
-    {
-        let page = &self.pages[frame.0 as usize];
-        page.as_flattened().as_array().unwrap()
-    }
-
+    /// Writes the 4096 bytes of a frame.
     pub fn set_bytes(&mut self, frame: Frame, from: &[u8; 4096])
         requires { frame.0 < length self.old }
         ensures { self.new ≡ with_words self.old frame.0 (words_of from.now) }
@@ -202,47 +194,16 @@ impl Epc {
         let page = &mut self.pages[frame.0 as usize];
         page.copy_from_slice(from.as_chunks().0);
     }
-}
 
-fn outgoing(entry: EntryView) -> EntryView
-    ensures { result ≡ outgoing entry }
-{
-    match entry {
-        EntryView::Valid {
-            page,
-            kind,
-            perm,
-            blocked,
-            ..
-        } => EntryView::Valid {
-            page,
-            kind,
-            perm,
-            blocked,
-            sealing: true,
-        },
-        other => other,
-    }
-}
-
-fn with_block(entry: EntryView, epoch: u64) -> EntryView
-    ensures { result ≡ with_block entry epoch }
-{
-    match entry {
-        EntryView::Valid {
-            page,
-            kind,
-            perm,
-            sealing,
-            ..
-        } => EntryView::Valid {
-            page,
-            kind,
-            perm,
-            blocked: Some(epoch),
-            sealing,
-        },
-        other => other,
+    // The one place where an entry is written, so that the set of free frames stays with the entries.
+    fn put(&mut self, frame: Frame, entry: EntryView)
+        requires { frame.0 < length self.old }
+        ensures { self.new ≡ with_entry self.old frame.0 entry }
+    {
+        let index = frame.0 as usize;
+        let old = self.entries[index];
+        self.entries[index] = entry;
+        self.free.update(frame.0, old.is_free(), entry.is_free());
     }
 }
 

@@ -1,4 +1,4 @@
-ghost use Rattle.std.specs.Prelude.{◌≡◌, ◌<◌, ◌≤◌, ◌^◌, true, false, length, replicate, slice_index_or, slice_set, count_by, position, IfOk};
+ghost use Rattle.std.specs.Prelude.{◌≡◌, ◌<◌, ◌≤◌, true, false, length, replicate, slice_index_or, slice_set, count_by, position, IfOk};
 ghost use Rattle.epcm_entry.specs.FreeMap.{IsFull, is_used};
 
 use std::alloc::{AllocError, Global};

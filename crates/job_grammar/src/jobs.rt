@@ -188,7 +188,8 @@ impl Job {
 
     /// The number of EPC frames, from 1 to 4096.
     pub fn epc(&self) -> u32
-        ensures { result ≡ self.now.epc }
+        ensures value { result ≡ self.now.epc }
+        ensures valid { IsValid self.now }
     {
         self.epc
     }

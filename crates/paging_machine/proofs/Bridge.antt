@@ -1,10 +1,9 @@
 -- The machine's parts and the state that they make.
-use Rattle.std.proofs.Common.{rules, ◌≡◌, ℕ, zero, suc, ◌+◌, ◌/◌, ◌<◌, ◌≤◌, ◌^◌, ◌==◌, ◌&&◌, Bool, true, false, cond, leb, refl, sym, ap, ◌∙◌, arith, ◌⊎◌, inl, inr, Option, Some, None, List, [], ◌∷◌, map, length, get_or, set, is_some, add-zero, not, ◌||◌, replicate}
+use Rattle.std.proofs.Common.{◌≡◌, ℕ, zero, suc, ◌+◌, ◌/◌, ◌<◌, ◌≤◌, ◌^◌, ◌==◌, ◌&&◌, Bool, true, false, cond, leb, refl, sym, ap, ◌∙◌, arith, ◌⊎◌, inl, inr, Option, Some, None, List, [], ◌∷◌, map, length, get_or, set, is_some, add-zero, not, ◌||◌, replicate}
 use Rattle.std.specs.List.{position, position_from, All, AllByRecursion}
 use Rattle.std.specs.Option.{option_map}
 use Rattle.std.proofs.lemmas.Bool.{cond_both, eqb-true, eq-eqb, false≢true, leb-false, leb-true, ltb-true, cases_lt}
 use Rattle.std.proofs.lemmas.List.{get_or-set_same, get_or-set_other, get_or_past, length-set, map-set, set-set, set_past, length-replicate, nil_from_length}
-use Rattle.std.proofs.lemmas.List.Elements.{recursion_from_All}
 use Rattle.std.proofs.lemmas.Iterator.Adapters.{position_from-zero}
 use Rattle.std.specs.declared.vec.Vec.{Vec}
 use Rattle.std.specs.declared.alloc.Global.{Global}
@@ -20,7 +19,7 @@ use Rattle.sgx_types.specs.Frames.{Content, Free, Holds, SecsOf, free_from, leas
 use Rattle.sgx_types.specs.Frames as frames
 use Rattle.sgx_types.specs.Table as table
 use Rattle.sgx_types.specs.Table.{epa_row, create_row, add_row, init_row, first_of_row}
-use Rattle.sgx_types.specs.Flat.{FlatEnclave, marked, enclave_sight_of, first_words, tcs_fields}
+use Rattle.sgx_types.specs.Flat.{marked, enclave_sight_of, first_words, tcs_fields}
 use Rattle.epcm_entry.specs.declared.entry_view.EntryView.{EntryView}
 use Rattle.epcm_entry.specs.declared.entry_view.EntryView.TheVariants as views
 use Rattle.epcm_entry.specs.EntryView.{is_free, is_valid, holding, block_of, goes_out}

@@ -1,32 +1,27 @@
 -- The rows that build an enclave: each leaves a state that stands for one entry more, and keeps the rules.
-use Rattle.std.proofs.Common.{rules, ◌≡◌, ℕ, ◌<◌, ◌==◌, ◌&&◌, ◌||◌, not, Bool, true, false, cond, leb, refl, sym, ap, ◌∙◌, arith, ◌⊎◌, inl, inr, Option, Some, None, IfSome, List, [], ◌∷◌, map, is_some, is_none}
-use Rattle.std.specs.List.{All}
-use Rattle.std.proofs.lemmas.Bool.{cond_both, false≢true, eqb-true, eq-eqb, leb-false}
+use Rattle.std.proofs.Common.{◌≡◌, ℕ, ◌==◌, ◌&&◌, ◌||◌, not, Bool, true, false, cond, leb, refl, sym, ap, ◌∙◌, Option, Some, None, IfSome, List, ◌∷◌, is_some}
+use Rattle.std.proofs.lemmas.Bool.{cond_both, false≢true, eqb-true, leb-false}
 use Rattle.std.proofs.lemmas.List.Elements.{All-weaker}
-use Rattle.std.proofs.lemmas.Option.{IfSome_then}
 use Rattle.sgx_types.specs.declared.entries.Entry.{Entry}
 use Rattle.sgx_types.specs.declared.entries.Actor.{Actor}
-use Rattle.sgx_types.specs.declared.entries.Action.{Action}
 use Rattle.sgx_types.specs.declared.entries.Action.TheVariants.{Epa, Create, Add, Init}
-use Rattle.sgx_types.specs.declared.entries.Answer.{Answer}
 use Rattle.sgx_types.specs.declared.entries.Answer.TheVariants.{Plain, Hash}
 use Rattle.sgx_types.specs.declared.entries.PageInit.{PageInit}
-use Rattle.sgx_types.specs.declared.entries.Event.TheVariants.{Did}
 use Rattle.sgx_types.specs.declared.names.Frame.{Frame}
 use Rattle.sgx_types.specs.declared.names.Page.{Page}
 use Rattle.sgx_types.specs.declared.names.Kind.{Kind}
 use Rattle.sgx_types.specs.declared.names.Perm.{Perm}
-use Rattle.sgx_types.specs.Frames.{Content, Free, IsVa, SecsOf, Holds, IsLoading, content, is_sealing, is_blocked, is_page, page_at, same_page, enclave_in}
-use Rattle.sgx_types.specs.Processors.{Seat, Stay, stay, translations}
+use Rattle.sgx_types.specs.Frames.{Content, Free, IsVa, SecsOf, Holds, IsLoading, content, is_blocked, is_page, page_at, same_page}
+use Rattle.sgx_types.specs.Processors.{Seat, Stay, stay}
 use Rattle.sgx_types.specs.Table.{FrameSight, is_busy, is_valid, is_loading, is_enclave, is_lawful, epa_row, create_row, add_row, init_row, EnclaveSight, first_of_row}
 use Rattle.sgx_types.specs.Flat.{FlatEnclave, FlatPage, FlatMemory, flat, open_frame, accepts, enclave_sight_of, first_words, with_page}
 use Rattle.sgx_types.specs.Sights.{sight_at}
-use Rattle.sgx_types.specs.Rules.{NoPageTwice, KeepsRules}
+use Rattle.sgx_types.specs.Rules.{NoPageTwice}
 use Rattle.cached_translations.specs.declared.cache.Translation.{Translation}
 use Rattle.paging_machine.specs.State.{State, sight, row_of, with_content, after_epa, after_create, after_add, after_init}
 use Rattle.paging_machine.specs.Stands.{StandsBy, Stands, added_as, IsUsable, IsTranslation, IsSeated, IsSound, Upholds}
-use Rattle.paging_machine.proofs.Tools.{NoneHolds, none_holds, none_refused, neither, both_false, is_none-None, none_there, apart, tested, each_there}
-use Rattle.paging_machine.proofs.Carry.{did_by, seat_at, stands_done, same_page-true, same_page-refl, IsHeld, IsNext, upholds_more, held_before, once_before}
+use Rattle.paging_machine.proofs.Tools.{none_holds, none_refused, neither, both_false, is_none-None, none_there, apart, each_there}
+use Rattle.paging_machine.proofs.Carry.{did_by, seat_at, stands_done, same_page-true, same_page-refl, IsHeld, upholds_more, held_before, once_before}
 
 -- what a row sees of a frame in the state, and by the entries
 pub sight_agrees : (s : State) (past : List Entry) → Stands s past → (n : ℕ) → sight s n ≡ sight_at s.frames past n

@@ -1,5 +1,5 @@
 -- What a state that upholds the rules of some entries needs, to uphold those of one entry more.
-use Rattle.std.proofs.Common.{rules, ◌≡◌, ◌==◌, ℕ, Bool, true, false, cond, refl, sym, ap, subst, ◌∙◌, Option, Some, None, IfSome, List, [], ◌∷◌, map, is_some}
+use Rattle.std.proofs.Common.{rules, ◌≡◌, ◌==◌, ℕ, true, refl, sym, subst, ◌∙◌, Option, Some, None, IfSome, List, ◌∷◌, map}
 use Rattle.std.specs.List.{All}
 use Rattle.std.proofs.lemmas.Bool.{eqb-true}
 use Rattle.std.proofs.lemmas.List.Elements.{All-weaker, All-map}
@@ -10,14 +10,14 @@ use Rattle.sgx_types.specs.declared.entries.Action.{Action}
 use Rattle.sgx_types.specs.declared.entries.Answer.{Answer}
 use Rattle.sgx_types.specs.declared.names.Page.{Page}
 use Rattle.sgx_types.specs.declared.entries.Event.TheVariants.{Did}
-use Rattle.sgx_types.specs.Frames.{Content, Holds, content, is_sealing, is_page, page_at, same_page}
-use Rattle.sgx_types.specs.Processors.{Seat, Stay, stay, Pair, translations}
+use Rattle.sgx_types.specs.Frames.{content, is_sealing, page_at, same_page}
+use Rattle.sgx_types.specs.Processors.{Seat, Stay, stay}
 use Rattle.sgx_types.specs.Flat.{FlatMemory, flat, accepts, memory_after, event_after}
-use Rattle.sgx_types.specs.Rules.{Along, AtEachPlace, RefusalRule, FlatRule, FitsRule, NoPageTwice, Fits, IsStill, IsCurrent, IsUndisturbed, NoneStale, StaleRule, Stale, KeepsRules}
+use Rattle.sgx_types.specs.Rules.{RefusalRule, FlatRule, FitsRule, NoPageTwice, IsCurrent, IsUndisturbed, NoneStale, StaleRule, KeepsRules}
 use Rattle.cached_translations.specs.declared.cache.Translation.{Translation}
 use Rattle.paging_machine.specs.State.{State}
-use Rattle.paging_machine.specs.Stands.{StandsBy, Stands, IsTranslation, IsSeated, IsSound, Upholds, pair_of, seat_of_stay}
-use Rattle.paging_machine.proofs.Tools.{both_true, last_place, each_there}
+use Rattle.paging_machine.specs.Stands.{StandsBy, Stands, IsTranslation, IsSeated, IsSound, Upholds, pair_of}
+use Rattle.paging_machine.proofs.Tools.{both_true, last_place}
 
 abbrev pub did_by : Actor → Action → Answer → Entry
 did_by actor action answer = record { actor = actor; event = Did action answer }

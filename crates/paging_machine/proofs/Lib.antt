@@ -6,3 +6,4 @@ pub mod Refused
 pub mod Bridge
 pub mod Reading
 pub mod StepLaws
+pub mod Fresh

@@ -1,10 +1,9 @@
 -- The rows of a processor: each leaves a state that stands for one entry more, and keeps the rules.
-use Rattle.std.proofs.Common.{rules, ◌≡◌, ℕ, ◌+◌, ◌/◌, ◌%◌, ◌<◌, ◌==◌, ◌&&◌, ◌||◌, not, Bool, true, false, cond, leb, ltb, refl, sym, ap, ◌∙◌, arith, ◌⊎◌, inl, inr, Option, Some, None, IfSome, List, [], ◌∷◌, ◌++◌, map, is_some, is_none, length, drop, slice_index, find}
+use Rattle.std.proofs.Common.{◌≡◌, ℕ, ◌+◌, ◌/◌, ◌<◌, ◌==◌, ◌||◌, not, Bool, true, false, cond, ltb, refl, sym, ap, ◌∙◌, Option, Some, None, IfSome, List, [], ◌∷◌, ◌++◌, map, is_some, length, drop}
 use Rattle.std.specs.List.{All, AllByRecursion}
-use Rattle.std.proofs.lemmas.Bool.{cond_both, false≢true, eqb-true, eq-eqb, leb-false, lt-ltb}
+use Rattle.std.proofs.lemmas.Bool.{cond_both, false≢true, eqb-true, leb-false, lt-ltb}
 use Rattle.std.proofs.lemmas.List.{length-map, map-append}
-use Rattle.std.proofs.lemmas.List.Elements.{All-weaker, All-nil, All-push, All-drop, recursion_from_All}
-use Rattle.std.proofs.lemmas.Option.{IfSome_then}
+use Rattle.std.proofs.lemmas.List.Elements.{All-nil, All-push, All-drop, recursion_from_All}
 use Rattle.sgx_types.specs.declared.entries.Entry.{Entry}
 use Rattle.sgx_types.specs.declared.entries.Actor.TheVariants as actors
 use Rattle.sgx_types.specs.declared.entries.Action.TheVariants.{Enter, Exit, Fill, Load}
@@ -15,18 +14,17 @@ use Rattle.sgx_types.specs.declared.names.Page.{Page}
 use Rattle.sgx_types.specs.declared.names.Kind.{Kind}
 use Rattle.sgx_types.specs.declared.names.Kind.TheVariants as kinds
 use Rattle.sgx_types.specs.declared.names.Perm.{Perm}
-use Rattle.sgx_types.specs.Frames.{Content, Free, IsVa, SecsOf, Holds, IsLoading, content, is_page, page_at, same_page}
-use Rattle.sgx_types.specs.Processors.{Seat, Stay, stay, stay_from, Pair, holds_number, with_pair, newest, translations}
-use Rattle.sgx_types.specs.Table.{Case, FrameSight, EnterSight, TcsSight, EnclaveSight, is_busy, is_loading, is_tcs, is_reg, is_made, is_ready, perm_in, allows_update, allows_read, enter_row, ssa_row, exit_row, fill_row, load_row, first_of_row}
-use Rattle.sgx_types.specs.Flat.{FlatMemory, FlatPage, FlatCpu, page_words, flat_content, cpu_answer, flat, accepts, flat_frame, enclave_sight, enclave_sight_of, tcs_fields, words_of, flat_enter_row, flat_translation, reg_perm, is_inside_by, word_index}
-use Rattle.sgx_types.specs.Sights.{sight_at, enter_row_at, enclave_of_stay, perm_of_page, translation_at}
-use Rattle.sgx_types.specs.Rules.{KeepsRules}
+use Rattle.sgx_types.specs.Frames.{Content, Free, IsVa, SecsOf, Holds, IsLoading, content, is_page, page_at}
+use Rattle.sgx_types.specs.Processors.{Seat, Stay, stay, stay_from, holds_number, with_pair, newest, translations}
+use Rattle.sgx_types.specs.Table.{FrameSight, EnterSight, TcsSight, EnclaveSight, is_busy, is_loading, is_tcs, is_reg, is_made, is_ready, perm_in, allows_update, enter_row, exit_row, fill_row, load_row, first_of_row}
+use Rattle.sgx_types.specs.Flat.{FlatCpu, page_words, flat_content, cpu_answer, flat, accepts, enclave_sight_of, tcs_fields, words_of, flat_enter_row, flat_translation, is_inside_by}
+use Rattle.sgx_types.specs.Sights.{sight_at, enter_row_at, enclave_of_stay, translation_at}
 use Rattle.cached_translations.specs.declared.cache.Translation.{Translation}
 use Rattle.cached_translations.specs.Translations.{translation_of, with_translation, newest as newest_translations}
-use Rattle.paging_machine.specs.State.{State, sight, seat_of, seat_enclave, perm_of_held, translation, enter_row_of, row_of, after_enter, after_exit, after_fill, is_seated_by, frame_in, word_at}
-use Rattle.paging_machine.specs.Stands.{StandsBy, Stands, IsUsable, IsTranslation, IsSeated, IsSound, Upholds, pair_of, seat_of_stay, inside_of_stay}
-use Rattle.paging_machine.proofs.Tools.{NoneHolds, none_holds, none_refused, neither, both_false, not_false, none_there, is_none-None, each_there, tested}
-use Rattle.paging_machine.proofs.Carry.{did_by, seat_at, stands_done, same_page-true, same_page-refl, IsHeld, IsNext, upholds_more, held_before, once_before}
+use Rattle.paging_machine.specs.State.{State, sight, seat_of, seat_enclave, perm_of_held, translation, row_of, after_enter, after_exit, after_fill, is_seated_by, word_at}
+use Rattle.paging_machine.specs.Stands.{Stands, IsUsable, IsTranslation, IsSeated, IsSound, Upholds, pair_of, seat_of_stay, inside_of_stay}
+use Rattle.paging_machine.proofs.Tools.{none_holds, none_refused, neither, both_false, not_false, each_there}
+use Rattle.paging_machine.proofs.Carry.{did_by, seat_at, stands_done, same_page-true, upholds_more, held_before, once_before}
 use Rattle.paging_machine.proofs.BuildLaws.{sight_agrees}
 
 -- ---- what a frame that is a given page holds

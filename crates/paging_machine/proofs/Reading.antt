@@ -1,5 +1,5 @@
 -- A load that its row allows finds its translation, in a frame of the EPC.
-use Rattle.std.proofs.Common.{ℕ, ◌≡◌, ◌<◌, ◌≤◌, ◌/◌, Bool, true, false, refl, sym, ap, ◌∙◌, inl, inr, ◌⊎◌, Option, Some, None, is_some, length, arith}
+use Rattle.std.proofs.Common.{ℕ, ◌≡◌, ◌<◌, ◌≤◌, ◌/◌, true, false, refl, sym, ap, ◌∙◌, inl, inr, ◌⊎◌, Option, Some, None, is_some, length}
 use Rattle.std.proofs.lemmas.Bool.{cases_lt, false≢true}
 use Rattle.std.proofs.lemmas.List.{get_or_past}
 use Rattle.std.proofs.lemmas.List.Elements.{recursion_from_All}

@@ -1,6 +1,5 @@
 -- A refused instruction changes nothing, and is refused by the first case that holds by the entries too.
-use Rattle.std.proofs.Common.{◌≡◌, ℕ, ◌/◌, ◌==◌, not, Bool, true, false, cond, refl, sym, ap, ◌∙◌, ◌⊎◌, inl, inr, Option, Some, None, IfSome, List, [], ◌∷◌, is_some}
-use Rattle.std.proofs.lemmas.Bool.{false≢true}
+use Rattle.std.proofs.Common.{◌≡◌, ℕ, Bool, true, false, refl, sym, ap, ◌∙◌, ◌⊎◌, inl, inr, Option, List, ◌∷◌, is_some}
 use Rattle.sgx_types.specs.declared.entries.Entry.{Entry}
 use Rattle.sgx_types.specs.declared.entries.Actor.{Actor}
 use Rattle.sgx_types.specs.declared.entries.Actor.TheVariants as actors
@@ -9,27 +8,24 @@ use Rattle.sgx_types.specs.declared.entries.Action.TheVariants.{Epa, Create, Add
 use Rattle.sgx_types.specs.declared.entries.PageInit.{PageInit}
 use Rattle.sgx_types.specs.declared.entries.Event.TheVariants.{Refused}
 use Rattle.sgx_types.specs.declared.refusals.Refusal.{Refusal}
-use Rattle.sgx_types.specs.declared.refusals.Refusal.TheVariants as why
 use Rattle.sgx_types.specs.declared.names.Cpu.{Cpu}
 use Rattle.sgx_types.specs.declared.names.Frame.{Frame}
 use Rattle.sgx_types.specs.declared.names.Page.{Page}
 use Rattle.sgx_types.specs.declared.names.Kind.{Kind}
 use Rattle.sgx_types.specs.declared.names.Kind.TheVariants as kinds
 use Rattle.sgx_types.specs.declared.names.Perm.{Perm}
-use Rattle.sgx_types.specs.Frames.{Content, content, is_blocked, is_sealing, is_page, page_at}
-use Rattle.sgx_types.specs.Processors.{Seat, Stay, stay, holds_number, translations}
-use Rattle.sgx_types.specs.Table.{Case, FrameSight, EnterSight, EnclaveSight, TcsSight, is_tcs, epa_row, create_row, add_row, init_row, enter_row, exit_row, fill_row, load_row, first_of_row}
+use Rattle.sgx_types.specs.Frames.{content, is_blocked, is_sealing, is_page, page_at}
+use Rattle.sgx_types.specs.Processors.{stay, translations}
+use Rattle.sgx_types.specs.Table.{FrameSight, EnterSight, TcsSight, is_tcs, epa_row, create_row, add_row, init_row, enter_row, exit_row, fill_row, load_row, first_of_row}
 use Rattle.sgx_types.specs.Flat.{FlatEnclave, flat, enclave_sight_of, tcs_fields, words_of, page_words}
-use Rattle.sgx_types.specs.Sights.{sight_at, enter_row_at, enclave_of_stay, translation_at, row_at, perm_of_page}
-use Rattle.sgx_types.specs.Rules.{NoPageTwice, KeepsRules, case_of}
-use Rattle.cached_translations.specs.declared.cache.Translation.{Translation}
-use Rattle.cached_translations.specs.Translations.{translation_of}
-use Rattle.paging_machine.specs.State.{State, sight, seat_of, seat_enclave, perm_of_held, translation, row_of, enter_row_of}
-use Rattle.paging_machine.specs.Stands.{StandsBy, Stands, IsSound, Upholds, pair_of, seat_of_stay}
-use Rattle.paging_machine.proofs.Tools.{tested, not_false}
-use Rattle.paging_machine.proofs.Carry.{IsHeld, IsNext, upholds_more, held_before, once_before}
+use Rattle.sgx_types.specs.Sights.{row_at}
+use Rattle.sgx_types.specs.Rules.{NoPageTwice, case_of}
+use Rattle.paging_machine.specs.State.{State, seat_of, seat_enclave, row_of}
+use Rattle.paging_machine.specs.Stands.{Stands, IsSound, Upholds, seat_of_stay}
+use Rattle.paging_machine.proofs.Tools.{tested}
+use Rattle.paging_machine.proofs.Carry.{IsHeld, upholds_more, held_before, once_before}
 use Rattle.paging_machine.proofs.BuildLaws.{sight_agrees, is_some-added_as}
-use Rattle.paging_machine.proofs.ProcessorLaws.{mode_by_entries, enclave_by_entries, enter_sight, enter_sight_of, tcs_there, IsKindOf, holds_number-map, found_translation}
+use Rattle.paging_machine.proofs.ProcessorLaws.{mode_by_entries, enclave_by_entries, enter_sight, enter_sight_of, tcs_there, found_translation}
 
 abbrev pub refused_by : Actor → Action → Refusal → Entry
 refused_by actor action refusal = record { actor = actor; event = Refused action refusal }

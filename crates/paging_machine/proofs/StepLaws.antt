@@ -1,13 +1,11 @@
 -- A step takes a state that stands for its entries, and keeps the rules, on to one that does.
-use Rattle.std.proofs.Common.{ℕ, ◌≡◌, ◌<◌, ◌≤◌, refl, arith, rules, ◌⊎◌, inl, inr, Option, Some, None, List, ◌∷◌, cond, Bool, true, false, MatchOption, unwrap_or, is_some}
+use Rattle.std.proofs.Common.{ℕ, ◌≡◌, ◌≤◌, refl, arith, ◌⊎◌, inl, inr, Option, Some, None, List, ◌∷◌, cond, Bool, true, false, MatchOption, unwrap_or, is_some}
 use Rattle.sgx_types.specs.declared.entries.Entry.{Entry}
 use Rattle.sgx_types.specs.declared.entries.Actor.{Actor}
 use Rattle.sgx_types.specs.declared.entries.Actor.TheVariants as actors
 use Rattle.sgx_types.specs.declared.entries.Action.{Action}
 use Rattle.sgx_types.specs.declared.entries.Action.TheVariants.{Epa, Create, Add, Init, Enter, Exit, Fill, Load}
 use Rattle.sgx_types.specs.declared.entries.Answer.TheVariants as answers
-use Rattle.sgx_types.specs.declared.names.Cpu.{Cpu}
-use Rattle.sgx_types.specs.declared.names.Frame.{Frame}
 use Rattle.sgx_types.specs.declared.names.Perm.{Perm}
 use Rattle.sgx_types.specs.declared.refusals.Refusal.{Refusal}
 use Rattle.sgx_types.specs.declared.refusals.Refusal.TheVariants as why
@@ -18,7 +16,7 @@ use Rattle.sgx_types.specs.Table.{EnclaveSight, init_row, first_of_row, perm_in,
 use Rattle.sgx_types.specs.Rules.{case_of}
 use Rattle.paging_machine.specs.State.{State, row_of, sight, seat_enclave, after_init}
 use Rattle.paging_machine.specs.Stands.{IsSound, Upholds}
-use Rattle.paging_machine.specs.Steps.{CanApply, IsDone, IsStep, did_by, refused_by, no_perm}
+use Rattle.paging_machine.specs.Steps.{CanApply, IsStep, did_by, refused_by, no_perm}
 use Rattle.paging_machine.proofs.BuildLaws.{epa_upheld, create_upheld, add_upheld, init_upheld}
 use Rattle.paging_machine.proofs.Tools.{not_false}
 use Rattle.paging_machine.proofs.ProcessorLaws.{fills, outside_refused, enter_upheld, exit_upheld, fill_upheld, load_upheld}
@@ -84,7 +82,6 @@ step_upheld s t past cpus a (Init enclave expect) e few can sound k h =
         → Upholds t (e ∷ past)
     by_measure allowed digest (inl done) = rw (done.0, done.1) (init_upheld s past a enclave expect digest allowed sound h)
     by_measure allowed digest (inr other) = rw (other.0, other.1) (init_refused s past a enclave expect (why.BadMeasure digest) allowed sound h)
-
 step_upheld s t past cpus (actors.Cpu p) (Enter enclave tcs tf sf) e few can sound k h =
     step_cases _ _ _ e s t past (λ allowed done. rw (done.0, done.1) (enter_upheld s past p enclave tcs tf sf (omega arith) allowed sound h))
     (λ r refused. enter_refused s past p enclave tcs tf sf r refused sound h) k
@@ -93,7 +90,7 @@ step_upheld s t past cpus (actors.Cpu p) Exit e few can sound k h =
 step_upheld s t past cpus (actors.Cpu p) (Fill number f) e few can sound k h =
     step_cases _ _ _ e s t past
     (λ allowed done. rw (done.0, done.1)
-        (fill_upheld s past p (record { number = number; frame = f; perm = unwrap_or (perm_in (s.content f.0)) no_perm }) (omega arith) allowed (fill_perm s p.0 number f.0 allowed) sound h))
+    (fill_upheld s past p (record { number = number; frame = f; perm = unwrap_or (perm_in (s.content f.0)) no_perm }) (omega arith) allowed (fill_perm s p.0 number f.0 allowed) sound h))
     (λ r refused. fill_refused s past p number f r refused sound h) k
 step_upheld s t past cpus (actors.Cpu p) (Load off) e few can sound k h =
     step_cases _ _ _ e s t past (λ allowed done. rw (done.0, done.1) (load_upheld s past p off (omega arith) allowed sound h))

@@ -1,5 +1,5 @@
 -- Facts on tests, rows and places.
-use Rattle.std.proofs.Common.{◌≡◌, ℕ, ◌==◌, ◌&&◌, ◌||◌, not, Bool, true, false, cond, refl, sym, ◌∙◌, Option, Some, None, IfSome, is_some, is_none, List, [], ◌∷◌, ◌⊎◌, inl, inr}
+use Rattle.std.proofs.Common.{◌≡◌, ℕ, ◌==◌, ◌&&◌, ◌||◌, not, Bool, true, false, cond, refl, Option, Some, None, IfSome, is_some, is_none, List, [], ◌∷◌, ◌⊎◌, inl, inr}
 use Rattle.std.proofs.lemmas.Bool.{eqb-true}
 use Rattle.sgx_types.specs.declared.entries.Entry.{Entry}
 use Rattle.sgx_types.specs.Table.{Case, first_of_row}

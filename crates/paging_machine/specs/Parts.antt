@@ -1,5 +1,5 @@
 -- The machine's parts as data, and the state that they make.
-use Rattle.std.specs.Prelude.{ℕ, ◌==◌, ◌+◌, ◌*◌, ◌/◌, ◌&&◌, Bool, true, false, if◌then◌else◌, List, [], ◌∷◌, map, Option, Some, None, slice_index_or, slice_index, slice_set, length, is_some}
+use Rattle.std.specs.Prelude.{ℕ, ◌/◌, ◌&&◌, Bool, false, List, [], map, Option, Some, None, slice_index_or, slice_index, slice_set, length, is_some, replicate}
 use Rattle.std.specs.declared.vec.Vec.{Vec}
 use Rattle.std.specs.declared.alloc.Global.{Global}
 use Rattle.sgx_types.specs.declared.names.Page.{Page}
@@ -16,7 +16,7 @@ use Rattle.sgx_types.specs.Flat.{FlatEnclave, tcs_fields}
 use Rattle.epcm_entry.specs.declared.entry_view.EntryView.{EntryView}
 use Rattle.epcm_entry.specs.declared.entry_view.EntryView.TheVariants as views
 use Rattle.epcm_entry.specs.EntryView.{block_of, goes_out}
-use Rattle.epcm_entry.specs.Epc.{EpcFrame, entry_at, words_at}
+use Rattle.epcm_entry.specs.Epc.{EpcFrame, free_frames, entry_at, words_at}
 use Rattle.cached_translations.specs.declared.processor.Processor.{Processor}
 use Rattle.cached_translations.specs.declared.processor.Mode.{Mode}
 use Rattle.cached_translations.specs.declared.processor.Mode.TheVariants.{Outside, Inside}
@@ -81,6 +81,20 @@ cpu_at d p = slice_index_or d.cpus p idle
 abbrev pub seat_of_mode : Mode → Option Seat
 seat_of_mode Outside = None
 seat_of_mode (Inside enclave tcs tf sf epoch) = Some (record { enclave = enclave; tcs = tcs; tcs_frame = tf.0; ssa_frame = sf.0 })
+
+-- ---- the making
+
+-- a machine of so many frames and processors that has done nothing yet
+abbrev pub made : ℕ → ℕ → List ℕ → ℕ → ℕ → Parts
+made frames cpus key start_epoch start_version = record {
+  epc = free_frames frames;
+  enclaves = replicate 9 None;
+  pages = replicate 9 [];
+  cpus = replicate cpus idle;
+  key = key;
+  start_epoch = start_epoch;
+  start_version = start_version;
+}
 
 -- ---- the state
 

@@ -11,7 +11,8 @@ use Rattle.sgx_types.specs.declared.names.Page.{Page}
 use Rattle.sgx_types.specs.declared.names.Perm.{Perm}
 use Rattle.sgx_types.specs.Frames.{Content, Free, IsVa, SecsOf, Holds, same_page, page_at}
 use Rattle.sgx_types.specs.Processors.{Seat}
-use Rattle.sgx_types.specs.Table.{Case, allowed, FrameSight, EnclaveSight, epa_row, create_row, add_row, init_row, enter_row, exit_row, fill_row, load_row}
+use Rattle.sgx_types.specs.Table.{Case, allowed, FrameSight, epa_row, create_row, add_row, init_row, enter_row, exit_row, fill_row, load_row}
+use Rattle.epcm_entry.specs.Words.{zero_words}
 use Rattle.cached_translations.specs.declared.cache.Translation.{Translation}
 use Rattle.cached_translations.specs.Translations.{translation_of, with_translation}
 use Rattle.sgx_types.specs.Flat.{FlatEnclave, enclave_sight_of, marked, tcs_fields, first_words, word_index}
@@ -36,7 +37,7 @@ fresh frames = record {
   content = λ n. Free;
   is_blocked = λ n. false;
   is_sealing = λ n. false;
-  words = λ n. [];
+  words = λ n. zero_words;
   enclaves = λ e. None;
   added = λ g. None;
   is_busy = λ g. false;

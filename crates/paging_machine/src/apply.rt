@@ -19,7 +19,8 @@ use std::alloc::Global;
 
 impl Machine {
     /// One instruction: its entry says whether it was done, with its answer, or refused, with the first case of its row
-    /// in this project's instruction table that holds. A refusal changes nothing. Memory is refused only to `create`.
+    /// in this project's instruction table that holds. A refusal changes nothing. Memory may be refused to `epa` and
+    /// `create` alone.
     pub fn apply(&mut self, alloc: Global, actor: Actor, action: Action) -> Result<Entry, Memory>
         requires { CanApply (length self.old.cpus) actor action }
         ensures step { IfOk result (λ e. IsStep (state_of self.old) actor action e (state_of self.new)) }
@@ -110,7 +111,7 @@ impl Machine {
         Ok(done(actor, action, Answer::Plain))
     }
 
-    /// A free frame becomes a page of an enclave that is not initialised (EADD, with EEXTEND of the whole page).
+    /// A free frame becomes a page of an enclave that is not initialised (EADD).
     fn add(
         &mut self,
         actor: Actor,

@@ -5,6 +5,9 @@ mod apply;
 mod build;
 mod enclaves;
 pub mod machine;
+mod making;
 mod measure;
 mod processor;
 mod sights;
+#[cfg(test)]
+mod tests;

@@ -7,7 +7,6 @@ ghost use Rattle.epcm_entry.specs.EntryView.{block_of, goes_out};
 ghost use Rattle.epcm_entry.specs.Epc.{entry_at, words_at, is_free_frame};
 ghost use Rattle.cached_translations.specs.Translations.{translation_of};
 ghost use Rattle.paging_machine.specs.Parts.{state_of, held, cpu_at, tcs_of, is_lawful_access};
-ghost use Rattle.paging_machine.specs.State.{fresh};
 ghost use Rattle.paging_machine.specs.Stands.{IsSound};
 
 use crate::enclaves::{Enclave, PageNote};
@@ -33,9 +32,9 @@ pub struct Machine {
     pub(crate) pages: Vec<Vec<PageNote>>,
     pub(crate) logs: Vec<Sha256>,
     pub(crate) cpus: Vec<Processor>,
-    key: [u8; 32],
+    pub(crate) key: [u8; 32],
     pub(crate) start_epoch: u64,
-    start_version: u64,
+    pub(crate) start_version: u64,
 }
 
 impl Model for Machine {
@@ -73,6 +72,16 @@ impl Machine {
         ensures { result ≡ is_some (translation_of (cpu_at self.now cpu.0).cache number) }
     {
         self.cpus[usize::from(cpu.0)].cache.find(number).is_some()
+    }
+
+    /// Whether an enclave was created and initialised.
+    pub fn is_init(&self, enclave: u16) -> bool
+        ensures { result ≡ is_ready (enclave_sight_of ((state_of self.now).enclaves enclave)) }
+    {
+        match self.enclave(enclave) {
+            Some(found) => found.is_init,
+            None => false,
+        }
     }
 
     /// The free frame with the least number, None exactly where none is free.

@@ -1,5 +1,5 @@
 -- What the rows of the instruction table see, read from the entries before a place.
-use Rattle.std.specs.Prelude.{ℕ, ◌==◌, ◌+◌, ◌/◌, Bool, true, false, if◌then◌else◌, List, Option, Some, None, nat_le, is_some}
+use Rattle.std.specs.Prelude.{ℕ, ◌/◌, Bool, true, if◌then◌else◌, List, Option, Some, None, nat_le, is_some}
 use Rattle.sgx_types.specs.declared.entries.Entry.{Entry}
 use Rattle.sgx_types.specs.declared.entries.Actor.{Actor}
 use Rattle.sgx_types.specs.declared.entries.Actor.TheVariants as actors
@@ -7,10 +7,10 @@ use Rattle.sgx_types.specs.declared.entries.Action.{Action}
 use Rattle.sgx_types.specs.declared.entries.Action.TheVariants.{Epa, Create, Add, Init, Enter, Exit, Fill, Load}
 use Rattle.sgx_types.specs.declared.names.Perm.{Perm}
 use Rattle.sgx_types.specs.Frames.{content, is_sealing, is_blocked, page_at}
-use Rattle.sgx_types.specs.Processors.{Seat, Stay, stay, Pair, holds_number, translations}
+use Rattle.sgx_types.specs.Processors.{Seat, Stay, stay, holds_number, translations}
 use Rattle.sgx_types.specs.declared.refusals.Refusal.TheVariants as why
 use Rattle.sgx_types.specs.Table.{Case, allowed, when, ◌otherwise◌, FrameSight, epa_row, create_row, add_row, init_row, enter_row, exit_row, fill_row, load_row}
-use Rattle.sgx_types.specs.Flat.{FlatMemory, FlatPage, flat, enclave_sight, tcs_fields, words_of}
+use Rattle.sgx_types.specs.Flat.{FlatPage, flat, enclave_sight, tcs_fields, words_of}
 
 -- a frame of an EPC with so many frames
 abbrev pub sight_at : ℕ → List Entry → ℕ → FrameSight

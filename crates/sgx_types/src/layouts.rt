@@ -62,3 +62,64 @@ fn kind_number(kind: Kind) -> u64
         Kind::Va => 3,
     }
 }
+
+#[cfg(test)]
+mod tests {
+    use super::*;
+    use std::test::Fail;
+
+    fn perm(r: bool, w: bool, x: bool) -> Perm {
+        Perm { r, w, x }
+    }
+
+    #[test]
+    fn flags_are_the_manuals(rt: HostRuntime) {
+        let none = perm(false, false, false);
+        let rows = [
+            (Kind::Secs, none, 0x0000),
+            (Kind::Tcs, none, 0x0100),
+            (Kind::Reg, perm(true, false, false), 0x0201),
+            (Kind::Reg, perm(true, true, false), 0x0203),
+            (Kind::Reg, perm(true, false, true), 0x0205),
+            (Kind::Reg, perm(true, true, true), 0x0207),
+            (Kind::Va, none, 0x0300),
+        ];
+        for (kind, perm, expected) in rows {
+            assert_eq!(rt; flags(kind, perm), expected, "{kind:?} {perm:?}");
+        }
+    }
+
+    // Page 2 of the first enclave, whose base is 0x10000; it may be read and written.
+    #[test]
+    fn a_record_holds_a_page(rt: HostRuntime) -> Result<(), Fail> {
+        let record = Record {
+            header: Header {
+                enclave: 1,
+                address: 0x12000,
+                flags: flags(Kind::Reg, perm(true, true, false)),
+            },
+            cipher: vec![in rt.alloc(); 0xa5; 4096]?,
+            tag: [7; 32],
+        };
+        let text = format!(in rt.alloc(); "{record:?}")?;
+        assert!(rt;
+            text.starts_with(
+                "Record { header: Header { enclave: 1, address: 73728, flags: 515 }, cipher: [165, 165, "
+            )
+        );
+        assert!(rt; text.ends_with("7, 7] }"));
+        Ok(())
+    }
+
+    #[test]
+    fn the_fields_of_a_tcs_print(rt: HostRuntime) -> Result<(), Fail> {
+        let fields = TcsFields {
+            ossa: 0x1000,
+            cssa: 0,
+            nssa: 1,
+        };
+        let text = format!(in rt.alloc(); "{fields:?}")?;
+        assert_eq!(rt; text.as_str(), "TcsFields { ossa: 4096, cssa: 0, nssa: 1 }");
+        Ok(())
+    }
+}

@@ -1,1 +1,6 @@
 pub mod WorkedRules
+pub mod Digits
+pub mod LineLaws
+pub mod EntryLaws
+pub mod NumberLaws
+pub mod BookLaws

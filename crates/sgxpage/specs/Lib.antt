@@ -1,3 +1,6 @@
 pub mod TraceText
 pub mod OutText
 pub mod WorkedTraces
+pub mod Words
+pub mod Ending
+pub mod Books

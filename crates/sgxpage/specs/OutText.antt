@@ -1,5 +1,5 @@
 -- The output of a run: for each enclave how its EINIT ended, and for each processor the replies to its operations.
-use Rattle.std.specs.Prelude.{ℕ, ◌==◌, ◌&&◌, Bool, true, false, if◌then◌else◌, List, [], ◌∷◌, ◌++◌, codes, length, flat_map}
+use Rattle.std.specs.Prelude.{ℕ, ◌==◌, ◌&&◌, if◌then◌else◌, List, [], ◌∷◌, ◌++◌, codes, length, take, flat_map}
 use Rattle.std.specs.Fmt.{decimal}
 use Rattle.sgx_types.specs.declared.entries.Entry.{Entry}
 use Rattle.sgx_types.specs.declared.entries.Event.{Event}
@@ -13,14 +13,14 @@ use Rattle.sgx_types.specs.declared.refusals.Refusal.TheVariants as why
 use Rattle.sgx_types.specs.Processors.{is_by}
 use Rattle.job_grammar.specs.Jobs.{JobView}
 use Rattle.job_grammar.specs.Script.{is_reply, numbers_from}
-use Rattle.job_grammar.specs.Text.{Words, letter, line_text}
-use Rattle.sgxpage.specs.TraceText.{refusal_words}
+use Rattle.job_grammar.specs.Text.{Words, line_text}
+use Rattle.sgxpage.specs.TraceText.{enclave_word, refusal_words}
 
 -- ---- enclaves
 
 abbrev pub init_line : Event → ℕ → List Words → List Words
-init_line (Did (actions.Init e expect) answer) enclave before = if e == enclave then (letter enclave ∷ codes "init" ∷ []) ∷ [] else before
-init_line (Refused (actions.Init e expect) (why.BadMeasure made)) enclave before = if e == enclave then (letter enclave ∷ codes "badmeasure" ∷ []) ∷ [] else before
+init_line (Did (actions.Init e expect) answer) enclave before = if e == enclave then (enclave_word enclave ∷ codes "init" ∷ []) ∷ [] else before
+init_line (Refused (actions.Init e expect) (why.BadMeasure made)) enclave before = if e == enclave then (enclave_word enclave ∷ codes "badmeasure" ∷ []) ∷ [] else before
 init_line _ enclave before = before
 
 -- how an enclave's EINIT ended, nothing where there was none yet
@@ -38,11 +38,7 @@ done_reply action answer = []
 
 -- a refusal's name, without its numbers
 abbrev pub refusal_name : Refusal → Words
-refusal_name refusal = name (refusal_words refusal)
-  where
-    name : Words → Words
-    name [] = []
-    name (word ∷ words) = word ∷ []
+refusal_name refusal = take 1 (refusal_words refusal)
 
 -- the wrong mode by its own word, any other refusal as a general protection fault
 abbrev pub refused_reply : Refusal → Words

@@ -1,5 +1,5 @@
 use Rattle.std.proofs.Common.{ap, ◌∙◌, ◌*◌, ◌^◌, replicate, set}
-use Rattle.epcm_entry.specs.Epc.{with_words, with_word}
+use Rattle.epcm_entry.specs.Epc.{with_word}
 use Rattle.paging_machine.proofs.Bridge.{word_written}
 use Rattle.paging_machine.proofs.build.write_words.Goals as goal
 

@@ -1,4 +1,4 @@
-use Rattle.std.proofs.Common.{sym, ap}
+use Rattle.std.proofs.Common.{sym}
 use Rattle.std.proofs.lemmas.List.Elements.{recursion_from_All}
 use Rattle.paging_machine.specs.Whole.{parts_of}
 use Rattle.paging_machine.specs.Parts.{cpu_at}

@@ -1,4 +1,4 @@
-use Rattle.std.proofs.Common.{ap, ◌∙◌, ◌≡◌, sym, ◌<◌, length}
+use Rattle.std.proofs.Common.{◌∙◌, ◌≡◌, sym, ◌<◌, length}
 use Rattle.std.proofs.lemmas.List.{length-set}
 use Rattle.std.proofs.lemmas.List.Elements.{All-nil}
 use Rattle.cached_translations.specs.declared.processor.Mode.TheVariants.{Inside}

@@ -1,9 +1,8 @@
-use Rattle.std.proofs.Common.{ap, ◌∙◌, sym}
+use Rattle.std.proofs.Common.{◌∙◌}
 use Rattle.std.proofs.lemmas.List.{length-set}
 use Rattle.paging_machine.specs.Whole.{parts_of}
-use Rattle.sgx_types.specs.Frames.{IsVa, SecsOf}
 use Rattle.paging_machine.specs.Parts.{state_of}
-use Rattle.paging_machine.proofs.Bridge.{framed_state, framed_put, framed_add, framed_new, adds-row, in_enclave, page_state, noted_page, sound_add, sound-state}
+use Rattle.paging_machine.proofs.Bridge.{framed_state, framed_add, adds-row, in_enclave, page_state, noted_page, sound_add, sound-state}
 use Rattle.paging_machine.proofs.machine.Machine.set_page.Goals as goal
 
 pub set-requires-clause-vacant : goal.set-requires-clause-vacant

@@ -1,9 +1,9 @@
-use Rattle.std.proofs.Common.{ap, ◌∙◌, sym, ◌≡◌, ◌<◌, ◌/◌, arith, length, []}
+use Rattle.std.proofs.Common.{◌∙◌, ◌<◌, ◌/◌, arith, length}
 use Rattle.std.proofs.lemmas.List.{length-set, map-set}
 use Rattle.paging_machine.specs.Whole.{parts_of}
-use Rattle.sgx_types.specs.Frames.{IsVa, SecsOf}
+use Rattle.sgx_types.specs.Frames.{SecsOf}
 use Rattle.paging_machine.specs.Parts.{state_of}
-use Rattle.paging_machine.proofs.Bridge.{framed_state, framed_put, framed_add, framed_new, creates, secs_state, noted_secs, sound_create, sound-state}
+use Rattle.paging_machine.proofs.Bridge.{framed_state, framed_put, framed_new, creates, secs_state, noted_secs, sound_create, sound-state}
 use Rattle.paging_machine.proofs.machine.Machine.set_secs.Goals as goal
 
 pub invariant_of-self : goal.invariant_of-self

@@ -1,7 +1,6 @@
 use Rattle.paging_machine.specs.Whole.{parts_of}
-use Rattle.sgx_types.specs.Frames.{IsVa, SecsOf}
-use Rattle.paging_machine.specs.Parts.{state_of}
-use Rattle.paging_machine.proofs.Bridge.{framed_state, framed_put, framed_add, framed_new, takes-epa, sound_put, state_put}
+use Rattle.sgx_types.specs.Frames.{IsVa}
+use Rattle.paging_machine.proofs.Bridge.{framed_state, framed_put, takes-epa, sound_put, state_put}
 use Rattle.paging_machine.proofs.machine.Machine.set_va.Goals as goal
 
 pub set-requires-clause-within : goal.set-requires-clause-within

@@ -1,0 +1,13 @@
+-- What contracts see of a running measurement: the log that it holds.
+use Rattle.std.specs.Prelude.{ℕ, List}
+use Rattle.sha2.specs.Hashers.{Holds256}
+use Rattle.sha2.specs.Sha256.{sha256}
+use Rattle.measure_log.specs.declared.measure.Measure.{Measure}
+
+-- the measurement has taken in this log
+abbrev pub HoldsLog : Measure → List ℕ → Type 0
+HoldsLog measure log = Holds256 measure.hasher log
+
+-- the measurement of a log
+abbrev pub measurement_of : List ℕ → List ℕ
+measurement_of log = sha256 log

@@ -1,0 +1,87 @@
+ghost use Rattle.std.specs.Prelude.{◌≡◌, ◌≤◌, [], IfOk, None, length, replicate};
+ghost use Rattle.paging_machine.specs.Parts.{idle, made, notes_of, state_of};
+ghost use Rattle.paging_machine.specs.Stands.{Upholds};
+
+use crate::enclaves::{Enclave, PageNote};
+use crate::machine::Machine;
+use cached_translations::processor::Processor;
+use epcm_entry::epc::Epc;
+use sgx_types::names::Memory;
+use sha2::{Digest, Sha256};
+use std::alloc::Global;
+
+// One place for each enclave from 1 to 8; place 0 stays empty.
+const PLACES: usize = 9;
+
+impl Machine {
+    /// A machine with at most 4096 free frames and at most 16 processors outside. It seals with a key, and counts
+    /// tracking epochs and versions from the given numbers on.
+    #[tactic(auto, using(crate::proofs::Fresh::made_upheld))]
+    pub fn new(
+        alloc: Global,
+        frames: u32,
+        cpus: u8,
+        key: [u8; 32],
+        start_epoch: u64,
+        start_version: u64,
+    ) -> Result<Machine, Memory>
+        requires frames { frames ≤ 4096 }
+        requires cpus { cpus ≤ 16 }
+        ensures value { IfOk result (λ m. m ≡ made frames cpus key start_epoch start_version) }
+        ensures history { IfOk result (λ m. Upholds (state_of m) []) }
+    {
+        Ok(Machine {
+            epc: Epc::new(alloc, frames)?,
+            enclaves: no_enclaves(alloc)?,
+            pages: blank_pages(alloc)?,
+            logs: blank_logs(alloc)?,
+            cpus: idle_processors(alloc, cpus)?,
+            key,
+            start_epoch,
+            start_version,
+        })
+    }
+}
+
+#[tactic(auto, using(crate::proofs::Fresh::replicate_more))]
+fn no_enclaves(alloc: Global) -> Result<Vec<Option<Enclave>>, Memory>
+    ensures { IfOk result (λ enclaves. enclaves.items ≡ replicate 9 None) }
+{
+    let mut enclaves = Vec::with_capacity(alloc, PLACES)?;
+    for _ in 0..PLACES {
+        enclaves.push(None)?;
+    }
+    Ok(enclaves)
+}
+
+#[tactic(auto, using(crate::proofs::Fresh::replicate_more))]
+fn blank_pages(alloc: Global) -> Result<Vec<Vec<PageNote>>, Memory>
+    ensures { IfOk result (λ pages. notes_of pages ≡ replicate 9 []) }
+{
+    let mut pages = Vec::with_capacity(alloc, PLACES)?;
+    for _ in 0..PLACES {
+        pages.push(Vec::new(alloc))?;
+    }
+    Ok(pages)
+}
+
+fn blank_logs(alloc: Global) -> Result<Vec<Sha256>, Memory>
+    ensures { IfOk result (λ logs. length logs.items ≡ 9) }
+{
+    let mut logs = Vec::with_capacity(alloc, PLACES)?;
+    for _ in 0..PLACES {
+        logs.push(Sha256::new())?;
+    }
+    Ok(logs)
+}
+
+#[tactic(auto, using(crate::proofs::Fresh::replicate_more))]
+fn idle_processors(alloc: Global, count: u8) -> Result<Vec<Processor>, Memory>
+    ensures { IfOk result (λ cpus. cpus.items ≡ replicate count idle) }
+{
+    let mut cpus = Vec::with_capacity(alloc, usize::from(count))?;
+    for _ in 0..count {
+        cpus.push(Processor::new(alloc)?)?;
+    }
+    Ok(cpus)
+}

@@ -1,0 +1,226 @@
+ghost use Rattle.std.specs.Prelude.{◌≡◌, ◌≢◌, ◌+◌, ◌-◌, ◌<◌, ◌^◌, true, false, None, IfOk, IsSome};
+ghost use Rattle.secs_state.specs.Lawful.{is_lawful};
+ghost use Rattle.secs_state.specs.Secs.{IsSecs, page_count, created, added_at, is_busy_at, with_init, with_page, with_busy, with_children};
+
+use sgx_types::names::{Kind, Memory, Perm};
+use std::alloc::Global;
+use std::marker::Model;
+
+const PAGE_BYTES: u64 = 4096;
+
+/// Whether an enclave may have this range: the size in bytes is a power of two from 2 pages to 4096 pages, and the
+/// base is a multiple of it. The upper bound is this project's own.
+pub fn is_lawful(base: u64, size: u64) -> bool
+    ensures { result ≡ is_lawful base size }
+{
+    size.is_power_of_two()
+        && 2 * PAGE_BYTES <= size
+        && size <= 4096 * PAGE_BYTES
+        && base % size == 0
+}
+
+/// The state of one enclave, as its SECS keeps it (Intel SDM volume 3D, SECS): its range in bytes, which pages were
+/// added with which kind and permissions, which TCS pages are busy, and how many pages are resident.
+#[derive(Debug, Drop)]
+pub struct Secs {
+    enclave: u16,
+    base: u64,
+    size: u64,
+    is_init: bool,
+    // By page number, as are the busy marks.
+    pages: Vec<Option<(Kind, Perm)>>,
+    busy: Vec<bool>,
+    children: u32,
+}
+
+impl Model for Secs {
+    ghost use Rattle.secs_state.specs.Secs.{SecsState};
+
+    ghost Value = { SecsState };
+
+    ghost use Rattle.secs_state.specs.Kept.{secs_of, IsKept};
+
+    ghost view = { secs_of };
+
+    ghost invariant = { IsKept };
+}
+
+impl Secs {
+    /// An enclave without pages, over `size` bytes from `base` on.
+    pub fn new(alloc: Global, enclave: u16, base: u64, size: u64) -> Result<Secs, Memory>
+        requires { is_lawful base size ≡ true }
+        ensures { IfOk result (λ secs. secs ≡ created enclave base size) }
+    {
+        let count = (size / PAGE_BYTES) as usize;
+        Ok(Secs {
+            enclave,
+            base,
+            size,
+            is_init: false,
+            pages: vec![in alloc; None; count]?,
+            busy: vec![in alloc; false; count]?,
+            children: 0,
+        })
+    }
+
+    /// The enclave's number, from 1.
+    pub fn enclave(&self) -> u16
+        ensures { result ≡ self.now.enclave }
+    {
+        self.enclave
+    }
+
+    /// The first address of its range.
+    pub fn base(&self) -> u64
+        ensures { result ≡ self.now.base }
+    {
+        self.base
+    }
+
+    /// The size of its range in bytes.
+    pub fn size(&self) -> u64
+        ensures size { result ≡ self.now.size }
+        ensures sound { IsSecs self.now }
+    {
+        self.size
+    }
+
+    /// Whether EINIT was done.
+    pub fn is_init(&self) -> bool
+        ensures { result ≡ self.now.is_init }
+    {
+        self.is_init
+    }
+
+    /// Marks the enclave as initialised.
+    pub fn set_init(&mut self)
+        ensures { self.new ≡ with_init self.old }
+    {
+        self.is_init = true;
+    }
+
+    /// The kind and the permissions with which a page was added.
+    pub fn added(&self, number: u32) -> Option<(Kind, Perm)>
+        ensures { result ≡ added_at self.now number }
+    {
+        self.pages.get(number as usize).copied().flatten()
+    }
+
+    /// Notes that a page was added.
+    pub fn note_added(&mut self, number: u32, kind: Kind, perm: Perm)
+        requires within { number < page_count self.old.size }
+        requires absent { added_at self.old number ≡ None }
+        ensures { self.new ≡ with_page self.old number kind perm }
+    {
+        self.pages[number as usize] = Some((kind, perm));
+    }
+
+    /// Whether a processor is inside by a TCS page.
+    pub fn tcs_busy(&self, number: u32) -> bool
+        ensures { result ≡ is_busy_at self.now number }
+    {
+        self.busy.get(number as usize).copied().unwrap_or(false)
+    }
+
+    /// Marks a TCS page as busy.
+    pub fn take_tcs(&mut self, number: u32)
+        requires { IsSome (added_at self.old number) }
+        ensures { self.new ≡ with_busy self.old number true }
+    {
+        self.busy[number as usize] = true;
+    }
+
+    /// Takes the mark of a TCS page away.
+    pub fn free_tcs(&mut self, number: u32)
+        requires { IsSome (added_at self.old number) }
+        ensures { self.new ≡ with_busy self.old number false }
+    {
+        self.busy[number as usize] = false;
+    }
+
+    /// How many of the enclave's pages are resident.
+    pub fn children(&self) -> u32
+        ensures { result ≡ self.now.children }
+    {
+        self.children
+    }
+
+    /// Counts a page that became resident.
+    pub fn child_added(&mut self)
+        requires { self.old.children < 2 ^ 32 - 1 }
+        ensures { self.new ≡ with_children self.old (self.old.children + 1) }
+    {
+        self.children += 1;
+    }
+
+    /// Counts a page that left.
+    pub fn child_left(&mut self)
+        requires { self.old.children ≢ 0 }
+        ensures { self.new ≡ with_children self.old (self.old.children - 1) }
+    {
+        self.children -= 1;
+    }
+}
+
+#[cfg(test)]
+mod tests {
+    use super::*;
+    use std::test::Fail;
+
+    const WRITABLE: Perm = Perm {
+        r: true,
+        w: true,
+        x: false,
+    };
+
+    #[test]
+    fn ranges_are_powers_of_two_at_their_multiples(rt: HostRuntime) {
+        let rows = [
+            (0, 8192, true),
+            (0x4000, 8192, true),
+            (0x1000, 8192, false),
+            (0, 4096, false),
+            (0x1000_0000, 1 << 24, true),
+            (0, 1 << 25, false),
+            (0x3000, 0x3000, false),
+            (0, 0, false),
+            (u64::MAX - 0xffff, 0x1_0000, true),
+        ];
+        for (base, size, lawful) in rows {
+            assert_eq!(rt;
+                is_lawful(base, size),
+                lawful,
+                "{size} bytes from {base} on"
+            );
+        }
+    }
+
+    #[test]
+    fn keeps_each_page_by_its_number(rt: HostRuntime) -> Result<(), Fail> {
+        assert!(rt; is_lawful(0x1_0000, 0x1_0000));
+        let mut secs = Secs::new(rt.alloc(), 3, 0x1_0000, 0x1_0000)?;
+        assert_eq!(rt;
+            (secs.enclave(), secs.base(), secs.size()),
+            (3, 0x1_0000, 0x1_0000)
+        );
+        secs.note_added(2, Kind::Reg, WRITABLE);
+        assert_eq!(rt; secs.added(2), Some((Kind::Reg, WRITABLE)));
+        assert_eq!(rt; secs.added(1), None);
+        assert_eq!(rt; secs.added(16), None);
+        secs.take_tcs(2);
+        assert_eq!(rt;
+            (secs.tcs_busy(2), secs.tcs_busy(1), secs.tcs_busy(16)),
+            (true, false, false)
+        );
+        secs.free_tcs(2);
+        assert!(rt; !secs.tcs_busy(2));
+        assert!(rt; !secs.is_init());
+        secs.set_init();
+        assert!(rt; secs.is_init());
+        secs.child_added();
+        secs.child_added();
+        secs.child_left();
+        assert_eq!(rt; secs.children(), 1);
+        Ok(())
+    }
+}

@@ -1,0 +1,212 @@
+ghost use Rattle.std.specs.Prelude.{◌≡◌, ◌&&◌, [], ◌++◌, reverse, flat_map, OnOk, IfOk};
+ghost use Rattle.sgx_types.specs.Processors.{is_by};
+ghost use Rattle.job_grammar.specs.Script.{is_reply, is_reply_action, numbers_from};
+ghost use Rattle.job_grammar.specs.Text.{line_text};
+ghost use Rattle.sgxpage.specs.Ending.{ending_lines};
+ghost use Rattle.sgxpage.specs.OutText.{cpu_lines, done_reply, enclave_lines, init_line, out_of, refused_reply, reply_lines, reply_words};
+
+use crate::names::refusal_name;
+use crate::words::Word::{Decimal, Enclave, Name};
+use crate::words::push_line;
+use job_grammar::jobs::Job;
+use sgx_types::entries::{Action, Actor, Answer, Entry, Event};
+use sgx_types::names::Memory;
+use sgx_types::refusals::Refusal;
+use std::alloc::Global;
+
+/// How an enclave's EINIT ended.
+#[derive(Clone, Copy)]
+enum Ending {
+    Initialised,
+    WrongMeasurement,
+}
+
+/// The output of a run, whose entries are given oldest first.
+#[tactic(auto, unfolding(crate::specs::OutText::out_of))]
+pub fn print_out(alloc: Global, job: &Job, entries: &[Entry]) -> Result<Vec<u8>, Memory>
+    ensures { IfOk result (λ text. text.items ≡ out_of job.now (reverse entries.now)) }
+{
+    let mut text = Vec::new(alloc);
+    push_enclaves(job.enclaves().len(), entries, &mut text)?;
+    push_cpus(job.scripts().len(), entries, &mut text)?;
+    Ok(text)
+}
+
+#[tactic(auto, using(crate::proofs::NumberLaws::enclaves_more))]
+fn push_enclaves(count: usize, entries: &[Entry], onto: &mut Vec<u8>) -> Result<(), Memory>
+    ensures { OnOk result (
+        onto.new.items ≡ onto.old.items
+        ++ flat_map line_text
+        (flat_map (enclave_lines (reverse entries.now)) (numbers_from 1 count))) }
+{
+    for index in 0..count {
+        push_enclave(index + 1, entries, onto)?;
+    }
+    Ok(())
+}
+
+#[tactic(auto, using(crate::proofs::NumberLaws::cpus_more))]
+fn push_cpus(count: usize, entries: &[Entry], onto: &mut Vec<u8>) -> Result<(), Memory>
+    ensures { OnOk result (
+        onto.new.items ≡ onto.old.items
+        ++ flat_map line_text
+        (flat_map (cpu_lines (reverse entries.now)) (numbers_from 0 count))) }
+{
+    for cpu in 0..count {
+        push_cpu(cpu, entries, onto)?;
+    }
+    Ok(())
+}
+
+/// Writes the line of an enclave, where its EINIT has ended.
+#[tactic(auto, using(crate::proofs::EntryLaws::enclave_lines_more))]
+fn push_enclave(enclave: usize, entries: &[Entry], onto: &mut Vec<u8>) -> Result<(), Memory>
+    ensures { OnOk result (
+        onto.new.items ≡ onto.old.items
+        ++ flat_map line_text (enclave_lines (reverse entries.now) enclave)) }
+{
+    let mut ending = None;
+    for entry in entries {
+        ending = ending_after(&entry.event, enclave, ending);
+    }
+    match ending {
+        None => Ok(()),
+        Some(Ending::Initialised) => push_line(Enclave(enclave as u64), &[Name("init")], onto),
+        Some(Ending::WrongMeasurement) => push_line(
+            Enclave(enclave as u64),
+            &[Name("badmeasure")],
+            onto,
+        ),
+    }
+}
+
+/// How the enclave's EINIT has ended after an event, and before it.
+fn ending_after(event: &Event, enclave: usize, before: Option<Ending>) -> Option<Ending>
+    ensures { ending_lines enclave result ≡ init_line event.now enclave (ending_lines enclave before) }
+{
+    match *event {
+        Event::Did {
+            action: Action::Init {
+                enclave: number,
+                ..
+            },
+            ..
+        } => {
+            if usize::from(number) == enclave {
+                Some(Ending::Initialised)
+            } else {
+                before
+            }
+        }
+        Event::Refused {
+            action: Action::Init {
+                enclave: number,
+                ..
+            },
+            why: Refusal::BadMeasure { .. },
+        } => {
+            if usize::from(number) == enclave {
+                Some(Ending::WrongMeasurement)
+            } else {
+                before
+            }
+        }
+        _ => before,
+    }
+}
+
+fn push_done_reply(action: &Action, answer: &Answer, onto: &mut Vec<u8>) -> Result<(), Memory>
+    ensures { OnOk result (
+        onto.new.items ≡ onto.old.items ++ line_text (done_reply action.now answer.now)) }
+{
+    match (*action, *answer) {
+        (Action::Enter { .. }, Answer::Cssa(count)) => push_line(
+            Name("cssa"),
+            &[Decimal(count.into())],
+            onto,
+        ),
+        (Action::Exit, _) => push_line(Name("exit"), &[], onto),
+        (Action::Load { .. }, Answer::Value(value)) => push_line(Decimal(value), &[], onto),
+        _ => push_empty_line(onto),
+    }
+}
+
+fn push_refused_reply(refusal: &Refusal, onto: &mut Vec<u8>) -> Result<(), Memory>
+    ensures { OnOk result (
+        onto.new.items ≡ onto.old.items ++ line_text (refused_reply refusal.now)) }
+{
+    match refusal {
+        Refusal::WrongMode => push_line(Name("mode"), &[], onto),
+        _ => push_line(Name("gp"), &[Name(refusal_name(refusal))], onto),
+    }
+}
+
+fn push_empty_line(onto: &mut Vec<u8>) -> Result<(), Memory>
+    ensures { OnOk result (onto.new.items ≡ onto.old.items ++ line_text []) }
+{
+    onto.push(b'\n')?;
+    Ok(())
+}
+
+fn push_reply(event: &Event, onto: &mut Vec<u8>) -> Result<(), Memory>
+    ensures { OnOk result (onto.new.items ≡ onto.old.items ++ line_text (reply_words event.now)) }
+{
+    match event {
+        Event::Did { action, answer } => push_done_reply(action, answer, onto),
+        Event::Refused { why, .. } => push_refused_reply(why, onto),
+        _ => push_empty_line(onto),
+    }
+}
+
+fn is_reply_action(action: &Action) -> bool
+    ensures { result ≡ is_reply_action action.now }
+{
+    matches!(
+        action,
+        Action::Enter { .. } | Action::Exit | Action::Load { .. }
+    )
+}
+
+fn is_reply(event: &Event) -> bool
+    ensures { result ≡ is_reply event.now }
+{
+    match event {
+        Event::Did { action, .. } | Event::Refused { action, .. } => is_reply_action(action),
+        _ => false,
+    }
+}
+
+fn is_by(cpu: usize, actor: &Actor) -> bool
+    ensures { result ≡ is_by cpu actor.now }
+{
+    match *actor {
+        Actor::Cpu(number) => usize::from(number.0) == cpu,
+        _ => false,
+    }
+}
+
+/// An entry is the processor's and replies to an operation.
+fn is_reply_by(cpu: usize, entry: &Entry) -> bool
+    ensures { result ≡ (is_by cpu entry.now.actor && is_reply entry.now.event) }
+{
+    is_by(cpu, &entry.actor) && is_reply(&entry.event)
+}
+
+/// Writes the line of a processor, and its replies.
+#[tactic(auto, using(crate::proofs::EntryLaws::replies_more, crate::proofs::EntryLaws::replies_same))]
+fn push_cpu(cpu: usize, entries: &[Entry], onto: &mut Vec<u8>) -> Result<(), Memory>
+    ensures { OnOk result (
+        onto.new.items ≡ onto.old.items
+        ++ flat_map line_text (cpu_lines (reverse entries.now) cpu)) }
+{
+    push_line(Name("cpu"), &[Decimal(cpu as u64)], onto)?;
+    for entry in entries {
+        if is_reply_by(cpu, entry) {
+            push_reply(&entry.event, onto)?;
+        }
+    }
+    Ok(())
+}
+
+#[cfg(test)]
+mod tests;

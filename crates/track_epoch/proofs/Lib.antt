@@ -1,0 +1,3 @@
+pub mod TrackingLaws
+pub mod CounterLaws
+pub mod TracksLaws
