@@ -46,6 +46,7 @@ pub record IsAccepted (d : DraftView) (job : JobView) : Type 0 where
 abbrev pub IsRefused : DraftView → Type 0
 IsRefused d = (job : JobView) → ¬ IsAccepted d job
 
+-- a judge's answer: the draft's job, or that the draft has none that is accepted, unless memory ran out
 abbrev pub Judges : DraftView → Result JobView JobRefusal → Type 0
 Judges d (Ok job) = IsAccepted d job
 Judges d (Err refusals.Memory) = ⊤

@@ -15,6 +15,7 @@ use Rattle.job_grammar.specs.Jobs.{EnclaveView, enclave_view}
 use Rattle.job_grammar.specs.Text.{Words}
 use Rattle.job_grammar.specs.Reading.{◌>>=◌, words_of, line_of}
 
+-- what the lines so far say
 pub record DraftView : Type 0 where
   pub epc : Option ℕ
   pub enclaves : List EnclaveView
@@ -41,6 +42,7 @@ Gives view (Err e) read = Refuses e read
 
 -- ---- one line more
 
+-- the list with its last element changed, where it has one
 abbrev pub with_last : {X : Type 0} → (X → X) → List X → Option (List X)
 with_last f [] = None
 with_last f (x ∷ []) = Some (f x ∷ [])
@@ -75,21 +77,24 @@ step d (lines.Page page) =
 step d (lines.Cpu number) = if number == length d.scripts then Some (record d { scripts = d.scripts ++ [] ∷ [] }) else None
 step d (lines.Op op) = option_map (λ scripts. record d { scripts = scripts }) (with_op d.scripts op)
 
+-- what the lines say, with a line of these words more
 abbrev pub read_words : DraftView → Words → Option DraftView
 read_words d [] = Some d
 read_words d (first ∷ rest) = do
   line ← line_of (first ∷ rest)
   step d line
 
--- a line without words says nothing
+-- what the lines say, with one line more. A line without words says nothing
 unfoldable pub read_line : DraftView → List ℕ → Option DraftView
 read_line d text = read_words d (words_of text)
 
+-- what the lines say, with these lines more
 abbrev pub read_lines : DraftView → List (List ℕ) → Option DraftView
 read_lines d [] = Some d
 read_lines d (line ∷ rest) = do
   next ← read_line d line
   read_lines next rest
 
+-- what the lines of a text say, where each can be read and stands in its place
 unfoldable pub read_text : List ℕ → Option DraftView
 read_text text = read_lines empty_draft (slice_split (λ b. b == 10) text)

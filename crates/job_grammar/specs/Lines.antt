@@ -7,6 +7,7 @@ use Rattle.job_grammar.specs.declared.lines.Line.TheVariants as lines
 use Rattle.job_grammar.specs.Jobs.{EnclaveView}
 use Rattle.job_grammar.specs.Text.{Words, hexadecimal, letter, page_words, op_words, line_text}
 
+-- the words of a line, as they are written
 abbrev pub line_words : Line → Words
 line_words (lines.Epc frames) = codes "epc" ∷ decimal frames ∷ []
 line_words (lines.Enclave enclave base size) = codes "enclave" ∷ letter enclave ∷ hexadecimal base ∷ hexadecimal size ∷ []
@@ -28,6 +29,7 @@ lines_of_scripts n (script ∷ scripts) = lines.Cpu n ∷ map lines.Op script ++
 abbrev pub lines_of_parts : ℕ → List EnclaveView → List (List Op) → List Line
 lines_of_parts epc enclaves scripts = lines.Epc epc ∷ lines_of_enclaves 1 enclaves ++ lines_of_scripts 0 scripts
 
+-- these lines, each ended by a line feed
 abbrev pub lines_text : List Line → List ℕ
 lines_text lines = flat_map (λ line. line_text (line_words line)) lines
 

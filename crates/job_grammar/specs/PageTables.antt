@@ -6,6 +6,7 @@ use Rattle.job_grammar.specs.declared.page_tables.PageTable.{PageTable}
 use Rattle.job_grammar.specs.Jobs.{EnclaveView, covers}
 use Rattle.job_grammar.specs.Valid.{IsValidLine}
 
+-- the line that adds each page, the first at 0
 abbrev pub Table : Type 0
 Table = List (Option PageLine)
 

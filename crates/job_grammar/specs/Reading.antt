@@ -12,6 +12,7 @@ use Rattle.job_grammar.specs.declared.words.Keyword.{Keyword}
 use Rattle.job_grammar.specs.declared.words.Keyword.TheVariants as keywords
 use Rattle.job_grammar.specs.Text.{Words}
 
+-- what f makes of a value, where there is one
 infixl 10 ◌>>=◌
 abbrev pub ◌>>=◌ : {A B : Type 0} → Option A → (A → Option B) → Option B
 o >>= f = option_and_then f o
@@ -44,6 +45,7 @@ small_of word = do
 unfoldable pub words_of : List ℕ → Words
 words_of line = take 7 (filter (λ word. not (length word == 0)) (slice_split (λ b. b == 32) line))
 
+-- the first word of a line
 unfoldable pub keyword_of : List ℕ → Option Keyword
 keyword_of word =
     if bytes_eq word (codes "epc") then Some keywords.Epc
@@ -61,9 +63,11 @@ unfoldable pub letter_of : List ℕ → Option ℕ
 letter_of (c ∷ []) = if nat_le 65 c && nat_le c 72 then Some (c - 64) else None
 letter_of _ = None
 
+-- R, with or without W and X
 abbrev pub perm_with : Bool → Bool → Perm
 perm_with w x = record { r = true; w = w; x = x }
 
+-- the permissions of REG pages, of which R is one
 unfoldable pub perm_of : List ℕ → Option Perm
 perm_of word =
     if bytes_eq word (codes "r") then Some (perm_with false false)
@@ -136,6 +140,7 @@ load_line (off ∷ []) = do
   Some (lines.Op (ops.Load o))
 load_line _ = None
 
+-- the line of this kind with these words after the first
 abbrev pub line_with : Words → Keyword → Option Line
 line_with rest keywords.Epc = epc_line rest
 line_with rest keywords.Enclave = enclave_line rest
@@ -146,6 +151,7 @@ line_with rest keywords.Enter = enter_line rest
 line_with rest keywords.Exit = exit_line rest
 line_with rest keywords.Load = load_line rest
 
+-- the line that these words make, where they make one
 unfoldable pub line_of : Words → Option Line
 line_of [] = None
 line_of (first ∷ rest) = do
