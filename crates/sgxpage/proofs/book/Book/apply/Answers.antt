@@ -1,4 +1,4 @@
-use Rattle.std.proofs.Common.{◌≡◌, [], ◌∷◌, reverse}
+use Rattle.std.proofs.Common.{[], ◌∷◌}
 use Rattle.std.proofs.lemmas.List.{reverse-append}
 use Rattle.paging_machine.specs.Parts.{state_of}
 use Rattle.sgxpage.proofs.BookLaws.{step_of}

@@ -1,4 +1,4 @@
-use Rattle.std.proofs.Common.{◌≡◌, ap, sym, ◌∙◌}
+use Rattle.std.proofs.Common.{ap, sym, ◌∙◌}
 use Rattle.sgx_types.specs.Processors.{holds_number}
 use Rattle.paging_machine.specs.Parts.{cpu_at}
 use Rattle.paging_machine.proofs.ProcessorLaws.{holds_number-map}
