@@ -8,6 +8,8 @@ use Rattle.job_grammar.specs.declared.refusals.JobKind.{JobKind}
 use Rattle.job_grammar.specs.declared.refusals.JobKind.TheVariants as kinds
 use Rattle.job_grammar.specs.Jobs.{JobView}
 use Rattle.job_grammar.specs.Valid.{IsJobText}
+use Rattle.sgxpage.specs.declared.command.Unread.{Unread}
+use Rattle.sgxpage.specs.declared.command.Unread.TheVariants.{Fault}
 use Rattle.sgxpage.specs.OutText.{out_of}
 use Rattle.sgxpage.specs.TraceText.{trace_of}
 
@@ -42,3 +44,17 @@ kind_text kinds.NotYetBuilt = codes "NotYetBuilt"
 -- what is wrong with a job, by its line
 abbrev pub fault_text : ℕ → JobKind → List ℕ
 fault_text line kind = codes "job line " ++ decimal line ++ codes ": " ++ kind_text kind ++ codes "\n"
+
+-- a sink got such a line
+pub record Told (out out' : Option (List ℕ)) : Type 0 where
+  pub line : ℕ
+  pub kind : JobKind
+  pub given : out' ≡ followed_by out (fault_text line kind)
+
+-- no job has this text
+abbrev pub IsNoJob : List ℕ → Type 0
+IsNoJob bytes = (j : JobView) → IsJobText bytes j → ⊥
+
+abbrev pub IsFault : Unread → Type 0
+IsFault (Fault line kind) = Unit {0}
+IsFault _ = ⊥

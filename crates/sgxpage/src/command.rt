@@ -1,7 +1,8 @@
-ghost use Rattle.std.specs.Prelude.{◌≡◌, IfOk, IfSome, OnOk};
+ghost use Rattle.std.specs.Prelude.{◌≡◌, ◌⊎◌, IfErr, IfOk, IfSome, IsErrOf, OnOk};
+ghost use Rattle.io_edges.specs.Faults.{HasRisen};
 ghost use Rattle.io_edges.specs.Sinks.{followed_by};
 ghost use Rattle.job_grammar.specs.Valid.{IsJobText};
-ghost use Rattle.sgxpage.specs.Runs.{Gave, Ran, fault_text};
+ghost use Rattle.sgxpage.specs.Runs.{Gave, IsFault, IsNoJob, Ran, Told, fault_text};
 
 use crate::job_faults::print_fault;
 use crate::replies::print_out;
@@ -63,12 +64,20 @@ enum Ungiven {
 }
 
 impl From<Memory> for Ungiven {
+    ghost use Rattle.sgxpage.specs.declared.command.Ungiven.TheVariants as ends;
+
+    ghost from_gives = { λ _ end. end ≡ ends.Memory };
+
     fn from(_error: Memory) -> Ungiven {
         Ungiven::Memory
     }
 }
 
 impl From<Failed> for Ungiven {
+    ghost use Rattle.sgxpage.specs.declared.command.Ungiven.TheVariants as ends;
+
+    ghost from_gives = { λ _ end. end ≡ ends.Failed };
+
     fn from(_error: Failed) -> Ungiven {
         Ungiven::Failed
     }
@@ -81,28 +90,6 @@ enum Unread {
     Memory,
 }
 
-impl From<ReadEnd> for Unread {
-    fn from(end: ReadEnd) -> Unread {
-        match end {
-            ReadEnd::TooLong => Unread::Fault {
-                line: 0,
-                kind: JobKind::TooLong,
-            },
-            ReadEnd::Failed => Unread::Failed,
-            ReadEnd::Memory => Unread::Memory,
-        }
-    }
-}
-
-impl From<JobRefusal> for Unread {
-    fn from(refusal: JobRefusal) -> Unread {
-        match refusal {
-            JobRefusal::Fault { line, kind } => Unread::Fault { line, kind },
-            JobRefusal::Memory => Unread::Memory,
-        }
-    }
-}
-
 /// Runs the job that a source gives. The text of its trace goes to `trace`, and its replies, or what is wrong with the
 /// job, go to `out`.
 pub fn run_command<J: Source, K: Sink, L: Sink>(
@@ -111,7 +98,10 @@ pub fn run_command<J: Source, K: Sink, L: Sink>(
     out: &mut K,
     trace: &mut L,
 ) -> Status
-    ensures { result ≡ Status.Done → IfSome (J.left job.old) (λ bytes. Ran bytes (K.given out.old) (K.given out.new) (L.given trace.old) (L.given trace.new)) }
+    ensures done { result ≡ Status.Done → IfSome (J.left job.old) (λ bytes. Ran bytes (K.given out.old) (K.given out.new) (L.given trace.old) (L.given trace.new)) }
+    ensures bad_job { result ≡ Status.BadJob → IfSome (J.left job.old) IsNoJob × Told (K.given out.old) (K.given out.new) × (trace.new ≡ trace.old) }
+    ensures read_fault { result ≡ Status.ReadFault → HasRisen (J.faults job.old) (J.faults job.new) × (out.new ≡ out.old) × (trace.new ≡ trace.old) }
+    ensures write_fault { result ≡ Status.WriteFault → HasRisen (K.faults out.old) (K.faults out.new) ⊎ HasRisen (L.faults trace.old) (L.faults trace.new) }
 {
     let job = match read(alloc, job) {
         Ok(job) => job,
@@ -130,7 +120,8 @@ fn run_over<K: Sink, L: Sink>(
     out: &mut K,
     trace: &mut L,
 ) -> Result<(), Ungiven>
-    ensures { OnOk result (Gave job.now (K.given out.old) (K.given out.new) (L.given trace.old) (L.given trace.new)) }
+    ensures gave { OnOk result (Gave job.now (K.given out.old) (K.given out.new) (L.given trace.old) (L.given trace.new)) }
+    ensures failed { IsErrOf result Ungiven.Failed → HasRisen (K.faults out.old) (K.faults out.new) ⊎ HasRisen (L.faults trace.old) (L.faults trace.new) }
 {
     let book = run(alloc, job)?;
     let trace_text = print_trace(alloc, book.entries())?;
@@ -141,14 +132,33 @@ fn run_over<K: Sink, L: Sink>(
 }
 
 fn read<J: Source>(alloc: Global, source: &mut J) -> Result<Job, Unread>
-    ensures { IfOk result (λ job. IfSome (J.left source.old) (λ bytes. IsJobText bytes job)) }
+    ensures job { IfOk result (λ job. IfSome (J.left source.old) (λ bytes. IsJobText bytes job)) }
+    ensures fault { IfErr result (λ unread. IsFault unread → IfSome (J.left source.old) IsNoJob) }
+    ensures failed { IsErrOf result Unread.Failed → HasRisen (J.faults source.old) (J.faults source.new) }
 {
-    let bytes = read_all(alloc, source, MOST_BYTES)?;
-    Ok(read_job(alloc, &bytes)?)
+    let bytes = match read_all(alloc, source, MOST_BYTES) {
+        Ok(bytes) => bytes,
+        Err(ReadEnd::TooLong) => {
+            return Err(Unread::Fault {
+                line: 0,
+                kind: JobKind::TooLong,
+            });
+        }
+        Err(ReadEnd::Failed) => return Err(Unread::Failed),
+        Err(ReadEnd::Memory) => return Err(Unread::Memory),
+    };
+    match read_job(alloc, &bytes) {
+        Ok(job) => Ok(job),
+        Err(JobRefusal::Fault { line, kind }) => Err(Unread::Fault { line, kind }),
+        Err(JobRefusal::Memory) => Err(Unread::Memory),
+    }
 }
 
 fn tell<K: Sink>(alloc: Global, out: &mut K, unread: Unread) -> Status
-    ensures { result ≡ Status.Done → ⊥ }
+    ensures not_done { result ≡ Status.Done → ⊥ }
+    ensures fault { result ≡ Status.BadJob → IsFault unread × Told (K.given out.old) (K.given out.new) }
+    ensures failed { result ≡ Status.ReadFault → (unread ≡ Unread.Failed) × (out.new ≡ out.old) }
+    ensures ungiven { result ≡ Status.WriteFault → HasRisen (K.faults out.old) (K.faults out.new) }
 {
     match unread {
         Unread::Fault { line, kind } => match give_fault(alloc, out, line, kind) {
@@ -162,7 +172,8 @@ fn tell<K: Sink>(alloc: Global, out: &mut K, unread: Unread) -> Status
 }
 
 fn give_fault<K: Sink>(alloc: Global, out: &mut K, line: u32, kind: JobKind) -> Result<(), Ungiven>
-    ensures { OnOk result (K.given out.new ≡ followed_by (K.given out.old) (fault_text line kind)) }
+    ensures gave { OnOk result (K.given out.new ≡ followed_by (K.given out.old) (fault_text line kind)) }
+    ensures failed { IsErrOf result Ungiven.Failed → HasRisen (K.faults out.old) (K.faults out.new) }
 {
     let text = print_fault(alloc, line, kind)?;
     give_all(out, &text)?;

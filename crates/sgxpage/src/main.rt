@@ -8,6 +8,8 @@ mod job_faults;
 mod names;
 mod replies;
 mod run;
+#[cfg(test)]
+mod tests;
 mod trace;
 mod words;
 #[cfg(test)]
