@@ -1,7 +1,7 @@
 -- What a run gives: the texts of one trace that keeps the rules, or a line on what is wrong with the job.
-use Rattle.std.specs.Prelude.{ℕ, ◌≡◌, List, ◌++◌, Option, codes}
+use Rattle.std.specs.Prelude.{ℕ, ◌≡◌, ◌⊎◌, List, ◌++◌, Option, codes}
 use Rattle.std.specs.Fmt.{decimal}
-use Rattle.io_edges.specs.Sinks.{followed_by}
+use Rattle.io_edges.specs.Sinks.{followed_by, GivesPart}
 use Rattle.sgx_types.specs.declared.entries.Entry.{Entry}
 use Rattle.sgx_types.specs.Rules.{KeepsRules}
 use Rattle.job_grammar.specs.declared.refusals.JobKind.{JobKind}
@@ -21,7 +21,14 @@ pub record Gave (job : JobView) (out out' trace trace' : Option (List ℕ)) : Ty
   pub trace_given : trace' ≡ followed_by trace (trace_of past)
   pub out_given : out' ≡ followed_by out (out_of job past)
 
--- .. and the job is the one that these bytes spell
+-- .. or a sink failed: the trace got a proper front of its text, and the output nothing, or the trace got all and the
+-- output a proper front
+pub record Broke (job : JobView) (out out' trace trace' : Option (List ℕ)) : Type 0 where
+  pub past : List Entry
+  pub rules : KeepsRules job.epc past
+  pub given : (GivesPart trace trace' (trace_of past) × (out' ≡ out)) ⊎ ((trace' ≡ followed_by trace (trace_of past)) × GivesPart out out' (out_of job past))
+
+-- what was given, and the job is the one that these bytes spell
 pub record Ran (bytes : List ℕ) (out out' trace trace' : Option (List ℕ)) : Type 0 where
   pub job : JobView
   pub text : IsJobText bytes job
@@ -50,6 +57,18 @@ pub record Told (out out' : Option (List ℕ)) : Type 0 where
   pub line : ℕ
   pub kind : JobKind
   pub given : out' ≡ followed_by out (fault_text line kind)
+
+-- .. or a proper front of it
+pub record HalfTold (out out' : Option (List ℕ)) : Type 0 where
+  pub line : ℕ
+  pub kind : JobKind
+  pub given : GivesPart out out' (fault_text line kind)
+
+-- a job's bytes, and what the sinks got where one of them failed
+pub record BrokeOn (bytes : List ℕ) (out out' trace trace' : Option (List ℕ)) : Type 0 where
+  pub job : JobView
+  pub text : IsJobText bytes job
+  pub broke : Broke job out out' trace trace'
 
 -- no job has this text
 abbrev pub IsNoJob : List ℕ → Type 0

@@ -1,8 +1,8 @@
 ghost use Rattle.std.specs.Prelude.{◌≡◌, ◌⊎◌, IfErr, IfOk, IfSome, IsErrOf, OnOk};
 ghost use Rattle.io_edges.specs.Faults.{HasRisen};
-ghost use Rattle.io_edges.specs.Sinks.{followed_by};
+ghost use Rattle.io_edges.specs.Sinks.{GivesPart, followed_by};
 ghost use Rattle.job_grammar.specs.Valid.{IsJobText};
-ghost use Rattle.sgxpage.specs.Runs.{Gave, IsFault, IsNoJob, Ran, Told, fault_text};
+ghost use Rattle.sgxpage.specs.Runs.{Broke, BrokeOn, Gave, HalfTold, IsFault, IsNoJob, Ran, Told, fault_text};
 
 use crate::job_faults::print_fault;
 use crate::replies::print_out;
@@ -101,6 +101,10 @@ pub fn run_command<J: Source, K: Sink, L: Sink>(
     ensures done { result ≡ Status.Done → IfSome (J.left job.old) (λ bytes. Ran bytes (K.given out.old) (K.given out.new) (L.given trace.old) (L.given trace.new)) }
     ensures bad_job { result ≡ Status.BadJob → IfSome (J.left job.old) IsNoJob × Told (K.given out.old) (K.given out.new) × (trace.new ≡ trace.old) }
     ensures read_fault { result ≡ Status.ReadFault → HasRisen (J.faults job.old) (J.faults job.new) × (out.new ≡ out.old) × (trace.new ≡ trace.old) }
+    ensures broke { result ≡ Status.WriteFault → IfSome (J.left job.old) (λ bytes. (IsNoJob bytes × HalfTold (K.given out.old) (K.given out.new) × (trace.new ≡ trace.old))
+        ⊎ BrokeOn bytes (K.given out.old) (K.given out.new) (L.given trace.old) (L.given trace.new)) }
+    ensures memory { result ≡ Status.Memory → (out.new ≡ out.old) × (trace.new ≡ trace.old) }
+    ensures not_bad_words { result ≡ Status.BadWords → ⊥ }
     ensures write_fault { result ≡ Status.WriteFault → HasRisen (K.faults out.old) (K.faults out.new) ⊎ HasRisen (L.faults trace.old) (L.faults trace.new) }
 {
     let job = match read(alloc, job) {
@@ -121,6 +125,8 @@ fn run_over<K: Sink, L: Sink>(
     trace: &mut L,
 ) -> Result<(), Ungiven>
     ensures gave { OnOk result (Gave job.now (K.given out.old) (K.given out.new) (L.given trace.old) (L.given trace.new)) }
+    ensures broke { IsErrOf result Ungiven.Failed → Broke job.now (K.given out.old) (K.given out.new) (L.given trace.old) (L.given trace.new) }
+    ensures memory { IsErrOf result Ungiven.Memory → (out.new ≡ out.old) × (trace.new ≡ trace.old) }
     ensures failed { IsErrOf result Ungiven.Failed → HasRisen (K.faults out.old) (K.faults out.new) ⊎ HasRisen (L.faults trace.old) (L.faults trace.new) }
 {
     let book = run(alloc, job)?;
@@ -158,6 +164,9 @@ fn tell<K: Sink>(alloc: Global, out: &mut K, unread: Unread) -> Status
     ensures not_done { result ≡ Status.Done → ⊥ }
     ensures fault { result ≡ Status.BadJob → IsFault unread × Told (K.given out.old) (K.given out.new) }
     ensures failed { result ≡ Status.ReadFault → (unread ≡ Unread.Failed) × (out.new ≡ out.old) }
+    ensures broke { result ≡ Status.WriteFault → IsFault unread × HalfTold (K.given out.old) (K.given out.new) }
+    ensures memory { result ≡ Status.Memory → out.new ≡ out.old }
+    ensures not_bad_words { result ≡ Status.BadWords → ⊥ }
     ensures ungiven { result ≡ Status.WriteFault → HasRisen (K.faults out.old) (K.faults out.new) }
 {
     match unread {
@@ -173,6 +182,8 @@ fn tell<K: Sink>(alloc: Global, out: &mut K, unread: Unread) -> Status
 
 fn give_fault<K: Sink>(alloc: Global, out: &mut K, line: u32, kind: JobKind) -> Result<(), Ungiven>
     ensures gave { OnOk result (K.given out.new ≡ followed_by (K.given out.old) (fault_text line kind)) }
+    ensures memory { IsErrOf result Ungiven.Memory → out.new ≡ out.old }
+    ensures broke { IsErrOf result Ungiven.Failed → GivesPart (K.given out.old) (K.given out.new) (fault_text line kind) }
     ensures failed { IsErrOf result Ungiven.Failed → HasRisen (K.faults out.old) (K.faults out.new) }
 {
     let text = print_fault(alloc, line, kind)?;
