@@ -4,3 +4,5 @@ pub mod LineLaws
 pub mod EntryLaws
 pub mod NumberLaws
 pub mod BookLaws
+pub mod CalmLaws
+pub mod HomeLaws

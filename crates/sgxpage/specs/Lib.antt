@@ -3,5 +3,8 @@ pub mod OutText
 pub mod WorkedTraces
 pub mod Words
 pub mod Ending
+pub mod Homes
 pub mod Books
+pub mod Building
+pub mod Playing
 pub mod Runs

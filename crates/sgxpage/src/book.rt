@@ -1,28 +1,32 @@
-ghost use Rattle.std.specs.Prelude.{◌≡◌, ◌<◌, ◌≤◌, [], ◌∷◌, reverse, length, is_some, Some, IfOk, OnOk, OnErr};
+ghost use Rattle.std.specs.Prelude.{◌≡◌, ◌<◌, ◌≤◌, [], ◌∷◌, reverse, length, Some, IfOk, OnOk, OnErr};
 ghost use Rattle.std.specs.Option.{option_map};
-ghost use Rattle.sgx_types.specs.Frames.{content, least_free};
+ghost use Rattle.sgx_types.specs.Frames.{content, frame_of, least_free};
 ghost use Rattle.sgx_types.specs.Processors.{stay, translations, holds_number};
-ghost use Rattle.sgx_types.specs.Table.{is_ready, is_tcs};
+ghost use Rattle.sgx_types.specs.Table.{is_ready};
 ghost use Rattle.sgx_types.specs.Flat.{flat, enclave_sight};
 ghost use Rattle.sgx_types.specs.Rules.{KeepsRules};
+ghost use Rattle.job_grammar.specs.Script.{frame_at};
 ghost use Rattle.paging_machine.specs.Parts.{seat_of_mode, state_of};
 ghost use Rattle.paging_machine.specs.Stands.{Upholds, seat_of_stay};
 ghost use Rattle.paging_machine.specs.Steps.{CanApply};
-ghost use Rattle.sgxpage.specs.Books.{BookView, IsNext};
+ghost use Rattle.sgxpage.specs.Books.{BookView, IsCalm, IsNext, tcs_at};
+ghost use Rattle.sgxpage.specs.Homes.{home_in, home_by};
 
+use crate::homes::Homes;
 use cached_translations::processor::Mode;
 use paging_machine::machine::Machine;
-use sgx_types::entries::{Action, Actor, Entry};
+use sgx_types::entries::{Action, Actor, Entry, Event};
 use sgx_types::layouts::TcsFields;
-use sgx_types::names::{Cpu, Frame, Memory};
+use sgx_types::names::{Cpu, Frame, Memory, Page};
 use std::alloc::Global;
 use std::marker::Model;
 
-/// The machine with the entries of its trace, oldest first.
+/// The machine with the entries of its trace, oldest first, and the frame of each page.
 #[derive(Drop)]
 pub struct Book {
     machine: Machine,
     entries: Vec<Entry>,
+    homes: Homes,
 }
 
 impl Model for Book {
@@ -39,14 +43,17 @@ impl Model for Book {
 
 impl Book {
     /// The book of a machine that has done nothing yet.
-    pub fn new(alloc: Global, machine: Machine) -> Book
+    pub fn new(alloc: Global, machine: Machine) -> Result<Book, Memory>
         requires { Upholds (state_of machine) [] }
-        ensures { result ≡ record { frames = (state_of machine).frames; cpus = length machine.cpus; past = [] } }
+        ensures value { IfOk result (λ book. book ≡ record { frames = (state_of machine).frames; cpus = length machine.cpus; past = [] }) }
+        ensures calm { IfOk result (λ book. IsCalm book.past) }
     {
-        Book {
+        let homes = Homes::new(alloc)?;
+        Ok(Book {
             machine,
             entries: Vec::new(alloc),
-        }
+            homes,
+        })
     }
 
     /// One instruction, and its entry.
@@ -57,13 +64,21 @@ impl Book {
     {
         self.entries.reserve(1)?;
         let entry = self.machine.apply(alloc, actor, action)?;
+        note_home(&mut self.homes, entry.event);
         self.entries.push_reserved(entry);
         Ok(())
     }
 
+    /// The frame of a page, None where the page was not added.
+    pub fn frame_of(&self, page: Page) -> Option<Frame>
+        ensures { result ≡ option_map frame_at (frame_of self.now.past page) }
+    {
+        self.homes.find(page)
+    }
+
     /// The free frame with the least number, None exactly where none is free.
     pub fn first_free(&self) -> Option<Frame>
-        ensures { option_map (λ f. f.0) result ≡ least_free self.now.frames (content self.now.past) }
+        ensures { result ≡ option_map frame_at (least_free self.now.frames (content self.now.past)) }
     {
         self.machine.first_free()
     }
@@ -93,7 +108,7 @@ impl Book {
 
     /// The fields of the TCS page in a frame, None exactly where the frame holds no TCS.
     pub fn tcs(&self, frame: Frame) -> Option<TcsFields>
-        ensures { is_some result ≡ is_tcs (content self.now.past frame.0) }
+        ensures { result ≡ tcs_at self.now.past frame.0 }
     {
         self.machine.tcs(frame)
     }
@@ -104,5 +119,24 @@ impl Book {
         ensures rules { KeepsRules self.now.frames self.now.past }
     {
         &self.entries
+    }
+}
+
+// A page that was added is in its frame from then on.
+fn note_home(homes: &mut Homes, event: Event)
+    ensures { (g : Page) → home_in homes.new g ≡ home_by event g (home_in homes.old g) }
+{
+    if let Event::Did {
+        action:
+            Action::Add {
+                enclave,
+                number,
+                frame,
+                ..
+            },
+        ..
+    } = event
+    {
+        homes.put(Page { enclave, number }, frame);
     }
 }

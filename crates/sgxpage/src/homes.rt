@@ -1,49 +1,70 @@
-ghost use Rattle.std.specs.Prelude.{◌≡◌, None, Some, IfOk, replicate, slice_index_or, slice_set};
+ghost use Rattle.std.specs.Prelude.{◌≡◌, None, IfOk, replicate};
+ghost use Rattle.sgx_types.specs.declared.names.Page.{Page};
+ghost use Rattle.sgxpage.specs.Homes.{home_in, home_after, place_of};
 
-use sgx_types::names::{Frame, Memory};
+use sgx_types::names::{Frame, Memory, Page};
 use std::alloc::Global;
 use std::marker::Model;
 
-/// The frame of each added page of one enclave.
+const ENCLAVES: usize = 8;
+
+const PAGES: usize = 4096;
+
+/// The frame of each page that an enclave can have, None where the page is in no frame.
 #[derive(Drop)]
 pub struct Homes {
     frames: Vec<Option<Frame>>,
 }
 
 impl Model for Homes {
-    ghost use Rattle.std.specs.Prelude.{List, Option};
+    ghost use Rattle.std.specs.Prelude.{◌≡◌, List, Option, length};
     ghost use Rattle.sgx_types.specs.declared.names.Frame.{Frame};
 
     ghost Value = { List (Option Frame) };
 
     ghost view = { λ homes. homes.frames.items };
+
+    ghost invariant = { λ homes. length homes.frames.items ≡ 36864 };
 }
 
 impl Homes {
-    /// The homes of so many pages, none of which is added.
-    pub fn new(alloc: Global, pages: usize) -> Result<Homes, Memory>
-        ensures { IfOk result (λ homes. homes ≡ replicate pages None) }
+    /// No page is in a frame.
+    pub fn new(alloc: Global) -> Result<Homes, Memory>
+        ensures { IfOk result (λ homes. homes ≡ replicate 36864 None) }
     {
-        let mut frames = Vec::with_capacity(alloc, pages)?;
-        for _ in 0..pages {
+        let places = (ENCLAVES + 1) * PAGES;
+        let mut frames = Vec::with_capacity(alloc, places)?;
+        for _ in 0..places {
             frames.push(None)?;
         }
         Ok(Homes { frames })
     }
 
     /// The frame of a page, None where it was not put.
-    pub fn find(&self, number: u64) -> Option<Frame>
-        ensures { result ≡ slice_index_or self.now number None }
+    pub fn find(&self, page: Page) -> Option<Frame>
+        ensures { result ≡ home_in self.now page }
     {
-        self.frames.get(number as usize).copied().flatten()
+        self.frames[place_of(page)?]
     }
 
-    /// Puts a page into a frame.
-    pub fn put(&mut self, number: u32, frame: Frame)
-        ensures { self.new ≡ slice_set self.old number (Some frame) }
+    /// Puts a page into a frame. A page that no enclave can have is left out.
+    pub fn put(&mut self, page: Page, frame: Frame)
+        ensures { (g : Page) → home_in self.new g ≡ home_after page frame g (home_in self.old g) }
     {
-        if let Some(home) = self.frames.get_mut(number as usize) {
-            *home = Some(frame);
+        if let Some(place) = place_of(page) {
+            self.frames[place] = Some(frame);
         }
+    }
+}
+
+fn place_of(page: Page) -> Option<usize>
+    ensures { result ≡ place_of page }
+{
+    let enclave = usize::from(page.enclave);
+    let number = page.number as usize;
+    if enclave <= ENCLAVES && number < PAGES {
+        Some(PAGES * enclave + number)
+    } else {
+        None
     }
 }

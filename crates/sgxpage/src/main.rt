@@ -2,10 +2,12 @@
 
 mod actions;
 mod book;
+mod build;
 mod command;
 mod homes;
 mod job_faults;
 mod names;
+mod play;
 mod replies;
 mod run;
 #[cfg(test)]

@@ -1,16 +1,40 @@
-use Rattle.std.proofs.Common.{[], ◌∷◌}
+use Rattle.std.proofs.Common.{◌≡◌, [], ◌∷◌, reverse}
 use Rattle.std.proofs.lemmas.List.{reverse-append}
 use Rattle.paging_machine.specs.Parts.{state_of}
+use Rattle.paging_machine.specs.Steps.{CanApply}
 use Rattle.sgxpage.proofs.BookLaws.{step_of}
+use Rattle.sgxpage.proofs.CalmLaws.{calm_more}
+use Rattle.sgxpage.proofs.HomeLaws.{homes_more}
 use Rattle.sgxpage.proofs.book.Book.apply.Goals as goal
 
 pub returns-clause-done : goal.returns-clause-done
 returns-clause-done c =
     let step = step_of (state_of c.self.inside.machine) (state_of c.apply.new.self) c.args.actor c.args.action c.in_ok-entry.entry c.in_ok-entry.ensures.step in
+    let past : reverse c.push_reserved.new.self.items ≡ c.in_ok-entry.entry ∷ reverse c.self.inside.entries.items =
+        rw (c.push_reserved.ensures.items, c.reserve.ensures.items) (reverse-append c.self.inside.entries.items (c.in_ok-entry.entry ∷ [])) in
+    let upheld = c.in_ok-entry.ensures.history (reverse c.self.inside.entries.items) c.self.invariant.upheld in
+    let can : CanApply c.args.self.now.cpus c.in_ok-entry.entry.actor c.args.action = rw step.actor_is c.requires in
     record {
       frames = rw (← c.self.view_is) step.frames_same;
       cpus = rw (← c.self.view_is) c.apply.ensures.cpus;
       event = c.in_ok-entry.entry.event;
-      past = rw (← c.self.view_is, c.push_reserved.ensures.items, c.reserve.ensures.items, ← step.actor_is) (reverse-append c.self.inside.entries.items (c.in_ok-entry.entry ∷ []));
+      past = rw (← c.self.view_is, ← step.actor_is) past;
       is_action = step.action_is;
+      rules = rw past upheld.rules;
+      calm = rw past (calm_more c.args.self.now.cpus _ c.in_ok-entry.entry.actor c.args.action c.in_ok-entry.entry.event (reverse c.self.inside.entries.items) can step.action_is upheld.rules c.self.invariant.calm);
+    }
+
+pub invariant_of-self-2 : goal.invariant_of-self-2
+invariant_of-self-2 c =
+    let step = step_of (state_of c.self.inside.machine) (state_of c.apply.new.self) c.args.actor c.args.action c.in_ok-entry.entry c.in_ok-entry.ensures.step in
+    let past : reverse c.push_reserved.new.self.items ≡ c.in_ok-entry.entry ∷ reverse c.self.inside.entries.items =
+        rw (c.push_reserved.ensures.items, c.reserve.ensures.items) (reverse-append c.self.inside.entries.items (c.in_ok-entry.entry ∷ [])) in
+    let upheld = c.in_ok-entry.ensures.history (reverse c.self.inside.entries.items) c.self.invariant.upheld in
+    let can : CanApply c.args.self.now.cpus c.in_ok-entry.entry.actor c.args.action = rw step.actor_is c.requires in
+    record {
+      upheld = rw past upheld;
+      calm = rw past (calm_more c.args.self.now.cpus _ c.in_ok-entry.entry.actor c.args.action c.in_ok-entry.entry.event (reverse c.self.inside.entries.items) can step.action_is upheld.rules c.self.invariant.calm);
+      homes = rw past
+          (homes_more c.args.self.now.cpus _ c.in_ok-entry.entry.actor c.args.action c.in_ok-entry.entry.event (reverse c.self.inside.entries.items) _ _ can step.action_is upheld.rules c.self.invariant.calm
+          c.self.invariant.homes c.note_home.ensures);
     }

@@ -1,0 +1,65 @@
+-- What a processor does to a book by the operations of its script, and when it can.
+use Rattle.std.specs.Prelude.{ℕ, ◌≡◌, ◌==◌, ◌+◌, ◌-◌, ◌/◌, Bool, true, false, List, [], ◌∷◌, Some, None, IfSome, length, slice_get}
+use Rattle.std.specs.List.{All}
+use Rattle.sgx_types.specs.declared.entries.Entry.{Entry}
+use Rattle.sgx_types.specs.Processors.{stay}
+use Rattle.sgx_types.specs.Rules.{Along}
+use Rattle.job_grammar.specs.declared.jobs.Op.{Op}
+use Rattle.job_grammar.specs.declared.jobs.Op.TheVariants as ops
+use Rattle.job_grammar.specs.Jobs.{JobView, is_reg_page, is_tcs_page, lines_at}
+use Rattle.job_grammar.specs.Script.{ScriptRule, build_of, built, replied, script_of}
+use Rattle.job_grammar.specs.Valid.{IsValid}
+use Rattle.sgxpage.specs.Books.{BookView, GoesOn}
+use Rattle.sgxpage.specs.Building.{IsPlacedLine}
+
+-- the next operations of a processor's script are these
+abbrev pub AreAhead : JobView → List Entry → ℕ → List Op → Type 0
+AreAhead j past p ops = (i : ℕ) (op : Op) → slice_get ops i ≡ Some op → slice_get (script_of j p) (replied past p + i) ≡ Some op
+
+-- the operations of today: an entry into enclave A by a TCS page of it, a load from a REG page of it, an exit
+abbrev pub IsPlayable : JobView → Op → Type 0
+IsPlayable j (ops.Enter enclave tcs) = (enclave ≡ 1) × (is_tcs_page (lines_at j.enclaves 1) tcs ≡ true)
+IsPlayable j (ops.Load off) = is_reg_page (lines_at j.enclaves 1) (off / 4096) ≡ true
+IsPlayable j ops.Exit = Unit {0}
+IsPlayable j _ = ⊥
+
+-- a processor is inside no other enclave than A
+abbrev pub IsHome : List Entry → ℕ → Type 0
+IsHome past p = IfSome (stay past p) (λ s. s.seat.enclave ≡ 1)
+
+-- a valid job was built: each page is in its frame
+pub record IsBuilt (j : JobView) (past : List Entry) : Type 0 where
+  pub valid : IsValid j
+  pub whole : built past ≡ length (build_of j)
+  pub pages : (e : ℕ) → All (IsPlacedLine past e) (lines_at j.enclaves e)
+
+-- where a job was built and these operations are next, a processor can play them
+pub record IsReady (j : JobView) (p : ℕ) (ops : List Op) (past : List Entry) : Type 0 where
+  pub job : IsBuilt j past
+  pub home : IsHome past p
+  pub next : AreAhead j past p ops
+  pub playable : All (IsPlayable j) ops
+
+-- a processor played operations, each by the script
+pub record HasPlayed (j : JobView) (p : ℕ) (ops : List Op) (b b' : BookView) : Type 0 where
+  pub job : IsBuilt j b'.past
+  pub home : IsHome b'.past p
+  pub replied : replied b'.past p ≡ replied b.past p + length ops
+  pub script : Along (ScriptRule j) b.past → Along (ScriptRule j) b'.past
+
+-- .. and nobody else did anything
+pub record Plays (p : ℕ) (ops : List Op) (b b' : BookView) : Type 0 where
+  pub goes : GoesOn b b'
+  pub built : built b'.past ≡ built b.past
+  pub replied : (q : ℕ) → (p == q) ≡ false → replied b'.past q ≡ replied b.past q
+  pub stays : (q : ℕ) → (p == q) ≡ false → stay b'.past q ≡ stay b.past q
+  pub played : (j : JobView) → IsReady j p ops b.past → HasPlayed j p ops b b'
+
+-- the last of these operations is an exit
+abbrev pub LeavesLast : List Op → Type 0
+LeavesLast script = slice_get script (length script - 1) ≡ Some ops.Exit
+
+-- no processor has done anything yet
+pub record IsQuiet (past : List Entry) : Type 0 where
+  pub replied : (p : ℕ) → replied past p ≡ 0
+  pub outside : (p : ℕ) → stay past p ≡ None
