@@ -6,3 +6,5 @@ pub mod NumberLaws
 pub mod BookLaws
 pub mod CalmLaws
 pub mod HomeLaws
+pub mod FreeLaws
+pub mod BuilderLaws
