@@ -1,7 +1,7 @@
 -- One step of the builder.
 use Rattle.std.proofs.Common.{◌≡◌, ℕ, zero, suc, ◌+◌, ◌==◌, ◌<◌, ◌≤◌, Bool, true, false, cond, refl, arith, sym, ap, ◌∙◌, Option, Some, None, is_some, List, [], ◌∷◌, length, nat_le, slice_get}
 use Rattle.std.specs.Option.{option_map}
-use Rattle.std.proofs.lemmas.Bool.{cond_both, ltb-false}
+use Rattle.std.proofs.lemmas.Bool.{cond_both, eq-eqb, lt-leb}
 use Rattle.sgx_types.specs.declared.entries.Entry.{Entry}
 use Rattle.sgx_types.specs.declared.entries.Event.{Event}
 use Rattle.sgx_types.specs.declared.entries.Event.TheVariants as events
@@ -19,16 +19,17 @@ use Rattle.sgx_types.specs.declared.names.Perm.{Perm}
 use Rattle.sgx_types.specs.Frames.{Content, Free, IsVa, SecsOf, Holds, content, frame_of, least_free, page_at, same_page}
 use Rattle.sgx_types.specs.Processors.{Move, Enters, Leaves, Keeps, Stay, stay, stay_after, move_by}
 use Rattle.sgx_types.specs.Table.{EnclaveSight, add_row, create_row, first_of_row}
-use Rattle.sgx_types.specs.Flat.{FlatMemory, FlatPage, accepts, flat, enclave_sight, first_words, memory_after, open_frame, with_enclave, with_page}
-use Rattle.sgx_types.specs.Sights.{sight_at}
-use Rattle.sgx_types.specs.Rules.{Along, KeepsRules}
+use Rattle.sgx_types.specs.Flat.{FlatMemory, FlatPage, accepts, flat, enclave_sight, first_words, initialised, memory_after, open_frame, with_enclave, with_page}
+use Rattle.sgx_types.specs.Sights.{row_at, sight_at}
+use Rattle.sgx_types.specs.Rules.{Along, KeepsRules, case_of}
 use Rattle.job_grammar.specs.Jobs.{JobView}
 use Rattle.job_grammar.specs.Script.{BuildStep, MakeVa, MakeSecs, AddPage, Finish, ScriptRule, action_of, build_of, builder_due, built, frame_at, replied, step_action, step_due, takes_frame}
 use Rattle.paging_machine.specs.Steps.{did_by, refused_by}
-use Rattle.paging_machine.proofs.Carry.{flat_done, same_page-true}
+use Rattle.paging_machine.proofs.Bridge.{eqb-swap}
+use Rattle.paging_machine.proofs.Carry.{flat_done, same_page-refl, same_page-true}
 use Rattle.paging_machine.proofs.Tools.{apart, none_holds, none_there}
 use Rattle.sgxpage.specs.Books.{BookView, GoesOn, IsCalm, IsNext, IsPlaced}
-use Rattle.sgxpage.specs.Building.{AreNext, AreTaken, Grows, count_free, frames_taken, free_frames}
+use Rattle.sgxpage.specs.Building.{AreNext, AreTaken, Grows, IsUnmade, MakesOnly, count_free, frames_taken, free_frames}
 use Rattle.sgxpage.proofs.CalmLaws.{taken_none}
 use Rattle.sgxpage.proofs.FreeLaws.{IsLeast, found_least, none_left, put_at, put_room}
 
@@ -179,3 +180,97 @@ grow b b' step act can due next room = record {
 pub grow_va : (b b' : BookView) (f : Frame) → least_free b.frames (content b.past) ≡ Some f.0 → IsNext actors.Builder (Epa f) b b' → Grows (MakeVa ∷ []) b b'
 grow_va b b' f least next =
     grow b b' MakeVa (Epa f) tt (rw least refl) next (rw (next.past, next.frames) (room_more b.frames b.past (Epa f) next.event tt next.is_action))
+
+-- ---- steps that are done
+
+open_sight : (b : BookView) (f : ℕ) → IsCalm b.past → IsLeast (content b.past) b.frames f → sight_at b.frames b.past f ≡ open_frame
+open_sight b f calm least = rw (lt-leb b.frames f least.below, least.free, calm.settled f, calm.unblocked f) refl
+
+record IsDid (act : Action) (event : Event) : Type 0 where
+  pub answer : Answer
+  pub is : event ≡ events.Did act answer
+
+-- an instruction whose row has no case against it was done
+did_of : (frames : ℕ) (past : List Entry) (act : Action) (event : Event) → action_of event ≡ Some act → KeepsRules frames (entry_of event ∷ past)
+    → ((why : Refusal) → case_of act why ≡ Some why) → first_of_row (row_at frames past actors.Builder act) ≡ None → IsDid act event
+did_of frames past act (events.Did action ans) is rules plain allowed = record { answer = ans; is = ap (λ a. events.Did a ans) (some_same action act is) }
+did_of frames past act (events.Refused action why) is rules plain allowed =
+    let same = some_same action act is in
+    let refusal : first_of_row (row_at frames past actors.Builder act) ≡ case_of act why = rw (← same) rules.refusal.0 in
+    cc (refusal, plain why, allowed)
+did_of frames past act _ is rules plain allowed = cc
+
+one_taken : (past : List Entry) (step : BuildStep) → AreTaken past (step ∷ []) → accepts (flat past) actors.Builder (step_action step 0) ≡ true
+one_taken past step h = h 0 step (omega arith)
+
+create_did : (b b' : BookView) (enclave : ℕ) (f : Frame) (base size : ℕ) → IsCalm b.past → IsLeast (content b.past) b.frames f.0 → AreTaken b.past (MakeSecs enclave base size ∷ [])
+    → (next : IsNext actors.Builder (Create enclave f base size) b b') → IsDid (Create enclave f base size) next.event
+create_did b b' enclave f base size calm least taken next =
+    did_of b.frames b.past (Create enclave f base size) next.event next.is_action (rw (← next.frames, ← next.past) next.rules) (λ why. refl)
+    (ap (λ s. first_of_row (create_row enclave base size (is_some ((flat b.past).enclaves enclave)) s)) (open_sight b f.0 calm least) ∙ taken_none _ (one_taken b.past (MakeSecs enclave base size) taken))
+
+add_did : (b b' : BookView) (g : Page) (f : Frame) (kind : Kind) (perm : Perm) (init : PageInit) → IsCalm b.past → IsLeast (content b.past) b.frames f.0
+    → AreTaken b.past (AddPage g.enclave g.number kind perm init ∷ []) → (next : IsNext actors.Builder (Add g.enclave g.number f kind perm init) b b') → IsDid (Add g.enclave g.number f kind perm init) next.event
+add_did b b' g f kind perm init calm least taken next =
+    did_of b.frames b.past (Add g.enclave g.number f kind perm init) next.event next.is_action (rw (← next.frames, ← next.past) next.rules) (λ why. refl)
+    (rw (open_sight b f.0 calm least) (taken_none _ (one_taken b.past (AddPage g.enclave g.number kind perm init) taken)))
+
+-- ---- the enclave
+
+pub grow_secs : (b b' : BookView) (enclave : ℕ) (f : Frame) (base size : ℕ) → least_free b.frames (content b.past) ≡ Some f.0 → IsNext actors.Builder (Create enclave f base size) b b' → Grows (MakeSecs enclave base size ∷ []) b b'
+grow_secs b b' enclave f base size least next =
+    grow b b' (MakeSecs enclave base size) (Create enclave f base size) tt (rw least refl) next
+    (rw (next.past, next.frames) (room_more b.frames b.past (Create enclave f base size) next.event tt next.is_action))
+
+pub secs_made : (b b' : BookView) (enclave : ℕ) (f : Frame) (base size : ℕ) → IsCalm b.past → least_free b.frames (content b.past) ≡ Some f.0 → AreTaken b.past (MakeSecs enclave base size ∷ [])
+    → IsNext actors.Builder (Create enclave f base size) b b' → flat b'.past ≡ with_enclave (flat b.past) enclave (record { base = base; size = size; is_init = false })
+secs_made b b' enclave f base size calm least taken next =
+    let did = create_did b b' enclave f base size calm (found_least (content b.past) b.frames f.0 least) taken next in
+    rw (next.past, did.is) (flat_done (flat b.past) actors.Builder (Create enclave f base size) did.answer (one_taken b.past (MakeSecs enclave base size) taken))
+
+-- ---- its pages
+
+pub grow_page : (b b' : BookView) (g : Page) (f : Frame) (kind : Kind) (perm : Perm) (init : PageInit) → least_free b.frames (content b.past) ≡ Some f.0
+    → IsNext actors.Builder (Add g.enclave g.number f kind perm init) b b' → Grows (AddPage g.enclave g.number kind perm init ∷ []) b b'
+grow_page b b' g f kind perm init least next =
+    grow b b' (AddPage g.enclave g.number kind perm init) (Add g.enclave g.number f kind perm init) tt (rw least refl) next
+    (rw (next.past, next.frames) (room_more b.frames b.past (Add g.enclave g.number f kind perm init) next.event tt next.is_action))
+
+pub page_made : (b b' : BookView) (g : Page) (f : Frame) (kind : Kind) (perm : Perm) (init : PageInit) → IsCalm b.past → least_free b.frames (content b.past) ≡ Some f.0
+    → AreTaken b.past (AddPage g.enclave g.number kind perm init ∷ []) → IsNext actors.Builder (Add g.enclave g.number f kind perm init) b b'
+    → flat b'.past ≡ with_page (flat b.past) g (record { kind = kind; perm = perm; words = first_words init })
+page_made b b' g f kind perm init calm least taken next =
+    let did = add_did b b' g f kind perm init calm (found_least (content b.past) b.frames f.0 least) taken next in
+    rw (next.past, did.is) (flat_done (flat b.past) actors.Builder (Add g.enclave g.number f kind perm init) did.answer (one_taken b.past (AddPage g.enclave g.number kind perm init) taken))
+
+pub page_placed : (b b' : BookView) (g : Page) (f : Frame) (kind : Kind) (perm : Perm) (init : PageInit) → IsCalm b.past → least_free b.frames (content b.past) ≡ Some f.0
+    → AreTaken b.past (AddPage g.enclave g.number kind perm init ∷ []) → IsNext actors.Builder (Add g.enclave g.number f kind perm init) b b' → IsPlaced b'.past g kind perm init
+page_placed b b' g f kind perm init calm least taken next =
+    let did = add_did b b' g f kind perm init calm (found_least (content b.past) b.frames f.0 least) taken next in
+    record {
+      frame = f.0;
+      there = rw (next.past, did.is, same_page-refl g.enclave g.number) refl;
+      held = rw (next.past, did.is, eq-eqb f.0 f.0 refl) refl;
+      words = rw (page_made b b' g f kind perm init calm least taken next, same_page-refl g.enclave g.number) refl;
+    }
+
+-- ---- its end
+
+pub grow_finish : (b b' : BookView) (enclave : ℕ) (expect : Option (List ℕ)) → IsNext actors.Builder (Init enclave expect) b b' → Grows (Finish enclave expect ∷ []) b b'
+grow_finish b b' enclave expect next =
+    let same = room_init b.frames b.past enclave expect next.event next.is_action in
+    grow b b' (Finish enclave expect) (Init enclave expect) tt refl next (rw (next.past, next.frames, same) (omega arith))
+
+unmade_after : (past : List Entry) (enclave : ℕ) (expect : Option (List ℕ)) (event : Event) (e : ℕ) → action_of event ≡ Some (Init enclave expect) → (enclave == e) ≡ false
+    → IsUnmade past e → IsUnmade (entry_of event ∷ past) e
+unmade_after past enclave expect (events.Did action ans) e is other h = rw (some_same action (Init enclave expect) is) (record {
+  created =
+      cond_both (accepts (flat past) actors.Builder (Init enclave expect)) (initialised (flat past) enclave) (flat past) (λ v. v.enclaves e ≡ None)
+      (λ _. rw (eqb-swap e enclave, other) h.created) (λ _. h.created);
+  added = λ n. cond_both (accepts (flat past) actors.Builder (Init enclave expect)) (initialised (flat past) enclave) (flat past) (λ v. v.pages (page_at e n) ≡ None) (λ _. h.added n) (λ _. h.added n);
+})
+unmade_after past enclave expect (events.Refused action why) e is other h = record { created = h.created; added = h.added }
+unmade_after past enclave expect _ e is other h = cc
+
+pub finish_only : (b b' : BookView) (enclave : ℕ) (expect : Option (List ℕ)) → IsNext actors.Builder (Init enclave expect) b b' → MakesOnly enclave b b'
+finish_only b b' enclave expect next e other h = rw next.past (unmade_after b.past enclave expect next.event e next.is_action other h)
