@@ -8,3 +8,5 @@ pub mod CalmLaws
 pub mod HomeLaws
 pub mod FreeLaws
 pub mod BuilderLaws
+pub mod GrowthLaws
+pub mod PlacingLaws

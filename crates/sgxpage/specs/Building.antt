@@ -1,5 +1,5 @@
 -- What the builder does to a book, and when it can.
-use Rattle.std.specs.Prelude.{ℕ, zero, suc, ◌≡◌, ◌==◌, ◌&&◌, ◌+◌, ◌<◌, ◌≤◌, Bool, true, false, if◌then◌else◌, List, Some, None, length, count_by, slice_get}
+use Rattle.std.specs.Prelude.{ℕ, zero, suc, ◌≡◌, ◌==◌, ◌&&◌, ◌+◌, ◌<◌, ◌≤◌, Bool, true, false, if◌then◌else◌, List, Some, None, length, slice_get, sum_by}
 use Rattle.std.specs.List.{All}
 use Rattle.sgx_types.specs.declared.entries.Entry.{Entry}
 use Rattle.sgx_types.specs.declared.entries.Actor.TheVariants as actors
@@ -13,7 +13,7 @@ use Rattle.sgx_types.specs.Rules.{Along}
 use Rattle.job_grammar.specs.declared.jobs.PageLine.{PageLine}
 use Rattle.job_grammar.specs.declared.jobs.PageLine.TheVariants as lines
 use Rattle.job_grammar.specs.Jobs.{JobView, covers}
-use Rattle.job_grammar.specs.Script.{BuildStep, ScriptRule, build_of, built, no_perm, replied, step_action, takes_frame}
+use Rattle.job_grammar.specs.Script.{BuildStep, Finish, ScriptRule, build_of, built, no_perm, replied, step_action}
 use Rattle.sgxpage.specs.Books.{BookView, GoesOn, IsPlaced}
 
 -- ---- frames
@@ -26,8 +26,13 @@ count_free held (suc n) = if is_free (held n) then count_free held n + 1 else co
 abbrev pub free_frames : BookView → ℕ
 free_frames b = count_free (content b.past) b.frames
 
+abbrev pub frame_count : BuildStep → ℕ
+frame_count (Finish enclave expect) = 0
+frame_count _ = 1
+
+-- how many free frames steps take
 abbrev pub frames_taken : List BuildStep → ℕ
-frames_taken steps = count_by takes_frame steps
+frames_taken steps = sum_by frame_count steps
 
 -- ---- steps
 

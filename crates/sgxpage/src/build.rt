@@ -1,9 +1,9 @@
-ghost use Rattle.std.specs.Prelude.{◌≡◌, ◌≤◌, [], ◌∷◌, length, map, replicate, true, false, OnOk};
+ghost use Rattle.std.specs.Prelude.{◌≡◌, ◌+◌, ◌≤◌, [], ◌∷◌, length, map, replicate, true, false, OnOk};
 ghost use Rattle.std.specs.List.{All};
 ghost use Rattle.sgx_types.specs.declared.names.Page.{Page};
 ghost use Rattle.sgx_types.specs.Flat.{flat, first_words, with_enclave, with_page};
 ghost use Rattle.sgx_types.specs.Table.{is_enclave};
-ghost use Rattle.job_grammar.specs.Jobs.{enclave_view, lines_at, va_pages, page_count};
+ghost use Rattle.job_grammar.specs.Jobs.{enclave_view, lines_at, va_pages, page_count, first_page};
 ghost use Rattle.job_grammar.specs.Script.{BuildStep, MakeVa, MakeSecs, AddPage, Finish, build_of, enclave_steps, enclaves_steps, line_steps};
 ghost use Rattle.job_grammar.specs.Valid.{IsValidEnclave};
 ghost use Rattle.sgxpage.specs.Books.{IsCalm, IsPlaced};
@@ -111,6 +111,7 @@ fn add_line(
     line: &PageLine,
 ) -> Result<(), Memory>
     requires calm { IsCalm book.old.past }
+    requires small { first_page line.now + page_count line.now ≤ 4096 }
     requires room { page_count line.now ≤ free_frames book.old }
     requires taken { AreTaken book.old.past (line_steps enclave line.now) }
     ensures grows { OnOk result (Grows (line_steps enclave line.now) book.old book.new) }
@@ -156,11 +157,18 @@ fn add_pages(
     perm: Perm,
     value: u64,
 ) -> Result<(), Memory>
+    requires calm { IsCalm book.old.past }
+    requires small { from.number + count ≤ 4096 }
+    requires room { count ≤ free_frames book.old }
+    requires taken { AreTaken book.old.past (line_steps from.enclave (PageLine.Reg from.number count perm value true)) }
+    ensures grows { OnOk result (Grows (line_steps from.enclave (PageLine.Reg from.number count perm value true)) book.old book.new) }
+    ensures placed { OnOk result (IsPlacedLine book.new.past from.enclave (PageLine.Reg from.number count perm value true)) }
+    ensures only { OnOk result (AddsOnly from.enclave (PageLine.Reg from.number count perm value true) book.old book.new) }
 {
     for index in 0..count {
         let page = Page {
             enclave: from.enclave,
-            number: from.number.wrapping_add(index),
+            number: from.number + index,
         };
         add(alloc, book, page, Kind::Reg, perm, PageInit::Words(value))?;
     }

@@ -1,0 +1,86 @@
+-- Steps of the builder one after another.
+use Rattle.std.proofs.Common.{◌≡◌, ℕ, zero, suc, ◌+◌, ◌≤◌, ◌<◌, refl, arith, sym, ap, ◌∙◌, Some, List, [], ◌∷◌, ◌++◌, length, get_or, slice_get, replicate, sum_by}
+use Rattle.std.specs.List.{All}
+use Rattle.std.proofs.lemmas.List.{get_or-append-add, length-append, replicate-append-replicate}
+use Rattle.std.proofs.lemmas.List.Folds.{sum_by-replicate}
+use Rattle.std.proofs.lemmas.List.Sums.{sum_by-append}
+use Rattle.std.proofs.lemmas.Option.{get_or_from_slice_get, slice_get-get_or, slice_get_within}
+use Rattle.std.proofs.Math.ListN.{get_or-append}
+use Rattle.sgx_types.specs.declared.entries.Entry.{Entry}
+use Rattle.sgx_types.specs.Rules.{Along}
+use Rattle.job_grammar.specs.declared.jobs.PageLine.{PageLine}
+use Rattle.job_grammar.specs.declared.jobs.PageLine.TheVariants as lines
+use Rattle.job_grammar.specs.Jobs.{JobView}
+use Rattle.job_grammar.specs.Script.{BuildStep, MakeVa, ScriptRule, build_of, built}
+use Rattle.sgxpage.specs.Books.{BookView, GoesOn, IsCalm}
+use Rattle.sgxpage.specs.Building.{AreNext, Grows, IsPlacedLine, frame_count, frames_taken}
+
+next_first : (xs ys : List BuildStep) (i : ℕ) (step : BuildStep) → slice_get xs i ≡ Some step → slice_get (xs ++ ys) i ≡ Some step
+next_first xs ys i step h =
+    let within = slice_get_within xs i step h in
+    let len = length-append xs ys in
+    slice_get-get_or (xs ++ ys) i step (omega (arith, within, len)) ∙ ap Some (get_or-append xs ys step i within ∙ get_or_from_slice_get xs i step step h)
+
+next_rest : (xs ys : List BuildStep) (i : ℕ) (step : BuildStep) → slice_get ys i ≡ Some step → slice_get (xs ++ ys) (length xs + i) ≡ Some step
+next_rest xs ys i step h =
+    let within = slice_get_within ys i step h in
+    let len = length-append xs ys in
+    slice_get-get_or (xs ++ ys) (length xs + i) step (omega (arith, within, len)) ∙ ap Some (get_or-append-add xs ys i step ∙ get_or_from_slice_get ys i step step h)
+
+ahead_rest : (j : JobView) (past past' : List Entry) (xs ys : List BuildStep) → built past' ≡ built past + length xs → AreNext j past (xs ++ ys) → AreNext j past' ys
+ahead_rest j past past' xs ys is ahead i step h =
+    let place : built past + (length xs + i) ≡ built past' + i = omega (arith, is) in
+    rw (← place) (ahead (length xs + i) step (next_rest xs ys i step h))
+
+pub goes_on : (b b' b'' : BookView) → GoesOn b b' → GoesOn b' b'' → GoesOn b b''
+goes_on b b' b'' g h = record {
+  frames = h.frames ∙ g.frames;
+  cpus = h.cpus ∙ g.cpus;
+  calm = h.calm;
+  keeps = λ page kind perm init k. h.keeps page kind perm init (g.keeps page kind perm init k);
+}
+
+pub stays_put : (b : BookView) → IsCalm b.past → GoesOn b b
+stays_put b calm = record { frames = refl; cpus = refl; calm = calm; keeps = λ page kind perm init k. k }
+
+pub grows_none : (b : BookView) → IsCalm b.past → Grows [] b b
+grows_none b calm = record {
+  goes = stays_put b calm;
+  built = omega arith;
+  script = λ j size ahead before. before;
+  room = omega arith;
+  replied = λ p. refl;
+  stays = λ p. refl;
+}
+
+pub grows_append : (xs ys : List BuildStep) (b b' b'' : BookView) → Grows xs b b' → Grows ys b' b'' → Grows (xs ++ ys) b b''
+grows_append xs ys b b' b'' g h =
+    let len = length-append xs ys in
+    let taken = sum_by-append frame_count xs ys in
+    record {
+      goes = goes_on b b' b'' g.goes h.goes;
+      built = omega (arith, g.built, h.built, len);
+      script = λ j size ahead before.
+          h.script j (size ∙ sym g.goes.frames) (ahead_rest j b.past b'.past xs ys g.built ahead)
+          (g.script j size (λ i step k. ahead i step (next_first xs ys i step k)) before);
+      room = omega (arith, g.room, h.room, taken);
+      replied = λ p. h.replied p ∙ g.replied p;
+      stays = λ p. h.stays p ∙ g.stays p;
+    }
+
+-- ---- version arrays
+
+pub grows_vas : (k : ℕ) (b b' b'' : BookView) → Grows (replicate k MakeVa) b b' → Grows (MakeVa ∷ []) b' b'' → Grows (replicate (k + 1) MakeVa) b b''
+grows_vas k b b' b'' g h = rw (← replicate-append-replicate k 1 MakeVa) (grows_append (replicate k MakeVa) (MakeVa ∷ []) b b' b'' g h)
+
+pub vas_taken : (k : ℕ) → frames_taken (replicate k MakeVa) ≡ k
+vas_taken k = sum_by-replicate frame_count k MakeVa ∙ omega arith
+
+-- ---- what was placed
+
+pub line_kept : (b b' : BookView) (enclave : ℕ) → GoesOn b b' → (line : PageLine) → IsPlacedLine b.past enclave line → IsPlacedLine b'.past enclave line
+line_kept b b' enclave g (lines.Tcs page ossa nssa plain) h = g.keeps _ _ _ _ h
+line_kept b b' enclave g (lines.Reg first count perm value plain) h = λ n low high. g.keeps _ _ _ _ (h n low high)
+
+pub lines_kept : (b b' : BookView) (enclave : ℕ) → GoesOn b b' → (ls : List PageLine) → All (IsPlacedLine b.past enclave) ls → All (IsPlacedLine b'.past enclave) ls
+lines_kept b b' enclave g ls h = λ k d within. line_kept b b' enclave g (get_or ls k d) (h k d within)
