@@ -18,7 +18,7 @@ use Rattle.sgx_types.specs.declared.names.Kind.{Kind}
 use Rattle.sgx_types.specs.declared.names.Perm.{Perm}
 use Rattle.sgx_types.specs.Frames.{frame_of, page_at, same_page}
 use Rattle.sgx_types.specs.declared.entries.PageInit.TheVariants as inits
-use Rattle.sgx_types.specs.Table.{FrameSight, add_row, first_of_row, is_lawful_size, is_within}
+use Rattle.sgx_types.specs.Table.{FrameSight, add_row, first_of_row, is_lawful, is_lawful_size, is_within}
 use Rattle.sgx_types.specs.Flat.{FlatEnclave, enclave_sight_of, flat}
 use Rattle.sgx_types.specs.Rules.{KeepsRules}
 use Rattle.job_grammar.specs.Script.{action_of, frame_at}
@@ -42,12 +42,16 @@ none_at n (Some place) = none_in n place
 pub homes_fresh : (homes : List (Option Frame)) → homes ≡ replicate 36864 None → AreHomes (home_in homes) []
 homes_fresh homes is g = rw is (none_at 36864 (place_of g))
 
+pub most_size : (base size : ℕ) → is_lawful base size ≡ true → size ≤ 2 ^ 24
+most_size base size h =
+    let range = both_true (is_lawful_size size) (base % size == 0) h in
+    let sizes = both_true (is_power_of_two size && nat_le 8192 size) (nat_le size (2 ^ 24)) range.0 in
+    leb-true size (2 ^ 24) sizes.1
+
 lawful_sizes : (enclave base size : ℕ) → IsLawful enclave (record { base = base; size = size; is_init = false }) → (enclave ≤ 8) × (size ≤ 2 ^ 24)
 lawful_sizes enclave base size h =
     let number = both_true (nat_le 1 enclave) (nat_le enclave 8) h.number in
-    let range = both_true (is_lawful_size size) (base % size == 0) h.range in
-    let sizes = both_true (is_power_of_two size && nat_le 8192 size) (nat_le size (2 ^ 24)) range.0 in
-    (leb-true enclave 8 number.1, leb-true size (2 ^ 24) sizes.1)
+    (leb-true enclave 8 number.1, most_size base size h.range)
 
 within_size : (size number : ℕ) (init : PageInit) → is_within size number init ≡ true → number < size / 4096
 within_size size number (inits.Words value) h = ltb-true number (size / 4096) h

@@ -10,3 +10,4 @@ pub mod FreeLaws
 pub mod BuilderLaws
 pub mod GrowthLaws
 pub mod PlacingLaws
+pub mod EnclaveLaws

@@ -1,5 +1,6 @@
 -- The pages of a line, one after another.
 use Rattle.std.proofs.Common.{◌≡◌, ℕ, zero, suc, ◌+◌, ◌==◌, ◌&&◌, ◌≤◌, ◌<◌, nat_le, nat_lt, Bool, true, false, refl, arith, sym, ap, ◌∙◌, ◌⊎◌, inl, inr, Some, is_some, List, [], ◌∷◌, ◌++◌, length, get_or, map}
+use Rattle.std.specs.List.{All}
 use Rattle.std.proofs.lemmas.Bool.{le-ltb, leb-false, ltb-false}
 use Rattle.std.proofs.lemmas.Bool.Decides.{leb_tells}
 use Rattle.std.proofs.lemmas.List.{get_or-map, length-map, map-append}
@@ -52,6 +53,15 @@ module _ (enclave first : ℕ) (perm : Perm) (value : ℕ) where
   steps_more k =
       ap (λ n. map page_step (numbers_from first n)) {x = k + 1} {y = suc k} (omega arith)
       ∙ ap (map page_step) (numbers_more first k) ∙ map-append page_step (numbers_from first k) ((first + k) ∷ [])
+
+  -- what holds of the step of each page holds of all steps
+  pub steps_at : (P : BuildStep → Type 0) (count : ℕ) → ((k : ℕ) → k < count → P (page_step (first + k))) → All P (line_steps enclave (first_ones count))
+  steps_at P count h k d within =
+      let len = length_numbers first count in
+      let all = length-map (numbers_from first count) page_step in
+      let below : k < count = omega (arith, within, len, all) in
+      let is = get_or-map page_step (numbers_from first count) k 0 d (omega (arith, below, len)) ∙ ap page_step (numbers_at first count k 0 below) in
+      rw is (h k below)
 
   pub taken_at : (past : List Entry) (count k : ℕ) → AreTaken past (line_steps enclave (first_ones count)) → k < count → accepts (flat past) actors.Builder (step_action (page_step (first + k)) 0) ≡ true
   taken_at past count k h below =
