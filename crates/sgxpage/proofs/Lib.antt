@@ -11,3 +11,4 @@ pub mod BuilderLaws
 pub mod GrowthLaws
 pub mod PlacingLaws
 pub mod EnclaveLaws
+pub mod BuildingLaws
