@@ -5,7 +5,7 @@ ghost use Rattle.sgx_types.specs.Flat.{flat, first_words, with_enclave, with_pag
 ghost use Rattle.sgx_types.specs.Table.{is_enclave};
 ghost use Rattle.job_grammar.specs.Jobs.{enclave_view, lines_at, va_pages, page_count, first_page};
 ghost use Rattle.job_grammar.specs.Script.{BuildStep, MakeVa, MakeSecs, AddPage, Finish, build_of, enclave_steps, enclaves_steps, line_steps};
-ghost use Rattle.job_grammar.specs.Valid.{IsValidEnclave};
+ghost use Rattle.job_grammar.specs.Valid.{IsFirstForm, IsValidEnclave};
 ghost use Rattle.sgxpage.specs.Books.{IsCalm, IsPlaced};
 ghost use Rattle.sgxpage.specs.Building.{AddsOnly, AreTaken, Grows, IsPlacedLine, IsUnmade, MakesOnly, frames_taken, free_frames};
 
@@ -19,6 +19,7 @@ use std::alloc::Global;
 pub fn build(alloc: Global, book: &mut Book, job: &Job) -> Result<(), Memory>
     requires frames { book.old.frames ≡ job.now.epc }
     requires past { book.old.past ≡ [] }
+    requires form { IsFirstForm job.now }
     requires calm { IsCalm book.old.past }
     ensures grows { OnOk result (Grows (build_of job.now) book.old book.new) }
     ensures placed { OnOk result ((e : ℕ) → All (IsPlacedLine book.new.past e) (lines_at job.now.enclaves e)) }
