@@ -12,3 +12,4 @@ pub mod GrowthLaws
 pub mod PlacingLaws
 pub mod EnclaveLaws
 pub mod BuildingLaws
+pub mod RunLaws

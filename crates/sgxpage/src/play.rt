@@ -80,7 +80,7 @@ fn frames_to_enter(book: &Book, cpu: Cpu, enclave: u16, tcs: u32) -> (Frame, Fra
     requires cpu { cpu.0 < book.now.cpus }
     requires calm { IsCalm book.now.past }
     ensures due { (j : JobView) → IsBuilt j book.now.past → IsPlayable j (Op.Enter enclave tcs)
-        → op_due j book.now.past cpu.0 (Some (Op.Enter enclave tcs)) ≡ Some (actions.Enter enclave tcs result.0 result.1) }
+        → op_due j book.now.past cpu.0 (Some (Op.Enter enclave tcs)) ≡ Some (Action.Enter enclave tcs result.0 result.1) }
 {
     if book.mode(cpu) != Mode::Outside || !book.is_init(enclave) {
         return (Frame(0), Frame(0));

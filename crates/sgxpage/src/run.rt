@@ -1,5 +1,6 @@
 ghost use Rattle.std.specs.Prelude.{◌≡◌, [], length, IfOk};
 ghost use Rattle.job_grammar.specs.Script.{Script};
+ghost use Rattle.job_grammar.specs.Valid.{IsFirstForm, IsValid};
 ghost use Rattle.sgxpage.specs.Books.{IsCalm};
 
 use crate::book::Book;
@@ -12,6 +13,7 @@ use std::alloc::Global;
 
 /// Runs a job: the builder makes the version arrays and then each enclave, and then each processor plays its script.
 pub fn run(alloc: Global, job: &Job) -> Result<Book, Memory>
+    requires form { IsFirstForm job.now }
     ensures frames { IfOk result (λ book. book.frames ≡ job.now.epc) }
     ensures script { IfOk result (λ book. Script job.now book.past) }
 {
@@ -26,6 +28,7 @@ fn opened(alloc: Global, job: &Job) -> Result<Book, Memory>
     ensures cpus { IfOk result (λ book. book.cpus ≡ length job.now.scripts) }
     ensures past { IfOk result (λ book. book.past ≡ []) }
     ensures calm { IfOk result (λ book. IsCalm book.past) }
+    ensures valid { IsValid job.now }
 {
     let machine = Machine::new(
         alloc,

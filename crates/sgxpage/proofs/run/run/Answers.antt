@@ -1,0 +1,8 @@
+use Rattle.sgxpage.proofs.RunLaws.{build_scripted, built_of, quiet_of}
+use Rattle.sgxpage.proofs.run.run.Goals as goal
+
+pub returns-clause-script : goal.returns-clause-script
+returns-clause-script c = record {
+  entries = c.in_ok-play_all.ensures.script (build_scripted c.args.job.now c.in_ok-book.book c.build.new.book c.in_ok-book.ensures.frames c.in_ok-book.ensures.past c.in_ok-build.ensures.grows);
+  ended = c.in_ok-play_all.ensures.ended;
+}
