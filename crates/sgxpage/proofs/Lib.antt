@@ -6,3 +6,6 @@ pub mod NumberLaws
 pub mod BookLaws
 pub mod CalmLaws
 pub mod HomeLaws
+pub mod PlayLaws
+pub mod PlayPages
+pub mod PlayFills

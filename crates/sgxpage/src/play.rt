@@ -1,11 +1,12 @@
-ghost use Rattle.std.specs.Prelude.{◌≡◌, ◌<◌, ◌≤◌, [], ◌∷◌, length, None, Some, OnOk};
+ghost use Rattle.std.specs.Prelude.{ℕ, ◌≡◌, ◌<◌, ◌≤◌, [], ◌∷◌, length, None, Some, OnOk, unwrap_or};
+ghost use Rattle.sgx_types.specs.Frames.{frame_of, page_at};
 ghost use Rattle.sgx_types.specs.Processors.{stay};
 ghost use Rattle.sgx_types.specs.Rules.{Along};
-ghost use Rattle.job_grammar.specs.Jobs.{JobView};
-ghost use Rattle.job_grammar.specs.Script.{IsEnded, ScriptRule, op_due};
+ghost use Rattle.job_grammar.specs.Jobs.{JobView, lines_at, tcs_line};
+ghost use Rattle.job_grammar.specs.Script.{IsEnded, ScriptRule, enter_by, op_due};
 ghost use Rattle.job_grammar.specs.Valid.{IsFirstForm};
 ghost use Rattle.sgxpage.specs.Books.{IsCalm};
-ghost use Rattle.sgxpage.specs.Playing.{IsBuilt, IsPlayable, IsQuiet, LeavesLast, Plays};
+ghost use Rattle.sgxpage.specs.Playing.{Fills, IsBuilt, IsPlayable, IsQuiet, LeavesLast, Plays};
 
 use crate::book::Book;
 use cached_translations::processor::Mode;
@@ -80,7 +81,7 @@ fn frames_to_enter(book: &Book, cpu: Cpu, enclave: u16, tcs: u32) -> (Frame, Fra
     requires cpu { cpu.0 < book.now.cpus }
     requires calm { IsCalm book.now.past }
     ensures due { (j : JobView) → IsBuilt j book.now.past → IsPlayable j (Op.Enter enclave tcs)
-        → op_due j book.now.past cpu.0 (Some (Op.Enter enclave tcs)) ≡ Some (actions.Enter enclave tcs result.0 result.1) }
+        → op_due j book.now.past cpu.0 (Some (Op.Enter enclave tcs)) ≡ Some (Action.Enter enclave tcs result.0 result.1) }
 {
     if book.mode(cpu) != Mode::Outside || !book.is_init(enclave) {
         return (Frame(0), Frame(0));
@@ -96,7 +97,10 @@ fn frames_to_enter(book: &Book, cpu: Cpu, enclave: u16, tcs: u32) -> (Frame, Fra
 }
 
 // The frame of the next state save page of a TCS page, None where all are in use.
-fn next_ssa(book: &Book, enclave: u16, tcs_frame: Frame) -> Option<Frame> {
+fn next_ssa(book: &Book, enclave: u16, tcs_frame: Frame) -> Option<Frame>
+    ensures { (j : JobView) (tcs : ℕ) → IsBuilt j book.now.past → IsPlayable j (Op.Enter enclave tcs) → frame_of book.now.past (page_at enclave tcs) ≡ Some tcs_frame.0
+        → enter_by book.now.past enclave tcs (tcs_line (lines_at j.enclaves enclave) tcs) ≡ Some (Action.Enter enclave tcs tcs_frame (unwrap_or result tcs_frame)) }
+{
     let fields = book.tcs(tcs_frame)?;
     if fields.cssa == fields.nssa {
         return None;
@@ -119,9 +123,11 @@ fn load(alloc: Global, book: &mut Book, cpu: Cpu, off: u64) -> Result<(), Memory
     book.apply(alloc, Actor::Cpu(cpu), Action::Load { off })
 }
 
+#[tactic(auto, using(crate::proofs::PlayLaws::goes_on))]
 fn fill(alloc: Global, book: &mut Book, cpu: Cpu, page: Page) -> Result<(), Memory>
     requires cpu { cpu.0 < book.old.cpus }
     requires calm { IsCalm book.old.past }
+    ensures { OnOk result (Fills cpu.0 page book.old book.new) }
 {
     let number = page.number;
     if book.holds(cpu, number) {

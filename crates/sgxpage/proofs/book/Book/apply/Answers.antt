@@ -1,11 +1,18 @@
-use Rattle.std.proofs.Common.{◌≡◌, [], ◌∷◌, reverse}
-use Rattle.std.proofs.lemmas.List.{reverse-append}
-use Rattle.paging_machine.specs.Parts.{state_of}
+use Rattle.std.proofs.Common.{ℕ, ◌≡◌, ◌≤◌, List, [], ◌∷◌, length, reverse, ap, sym, ◌∙◌}
+use Rattle.std.proofs.lemmas.List.{get_or_past, reverse-append}
+use Rattle.sgx_types.specs.declared.entries.Entry.{Entry}
+use Rattle.sgx_types.specs.Frames.{Free, content}
+use Rattle.epcm_entry.specs.Epc.{EpcFrame, free_frame}
+use Rattle.paging_machine.specs.Parts.{Parts, held, state_of}
+use Rattle.paging_machine.specs.Stands.{Upholds}
 use Rattle.paging_machine.specs.Steps.{CanApply}
 use Rattle.sgxpage.proofs.BookLaws.{step_of}
 use Rattle.sgxpage.proofs.CalmLaws.{calm_more}
 use Rattle.sgxpage.proofs.HomeLaws.{homes_more}
 use Rattle.sgxpage.proofs.book.Book.apply.Goals as goal
+
+none_beyond : (d : Parts) (past : List Entry) → Upholds (state_of d) past → (n : ℕ) → length d.epc ≤ n → content past n ≡ Free
+none_beyond d past upheld n le = sym (upheld.stands.content n) ∙ ap (λ (x : EpcFrame). held x.entry) (get_or_past d.epc n free_frame le)
 
 pub returns-clause-done : goal.returns-clause-done
 returns-clause-done c =
@@ -21,6 +28,7 @@ returns-clause-done c =
       past = rw (← c.self.view_is, ← step.actor_is) past;
       is_action = step.action_is;
       rules = rw past upheld.rules;
+      beyond = rw past (none_beyond c.apply.new.self (c.in_ok-entry.entry ∷ reverse c.self.inside.entries.items) upheld);
       calm = rw past (calm_more c.args.self.now.cpus _ c.in_ok-entry.entry.actor c.args.action c.in_ok-entry.entry.event (reverse c.self.inside.entries.items) can step.action_is upheld.rules c.self.invariant.calm);
     }
 
