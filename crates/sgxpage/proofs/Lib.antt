@@ -9,3 +9,5 @@ pub mod HomeLaws
 pub mod PlayLaws
 pub mod PlayPages
 pub mod PlayFills
+pub mod PlayEnters
+pub mod PlayScripts

@@ -1,5 +1,5 @@
 -- A translation that a processor fills for its next operation.
-use Rattle.std.proofs.Common.{◌≡◌, ℕ, ◌+◌, ◌==◌, ◌/◌, ◌≤◌, ◌&&◌, ◌||◌, not, Bool, true, false, cond, nat_le, nat_lt, refl, sym, ap, ◌∙◌, arith, Option, Some, None, IfSome, List, [], ◌∷◌, ◌++◌, length, drop}
+use Rattle.std.proofs.Common.{◌≡◌, ℕ, ◌+◌, ◌==◌, ◌/◌, ◌^◌, ◌<◌, ◌≤◌, ◌&&◌, ◌||◌, not, Bool, true, false, cond, nat_le, nat_lt, refl, sym, ap, ◌∙◌, arith, Option, Some, None, IfSome, List, [], ◌∷◌, ◌++◌, length, drop}
 use Rattle.std.specs.Option.{option_map}
 use Rattle.std.proofs.lemmas.Bool.{cond_both, eq-eqb, leb-true}
 use Rattle.sgx_types.specs.declared.entries.Entry.{Entry}
@@ -24,9 +24,9 @@ use Rattle.job_grammar.specs.Script.{ScriptRule, access_due, action_of, frame_at
 use Rattle.paging_machine.proofs.Carry.{same_page-refl}
 use Rattle.paging_machine.proofs.Tools.{NoneHolds, none_refused}
 use Rattle.sgxpage.specs.Books.{BookView, IsCalm, IsNext}
-use Rattle.sgxpage.specs.Playing.{Fills, HasFilled, IsBuilt, IsHome, IsPlayable, IsReady, Rests}
+use Rattle.sgxpage.specs.Playing.{Fills, HasFilled, IsBuilt, IsHome, IsPlayable, IsReady, Prepares, Rests}
 use Rattle.sgxpage.proofs.PlayLaws.{entry_of, newest_refusal, on_script, goes_on, built_same, playable_is, replied_silent, rests_same, some_same, content_same}
-use Rattle.sgxpage.proofs.PlayPages.{IsRegAt, reg_at}
+use Rattle.sgxpage.proofs.PlayPages.{IsRegAt, reg_at, reg_below}
 
 -- ---- the translation is held
 
@@ -157,3 +157,10 @@ never_filled p page b calm none = record {
   where
     missing : (o : Option ℕ) → frame_of b.past page ≡ None → IsRegAt b.past page → ⊥
     missing o none reg = let there : frame_of b.past page ≡ Some reg.frame = reg.there in cc
+
+-- a load of no page that a job has
+pub prepares_never : (p off : ℕ) (b : BookView) → IsCalm b.past → (off / 4096 < 2 ^ 32 → ⊥) → Prepares p off b b
+prepares_never p off b calm high = record {
+  rests = rests_same b calm;
+  prepared = λ j ready. absurd (high (let low = reg_below j b.past 1 (off / 4096) ready.job (playable_is j p (ops.Load off) b.past ready) in omega (arith, low)));
+}

@@ -1,8 +1,10 @@
 -- What one entry of a processor does to a book.
-use Rattle.std.proofs.Common.{◌≡◌, ℕ, ◌+◌, ◌==◌, ◌&&◌, ◌/◌, Bool, true, false, cond, nat_le, refl, sym, ap, ◌∙◌, arith, add-zero, Option, Some, None, IfSome, is_some, List, [], ◌∷◌, length, slice_get}
+use Rattle.std.proofs.Common.{◌≡◌, ℕ, ◌+◌, ◌==◌, ◌&&◌, ◌/◌, Bool, true, false, cond, nat_le, refl, sym, ap, ◌∙◌, arith, add-zero, Option, Some, None, IfSome, is_some, Result, Ok, Err, List, [], ◌∷◌, length, slice_get}
 use Rattle.std.specs.List.{All}
+use Rattle.std.specs.Result.{OkIff, result_ok}
 use Rattle.std.proofs.lemmas.Bool.{cond_both, eq-eqb, le-leb}
 use Rattle.std.proofs.lemmas.List.Elements.{All-head, All-weaker}
+use Rattle.std.proofs.lemmas.Result.{OkIff-at_ok, Ok-from_Ok_iff}
 use Rattle.std.proofs.Math.Bool.{and-false}
 use Rattle.sgx_types.specs.declared.entries.Entry.{Entry}
 use Rattle.sgx_types.specs.declared.entries.Event.{Event}
@@ -35,7 +37,7 @@ use Rattle.paging_machine.specs.Stands.{seat_of_stay}
 use Rattle.paging_machine.specs.Steps.{did_by}
 use Rattle.sgxpage.specs.Books.{BookView, GoesOn, IsCalm, IsNext, IsPlaced}
 use Rattle.sgxpage.specs.Building.{IsPlacedLine}
-use Rattle.sgxpage.specs.Playing.{Fills, HasPlayed, IsBuilt, IsHome, IsPlayable, IsReady, Plays, Rests}
+use Rattle.sgxpage.specs.Playing.{Fills, HasPlayed, IsBuilt, IsHome, IsPlayable, IsReady, Plays, Prepares, Rests}
 
 -- the instructions by which a processor plays its script
 abbrev pub IsOfScript : Action → Type 0
@@ -248,34 +250,48 @@ load_stays off (events.Did act ans) is = rw (some_same act (Load off) is) refl
 load_stays off (events.Refused act why) is = refl
 load_stays off _ is = cc
 
-pub plays_load : (cpu : Cpu) (off : ℕ) (b m b' : BookView) → Rests b m → IsNext (actors.Cpu cpu) (Load off) m b'
-    → ((j : JobView) → IsReady j cpu.0 (ops.Load off ∷ []) b.past → (access_due m.past cpu.0 (stay m.past cpu.0) off (Load off) ≡ Some (Load off)) × (Along (ScriptRule j) b.past → Along (ScriptRule j) m.past))
-    → Plays cpu.0 (ops.Load off ∷ []) b b'
-plays_load cpu off b m b' rests n each = plays_after cpu (ops.Load off) (Load off) b m b' tt refl rests n (λ j ready.
-    (let facts = each j ready in
-    let there = ready_on j cpu.0 (ops.Load off ∷ []) b m rests ready in
-    (facts.0, facts.1, rw (n.past, load_stays off n.event n.is_action) there.home)))
+pub plays_load : (cpu : Cpu) (off : ℕ) (b m b' : BookView) → Prepares cpu.0 off b m → IsNext (actors.Cpu cpu) (Load off) m b' → Plays cpu.0 (ops.Load off ∷ []) b b'
+plays_load cpu off b m b' prepares n = plays_after cpu (ops.Load off) (Load off) b m b' tt refl prepares.rests n (λ j ready.
+    (let prepared = prepares.prepared j ready in
+    let there = ready_on j cpu.0 (ops.Load off ∷ []) b m prepares.rests ready in
+    (prepared.due, prepared.script, rw (n.past, load_stays off n.event n.is_action) there.home)))
+
+-- outside, a load is due as it is
+none_seated : (o : Option Stay) → None ≡ seat_of_stay o → o ≡ None
+none_seated None h = refl
+none_seated (Some s) h = cc
+
+pub prepares_outside : (p off : ℕ) (b : BookView) → IsCalm b.past → None ≡ seat_of_stay (stay b.past p) → Prepares p off b b
+prepares_outside p off b calm outside = record {
+  rests = rests_same b calm;
+  prepared = λ j ready. record { due = rw (none_seated (stay b.past p) outside) refl; script = λ along. along };
+}
+
+-- inside, it is due after the fill
+seated_enclave : (seat : Seat) (o : Option Stay) → Some seat ≡ seat_of_stay o → enclave_of_stay o ≡ Some seat.enclave
+seated_enclave seat None h = cc
+seated_enclave seat (Some s) h = let same : s.seat ≡ seat = cc in rw same refl
 
 held_due : (past : List Entry) (p off : ℕ) (o : Option Stay) → holds_number (translations past p) (off / 4096) ≡ true → access_due past p o off (Load off) ≡ Some (Load off)
 held_due past p off None held = refl
 held_due past p off (Some s) held = rw held refl
 
-pub plays_load_outside : (cpu : Cpu) (off : ℕ) (b b' : BookView) → IsCalm b.past → None ≡ seat_of_stay (stay b.past cpu.0) → IsNext (actors.Cpu cpu) (Load off) b b'
-    → Plays cpu.0 (ops.Load off ∷ []) b b'
-plays_load_outside cpu off b b' calm outside n =
-    plays_load cpu off b b b' (rests_same b calm) n (λ j ready. (rw (none_seated (stay b.past cpu.0) outside) refl, λ along. along))
-  where
-    none_seated : (o : Option Stay) → None ≡ seat_of_stay o → o ≡ None
-    none_seated None h = refl
-    none_seated (Some s) h = cc
+pub prepares_filled : (p off : ℕ) (page : Page) (seat : Seat) (b m : BookView) → Some seat ≡ seat_of_stay (stay b.past p) → seat.enclave ≡ page.enclave → off / 4096 ≡ page.number
+    → Fills p page b m → Prepares p off b m
+prepares_filled p off page seat b m seated here same fills = record {
+  rests = fills.rests;
+  prepared = λ j ready.
+      (let inside : enclave_of_stay (stay b.past p) ≡ Some page.enclave = rw here at (seated_enclave seat (stay b.past p) seated) in
+      let filled = fills.filled j off ready inside same in
+      record { due = held_due m.past p off (stay m.past p) (rw same filled.held); script = filled.script });
+}
 
-seated_enclave : (seat : Seat) (o : Option Stay) → Some seat ≡ seat_of_stay o → enclave_of_stay o ≡ Some seat.enclave
-seated_enclave seat None h = cc
-seated_enclave seat (Some s) h = let same : s.seat ≡ seat = cc in rw same refl
+ok_is : {E : Type 0} (r : Result ℕ E) (x : ℕ) → Some x ≡ result_ok r → r ≡ Ok x
+ok_is (Ok y) x is = cc
+ok_is (Err e) x is = cc
 
-pub plays_load_filled : (cpu : Cpu) (off : ℕ) (page : Page) (seat : Seat) (b m b' : BookView) → Fills cpu.0 page b m → Some seat ≡ seat_of_stay (stay b.past cpu.0) → seat.enclave ≡ page.enclave
-    → off / 4096 ≡ page.number → IsNext (actors.Cpu cpu) (Load off) m b' → Plays cpu.0 (ops.Load off ∷ []) b b'
-plays_load_filled cpu off page seat b m b' fills seated here same n = plays_load cpu off b m b' fills.rests n (λ j ready.
-    (let inside : enclave_of_stay (stay b.past cpu.0) ≡ Some page.enclave = rw here at (seated_enclave seat (stay b.past cpu.0) seated) in
-    let filled = fills.filled j off ready inside same in
-    (held_due m.past cpu.0 off (stay m.past cpu.0) (rw same filled.held), filled.script)))
+pub ok_value : {E : Type 0} (r : Result ℕ E) (P : Type 0) (v x : ℕ) → OkIff r P v → Some x ≡ result_ok r → x ≡ v
+ok_value r P v x h is = (OkIff-at_ok r P v x h (ok_is r x is)).1
+
+pub err_never : {E : Type 0} (r : Result ℕ E) (P : Type 0) (v : ℕ) → OkIff r P v → None ≡ result_ok r → P → ⊥
+err_never r P v h none holds = let none_of : None ≡ Some v = none ∙ ap result_ok (Ok-from_Ok_iff r P v h holds) in cc

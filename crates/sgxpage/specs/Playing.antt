@@ -2,6 +2,7 @@
 use Rattle.std.specs.Prelude.{ℕ, ◌≡◌, ◌==◌, ◌+◌, ◌-◌, ◌/◌, Bool, true, false, List, [], ◌∷◌, Some, None, IfSome, length, slice_get}
 use Rattle.std.specs.List.{All}
 use Rattle.sgx_types.specs.declared.entries.Entry.{Entry}
+use Rattle.sgx_types.specs.declared.entries.Action.TheVariants as actions
 use Rattle.sgx_types.specs.declared.names.Page.{Page}
 use Rattle.sgx_types.specs.Processors.{holds_number, stay, translations}
 use Rattle.sgx_types.specs.Sights.{enclave_of_stay}
@@ -9,7 +10,7 @@ use Rattle.sgx_types.specs.Rules.{Along}
 use Rattle.job_grammar.specs.declared.jobs.Op.{Op}
 use Rattle.job_grammar.specs.declared.jobs.Op.TheVariants as ops
 use Rattle.job_grammar.specs.Jobs.{JobView, is_reg_page, is_tcs_page, lines_at}
-use Rattle.job_grammar.specs.Script.{ScriptRule, build_of, built, replied, script_of}
+use Rattle.job_grammar.specs.Script.{ScriptRule, build_of, built, op_due, replied, script_of}
 use Rattle.job_grammar.specs.Valid.{IsValid}
 use Rattle.sgxpage.specs.Books.{BookView, GoesOn}
 use Rattle.sgxpage.specs.Building.{IsPlacedLine}
@@ -74,6 +75,16 @@ pub record Fills (p : ℕ) (page : Page) (b b' : BookView) : Type 0 where
   pub rests : Rests b b'
   pub filled : (j : JobView) (off : ℕ) → IsReady j p (ops.Load off ∷ []) b.past → enclave_of_stay (stay b.past p) ≡ Some page.enclave → off / 4096 ≡ page.number
       → HasFilled j p page.number b b'
+
+-- a processor's load is due at its next place, since it filled what it needs by the script
+pub record IsPrepared (j : JobView) (p off : ℕ) (b b' : BookView) : Type 0 where
+  pub due : op_due j b'.past p (Some (ops.Load off)) ≡ Some (actions.Load off)
+  pub script : Along (ScriptRule j) b.past → Along (ScriptRule j) b'.past
+
+-- .. and nobody else did anything
+pub record Prepares (p off : ℕ) (b b' : BookView) : Type 0 where
+  pub rests : Rests b b'
+  pub prepared : (j : JobView) → IsReady j p (ops.Load off ∷ []) b.past → IsPrepared j p off b b'
 
 -- the last of these operations is an exit
 abbrev pub LeavesLast : List Op → Type 0
