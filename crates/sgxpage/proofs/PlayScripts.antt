@@ -3,7 +3,7 @@ use Rattle.std.proofs.Common.{◌≡◌, ◌≢◌, ℕ, zero, suc, ◌+◌, ◌
 use Rattle.std.specs.Prelude.{unwrap_or}
 use Rattle.std.specs.List.{All}
 use Rattle.std.proofs.lemmas.Bool.{eqb-false, eqb-true, ne_eqb}
-use Rattle.std.proofs.lemmas.List.{length-append, take_more}
+use Rattle.std.proofs.lemmas.List.{length-append, length-map, take_more}
 use Rattle.std.proofs.lemmas.List.Elements.{All-cons, All-head, All-nil, All-tail}
 use Rattle.std.proofs.lemmas.Option.{slice_get-map, slice_get_read, unwrap_or-slice_get}
 use Rattle.sgx_types.specs.declared.entries.Entry.{Entry}
@@ -46,7 +46,7 @@ plays_none p b calm = record {
   built = refl;
   replied = λ q other. refl;
   stays = λ q other. refl;
-  played = λ j ready. record { job = ready.job; home = ready.home; replied = sym add-zero; script = λ along. along };
+  played = λ j ready. record { job = ready.job; home = ready.home; replied = rw add-zero refl; script = λ along. along };
 }
 
 ready_first : (j : JobView) (p : ℕ) (xs ys : List Op) (past : List Entry) → IsReady j p (xs ++ ys) past → IsReady j p xs past
@@ -99,11 +99,11 @@ pub record PlaysAndLeaves (p : ℕ) (ops : List Op) (b b' : BookView) : Type 0 w
 pub leaves_none : (p : ℕ) (b : BookView) → IsCalm b.past → PlaysAndLeaves p [] b b
 leaves_none p b calm = record { plays = plays_none p b calm; leaves = λ last. cc }
 
-pub leaves_more : (p : ℕ) (script : List Op) (i : ℕ) (op d : Op) (b m b' : BookView) → i < length script → op ≡ get_or script i d → PlaysAndLeaves p (take i script) b m → Plays p (op ∷ []) m b'
-    → (op ≡ ops.Exit → stay b'.past p ≡ None) → PlaysAndLeaves p (take (i + 1) script) b b'
-leaves_more p script i op d b m b' within is h plays leaves =
-    let more : take (i + 1) script ≡ take i script ++ op ∷ [] = take_more script i d within ∙ ap (λ (x : Op). take i script ++ x ∷ []) (sym is) in
-    rw more (record {
+pub leaves_more : (p : ℕ) (script : List Op) (i : ℕ) (d : Op) (b m b' : BookView) → i < length script → PlaysAndLeaves p (take i script) b m → Plays p (get_or script i d ∷ []) m b'
+    → (get_or script i d ≡ ops.Exit → stay b'.past p ≡ None) → PlaysAndLeaves p (take (i + 1) script) b b'
+leaves_more p script i d b m b' within h plays leaves =
+    let op = get_or script i d in
+    rw (take_more script i d within) (record {
       plays = plays_append p (take i script) (op ∷ []) b m b' h.plays plays;
       leaves = λ last. leaves (let same : Some op ≡ Some ops.Exit = sym (last_is (take i script) op) ∙ last in cc);
     })
@@ -156,8 +156,8 @@ pub record ArePlayed (j : JobView) (count : ℕ) (b b' : BookView) : Type 0 wher
   pub cpus : b'.cpus ≡ b.cpus
   pub calm : IsCalm b'.past
   pub job : IsBuilt j b'.past
-  pub replied : (p : ℕ) → p < count → replied b'.past p ≡ length (script_of j p)
   pub quiet : (p : ℕ) → count ≤ p → replied b'.past p ≡ 0
+  pub replied : (p : ℕ) → p < count → replied b'.past p ≡ length (script_of j p)
   pub outside : (p : ℕ) → stay b'.past p ≡ None
   pub script : Along (ScriptRule j) b.past → Along (ScriptRule j) b'.past
 
@@ -212,3 +212,10 @@ all_played j count b b' all h = record {
   replied = λ p low. h.replied p (omega arith);
   outside = λ p low. h.outside p;
 }
+
+-- a script by its place
+pub script_is : {X : Type 0} (v : X → List Op) (xs : List X) (j : JobView) (i : ℕ) (x : X) → map v xs ≡ j.scripts → i < length xs → x ≡ get_or xs i x → v x ≡ script_of j i
+script_is v xs j i x all within is = rw (← all, slice_get-map v xs i, slice_get_read xs (length xs) i x refl within is) refl
+
+pub scripts_within : {X : Type 0} (v : X → List Op) (xs : List X) (j : JobView) (i : ℕ) → map v xs ≡ j.scripts → i < length xs → i < length j.scripts
+scripts_within v xs j i all within = rw (← all, length-map) within
