@@ -144,11 +144,7 @@ filled_by cpu page f b b' calm missing there n = record {
           script = on_script j cpu (ops.Load off) [] (Fill page.number f) b b' ready (fill_due b.past cpu.0 off page.enclave page.number f.0 (stay b.past cpu.0) inside same (sym missing) at) n;
         }
 
--- the book as it was, where the translation is held
-pub filled_before : (p : ℕ) (page : Page) (b : BookView) → IsCalm b.past → true ≡ holds_number (translations b.past p) page.number → Fills p page b b
-filled_before p page b calm held = record { rests = rests_same b calm; filled = λ j off ready inside same. record { held = sym held; script = λ along. along } }
-
--- .. and where the page was never added
+-- a page that was never added is none of the job's
 pub never_filled : (p : ℕ) (page : Page) (b : BookView) → IsCalm b.past → None ≡ option_map frame_at (frame_of b.past page) → Fills p page b b
 never_filled p page b calm none = record {
   rests = rests_same b calm;

@@ -256,36 +256,6 @@ plays_load cpu off b m b' prepares n = plays_after cpu (ops.Load off) (Load off)
     let there = ready_on j cpu.0 (ops.Load off ∷ []) b m prepares.rests ready in
     (prepared.due, prepared.script, rw (n.past, load_stays off n.event n.is_action) there.home)))
 
--- outside, a load is due as it is
-none_seated : (o : Option Stay) → None ≡ seat_of_stay o → o ≡ None
-none_seated None h = refl
-none_seated (Some s) h = cc
-
-pub prepares_outside : (p off : ℕ) (b : BookView) → IsCalm b.past → None ≡ seat_of_stay (stay b.past p) → Prepares p off b b
-prepares_outside p off b calm outside = record {
-  rests = rests_same b calm;
-  prepared = λ j ready. record { due = rw (none_seated (stay b.past p) outside) refl; script = λ along. along };
-}
-
--- inside, it is due after the fill
-seated_enclave : (seat : Seat) (o : Option Stay) → Some seat ≡ seat_of_stay o → enclave_of_stay o ≡ Some seat.enclave
-seated_enclave seat None h = cc
-seated_enclave seat (Some s) h = let same : s.seat ≡ seat = cc in rw same refl
-
-held_due : (past : List Entry) (p off : ℕ) (o : Option Stay) → holds_number (translations past p) (off / 4096) ≡ true → access_due past p o off (Load off) ≡ Some (Load off)
-held_due past p off None held = refl
-held_due past p off (Some s) held = rw held refl
-
-pub prepares_filled : (p off : ℕ) (page : Page) (seat : Seat) (b m : BookView) → Some seat ≡ seat_of_stay (stay b.past p) → seat.enclave ≡ page.enclave → off / 4096 ≡ page.number
-    → Fills p page b m → Prepares p off b m
-prepares_filled p off page seat b m seated here same fills = record {
-  rests = fills.rests;
-  prepared = λ j ready.
-      (let inside : enclave_of_stay (stay b.past p) ≡ Some page.enclave = rw here at (seated_enclave seat (stay b.past p) seated) in
-      let filled = fills.filled j off ready inside same in
-      record { due = held_due m.past p off (stay m.past p) (rw same filled.held); script = filled.script });
-}
-
 ok_is : {E : Type 0} (r : Result ℕ E) (x : ℕ) → Some x ≡ result_ok r → r ≡ Ok x
 ok_is (Ok y) x is = cc
 ok_is (Err e) x is = cc

@@ -40,15 +40,6 @@ all_right P (x ∷ xs) ys h = all_right P xs ys (All-tail P x (xs ++ ys) h)
 
 -- ---- operations after operations
 
-pub plays_none : (p : ℕ) (b : BookView) → IsCalm b.past → Plays p [] b b
-plays_none p b calm = record {
-  goes = goes_same b calm;
-  built = refl;
-  replied = λ q other. refl;
-  stays = λ q other. refl;
-  played = λ j ready. record { job = ready.job; home = ready.home; replied = rw add-zero refl; script = λ along. along };
-}
-
 ready_first : (j : JobView) (p : ℕ) (xs ys : List Op) (past : List Entry) → IsReady j p (xs ++ ys) past → IsReady j p xs past
 ready_first j p xs ys past h = record {
   job = h.job;
@@ -95,9 +86,6 @@ last_is xs op =
 pub record PlaysAndLeaves (p : ℕ) (ops : List Op) (b b' : BookView) : Type 0 where
   pub plays : Plays p ops b b'
   pub leaves : LeavesLast ops → stay b'.past p ≡ None
-
-pub leaves_none : (p : ℕ) (b : BookView) → IsCalm b.past → PlaysAndLeaves p [] b b
-leaves_none p b calm = record { plays = plays_none p b calm; leaves = λ last. cc }
 
 pub leaves_more : (p : ℕ) (script : List Op) (i : ℕ) (d : Op) (b m b' : BookView) → i < length script → PlaysAndLeaves p (take i script) b m → Plays p (get_or script i d ∷ []) m b'
     → (get_or script i d ≡ ops.Exit → stay b'.past p ≡ None) → PlaysAndLeaves p (take (i + 1) script) b b'
@@ -161,18 +149,6 @@ pub record ArePlayed (j : JobView) (count : ℕ) (b b' : BookView) : Type 0 wher
   pub outside : (p : ℕ) → stay b'.past p ≡ None
   pub script : Along (ScriptRule j) b.past → Along (ScriptRule j) b'.past
 
-pub none_played : (j : JobView) (b : BookView) → IsCalm b.past → IsBuilt j b.past → IsQuiet b.past → ArePlayed j 0 b b
-none_played j b calm job quiet = record {
-  frames = refl;
-  cpus = refl;
-  calm = calm;
-  job = job;
-  replied = λ p low. absurd (omega arith);
-  quiet = λ p from. quiet.replied p;
-  outside = quiet.outside;
-  script = λ along. along;
-}
-
 pub one_played : (j : JobView) (i : ℕ) (script : List Op) (b m b' : BookView) → IsFirstForm j → i < length j.scripts → script ≡ script_of j i → ArePlayed j i b m → Plays i script m b'
     → (LeavesLast script → stay b'.past i ≡ None) → ArePlayed j (i + 1) b b'
 one_played j i script b m b' form within is h plays leaves = record {
@@ -205,13 +181,6 @@ one_played j i script b m b' form within is h plays leaves = record {
     outside_by : (p : ℕ) (t : Bool) → (i == p) ≡ t → stay b'.past p ≡ None
     outside_by p true e = let same : i ≡ p = eqb-true i p e in rw (← same) (leaves (rw is facts.1))
     outside_by p false e = plays.stays p e ∙ h.outside p
-
-pub all_played : (j : JobView) (count : ℕ) (b b' : BookView) → count ≡ length j.scripts → ArePlayed j count b b' → IsEnded j b'.past
-all_played j count b b' all h = record {
-  built = h.job.whole;
-  replied = λ p low. h.replied p (omega arith);
-  outside = λ p low. h.outside p;
-}
 
 -- a script by its place
 pub script_is : {X : Type 0} (v : X → List Op) (xs : List X) (j : JobView) (i : ℕ) (x : X) → map v xs ≡ j.scripts → i < length xs → x ≡ get_or xs i x → v x ≡ script_of j i

@@ -64,7 +64,7 @@ tcs_at past f = tcs_of (content past f) (words_held past (content past f))
 
 -- ---- one entry more
 
--- one entry more, of this actor and instruction, by which the rules are kept
+-- one entry more, of this actor and instruction, by which the rules are kept, and no frame beyond the last holds anything
 pub record IsNext (actor : Actor) (action : Action) (b b' : BookView) : Type 0 where
   pub frames : b'.frames ≡ b.frames
   pub cpus : b'.cpus ≡ b.cpus
