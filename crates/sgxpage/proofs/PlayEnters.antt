@@ -1,5 +1,5 @@
 -- The frames with which a processor enters by its script.
-use Rattle.std.proofs.Common.{◌≡◌, ℕ, ◌+◌, ◌*◌, ◌/◌, ◌^◌, ◌<◌, ◌==◌, ◌||◌, not, Bool, true, false, refl, sym, ap, ◌∙◌, arith, add-zero, Option, Some, None, is_some, List, [], ◌∷◌}
+use Rattle.std.proofs.Common.{◌≡◌, ℕ, ◌+◌, ◌*◌, ◌/◌, ◌<◌, ◌==◌, false, refl, ap, ◌∙◌, arith, add-zero, Option, Some, None, List}
 use Rattle.std.specs.Prelude.{unwrap_or}
 use Rattle.std.specs.Option.{option_map}
 use Rattle.std.proofs.lemmas.Bool.{ne_eqb}
@@ -7,12 +7,11 @@ use Rattle.sgx_types.specs.declared.entries.Entry.{Entry}
 use Rattle.sgx_types.specs.declared.entries.Action.TheVariants.{Enter}
 use Rattle.sgx_types.specs.declared.layouts.TcsFields.{TcsFields}
 use Rattle.sgx_types.specs.declared.names.Frame.{Frame}
-use Rattle.sgx_types.specs.declared.names.Page.{Page}
 use Rattle.sgx_types.specs.Frames.{frame_of, page_at}
 use Rattle.job_grammar.specs.declared.jobs.Op.TheVariants as ops
 use Rattle.job_grammar.specs.declared.jobs.PageLine.{PageLine}
 use Rattle.job_grammar.specs.Jobs.{JobView, lines_at, tcs_line}
-use Rattle.job_grammar.specs.Script.{enter_by, frame_at, saved}
+use Rattle.job_grammar.specs.Script.{enter_by, frame_at}
 use Rattle.sgxpage.specs.Books.{IsCalm, tcs_at}
 use Rattle.sgxpage.specs.Playing.{IsBuilt, IsPlayable}
 use Rattle.sgxpage.proofs.PlayLaws.{some_same}
@@ -61,8 +60,8 @@ module _ (j : JobView) (past : List Entry) (enclave tcs : ℕ) (tf : Frame) (cal
       let number_is : number ≡ t.ossa = omega arith in
       let r_is : r ≡ Some (frame_at t.ssa.frame) = found ∙ rw (number_is, t.ssa.there) refl in
       rw r_is (enter_due past enclave tcs tf.0 (tcs_line (lines_at j.enclaves enclave) tcs) t calm there)
-
   -- a TCS page that the job's lines add has a frame
+
 pub tcs_has_frame : (j : JobView) (past : List Entry) (enclave tcs : ℕ) → IsBuilt j past → IsPlayable j (ops.Enter enclave tcs) → None ≡ option_map frame_at (frame_of past (page_at enclave tcs)) → ⊥
 tcs_has_frame j past enclave tcs built playable none =
     let t = tcs_there j past enclave tcs built playable in

@@ -1,5 +1,5 @@
 -- A translation that a processor fills for its next operation.
-use Rattle.std.proofs.Common.{◌≡◌, ℕ, ◌+◌, ◌==◌, ◌/◌, ◌^◌, ◌<◌, ◌≤◌, ◌&&◌, ◌||◌, not, Bool, true, false, cond, nat_le, nat_lt, refl, sym, ap, ◌∙◌, arith, Option, Some, None, IfSome, List, [], ◌∷◌, ◌++◌, length, drop}
+use Rattle.std.proofs.Common.{◌≡◌, ℕ, ◌==◌, ◌/◌, ◌^◌, ◌<◌, ◌≤◌, ◌||◌, Bool, true, false, nat_le, nat_lt, refl, sym, ap, ◌∙◌, arith, Option, Some, None, IfSome, List, [], ◌∷◌, ◌++◌, length}
 use Rattle.std.specs.Option.{option_map}
 use Rattle.std.proofs.lemmas.Bool.{cond_both, eq-eqb, leb-true}
 use Rattle.sgx_types.specs.declared.entries.Entry.{Entry}
@@ -13,18 +13,18 @@ use Rattle.sgx_types.specs.declared.names.Frame.{Frame}
 use Rattle.sgx_types.specs.declared.names.Page.{Page}
 use Rattle.sgx_types.specs.declared.names.Kind.TheVariants as kinds
 use Rattle.sgx_types.specs.declared.names.Perm.{Perm}
-use Rattle.sgx_types.specs.Frames.{Content, Free, Holds, content, frame_of, is_sealing, page_at}
+use Rattle.sgx_types.specs.Frames.{Content, Free, Holds, content, frame_of, page_at}
 use Rattle.sgx_types.specs.Processors.{Keeps, Pair, Stay, holds_number, move_by, newest, stay, translations, translations_after, with_pair}
-use Rattle.sgx_types.specs.Table.{FrameSight, fill_row, first_of_row}
+use Rattle.sgx_types.specs.Table.{fill_row, first_of_row}
 use Rattle.sgx_types.specs.Sights.{enclave_of_stay, sight_at}
-use Rattle.sgx_types.specs.Rules.{Along, KeepsRules, RefusalRule}
+use Rattle.sgx_types.specs.Rules.{RefusalRule}
 use Rattle.job_grammar.specs.declared.jobs.Op.TheVariants as ops
 use Rattle.job_grammar.specs.Jobs.{JobView, is_reg_page, lines_at}
-use Rattle.job_grammar.specs.Script.{ScriptRule, access_due, action_of, frame_at, is_reply, op_due, replied}
+use Rattle.job_grammar.specs.Script.{access_due, action_of, frame_at}
 use Rattle.paging_machine.proofs.Carry.{same_page-refl}
 use Rattle.paging_machine.proofs.Tools.{NoneHolds, none_refused}
 use Rattle.sgxpage.specs.Books.{BookView, IsCalm, IsNext}
-use Rattle.sgxpage.specs.Playing.{Fills, HasFilled, IsBuilt, IsHome, IsPlayable, IsReady, Prepares, Rests}
+use Rattle.sgxpage.specs.Playing.{Fills, HasFilled, IsReady, Prepares, Rests}
 use Rattle.sgxpage.proofs.PlayLaws.{entry_of, newest_refusal, on_script, goes_on, built_same, playable_is, replied_silent, rests_same, some_same, content_same}
 use Rattle.sgxpage.proofs.PlayPages.{IsRegAt, reg_at, reg_below}
 
@@ -58,12 +58,19 @@ not_beyond frames f held g perm beyond is = by_test (nat_le frames f) refl
 fill_allowed : (frames enclave number f : ℕ) (perm : Perm) (past : List Entry) → IsCalm past → (frames ≤ f → content past f ≡ Free) → content past f ≡ Holds (page_at enclave number) kinds.Reg perm
     → first_of_row (fill_row number (Some enclave) (sight_at frames past f)) ≡ None
 fill_allowed frames enclave number f perm past calm beyond held =
-    let row : NoneHolds (fill_row number (Some enclave) (sight_at frames past f)) =
-        (not_beyond frames f (content past f) (page_at enclave number) perm beyond held,
-        (rw (held, calm.settled f) refl,
-        (rw (held, same_page-refl enclave number) refl,
-        (calm.unblocked f,
-        (rw held refl, tt)))))
+    let row : NoneHolds (fill_row number (Some enclave) (sight_at frames past f)) = (
+      not_beyond frames f (content past f) (page_at enclave number) perm beyond held,
+      (
+        rw (held, calm.settled f) refl,
+        (
+          rw (held, same_page-refl enclave number) refl,
+          (
+            calm.unblocked f,
+            (rw held refl, tt),
+          ),
+        ),
+      ),
+    )
     in
     none_refused (fill_row number (Some enclave) (sight_at frames past f)) row
 

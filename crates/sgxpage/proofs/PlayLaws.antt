@@ -1,6 +1,5 @@
 -- What one entry of a processor does to a book.
-use Rattle.std.proofs.Common.{◌≡◌, ℕ, ◌+◌, ◌==◌, ◌&&◌, ◌/◌, Bool, true, false, cond, nat_le, refl, sym, ap, ◌∙◌, arith, add-zero, Option, Some, None, IfSome, is_some, Result, Ok, Err, List, [], ◌∷◌, length, slice_get}
-use Rattle.std.specs.List.{All}
+use Rattle.std.proofs.Common.{◌≡◌, ℕ, ◌+◌, ◌==◌, true, false, nat_le, refl, sym, ap, ◌∙◌, arith, add-zero, Option, Some, None, IfSome, is_some, Result, Ok, Err, List, [], ◌∷◌, length, slice_get}
 use Rattle.std.specs.Result.{OkIff, result_ok}
 use Rattle.std.proofs.lemmas.Bool.{cond_both, eq-eqb, le-leb}
 use Rattle.std.proofs.lemmas.List.Elements.{All-head, All-weaker}
@@ -22,9 +21,8 @@ use Rattle.sgx_types.specs.declared.names.Page.{Page}
 use Rattle.sgx_types.specs.declared.names.Kind.{Kind}
 use Rattle.sgx_types.specs.declared.names.Perm.{Perm}
 use Rattle.sgx_types.specs.Frames.{content, frame_of}
-use Rattle.sgx_types.specs.Processors.{Move, Enters, Leaves, Keeps, Seat, Stay, holds_number, move_by, stay, stay_after, translations}
+use Rattle.sgx_types.specs.Processors.{Move, Enters, Leaves, Keeps, Stay, move_by, stay, stay_after}
 use Rattle.sgx_types.specs.Table.{exit_row, first_of_row}
-use Rattle.sgx_types.specs.Sights.{enclave_of_stay}
 use Rattle.sgx_types.specs.Flat.{accepts, flat, memory_after}
 use Rattle.sgx_types.specs.Rules.{Along, KeepsRules, RefusalRule}
 use Rattle.job_grammar.specs.declared.jobs.Op.{Op}
@@ -32,12 +30,11 @@ use Rattle.job_grammar.specs.declared.jobs.Op.TheVariants as ops
 use Rattle.job_grammar.specs.declared.jobs.PageLine.{PageLine}
 use Rattle.job_grammar.specs.declared.jobs.PageLine.TheVariants as lines
 use Rattle.job_grammar.specs.Jobs.{JobView, lines_at}
-use Rattle.job_grammar.specs.Script.{ScriptRule, access_due, action_of, build_of, built, cpu_due, is_reply, is_reply_action, op_due, replied, script_of}
-use Rattle.paging_machine.specs.Stands.{seat_of_stay}
+use Rattle.job_grammar.specs.Script.{ScriptRule, action_of, build_of, built, cpu_due, is_reply, is_reply_action, op_due, replied, script_of}
 use Rattle.paging_machine.specs.Steps.{did_by}
 use Rattle.sgxpage.specs.Books.{BookView, GoesOn, IsCalm, IsNext, IsPlaced}
 use Rattle.sgxpage.specs.Building.{IsPlacedLine}
-use Rattle.sgxpage.specs.Playing.{Fills, HasPlayed, IsBuilt, IsHome, IsPlayable, IsReady, Plays, Prepares, Rests}
+use Rattle.sgxpage.specs.Playing.{IsBuilt, IsHome, IsPlayable, IsReady, Plays, Prepares, Rests}
 
 -- the instructions by which a processor plays its script
 abbrev pub IsOfScript : Action → Type 0
@@ -216,9 +213,11 @@ plays_enter cpu enclave tcs tf sf b b' calm due_by n = plays_after cpu (ops.Ente
     each : (j : JobView) → IsReady j cpu.0 (ops.Enter enclave tcs ∷ []) b.past
         → (op_due j b.past cpu.0 (Some (ops.Enter enclave tcs)) ≡ Some (Enter enclave tcs tf sf)) × (Along (ScriptRule j) b.past → Along (ScriptRule j) b.past) × IsHome b'.past cpu.0
     each j ready =
-        let playable = playable_is j cpu.0 (ops.Enter enclave tcs) b.past ready in
-        (due_by j ready.job playable, λ along. along,
-        rw (n.past, eq-eqb cpu.0 cpu.0 refl) (enter_home enclave tcs tf sf n.event b.past (stay b.past cpu.0) n.is_action playable.0 ready.home))
+        let playable = playable_is j cpu.0 (ops.Enter enclave tcs) b.past ready in (
+          due_by j ready.job playable,
+          λ along. along,
+          rw (n.past, eq-eqb cpu.0 cpu.0 refl) (enter_home enclave tcs tf sf n.event b.past (stay b.past cpu.0) n.is_action playable.0 ready.home),
+        )
 
 -- ---- an exit
 

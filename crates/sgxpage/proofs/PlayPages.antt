@@ -1,18 +1,16 @@
 -- Where the pages are that a built job's lines add.
-use Rattle.std.proofs.Common.{◌≡◌, ℕ, zero, suc, ◌+◌, ◌*◌, ◌/◌, ◌%◌, ◌^◌, ◌<◌, ◌≤◌, ◌==◌, ◌&&◌, ◌||◌, Bool, true, false, cond, nat_le, nat_lt, refl, sym, ap, ◌∙◌, arith, Option, Some, None, IfSome, List, [], ◌∷◌, length}
+use Rattle.std.proofs.Common.{◌≡◌, ℕ, zero, suc, ◌+◌, ◌*◌, ◌/◌, ◌%◌, ◌^◌, ◌<◌, ◌≤◌, ◌==◌, ◌&&◌, ◌||◌, Bool, true, false, cond, nat_le, nat_lt, refl, arith, Option, Some, None, IfSome, List, [], ◌∷◌}
 use Rattle.std.specs.Int.{is_power_of_two}
 use Rattle.std.specs.List.{All, find, list_any, slice_get}
 use Rattle.std.proofs.lemmas.Bool.{eqb-true, leb-true, ltb-true}
 use Rattle.std.proofs.lemmas.List.Elements.{All-head, All-tail}
 use Rattle.sgx_types.specs.declared.entries.Entry.{Entry}
 use Rattle.sgx_types.specs.declared.entries.PageInit.TheVariants as inits
-use Rattle.sgx_types.specs.declared.layouts.TcsFields.{TcsFields}
 use Rattle.sgx_types.specs.declared.names.Page.{Page}
 use Rattle.sgx_types.specs.declared.names.Kind.TheVariants as kinds
 use Rattle.sgx_types.specs.declared.names.Perm.{Perm}
-use Rattle.sgx_types.specs.Frames.{Content, Holds, content, frame_of, page_at}
+use Rattle.sgx_types.specs.Frames.{Holds, content, frame_of, page_at}
 use Rattle.sgx_types.specs.Table.{is_lawful_size}
-use Rattle.sgx_types.specs.Flat.{first_words, flat}
 use Rattle.job_grammar.specs.declared.jobs.PageLine.{PageLine}
 use Rattle.job_grammar.specs.declared.jobs.PageLine.TheVariants as lines
 use Rattle.job_grammar.specs.Jobs.{EnclaveView, JobView, covers, enclave_at, is_reg_line, is_reg_page, is_save_line, is_save_page, is_tcs_line, is_tcs_page, lines_at, lines_in, tcs_line}

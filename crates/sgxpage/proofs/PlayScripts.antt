@@ -1,5 +1,5 @@
 -- The operations of a script one after the other, and the scripts of a job.
-use Rattle.std.proofs.Common.{◌≡◌, ◌≢◌, ℕ, zero, suc, ◌+◌, ◌-◌, ◌/◌, ◌<◌, ◌≤◌, ◌==◌, Bool, true, false, refl, sym, ap, ◌∙◌, arith, add-zero, Option, Some, None, IfSome, List, [], ◌∷◌, ◌++◌, length, take, get_or, map, slice_get}
+use Rattle.std.proofs.Common.{◌≡◌, ◌≢◌, ℕ, zero, suc, ◌+◌, ◌-◌, ◌<◌, ◌≤◌, ◌==◌, Bool, true, false, refl, sym, ap, ◌∙◌, arith, Some, None, List, [], ◌∷◌, ◌++◌, length, take, get_or, map, slice_get}
 use Rattle.std.specs.Prelude.{unwrap_or}
 use Rattle.std.specs.List.{All}
 use Rattle.std.proofs.lemmas.Bool.{eqb-false, eqb-true, ne_eqb}
@@ -13,11 +13,11 @@ use Rattle.job_grammar.specs.declared.jobs.PageLine.{PageLine}
 use Rattle.job_grammar.specs.declared.jobs.Op.{Op}
 use Rattle.job_grammar.specs.declared.jobs.Op.TheVariants as ops
 use Rattle.job_grammar.specs.Jobs.{EnclaveView, JobView, is_tcs_page, lines_at}
-use Rattle.job_grammar.specs.Script.{IsEnded, ScriptRule, built, replied, script_of}
-use Rattle.job_grammar.specs.Valid.{AreFirstEnclaves, AreFirstScripts, AreLoads, IsFirstForm, IsFirstScript, IsValid, IsValidOp}
+use Rattle.job_grammar.specs.Script.{ScriptRule, replied, script_of}
+use Rattle.job_grammar.specs.Valid.{AreFirstEnclaves, AreLoads, IsFirstForm, IsFirstScript, IsValid, IsValidOp}
 use Rattle.sgxpage.specs.Books.{BookView, IsCalm}
-use Rattle.sgxpage.specs.Playing.{AreAhead, HasPlayed, IsBuilt, IsHome, IsPlayable, IsQuiet, IsReady, LeavesLast, Plays}
-use Rattle.sgxpage.proofs.PlayLaws.{built_on, goes_same, goes_then}
+use Rattle.sgxpage.specs.Playing.{HasPlayed, IsBuilt, IsPlayable, IsReady, LeavesLast, Plays}
+use Rattle.sgxpage.proofs.PlayLaws.{goes_then}
 
 -- ---- lists
 
@@ -164,6 +164,7 @@ one_played j i script b m b' form within is h plays leaves = record {
   where
     facts : All (IsPlayable j) (script_of j i) × LeavesLast (script_of j i)
     facts = script_playable j i h.job.valid form within
+
     ready : IsReady j i script m.past
     ready = record {
       job = h.job;
@@ -171,13 +172,17 @@ one_played j i script b m b' form within is h plays leaves = record {
       next = λ k op at. (let start : replied m.past i + k ≡ k = omega (arith, h.quiet i (le_self i)) in rw (start, ← is) at);
       playable = rw is facts.0;
     }
+
     played : HasPlayed j i script m b'
     played = plays.played j ready
+
     own : replied b'.past i ≡ length (script_of j i)
     own = omega (arith, played.replied, h.quiet i (le_self i), ap length is)
+
     replied_by : (p : ℕ) (t : Bool) → (p == i) ≡ t → p < i + 1 → replied b'.past p ≡ length (script_of j p)
     replied_by p true e low = let same : p ≡ i = eqb-true p i e in rw same own
     replied_by p false e low = plays.replied p (ne_eqb i p (λ same. absurd (let other = other_of p i e in other (sym same)))) ∙ h.replied p (let other = other_of p i e in omega arith)
+
     outside_by : (p : ℕ) (t : Bool) → (i == p) ≡ t → stay b'.past p ≡ None
     outside_by p true e = let same : i ≡ p = eqb-true i p e in rw (← same) (leaves (rw is facts.1))
     outside_by p false e = plays.stays p e ∙ h.outside p

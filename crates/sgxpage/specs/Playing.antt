@@ -1,5 +1,5 @@
 -- What a processor does to a book by the operations of its script, and when it can.
-use Rattle.std.specs.Prelude.{ℕ, ◌≡◌, ◌==◌, ◌+◌, ◌-◌, ◌/◌, Bool, true, false, List, [], ◌∷◌, Some, None, IfSome, length, slice_get}
+use Rattle.std.specs.Prelude.{ℕ, ◌≡◌, ◌==◌, ◌+◌, ◌-◌, ◌/◌, true, false, List, [], ◌∷◌, Some, None, IfSome, length, slice_get}
 use Rattle.std.specs.List.{All}
 use Rattle.sgx_types.specs.declared.entries.Entry.{Entry}
 use Rattle.sgx_types.specs.declared.entries.Action.TheVariants as actions

@@ -1,5 +1,4 @@
-use Rattle.std.proofs.Common.{ℕ, ◌≡◌, Some, sym, ◌∙◌, arith}
-use Rattle.sgxpage.specs.Books.{tcs_at}
+use Rattle.std.proofs.Common.{sym, ◌∙◌, arith}
 use Rattle.sgxpage.proofs.PlayEnters.{has_fields, has_frames, number_low, next_due}
 use Rattle.sgxpage.proofs.PlayLaws.{err_never, ok_value}
 use Rattle.sgxpage.proofs.play.next_ssa.Goals as goal

@@ -21,7 +21,7 @@ pub returns-clause-done : goal.returns-clause-done
 returns-clause-done c =
     let step = step_of (state_of c.self.inside.machine) (state_of c.apply.new.self) c.args.actor c.args.action c.in_ok-entry.entry c.in_ok-entry.ensures.step in
     let past : reverse c.push_reserved.new.self.items ≡ c.in_ok-entry.entry ∷ reverse c.self.inside.entries.items =
-        rw (c.push_reserved.ensures.items, c.reserve.ensures.items) (reverse-append c.self.inside.entries.items (c.in_ok-entry.entry ∷ [])) in
+    rw (c.push_reserved.ensures.items, c.reserve.ensures.items) (reverse-append c.self.inside.entries.items (c.in_ok-entry.entry ∷ [])) in
     let upheld = c.in_ok-entry.ensures.history (reverse c.self.inside.entries.items) c.self.invariant.upheld in
     let can : CanApply c.args.self.now.cpus c.in_ok-entry.entry.actor c.args.action = rw step.actor_is c.requires in
     record {
@@ -39,7 +39,7 @@ pub invariant_of-self-2 : goal.invariant_of-self-2
 invariant_of-self-2 c =
     let step = step_of (state_of c.self.inside.machine) (state_of c.apply.new.self) c.args.actor c.args.action c.in_ok-entry.entry c.in_ok-entry.ensures.step in
     let past : reverse c.push_reserved.new.self.items ≡ c.in_ok-entry.entry ∷ reverse c.self.inside.entries.items =
-        rw (c.push_reserved.ensures.items, c.reserve.ensures.items) (reverse-append c.self.inside.entries.items (c.in_ok-entry.entry ∷ [])) in
+    rw (c.push_reserved.ensures.items, c.reserve.ensures.items) (reverse-append c.self.inside.entries.items (c.in_ok-entry.entry ∷ [])) in
     let upheld = c.in_ok-entry.ensures.history (reverse c.self.inside.entries.items) c.self.invariant.upheld in
     let can : CanApply c.args.self.now.cpus c.in_ok-entry.entry.actor c.args.action = rw step.actor_is c.requires in
     record {
