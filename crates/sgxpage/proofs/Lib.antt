@@ -13,3 +13,8 @@ pub mod PlacingLaws
 pub mod EnclaveLaws
 pub mod BuildingLaws
 pub mod RunLaws
+pub mod PlayLaws
+pub mod PlayPages
+pub mod PlayFills
+pub mod PlayEnters
+pub mod PlayScripts

@@ -1,5 +1,5 @@
 -- The book: the machine with the entries of its trace, and where the pages are.
-use Rattle.std.specs.Prelude.{ℕ, ◌≡◌, Bool, true, false, List, [], ◌∷◌, Option, Some, None, IfSome, length, reverse}
+use Rattle.std.specs.Prelude.{ℕ, ◌≡◌, ◌≤◌, Bool, true, false, List, [], ◌∷◌, Option, Some, None, IfSome, length, reverse}
 use Rattle.std.specs.Option.{option_map}
 use Rattle.sgx_types.specs.declared.entries.Actor.{Actor}
 use Rattle.sgx_types.specs.declared.entries.Action.{Action}
@@ -10,7 +10,7 @@ use Rattle.sgx_types.specs.declared.layouts.TcsFields.{TcsFields}
 use Rattle.sgx_types.specs.declared.names.Page.{Page}
 use Rattle.sgx_types.specs.declared.names.Kind.{Kind}
 use Rattle.sgx_types.specs.declared.names.Perm.{Perm}
-use Rattle.sgx_types.specs.Frames.{Content, Holds, content, frame_of, is_blocked, is_sealing}
+use Rattle.sgx_types.specs.Frames.{Content, Free, Holds, content, frame_of, is_blocked, is_sealing}
 use Rattle.sgx_types.specs.Table.{is_enclave, is_lawful, is_ready}
 use Rattle.sgx_types.specs.Flat.{FlatEnclave, FlatPage, flat, enclave_sight, first_words, words_of}
 use Rattle.sgx_types.specs.Rules.{KeepsRules}
@@ -64,7 +64,7 @@ tcs_at past f = tcs_of (content past f) (words_held past (content past f))
 
 -- ---- one entry more
 
--- one entry more, of this actor and instruction, by which the rules are kept
+-- one entry more, of this actor and instruction, by which the rules are kept, and no frame beyond the last holds anything
 pub record IsNext (actor : Actor) (action : Action) (b b' : BookView) : Type 0 where
   pub frames : b'.frames ≡ b.frames
   pub cpus : b'.cpus ≡ b.cpus
@@ -72,6 +72,7 @@ pub record IsNext (actor : Actor) (action : Action) (b b' : BookView) : Type 0 w
   pub past : b'.past ≡ (let e : Entry = record { actor = actor; event = event } in e) ∷ b.past
   pub is_action : action_of event ≡ Some action
   pub rules : KeepsRules b'.frames b'.past
+  pub beyond : (n : ℕ) → b'.frames ≤ n → content b'.past n ≡ Free
   pub calm : IsCalm b'.past
 
 -- ---- the same book, later

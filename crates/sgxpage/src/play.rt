@@ -1,11 +1,12 @@
-ghost use Rattle.std.specs.Prelude.{◌≡◌, ◌<◌, ◌≤◌, [], ◌∷◌, length, None, Some, OnOk};
+ghost use Rattle.std.specs.Prelude.{ℕ, ◌≡◌, ◌<◌, ◌≤◌, [], ◌∷◌, length, None, Some, OnOk, unwrap_or};
+ghost use Rattle.sgx_types.specs.Frames.{frame_of, page_at};
 ghost use Rattle.sgx_types.specs.Processors.{stay};
 ghost use Rattle.sgx_types.specs.Rules.{Along};
-ghost use Rattle.job_grammar.specs.Jobs.{JobView};
-ghost use Rattle.job_grammar.specs.Script.{IsEnded, ScriptRule, op_due};
+ghost use Rattle.job_grammar.specs.Jobs.{JobView, lines_at, tcs_line};
+ghost use Rattle.job_grammar.specs.Script.{IsEnded, ScriptRule, enter_by, op_due};
 ghost use Rattle.job_grammar.specs.Valid.{IsFirstForm};
 ghost use Rattle.sgxpage.specs.Books.{IsCalm};
-ghost use Rattle.sgxpage.specs.Playing.{IsBuilt, IsPlayable, IsQuiet, LeavesLast, Plays};
+ghost use Rattle.sgxpage.specs.Playing.{Fills, IsBuilt, IsPlayable, IsQuiet, LeavesLast, Plays, Prepares};
 
 use crate::book::Book;
 use cached_translations::processor::Mode;
@@ -96,7 +97,11 @@ fn frames_to_enter(book: &Book, cpu: Cpu, enclave: u16, tcs: u32) -> (Frame, Fra
 }
 
 // The frame of the next state save page of a TCS page, None where all are in use.
-fn next_ssa(book: &Book, enclave: u16, tcs_frame: Frame) -> Option<Frame> {
+fn next_ssa(book: &Book, enclave: u16, tcs_frame: Frame) -> Option<Frame>
+    requires { IsCalm book.now.past }
+    ensures { (j : JobView) (tcs : ℕ) → IsBuilt j book.now.past → IsPlayable j (Op.Enter enclave tcs) → frame_of book.now.past (page_at enclave tcs) ≡ Some tcs_frame.0
+        → enter_by book.now.past enclave tcs (tcs_line (lines_at j.enclaves enclave) tcs) ≡ Some (Action.Enter enclave tcs tcs_frame (unwrap_or result tcs_frame)) }
+{
     let fields = book.tcs(tcs_frame)?;
     if fields.cssa == fields.nssa {
         return None;
@@ -105,23 +110,34 @@ fn next_ssa(book: &Book, enclave: u16, tcs_frame: Frame) -> Option<Frame> {
     book.frame_of(Page { enclave, number })
 }
 
-// A load goes by a translation; where none is held, it is filled first.
 fn load(alloc: Global, book: &mut Book, cpu: Cpu, off: u64) -> Result<(), Memory>
     requires cpu { cpu.0 < book.old.cpus }
     requires calm { IsCalm book.old.past }
     ensures plays { OnOk result (Plays cpu.0 (Op.Load off ∷ []) book.old book.new) }
 {
-    if let Mode::Inside { enclave, .. } = book.mode(cpu) {
-        if let Ok(number) = u32::try_from(off / 4096) {
-            fill(alloc, book, cpu, Page { enclave, number })?;
-        }
-    }
+    fill_for(alloc, book, cpu, off)?;
     book.apply(alloc, Actor::Cpu(cpu), Action::Load { off })
+}
+
+// A load inside goes by a translation; where none is held, it is filled first.
+fn fill_for(alloc: Global, book: &mut Book, cpu: Cpu, off: u64) -> Result<(), Memory>
+    requires cpu { cpu.0 < book.old.cpus }
+    requires calm { IsCalm book.old.past }
+    ensures { OnOk result (Prepares cpu.0 off book.old book.new) }
+{
+    let Mode::Inside { enclave, .. } = book.mode(cpu) else {
+        return Ok(());
+    };
+    let Ok(number) = u32::try_from(off / 4096) else {
+        return Ok(());
+    };
+    fill(alloc, book, cpu, Page { enclave, number })
 }
 
 fn fill(alloc: Global, book: &mut Book, cpu: Cpu, page: Page) -> Result<(), Memory>
     requires cpu { cpu.0 < book.old.cpus }
     requires calm { IsCalm book.old.past }
+    ensures { OnOk result (Fills cpu.0 page book.old book.new) }
 {
     let number = page.number;
     if book.holds(cpu, number) {

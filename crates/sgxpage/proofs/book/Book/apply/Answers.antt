@@ -1,17 +1,27 @@
-use Rattle.std.proofs.Common.{◌≡◌, [], ◌∷◌, reverse}
-use Rattle.std.proofs.lemmas.List.{reverse-append}
-use Rattle.paging_machine.specs.Parts.{state_of}
+use Rattle.std.proofs.Common.{ℕ, get_or, ◌≡◌, ◌≤◌, List, [], ◌∷◌, length, reverse, ap, sym, ◌∙◌}
+use Rattle.std.proofs.lemmas.List.{get_or_past, reverse-append}
+use Rattle.sgx_types.specs.declared.entries.Entry.{Entry}
+use Rattle.sgx_types.specs.Frames.{Content, Free, content}
+use Rattle.paging_machine.specs.Parts.{Parts, held, state_of}
+use Rattle.paging_machine.specs.Stands.{Upholds}
 use Rattle.paging_machine.specs.Steps.{CanApply}
 use Rattle.sgxpage.proofs.BookLaws.{step_of}
 use Rattle.sgxpage.proofs.CalmLaws.{calm_more}
 use Rattle.sgxpage.proofs.HomeLaws.{homes_more}
 use Rattle.sgxpage.proofs.book.Book.apply.Goals as goal
 
+past_end : {X : Type 0} (xs : List X) (v : X → Content) (n : ℕ) (d : X) → length xs ≤ n → v (get_or xs n d) ≡ v d
+past_end xs v n d le = ap v (get_or_past xs n d le)
+
+-- beyond its last frame the machine holds nothing
+none_beyond : (d : Parts) (past : List Entry) → Upholds (state_of d) past → (n : ℕ) → length d.epc ≤ n → content past n ≡ Free
+none_beyond d past upheld n le = sym (upheld.stands.content n) ∙ past_end d.epc (λ x. held x.entry) n _ le
+
 pub returns-clause-done : goal.returns-clause-done
 returns-clause-done c =
     let step = step_of (state_of c.self.inside.machine) (state_of c.apply.new.self) c.args.actor c.args.action c.in_ok-entry.entry c.in_ok-entry.ensures.step in
     let past : reverse c.push_reserved.new.self.items ≡ c.in_ok-entry.entry ∷ reverse c.self.inside.entries.items =
-        rw (c.push_reserved.ensures.items, c.reserve.ensures.items) (reverse-append c.self.inside.entries.items (c.in_ok-entry.entry ∷ [])) in
+    rw (c.push_reserved.ensures.items, c.reserve.ensures.items) (reverse-append c.self.inside.entries.items (c.in_ok-entry.entry ∷ [])) in
     let upheld = c.in_ok-entry.ensures.history (reverse c.self.inside.entries.items) c.self.invariant.upheld in
     let can : CanApply c.args.self.now.cpus c.in_ok-entry.entry.actor c.args.action = rw step.actor_is c.requires in
     record {
@@ -21,6 +31,7 @@ returns-clause-done c =
       past = rw (← c.self.view_is, ← step.actor_is) past;
       is_action = step.action_is;
       rules = rw past upheld.rules;
+      beyond = rw past (none_beyond c.apply.new.self (c.in_ok-entry.entry ∷ reverse c.self.inside.entries.items) upheld);
       calm = rw past (calm_more c.args.self.now.cpus _ c.in_ok-entry.entry.actor c.args.action c.in_ok-entry.entry.event (reverse c.self.inside.entries.items) can step.action_is upheld.rules c.self.invariant.calm);
     }
 
@@ -28,7 +39,7 @@ pub invariant_of-self-2 : goal.invariant_of-self-2
 invariant_of-self-2 c =
     let step = step_of (state_of c.self.inside.machine) (state_of c.apply.new.self) c.args.actor c.args.action c.in_ok-entry.entry c.in_ok-entry.ensures.step in
     let past : reverse c.push_reserved.new.self.items ≡ c.in_ok-entry.entry ∷ reverse c.self.inside.entries.items =
-        rw (c.push_reserved.ensures.items, c.reserve.ensures.items) (reverse-append c.self.inside.entries.items (c.in_ok-entry.entry ∷ [])) in
+    rw (c.push_reserved.ensures.items, c.reserve.ensures.items) (reverse-append c.self.inside.entries.items (c.in_ok-entry.entry ∷ [])) in
     let upheld = c.in_ok-entry.ensures.history (reverse c.self.inside.entries.items) c.self.invariant.upheld in
     let can : CanApply c.args.self.now.cpus c.in_ok-entry.entry.actor c.args.action = rw step.actor_is c.requires in
     record {
