@@ -4,3 +4,4 @@ pub mod LineLaws
 pub mod EntryLaws
 pub mod NumberLaws
 pub mod BookLaws
+pub mod CommandLaws

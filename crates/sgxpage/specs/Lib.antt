@@ -5,3 +5,4 @@ pub mod Words
 pub mod Ending
 pub mod Books
 pub mod Runs
+pub mod Commands
