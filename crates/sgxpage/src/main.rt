@@ -20,16 +20,21 @@ use io_edges::failed_edges::FailedSink;
 use io_edges::std_edges::{StdSink, StdSource};
 use std::env;
 use std::fs::File;
-use std::io::{self, ErrorKind};
+use std::io::{self, Eprint, ErrorKind};
 use std::process::ExitCode;
 
 fn main(rt: HostRuntime) -> ExitCode {
     let status = status(&rt);
     if status == Status::BadWords {
         // Where the usage can't be printed, the status alone tells.
-        let _ = eprintln!(rt; "usage: sgxpage run PATH");
+        let _ = print_usage(&rt);
     }
     ExitCode::from(status.code())
+}
+
+// The commands that there are.
+fn print_usage(rt: &impl Eprint) -> io::Result<()> {
+    eprintln!(rt; "usage: sgxpage run PATH")
 }
 
 fn status(rt: &HostRuntime) -> Status {

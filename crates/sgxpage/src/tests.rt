@@ -1,10 +1,14 @@
 ghost use Rattle.std.specs.Prelude.{◌≤◌};
 
 use crate::command::{Status, sgxpage};
+use crate::print_usage;
 use io_edges::mem_sink::MemSink;
 use io_edges::mem_source::MemSource;
 use sgx_types::names::Memory;
 use std::alloc::{Alloc, Global};
+use std::cell::Cell;
+use std::fmt::Display;
+use std::io::{self, Eprint, ErrorKind};
 use std::process::Abort;
 use std::test::Fail;
 
@@ -290,6 +294,38 @@ fn other_words_are_no_command(rt: HostRuntime) -> Result<(), Fail> {
     is_no_command(&rt, &["run t"])?;
     is_no_command(&rt, &["make", "1", "3"])?;
     is_no_command(&rt, &["audit", "t", "x"])
+}
+
+// A terminal that keeps the last line printed on it.
+#[derive(Drop)]
+struct Terminal {
+    alloc: Global,
+    line: Cell<Option<String>>,
+}
+
+impl Eprint for Terminal {
+    fn eprint<D: Display + Drop>(&self, _value: D) -> io::Result<()> {
+        Err(ErrorKind::Unsupported.into())
+    }
+
+    fn eprintln<D: Display + Drop>(&self, value: D) -> io::Result<()> {
+        self.line.set(Some(value.to_string(self.alloc)?));
+        Ok(())
+    }
+}
+
+#[test]
+fn the_usage_names_the_command(rt: HostRuntime) -> Result<(), Fail> {
+    let terminal = Terminal {
+        alloc: rt.alloc(),
+        line: Cell::new(None),
+    };
+    print_usage(&terminal)?;
+    assert_eq!(rt;
+        terminal.line.take().as_deref(),
+        Some("usage: sgxpage run PATH")
+    );
+    Ok(())
 }
 
 #[test]
