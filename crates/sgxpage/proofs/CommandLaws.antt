@@ -1,4 +1,4 @@
--- Laws of what a command says of the bytes that it read, and of how it may end.
+-- Laws of what a command says of the bytes that it read.
 use Rattle.std.proofs.Common.{◌≡◌, ◌≤◌, ◌<◌, ◌+◌, ◌^◌, ℕ, List, length, Option, Some, None, refl, ap, sym, ◌∙◌, arith}
 use Rattle.std.specs.Prelude.{IfSome, replicate}
 use Rattle.std.proofs.Math.Seq.{drop-length}

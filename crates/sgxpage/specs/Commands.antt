@@ -1,5 +1,6 @@
--- The words of the command line, and the number of each ending.
+-- The words of the command line, and how a command ends.
 use Rattle.std.specs.Prelude.{ℕ, ◌≡◌, ◌<◌, List, [], ◌∷◌, codes, length}
+use Rattle.io_edges.specs.Faults.{HasRisen}
 use Rattle.sgxpage.specs.declared.command.Status.{Status}
 use Rattle.sgxpage.specs.declared.command.Status.TheVariants as ends
 
@@ -8,6 +9,10 @@ pub record IsRun (words : List (List ℕ)) : Type 0 where
   pub path : List ℕ
   pub some : 0 < length path
   pub spelt : words ≡ codes "run" ∷ path ∷ []
+
+-- no fault was counted
+abbrev pub NoFault : ℕ → ℕ → Type 0
+NoFault old new = HasRisen old new → ⊥
 
 -- the exit status of the program
 abbrev pub number_of : Status → ℕ

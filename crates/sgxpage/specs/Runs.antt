@@ -13,6 +13,22 @@ use Rattle.sgxpage.specs.declared.command.Unread.TheVariants.{Fault}
 use Rattle.sgxpage.specs.OutText.{out_of}
 use Rattle.sgxpage.specs.TraceText.{trace_of}
 
+-- ---- the job's bytes
+
+-- a fact of the bytes that a source had, where it tells them, and of some bytes otherwise
+abbrev pub OfRead : Option (List ℕ) → (List ℕ → Type 0) → Type 0
+OfRead left P = (bytes : List ℕ) × IfSome left (λ all. bytes ≡ all) × P bytes
+
+-- some job has this text
+abbrev pub HasJob : List ℕ → Type 0
+HasJob bytes = (j : JobView) × IsJobText bytes j
+
+-- no job has it
+abbrev pub IsNoJob : List ℕ → Type 0
+IsNoJob bytes = (j : JobView) → IsJobText bytes j → ⊥
+
+-- ---- what a run gives
+
 -- what each sink had and has: some trace keeps the rules of an EPC of the job's size, and the sinks got its text and its
 -- replies
 pub record Gave (job : JobView) (out out' trace trace' : Option (List ℕ)) : Type 0 where
@@ -33,6 +49,14 @@ pub record Ran (bytes : List ℕ) (out out' trace trace' : Option (List ℕ)) : 
   pub job : JobView
   pub text : IsJobText bytes job
   pub gave : Gave job out out' trace trace'
+
+-- a job's bytes, and what the sinks got where one of them failed
+pub record BrokeOn (bytes : List ℕ) (out out' trace trace' : Option (List ℕ)) : Type 0 where
+  pub job : JobView
+  pub text : IsJobText bytes job
+  pub broke : Broke job out out' trace trace'
+
+-- ---- what is wrong with a job
 
 abbrev pub kind_text : JobKind → List ℕ
 kind_text kinds.NotUtf8 = codes "NotUtf8"
@@ -67,26 +91,6 @@ Told bytes out out' = out' ≡ followed_by out (refusal_text bytes)
 -- .. or a proper front of it
 abbrev pub HalfTold : List ℕ → Option (List ℕ) → Option (List ℕ) → Type 0
 HalfTold bytes out out' = GivesPart out out' (refusal_text bytes)
-
--- a job's bytes, and what the sinks got where one of them failed
-pub record BrokeOn (bytes : List ℕ) (out out' trace trace' : Option (List ℕ)) : Type 0 where
-  pub job : JobView
-  pub text : IsJobText bytes job
-  pub broke : Broke job out out' trace trace'
-
--- ---- the job's bytes
-
--- a fact of the bytes that a source had, where it tells them, and of some bytes otherwise
-abbrev pub OfRead : Option (List ℕ) → (List ℕ → Type 0) → Type 0
-OfRead left P = (bytes : List ℕ) × IfSome left (λ all. bytes ≡ all) × P bytes
-
--- some job has this text
-abbrev pub HasJob : List ℕ → Type 0
-HasJob bytes = (j : JobView) × IsJobText bytes j
-
--- no job has it
-abbrev pub IsNoJob : List ℕ → Type 0
-IsNoJob bytes = (j : JobView) → IsJobText bytes j → ⊥
 
 -- the fault that a reader found, if it is one, is what is wrong with the bytes
 abbrev pub IsFaultOf : Option (List ℕ) → Unread → Type 0

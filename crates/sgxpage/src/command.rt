@@ -3,7 +3,7 @@ ghost use Rattle.io_edges.specs.Faults.{HasRisen};
 ghost use Rattle.io_edges.specs.Sinks.{GivesPart, followed_by};
 ghost use Rattle.io_edges.specs.Sources.{TakesAtMost};
 ghost use Rattle.job_grammar.specs.Valid.{IsJobText};
-ghost use Rattle.sgxpage.specs.Commands.{IsRun, MayStandIn, number_of};
+ghost use Rattle.sgxpage.specs.Commands.{IsRun, MayStandIn, NoFault, number_of};
 ghost use Rattle.sgxpage.specs.Runs.{Broke, BrokeOn, Gave, HalfTold, HasJob, IsFaultAnd, IsFaultOf, IsNoJob, OfRead, Ran, Told, fault_text};
 
 use crate::job_faults::print_fault;
@@ -135,9 +135,9 @@ pub fn sgxpage<J: Source, K: Sink, L: Sink>(
         OfRead (J.left job.old) (λ bytes. Ran bytes (K.given out.old) (K.given out.new) (L.given trace.old) (L.given trace.new)) }
     // A run that meets no fault is complete.
     ensures complete { IsRun (map string_bytes words.now) → IsSomeAnd (J.left job.old) HasJob →
-        ¬ HasRisen (J.faults job.old) (J.faults job.new) →
-        ¬ HasRisen (K.faults out.old) (K.faults out.new) →
-        ¬ HasRisen (L.faults trace.old) (L.faults trace.new) →
+        NoFault (J.faults job.old) (J.faults job.new) →
+        NoFault (K.faults out.old) (K.faults out.new) →
+        NoFault (L.faults trace.old) (L.faults trace.new) →
         (result ≡ Status.Done) ⊎ (result ≡ Status.Memory) }
 
     ensures write_fault { result ≡ Status.WriteFault →
