@@ -3,7 +3,7 @@ ghost use Rattle.std.specs.Prelude.{◌≤◌};
 use crate::failed_edges::{FailedSink, FailedSource};
 use crate::faults::Failed;
 use crate::giving::give_all;
-use crate::mem_sink::MemSink;
+use crate::mem_sink::{CAPACITY, MemSink};
 use crate::mem_source::MemSource;
 use crate::reading::{ReadEnd, read_all};
 use crate::sinks::Sink;
@@ -78,12 +78,20 @@ fn a_writer_is_a_sink(rt: HostRuntime) {
 }
 
 #[test]
-fn what_was_not_opened_fails_at_every_call(rt: HostRuntime) {
+fn a_source_that_was_not_opened_fails_at_every_call(rt: HostRuntime) {
     let mut source = FailedSource::new();
+    let mut into = [b'a', b'b'];
+    for calls in 1..=3 {
+        assert_eq!(rt; source.take(&mut into), Err(Failed));
+        assert_eq!(rt; source.faults(), calls);
+    }
+    assert_eq!(rt; into, *b"ab");
+}
+
+#[test]
+fn a_sink_that_was_not_made_fails_at_every_call(rt: HostRuntime) {
     let mut sink = FailedSink::new();
     for calls in 1..=3 {
-        assert_eq!(rt; source.take(&mut [0]), Err(Failed));
-        assert_eq!(rt; source.faults(), calls);
         assert_eq!(rt; sink.give(b"a"), Err(Failed));
         assert_eq!(rt; sink.faults(), calls);
     }
@@ -113,6 +121,23 @@ fn memory_takes_pieces(rt: HostRuntime) -> Result<(), Fail> {
     assert_eq!(rt; sink.give(b"de"), Ok(2));
     assert_eq!(rt; sink.bytes(), b"abcde".as_slice());
     assert_eq!(rt; sink.faults(), 1);
+    Ok(())
+}
+
+#[test]
+fn memory_takes_no_more_than_it_has_room_for(rt: HostRuntime) -> Result<(), Fail> {
+    let alloc = rt.alloc();
+    let bytes = vec![in alloc; b'a'; CAPACITY]?;
+    let mut sink = MemSink::new(alloc, CAPACITY, &[])?;
+    assert_eq!(rt; sink.give(&bytes[3..]), Ok(16_777_213));
+    assert_eq!(rt; sink.give(b"bcdef"), Ok(3));
+    assert_eq!(rt; sink.faults(), 0);
+    for calls in 1..=3 {
+        assert_eq!(rt; sink.give(b"e"), Err(Failed));
+        assert_eq!(rt; sink.faults(), calls);
+    }
+    assert_eq!(rt; sink.bytes().len(), 16_777_216);
+    assert_eq!(rt; &sink.bytes()[16_777_212..], b"abcd".as_slice());
     Ok(())
 }
 

@@ -18,3 +18,4 @@ pub mod PlayPages
 pub mod PlayFills
 pub mod PlayEnters
 pub mod PlayScripts
+pub mod CommandLaws

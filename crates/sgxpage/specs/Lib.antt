@@ -8,3 +8,4 @@ pub mod Books
 pub mod Building
 pub mod Playing
 pub mod Runs
+pub mod Commands

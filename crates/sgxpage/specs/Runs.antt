@@ -1,5 +1,5 @@
 -- What a run gives: the texts of one trace that keeps the rules, or a line on what is wrong with the job.
-use Rattle.std.specs.Prelude.{ℕ, ◌≡◌, ◌⊎◌, List, ◌++◌, Option, codes}
+use Rattle.std.specs.Prelude.{ℕ, ◌≡◌, ◌^◌, ◌⊎◌, if◌then◌else◌, List, ◌++◌, Option, IfSome, codes, length, nat_lt}
 use Rattle.std.specs.Fmt.{decimal}
 use Rattle.io_edges.specs.Sinks.{followed_by, GivesPart}
 use Rattle.sgx_types.specs.declared.entries.Entry.{Entry}
@@ -12,6 +12,22 @@ use Rattle.sgxpage.specs.declared.command.Unread.{Unread}
 use Rattle.sgxpage.specs.declared.command.Unread.TheVariants.{Fault}
 use Rattle.sgxpage.specs.OutText.{out_of}
 use Rattle.sgxpage.specs.TraceText.{trace_of}
+
+-- ---- the job's bytes
+
+-- a fact of the bytes that a source had, where it tells them, and of some bytes otherwise
+abbrev pub OfRead : Option (List ℕ) → (List ℕ → Type 0) → Type 0
+OfRead left P = (bytes : List ℕ) × IfSome left (λ all. bytes ≡ all) × P bytes
+
+-- some job has this text
+abbrev pub HasJob : List ℕ → Type 0
+HasJob bytes = (j : JobView) × IsJobText bytes j
+
+-- no job has it
+abbrev pub IsNoJob : List ℕ → Type 0
+IsNoJob bytes = (j : JobView) → IsJobText bytes j → ⊥
+
+-- ---- what a run gives
 
 -- what each sink had and has: some trace keeps the rules of an EPC of the job's size, and the sinks got its text and its
 -- replies
@@ -34,6 +50,14 @@ pub record Ran (bytes : List ℕ) (out out' trace trace' : Option (List ℕ)) : 
   pub text : IsJobText bytes job
   pub gave : Gave job out out' trace trace'
 
+-- a job's bytes, and what the sinks got where one of them failed
+pub record BrokeOn (bytes : List ℕ) (out out' trace trace' : Option (List ℕ)) : Type 0 where
+  pub job : JobView
+  pub text : IsJobText bytes job
+  pub broke : Broke job out out' trace trace'
+
+-- ---- what is wrong with a job
+
 abbrev pub kind_text : JobKind → List ℕ
 kind_text kinds.NotUtf8 = codes "NotUtf8"
 kind_text kinds.Word = codes "Word"
@@ -52,28 +76,28 @@ kind_text kinds.NotYetBuilt = codes "NotYetBuilt"
 abbrev pub fault_text : ℕ → JobKind → List ℕ
 fault_text line kind = codes "job line " ++ decimal line ++ codes ": " ++ kind_text kind ++ codes "\n"
 
--- a sink got such a line
-pub record Told (out out' : Option (List ℕ)) : Type 0 where
-  pub line : ℕ
-  pub kind : JobKind
-  pub given : out' ≡ followed_by out (fault_text line kind)
+-- what is wrong with bytes that no job has: there are too many, or the job is none that is accepted yet
+abbrev pub kind_of : List ℕ → JobKind
+kind_of bytes = if nat_lt (2 ^ 24) (length bytes) then kinds.TooLong else kinds.NotYetBuilt
+
+-- the line on it, which is said of the whole text
+abbrev pub refusal_text : List ℕ → List ℕ
+refusal_text bytes = fault_text 0 (kind_of bytes)
+
+-- a sink got this line
+abbrev pub Told : List ℕ → Option (List ℕ) → Option (List ℕ) → Type 0
+Told bytes out out' = out' ≡ followed_by out (refusal_text bytes)
 
 -- .. or a proper front of it
-pub record HalfTold (out out' : Option (List ℕ)) : Type 0 where
-  pub line : ℕ
-  pub kind : JobKind
-  pub given : GivesPart out out' (fault_text line kind)
+abbrev pub HalfTold : List ℕ → Option (List ℕ) → Option (List ℕ) → Type 0
+HalfTold bytes out out' = GivesPart out out' (refusal_text bytes)
 
--- a job's bytes, and what the sinks got where one of them failed
-pub record BrokeOn (bytes : List ℕ) (out out' trace trace' : Option (List ℕ)) : Type 0 where
-  pub job : JobView
-  pub text : IsJobText bytes job
-  pub broke : Broke job out out' trace trace'
+-- the fault that a reader found, if it is one, is what is wrong with the bytes
+abbrev pub IsFaultOf : Option (List ℕ) → Unread → Type 0
+IsFaultOf left (Fault line kind) = OfRead left (λ bytes. IsNoJob bytes × (line ≡ 0) × (kind ≡ kind_of bytes))
+IsFaultOf left _ = Unit {0}
 
--- no job has this text
-abbrev pub IsNoJob : List ℕ → Type 0
-IsNoJob bytes = (j : JobView) → IsJobText bytes j → ⊥
-
-abbrev pub IsFault : Unread → Type 0
-IsFault (Fault line kind) = Unit {0}
-IsFault _ = ⊥
+-- a fault was found, and this of its line and kind
+abbrev pub IsFaultAnd : Unread → (ℕ → JobKind → Type 0) → Type 0
+IsFaultAnd (Fault line kind) P = P line kind
+IsFaultAnd _ P = ⊥

@@ -1,8 +1,10 @@
-ghost use Rattle.std.specs.Prelude.{◌≡◌, ◌⊎◌, IfErr, IfOk, IfSome, IsErrOf, OnOk};
+ghost use Rattle.std.specs.Prelude.{◌≡◌, ◌≢◌, ◌<◌, ◌+◌, ◌^◌, ◌⊎◌, ◌↔◌, [], ◌∷◌, codes, length, map, string_bytes, IfErr, IfOk, IfNone, IfSome, IsErrOf, IsSomeAnd, OnOk};
 ghost use Rattle.io_edges.specs.Faults.{HasRisen};
 ghost use Rattle.io_edges.specs.Sinks.{GivesPart, followed_by};
+ghost use Rattle.io_edges.specs.Sources.{TakesAtMost};
 ghost use Rattle.job_grammar.specs.Valid.{IsJobText};
-ghost use Rattle.sgxpage.specs.Runs.{Broke, BrokeOn, Gave, HalfTold, IsFault, IsNoJob, Ran, Told, fault_text};
+ghost use Rattle.sgxpage.specs.Commands.{IsRun, MayStandIn, NoFault, number_of};
+ghost use Rattle.sgxpage.specs.Runs.{Broke, BrokeOn, Gave, HalfTold, HasJob, IsFaultAnd, IsFaultOf, IsNoJob, OfRead, Ran, Told, fault_text};
 
 use crate::job_faults::print_fault;
 use crate::replies::print_out;
@@ -45,7 +47,9 @@ pub enum Status {
 
 impl Status {
     /// The exit status of the program.
-    pub fn code(self) -> u8 {
+    pub fn code(self) -> u8
+        ensures { result ≡ number_of self }
+    {
         match self {
             Status::Done => 0,
             Status::BadJob => 1,
@@ -90,23 +94,62 @@ enum Unread {
     Memory,
 }
 
-/// Runs the job that a source gives. The text of its trace goes to `trace`, and its replies, or what is wrong with the
-/// job, go to `out`.
-pub fn run_command<J: Source, K: Sink, L: Sink>(
+/// The path of the words `run PATH`, which are the only command yet.
+pub fn path_of(words: &[String]) -> Option<&str>
+    ensures path { IfSome result (λ path.
+        (map string_bytes words.now ≡ codes "run" ∷ path.now ∷ []) × (0 < length path.now)) }
+    ensures none { IfNone result (¬ IsRun (map string_bytes words.now)) }
+{
+    match words {
+        [command, path] if command.as_str() == "run" && !path.is_empty() => Some(path.as_str()),
+        _ => None,
+    }
+}
+
+/// Does what the words of the command line say, which stand without the program's name. `run PATH` runs the job that
+/// `job` gives. The text of its trace goes to `trace`, which is the file at that path, and then its replies go to `out`.
+/// Where the job is not accepted, `out` gets the line on what is wrong with it. A job of more than 2^24 bytes is not, and
+/// is read no further than one byte past them. Other words are no command, and then nothing is read or written.
+pub fn sgxpage<J: Source, K: Sink, L: Sink>(
     alloc: Global,
+    words: &[String],
     job: &mut J,
     out: &mut K,
     trace: &mut L,
 ) -> Status
-    ensures done { result ≡ Status.Done → IfSome (J.left job.old) (λ bytes. Ran bytes (K.given out.old) (K.given out.new) (L.given trace.old) (L.given trace.new)) }
-    ensures bad_job { result ≡ Status.BadJob → IfSome (J.left job.old) IsNoJob × Told (K.given out.old) (K.given out.new) × (trace.new ≡ trace.old) }
-    ensures read_fault { result ≡ Status.ReadFault → HasRisen (J.faults job.old) (J.faults job.new) × (out.new ≡ out.old) × (trace.new ≡ trace.old) }
-    ensures broke { result ≡ Status.WriteFault → IfSome (J.left job.old) (λ bytes. (IsNoJob bytes × HalfTold (K.given out.old) (K.given out.new) × (trace.new ≡ trace.old))
+    ensures bad_words { (result ≡ Status.BadWords) ↔ (¬ IsRun (map string_bytes words.now)) }
+    ensures is_run { result ≢ Status.BadWords → IsRun (map string_bytes words.now) }
+    ensures no_run { result ≡ Status.BadWords →
+        (job.new ≡ job.old) × (out.new ≡ out.old) × (trace.new ≡ trace.old) }
+
+    ensures reads { TakesAtMost (2 ^ 24 + 1) (J.left job.old) (J.left job.new) }
+    ensures read_fault { result ≡ Status.ReadFault →
+        HasRisen (J.faults job.old) (J.faults job.new) × (out.new ≡ out.old) × (trace.new ≡ trace.old) }
+
+    ensures bad_job { result ≡ Status.BadJob →
+        OfRead (J.left job.old) (λ bytes. IsNoJob bytes × Told bytes (K.given out.old) (K.given out.new)) × (trace.new ≡ trace.old) }
+    ensures no_job { IsRun (map string_bytes words.now) → IsSomeAnd (J.left job.old) IsNoJob →
+        (result ≡ Status.BadJob) ⊎ MayStandIn result }
+
+    ensures done { result ≡ Status.Done →
+        OfRead (J.left job.old) (λ bytes. Ran bytes (K.given out.old) (K.given out.new) (L.given trace.old) (L.given trace.new)) }
+    // A run that meets no fault is complete.
+    ensures complete { IsRun (map string_bytes words.now) → IsSomeAnd (J.left job.old) HasJob →
+        NoFault (J.faults job.old) (J.faults job.new) →
+        NoFault (K.faults out.old) (K.faults out.new) →
+        NoFault (L.faults trace.old) (L.faults trace.new) →
+        (result ≡ Status.Done) ⊎ (result ≡ Status.Memory) }
+
+    ensures write_fault { result ≡ Status.WriteFault →
+        HasRisen (K.faults out.old) (K.faults out.new) ⊎ HasRisen (L.faults trace.old) (L.faults trace.new) }
+    ensures broke { result ≡ Status.WriteFault → OfRead (J.left job.old) (λ bytes.
+        (IsNoJob bytes × HalfTold bytes (K.given out.old) (K.given out.new) × (trace.new ≡ trace.old))
         ⊎ BrokeOn bytes (K.given out.old) (K.given out.new) (L.given trace.old) (L.given trace.new)) }
     ensures memory { result ≡ Status.Memory → (out.new ≡ out.old) × (trace.new ≡ trace.old) }
-    ensures not_bad_words { result ≡ Status.BadWords → ⊥ }
-    ensures write_fault { result ≡ Status.WriteFault → HasRisen (K.faults out.old) (K.faults out.new) ⊎ HasRisen (L.faults trace.old) (L.faults trace.new) }
 {
+    if path_of(words).is_none() {
+        return Status::BadWords;
+    }
     let job = match read(alloc, job) {
         Ok(job) => job,
         Err(unread) => return tell(alloc, out, unread),
@@ -138,8 +181,9 @@ fn run_over<K: Sink, L: Sink>(
 }
 
 fn read<J: Source>(alloc: Global, source: &mut J) -> Result<Job, Unread>
-    ensures job { IfOk result (λ job. IfSome (J.left source.old) (λ bytes. IsJobText bytes job)) }
-    ensures fault { IfErr result (λ unread. IsFault unread → IfSome (J.left source.old) IsNoJob) }
+    ensures job { IfOk result (λ job. OfRead (J.left source.old) (λ bytes. IsJobText bytes job)) }
+    ensures fault { IfErr result (λ unread. IsFaultOf (J.left source.old) unread) }
+    ensures reads { TakesAtMost (2 ^ 24 + 1) (J.left source.old) (J.left source.new) }
     ensures failed { IsErrOf result Unread.Failed → HasRisen (J.faults source.old) (J.faults source.new) }
 {
     let bytes = match read_all(alloc, source, MOST_BYTES) {
@@ -160,13 +204,16 @@ fn read<J: Source>(alloc: Global, source: &mut J) -> Result<Job, Unread>
     }
 }
 
+// Gives the line on what is wrong with a job. What else kept it from being read needs no text.
 fn tell<K: Sink>(alloc: Global, out: &mut K, unread: Unread) -> Status
-    ensures not_done { result ≡ Status.Done → ⊥ }
-    ensures fault { result ≡ Status.BadJob → IsFault unread × Told (K.given out.old) (K.given out.new) }
+    ensures not_done { result ≢ Status.Done }
+    ensures not_bad_words { result ≢ Status.BadWords }
+    ensures fault { result ≡ Status.BadJob →
+        IsFaultAnd unread (λ line kind. K.given out.new ≡ followed_by (K.given out.old) (fault_text line kind)) }
     ensures failed { result ≡ Status.ReadFault → (unread ≡ Unread.Failed) × (out.new ≡ out.old) }
-    ensures broke { result ≡ Status.WriteFault → IsFault unread × HalfTold (K.given out.old) (K.given out.new) }
+    ensures broke { result ≡ Status.WriteFault →
+        IsFaultAnd unread (λ line kind. GivesPart (K.given out.old) (K.given out.new) (fault_text line kind)) }
     ensures memory { result ≡ Status.Memory → out.new ≡ out.old }
-    ensures not_bad_words { result ≡ Status.BadWords → ⊥ }
     ensures ungiven { result ≡ Status.WriteFault → HasRisen (K.faults out.old) (K.faults out.new) }
 {
     match unread {

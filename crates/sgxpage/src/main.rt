@@ -17,51 +17,65 @@ mod words;
 #[cfg(test)]
 mod worked;
 
-use crate::command::{Status, run_command};
+use crate::command::{Status, path_of, sgxpage};
 use io_edges::failed_edges::FailedSink;
 use io_edges::std_edges::{StdSink, StdSource};
-use std::alloc::Global;
-use std::env::{self, Args};
+use std::env;
 use std::fs::File;
-use std::io;
+use std::io::{self, Eprint, ErrorKind};
 use std::process::ExitCode;
 
 fn main(rt: HostRuntime) -> ExitCode {
-    ExitCode::from(status(&rt).code())
+    let status = status(&rt);
+    if status == Status::BadWords {
+        // Where the usage can't be printed, the status alone tells.
+        let _ = print_usage(&rt);
+    }
+    ExitCode::from(status.code())
+}
+
+// The commands that there are.
+fn print_usage(rt: &impl Eprint) -> io::Result<()> {
+    eprintln!(rt; "usage: sgxpage run PATH")
 }
 
 fn status(rt: &HostRuntime) -> Status {
-    let Ok(words) = env::args(rt) else {
-        return Status::Memory;
+    let words = match given_words(rt) {
+        Ok(words) => words,
+        Err(error) if error.kind() == ErrorKind::OutOfMemory => return Status::Memory,
+        // A word is no text.
+        Err(_) => return Status::BadWords,
     };
-    match path_of(words) {
-        Some(path) => run_file(rt, path.as_str()),
-        None => {
-            // Where the usage can't be printed, the status alone tells.
-            let _ = eprintln!(rt; "usage: sgxpage run PATH");
-            Status::BadWords
-        }
-    }
-}
-
-// The path of the command `run PATH`, which is the only one.
-fn path_of(mut words: Args<Global>) -> Option<String> {
-    words.next()?;
-    let command = words.next()?;
-    let path = words.next()?;
-    if command.as_str() == "run" && words.next().is_none() {
-        Some(path)
-    } else {
-        None
-    }
-}
-
-// Runs the job on standard input, with its trace to the file at a path.
-fn run_file(rt: &HostRuntime, path: &str) -> Status {
     let mut job = StdSource::new(rt.stdin().reader());
     let mut out = StdSink::new(io::writer(rt));
-    match File::create(rt, path) {
-        Ok(file) => run_command(rt.alloc(), &mut job, &mut out, &mut StdSink::new(file)),
-        Err(_) => run_command(rt.alloc(), &mut job, &mut out, &mut FailedSink::new()),
+    match trace_file(rt, &words) {
+        Some(file) => sgxpage(
+            rt.alloc(),
+            &words,
+            &mut job,
+            &mut out,
+            &mut StdSink::new(file),
+        ),
+        None => sgxpage(
+            rt.alloc(),
+            &words,
+            &mut job,
+            &mut out,
+            &mut FailedSink::new(),
+        ),
     }
+}
+
+// The words of the command line, without the program's name.
+fn given_words(rt: &HostRuntime) -> io::Result<Vec<String>> {
+    let mut words = Vec::new(rt.alloc());
+    for word in env::args(rt)?.skip(1) {
+        words.push(word)?;
+    }
+    Ok(words)
+}
+
+// The file for the trace of a run, if it can be made.
+fn trace_file(rt: &HostRuntime, words: &[String]) -> Option<File> {
+    File::create(rt, path_of(words)?).ok()
 }

@@ -1,7 +1,14 @@
-use crate::command::{Status, run_command};
+ghost use Rattle.std.specs.Prelude.{◌≤◌};
+
+use crate::command::{Status, sgxpage};
+use crate::print_usage;
 use io_edges::mem_sink::MemSink;
 use io_edges::mem_source::MemSource;
+use sgx_types::names::Memory;
 use std::alloc::{Alloc, Global};
+use std::cell::Cell;
+use std::fmt::Display;
+use std::io::{self, Eprint, ErrorKind};
 use std::process::Abort;
 use std::test::Fail;
 
@@ -13,20 +20,38 @@ const OUT: &[u8] = b"A init\ncpu 0\ncssa 0\n7\nexit\n";
 const TRACE: &[u8] =
     b"trace 1\nb epa 0\nb create A 1 0x10000 0x10000\nb add A 0 2 tcs - tcs 1 1\nb add A 1 3 reg rw words 0\nb add A 2 4 reg rw words 7\nb init A - 006d518bbd8825da4a0e7d35d418aaf16b7749c62854a6f40d8d58db415a8c31\np0 enter A 0 2 3 0\np0 fill 2 4\np0 load 0x2000 7\np0 exit\nend 10\n";
 
-// Each edge moves at most 100 bytes a call, and fails at its given calls.
+const NOT_YET_BUILT: &[u8] = b"job line 0: NotYetBuilt\n";
+
+const TOO_LONG: &[u8] = b"job line 0: TooLong\n";
+
+fn words(alloc: Global, texts: &[&str]) -> Result<Vec<String>, Memory> {
+    let mut words = Vec::new(alloc);
+    for text in texts {
+        words.push(String::from_str(alloc, text)?)?;
+    }
+    Ok(words)
+}
+
+// Runs a job. Each edge moves at most `piece` bytes a call, and fails at its given calls: those of the source, of the
+// output and of the trace.
 fn ends(
     rt: &(impl Abort + Alloc<A = Global>),
-    bytes: &[u8],
+    job: &[u8],
+    piece: usize,
     fails: [&[u64]; 3],
     status: Status,
     out: &[u8],
     trace: &[u8],
-) -> Result<(), Fail> {
-    let mut source = MemSource::new(rt.alloc(), bytes, 100, fails[0])?;
-    let mut replies = MemSink::new(rt.alloc(), 100, fails[1])?;
-    let mut entries = MemSink::new(rt.alloc(), 100, fails[2])?;
+) -> Result<(), Fail>
+    requires { 1 ≤ piece }
+{
+    let alloc = rt.alloc();
+    let run = words(alloc, &["run", "t"])?;
+    let mut source = MemSource::new(alloc, job, piece, fails[0])?;
+    let mut replies = MemSink::new(alloc, piece, fails[1])?;
+    let mut entries = MemSink::new(alloc, piece, fails[2])?;
     assert_eq!(rt;
-        run_command(rt.alloc(), &mut source, &mut replies, &mut entries),
+        sgxpage(alloc, &run, &mut source, &mut replies, &mut entries),
         status
     );
     assert_eq!(rt; replies.bytes(), out);
@@ -36,39 +61,271 @@ fn ends(
 
 #[test]
 fn a_job_gives_its_trace_and_its_output(rt: HostRuntime) -> Result<(), Fail> {
-    ends(&rt, JOB, [&[], &[], &[]], Status::Done, OUT, TRACE)
+    for piece in [1, 7, 16, 100, 1000] {
+        ends(&rt, JOB, piece, [&[], &[], &[]], Status::Done, OUT, TRACE)?;
+    }
+    Ok(())
 }
 
 #[test]
 fn a_job_that_is_not_accepted_is_told(rt: HostRuntime) -> Result<(), Fail> {
-    let told = b"job line 0: NotYetBuilt\n";
     for job in [b"".as_slice(), b"epc 6\n", &JOB[1..], &JOB[..JOB.len() - 1]] {
-        ends(&rt, job, [&[], &[], &[]], Status::BadJob, told, b"")?;
+        ends(
+            &rt,
+            job,
+            7,
+            [&[], &[], &[]],
+            Status::BadJob,
+            NOT_YET_BUILT,
+            b"",
+        )?;
+    }
+    Ok(())
+}
+
+// Fails each of the first `calls` calls of the source in turn, which a reading takes, and then the next.
+fn run_with_read_faults(
+    rt: &(impl Abort + Alloc<A = Global>),
+    piece: usize,
+    calls: u64,
+) -> Result<(), Fail>
+    requires { 1 ≤ piece }
+{
+    for failing in 1..=calls {
+        ends(
+            rt,
+            JOB,
+            piece,
+            [&[failing], &[], &[]],
+            Status::ReadFault,
+            b"",
+            b"",
+        )?;
+    }
+    let next = calls.saturating_add(1);
+    ends(
+        rt,
+        JOB,
+        piece,
+        [&[next], &[], &[]],
+        Status::Done,
+        OUT,
+        TRACE,
+    )
+}
+
+#[test]
+fn a_fault_of_the_source_is_told_and_nothing_is_written(rt: HostRuntime) -> Result<(), Fail> {
+    run_with_read_faults(&rt, 1, 122)?;
+    run_with_read_faults(&rt, 7, 19)?;
+    run_with_read_faults(&rt, 16, 9)?;
+    run_with_read_faults(&rt, 100, 3)
+}
+
+// Fails each of the first `calls` calls of the trace's sink in turn, which the trace takes, and then the next.
+fn run_with_trace_faults(
+    rt: &(impl Abort + Alloc<A = Global>),
+    piece: usize,
+    calls: u64,
+) -> Result<(), Fail>
+    requires { 1 ≤ piece }
+{
+    let mut given = 0usize;
+    for failing in 1..=calls {
+        let trace = &TRACE[..given.min(TRACE.len())];
+        ends(
+            rt,
+            JOB,
+            piece,
+            [&[], &[], &[failing]],
+            Status::WriteFault,
+            b"",
+            trace,
+        )?;
+        given = given.saturating_add(piece);
+    }
+    let next = calls.saturating_add(1);
+    ends(
+        rt,
+        JOB,
+        piece,
+        [&[], &[], &[next]],
+        Status::Done,
+        OUT,
+        TRACE,
+    )
+}
+
+#[test]
+fn nothing_is_replied_where_the_trace_failed(rt: HostRuntime) -> Result<(), Fail> {
+    run_with_trace_faults(&rt, 1, 264)?;
+    run_with_trace_faults(&rt, 7, 38)?;
+    run_with_trace_faults(&rt, 16, 17)
+}
+
+// Fails each of the first `calls` calls of the output's sink in turn, which the output takes, and then the next.
+fn run_with_out_faults(
+    rt: &(impl Abort + Alloc<A = Global>),
+    piece: usize,
+    calls: u64,
+) -> Result<(), Fail>
+    requires { 1 ≤ piece }
+{
+    let mut given = 0usize;
+    for failing in 1..=calls {
+        let out = &OUT[..given.min(OUT.len())];
+        ends(
+            rt,
+            JOB,
+            piece,
+            [&[], &[failing], &[]],
+            Status::WriteFault,
+            out,
+            TRACE,
+        )?;
+        given = given.saturating_add(piece);
+    }
+    let next = calls.saturating_add(1);
+    ends(
+        rt,
+        JOB,
+        piece,
+        [&[], &[next], &[]],
+        Status::Done,
+        OUT,
+        TRACE,
+    )
+}
+
+#[test]
+fn the_trace_is_whole_where_the_output_failed(rt: HostRuntime) -> Result<(), Fail> {
+    run_with_out_faults(&rt, 1, 27)?;
+    run_with_out_faults(&rt, 7, 4)?;
+    run_with_out_faults(&rt, 16, 2)
+}
+
+#[test]
+fn a_fault_can_break_the_line_on_a_job(rt: HostRuntime) -> Result<(), Fail> {
+    let fronts = [(1, 0), (2, 7), (3, 14), (4, 21)];
+    for (failing, given) in fronts {
+        let told = &NOT_YET_BUILT[..given];
+        ends(
+            &rt,
+            b"epc 6\n",
+            7,
+            [&[], &[failing], &[1]],
+            Status::WriteFault,
+            told,
+            b"",
+        )?;
     }
     ends(
         &rt,
         b"epc 6\n",
-        [&[], &[1], &[]],
-        Status::WriteFault,
-        b"",
+        7,
+        [&[], &[5], &[1]],
+        Status::BadJob,
+        NOT_YET_BUILT,
         b"",
     )
 }
 
 #[test]
-fn a_fault_of_an_edge_is_told(rt: HostRuntime) -> Result<(), Fail> {
-    ends(&rt, JOB, [&[1], &[], &[]], Status::ReadFault, b"", b"")?;
-    ends(&rt, JOB, [&[3], &[], &[]], Status::ReadFault, b"", b"")?;
-    ends(&rt, JOB, [&[], &[], &[1]], Status::WriteFault, b"", b"")?;
-    ends(
-        &rt,
-        JOB,
-        [&[], &[], &[2]],
-        Status::WriteFault,
-        b"",
-        &TRACE[..100],
-    )?;
-    ends(&rt, JOB, [&[], &[1], &[]], Status::WriteFault, b"", TRACE)
+fn no_more_than_one_byte_past_the_limit_is_read(rt: HostRuntime) -> Result<(), Fail> {
+    let alloc = rt.alloc();
+    let run = words(alloc, &["run", "t"])?;
+    let rows = [
+        (1 << 24, NOT_YET_BUILT, 0),
+        ((1 << 24) + 1, TOO_LONG, 0),
+        ((1 << 24) + 2, TOO_LONG, 1),
+        ((1 << 24) + 100_000, TOO_LONG, 99_999),
+    ];
+    for (len, told, left) in rows {
+        let job = vec![in alloc; b'e'; len]?;
+        let mut source = MemSource::new(alloc, &job, 1 << 20, &[])?;
+        let mut out = MemSink::new(alloc, 7, &[])?;
+        let mut trace = MemSink::new(alloc, 7, &[])?;
+        assert_eq!(rt;
+            sgxpage(alloc, &run, &mut source, &mut out, &mut trace),
+            Status::BadJob
+        );
+        assert_eq!(rt; out.bytes(), told);
+        assert_eq!(rt; trace.bytes(), b"".as_slice());
+        assert_eq!(rt; source.left().len(), left);
+    }
+    Ok(())
+}
+
+// No edge is called: each fails at its first call, and would count it.
+fn is_no_command(rt: &(impl Abort + Alloc<A = Global>), texts: &[&str]) -> Result<(), Fail> {
+    let alloc = rt.alloc();
+    let mut source = MemSource::new(alloc, JOB, 7, &[1])?;
+    let mut out = MemSink::new(alloc, 7, &[1])?;
+    let mut trace = MemSink::new(alloc, 7, &[1])?;
+    assert_eq!(rt;
+        sgxpage(
+            alloc,
+            &words(alloc, texts)?,
+            &mut source,
+            &mut out,
+            &mut trace
+        ),
+        Status::BadWords
+    );
+    assert_eq!(rt; source.left(), JOB);
+    assert_eq!(rt; source.faults(), 0);
+    assert_eq!(rt; out.faults(), 0);
+    assert_eq!(rt; trace.faults(), 0);
+    Ok(())
+}
+
+#[test]
+fn other_words_are_no_command(rt: HostRuntime) -> Result<(), Fail> {
+    is_no_command(&rt, &[])?;
+    is_no_command(&rt, &["run"])?;
+    is_no_command(&rt, &["run", ""])?;
+    is_no_command(&rt, &["run", "t", "x"])?;
+    is_no_command(&rt, &["run", "t", ""])?;
+    is_no_command(&rt, &["t", "run"])?;
+    is_no_command(&rt, &["", "t"])?;
+    is_no_command(&rt, &["Run", "t"])?;
+    is_no_command(&rt, &["runs", "t"])?;
+    is_no_command(&rt, &["ru", "t"])?;
+    is_no_command(&rt, &["run t"])?;
+    is_no_command(&rt, &["make", "1", "3"])?;
+    is_no_command(&rt, &["audit", "t", "x"])
+}
+
+// A terminal that keeps the last line printed on it.
+#[derive(Drop)]
+struct Terminal {
+    alloc: Global,
+    line: Cell<Option<String>>,
+}
+
+impl Eprint for Terminal {
+    fn eprint<D: Display + Drop>(&self, _value: D) -> io::Result<()> {
+        Err(ErrorKind::Unsupported.into())
+    }
+
+    fn eprintln<D: Display + Drop>(&self, value: D) -> io::Result<()> {
+        self.line.set(Some(value.to_string(self.alloc)?));
+        Ok(())
+    }
+}
+
+#[test]
+fn the_usage_names_the_command(rt: HostRuntime) -> Result<(), Fail> {
+    let terminal = Terminal {
+        alloc: rt.alloc(),
+        line: Cell::new(None),
+    };
+    print_usage(&terminal)?;
+    assert_eq!(rt;
+        terminal.line.take().as_deref(),
+        Some("usage: sgxpage run PATH")
+    );
+    Ok(())
 }
 
 #[test]
