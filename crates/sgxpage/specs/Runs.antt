@@ -7,6 +7,7 @@ use Rattle.sgx_types.specs.Rules.{KeepsRules}
 use Rattle.job_grammar.specs.declared.refusals.JobKind.{JobKind}
 use Rattle.job_grammar.specs.declared.refusals.JobKind.TheVariants as kinds
 use Rattle.job_grammar.specs.Jobs.{JobView}
+use Rattle.job_grammar.specs.Script.{Script}
 use Rattle.job_grammar.specs.Valid.{IsJobText}
 use Rattle.sgxpage.specs.declared.command.Unread.{Unread}
 use Rattle.sgxpage.specs.declared.command.Unread.TheVariants.{Fault}
@@ -29,10 +30,11 @@ IsNoJob bytes = (j : JobView) → IsJobText bytes j → ⊥
 
 -- ---- what a run gives
 
--- what each sink had and has: some trace keeps the rules of an EPC of the job's size, and the sinks got its text and its
--- replies
+-- what each sink had and has: some trace is of the job's script to its end, and keeps the rules of an EPC of the job's
+-- size, and the sinks got its text and its replies
 pub record Gave (job : JobView) (out out' trace trace' : Option (List ℕ)) : Type 0 where
   pub past : List Entry
+  pub script : Script job past
   pub rules : KeepsRules job.epc past
   pub trace_given : trace' ≡ followed_by trace (trace_of past)
   pub out_given : out' ≡ followed_by out (out_of job past)
@@ -41,6 +43,7 @@ pub record Gave (job : JobView) (out out' trace trace' : Option (List ℕ)) : Ty
 -- output a proper front
 pub record Broke (job : JobView) (out out' trace trace' : Option (List ℕ)) : Type 0 where
   pub past : List Entry
+  pub script : Script job past
   pub rules : KeepsRules job.epc past
   pub given : (GivesPart trace trace' (trace_of past) × (out' ≡ out)) ⊎ ((trace' ≡ followed_by trace (trace_of past)) × GivesPart out out' (out_of job past))
 
