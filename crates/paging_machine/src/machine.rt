@@ -15,11 +15,11 @@ use cached_translations::cache::Translation;
 use cached_translations::processor::{Mode, Processor};
 use epcm_entry::entry_view::EntryView;
 use epcm_entry::epc::Epc;
+use measure_log::measure::Measure;
 use sgx_types::entries::AccessOp;
 use sgx_types::layouts::TcsFields;
 use sgx_types::names::{Cpu, Frame, Kind, Memory, Page};
 use sgx_types::refusals::Refusal;
-use sha2::{Digest, Sha256};
 use std::alloc::Global;
 use std::marker::Model;
 
@@ -30,7 +30,7 @@ pub struct Machine {
     // By the enclave's number; place 0 stays empty.
     pub(crate) enclaves: Vec<Option<Enclave>>,
     pub(crate) pages: Vec<Vec<PageNote>>,
-    pub(crate) logs: Vec<Sha256>,
+    pub(crate) measures: Vec<Option<Measure>>,
     pub(crate) cpus: Vec<Processor>,
     pub(crate) key: [u8; 32],
     pub(crate) start_epoch: u64,
