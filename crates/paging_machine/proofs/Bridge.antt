@@ -368,8 +368,8 @@ noted_page enclaves pages e n v x found h = record {
 pub in_enclave : (enclaves : List (Option Enclave)) (pages : List (List PageNote)) (e n : ℕ) (x : Enclave) → get_or enclaves e None ≡ Some x → n < x.size / 4096 → IsNoted enclaves pages → (e < length pages) × (n < length (get_or pages e []))
 in_enclave enclaves pages e n x found within h = (let low = there_below enclaves e x found in omega (arith, low, h.enclaves_len, h.pages_len), rw (h.made e x found) within)
 
-pub sound_add : (d : Parts) (g : Page) (f : ℕ) (kind : Kind) (perm : Perm) (init : PageInit) (longer : Measure) → Takes d f → IsSound (state_of d) → IsSound (after_add (state_of d) g f kind perm init longer)
-sound_add d g f kind perm init longer k sound = record { seated = (sound-put (state_of d) f (Holds g kind perm) sound k.free).seated }
+pub sound_add : (d : Parts) (g : Page) (f : ℕ) (kind : Kind) (perm : Perm) (init : PageInit) (t : State) → IsAdded (state_of d) g f kind perm init t → Takes d f → IsSound (state_of d) → IsSound t
+sound_add d g f kind perm init t added k sound = sound-state t _ added.state (record { seated = (sound-put (state_of d) f (Holds g kind perm) sound k.free).seated })
 
 -- ---- create
 
@@ -490,11 +490,12 @@ framed_more content pages pages' more h n g kind perm at = omega (arith, h n g k
 pub framed_state : (s t : State) (pages : List (List PageNote)) → s ≡ t → IsFramed t.content pages → IsFramed s.content pages
 framed_state s t pages e h = rw e h
 
-pub framed_add : (content : ℕ → Content) (pages : List (List PageNote)) (f : ℕ) (g : Page) (kind : Kind) (perm : Perm) (v : PageNote) → g.number < length (get_or pages g.enclave []) → IsFramed content pages
-    → IsFramed (λ n. cond (f == n) (Holds g kind perm) (content n)) (with_note pages g.enclave g.number v)
-framed_add content pages f g kind perm v within h =
-    framed_page content (with_note pages g.enclave g.number v) f g kind perm (rw (note_lengths pages g.enclave g.number v g.enclave) within)
-    (framed_more content pages (with_note pages g.enclave g.number v) (λ k. omega (arith, note_lengths pages g.enclave g.number v k)) h)
+pub framed_add : (d : Parts) (g : Page) (f : ℕ) (kind : Kind) (perm : Perm) (init : PageInit) (t : State) (v : PageNote) → IsAdded (state_of d) g f kind perm init t → g.number < length (get_or d.pages g.enclave []) → IsFramed (state_of d).content d.pages
+    → IsFramed t.content (with_note d.pages g.enclave g.number v)
+framed_add d g f kind perm init t v added within h =
+    framed_state t _ (with_note d.pages g.enclave g.number v) added.state
+    (framed_page (state_of d).content (with_note d.pages g.enclave g.number v) f g kind perm (rw (note_lengths d.pages g.enclave g.number v g.enclave) within)
+    (framed_more (state_of d).content d.pages (with_note d.pages g.enclave g.number v) (λ k. omega (arith, note_lengths d.pages g.enclave g.number v k)) h))
 
 pub framed_new : (content : ℕ → Content) (pages : List (List PageNote)) (e : ℕ) (notes : List PageNote) → e < length pages → get_or pages e [] ≡ [] → IsFramed content pages → IsFramed content (set pages e notes)
 framed_new content pages e notes low none h = framed_more content pages (set pages e notes) more h

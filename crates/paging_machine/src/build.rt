@@ -1,4 +1,4 @@
-ghost use Rattle.std.specs.Prelude.{◌≡◌, ◌<◌, ◌%◌, ◌==◌, true, is_some, slice_index, slice_index_or, replicate, IfOk, OnOk, OnErr, length, vec_len, [], Some, None};
+ghost use Rattle.std.specs.Prelude.{◌≡◌, ◌<◌, ◌%◌, ◌==◌, true, is_some, slice_index_or, replicate, IfOk, OnOk, OnErr, length, vec_len, [], None};
 ghost use Rattle.std.specs.Option.{IsSomeAnd};
 ghost use Rattle.sgx_types.specs.Frames.{page_at};
 ghost use Rattle.sgx_types.specs.Table.{is_enclave, is_lawful, is_lawful_size, is_addable, is_lawful_perm, is_within, first_of_row, epa_row, create_row, add_row, init_row};

@@ -1,4 +1,4 @@
-ghost use Rattle.std.specs.Prelude.{◌≡◌, ◌≤◌, [], IfOk, None, length, replicate};
+ghost use Rattle.std.specs.Prelude.{◌≡◌, ◌≤◌, [], IfOk, None, replicate};
 ghost use Rattle.paging_machine.specs.Parts.{idle, made, notes_of, state_of};
 ghost use Rattle.paging_machine.specs.Stands.{Upholds};
 

@@ -4,8 +4,7 @@ use Rattle.sgx_types.specs.Layouts.{flags_of}
 use Rattle.measure_log.specs.Blocks.{eadd_block}
 use Rattle.measure_log.specs.Measure.{TakesIn}
 use Rattle.paging_machine.specs.Whole.{parts_of}
-use Rattle.paging_machine.specs.Parts.{state_of}
-use Rattle.paging_machine.proofs.Bridge.{framed_state, framed_add, adds-row, in_enclave, page_added, measure_there, measure_now, measured_put, noted_page, sound_add, sound-state}
+use Rattle.paging_machine.proofs.Bridge.{framed_add, adds-row, in_enclave, page_added, measure_there, measure_now, measured_put, noted_page, sound_add}
 use Rattle.paging_machine.proofs.machine.Machine.set_page.Goals as goal
 
 pub set-requires-clause-vacant : goal.set-requires-clause-vacant
@@ -25,14 +24,14 @@ invariant_of-self c =
     record {
       processors = c.self.invariant.processors;
       noted = rw (c.write_note.ensures.written, c.from-place.ensures) (noted_page d.enclaves d.pages g.enclave g.number _ k.0.enclave k.0.found c.self.invariant.noted);
-      measured = rw c.from-place.ensures (measured_put d.enclaves d.enclaves d.measures g.enclave after there (measure_now before after _ takes) (λ n x other is. is) c.self.invariant.measured);
+      measured = rw c.from-place.ensures (measured_put d.enclaves d.enclaves d.measures g.enclave after there (measure_now before after (λ x y. TakesIn x (eadd_block (4096 * g.number) (flags_of c.args.kind c.args.perm)) y) takes) (λ n x other is. is) c.self.invariant.measured);
       framed =
           rw (c.write_words.ensures, c.set.ensures, c.write_note.ensures.written, c.note-is_busy.ensures, c.from-place.ensures, ← c.self.view_is)
-          (framed_state _ _ _ added.state (framed_add (state_of d).content d.pages c.args.frame.0 g c.args.kind c.args.perm _ place.1 c.self.invariant.framed));
+          (framed_add d g c.args.frame.0 c.args.kind c.args.perm c.args.init _ _ added place.1 c.self.invariant.framed);
       small = c.self.invariant.small;
       sound =
           rw (c.write_words.ensures, c.set.ensures, c.write_note.ensures.written, c.note-is_busy.ensures, c.from-place.ensures, ← c.self.view_is)
-          (sound-state _ _ added.state (sound_add d g c.args.frame.0 c.args.kind c.args.perm c.args.init added.longer k.1 c.self.invariant.sound));
+          (sound_add d g c.args.frame.0 c.args.kind c.args.perm c.args.init _ added k.1 c.self.invariant.sound);
     }
 
 pub returns-clause-done : goal.returns-clause-done
