@@ -1,3 +1,4 @@
 pub mod Blocks
 pub mod Log
 pub mod Measure
+pub mod Rule

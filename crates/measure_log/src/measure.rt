@@ -1,7 +1,7 @@
-ghost use Rattle.std.specs.Prelude.{◌≡◌, ℕ, List, ◌++◌};
+ghost use Rattle.std.specs.Prelude.{ℕ, List, ◌++◌};
 ghost use Rattle.std.specs.Int.{w64, to_le_bytes};
 ghost use Rattle.measure_log.specs.Blocks.{ecreate_block, eadd_block, eextend_block};
-ghost use Rattle.measure_log.specs.Measure.{HoldsLog, measurement_of};
+ghost use Rattle.measure_log.specs.Measure.{HoldsLog, TakesIn, FinishesTo};
 
 use sha2::{Digest, Sha256};
 
@@ -28,7 +28,7 @@ impl Measure {
     /// Appends the block of EADD: the page at `offset` bytes from the enclave's base was added with these
     /// SECINFO.FLAGS.
     pub fn add(&mut self, offset: u64, flags: u64)
-        ensures { (log : List ℕ) → HoldsLog self.old log → HoldsLog self.new (log ++ eadd_block offset flags) }
+        ensures { TakesIn self.old (eadd_block offset flags) self.new }
     {
         self.begin(b"EADD\0\0\0\0", offset);
         self.hasher.update(flags.to_le_bytes());
@@ -37,7 +37,7 @@ impl Measure {
 
     /// Appends the block of EEXTEND: these 256 bytes stand at `offset` bytes from the enclave's base.
     pub fn extend(&mut self, offset: u64, chunk: &[u8; 256])
-        ensures { (log : List ℕ) → HoldsLog self.old log → HoldsLog self.new (log ++ eextend_block offset chunk.now) }
+        ensures { TakesIn self.old (eextend_block offset chunk.now) self.new }
     {
         self.begin(b"EEXTEND\0", offset);
         self.hasher.update([0; 48]);
@@ -53,7 +53,7 @@ impl Measure {
 
     /// The measurement so far.
     pub fn finish(&self) -> [u8; 32]
-        ensures { (log : List ℕ) → HoldsLog self.now log → result ≡ measurement_of log }
+        ensures { FinishesTo self.now result }
     {
         let hasher = self.hasher.clone().unwrap();
         hasher.finalize()

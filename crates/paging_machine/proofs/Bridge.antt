@@ -1,7 +1,7 @@
 -- The machine's parts and the state that they make.
-use Rattle.std.proofs.Common.{◌≡◌, ℕ, zero, suc, ◌+◌, ◌/◌, ◌<◌, ◌≤◌, ◌^◌, ◌==◌, ◌&&◌, Bool, true, false, cond, leb, refl, sym, ap, ◌∙◌, arith, ◌⊎◌, inl, inr, Option, Some, None, List, [], ◌∷◌, map, length, get_or, set, is_some, add-zero, not, ◌||◌, replicate}
+use Rattle.std.proofs.Common.{◌≡◌, ℕ, zero, suc, ◌+◌, ◌*◌, ◌/◌, ◌<◌, ◌≤◌, ◌^◌, ◌==◌, ◌&&◌, Bool, true, false, cond, leb, refl, sym, ap, ◌∙◌, arith, ◌⊎◌, inl, inr, Option, Some, None, List, [], ◌∷◌, map, length, get_or, set, is_some, add-zero, not, ◌||◌, replicate}
 use Rattle.std.specs.List.{position, position_from, All, AllByRecursion}
-use Rattle.std.specs.Option.{option_map}
+use Rattle.std.specs.Option.{option_map, IsSomeAnd}
 use Rattle.std.proofs.lemmas.Bool.{cond_both, eqb-true, eq-eqb, false≢true, leb-false, leb-true, ltb-true, cases_lt}
 use Rattle.std.proofs.lemmas.List.{get_or-set_same, get_or-set_other, get_or_past, length-set, map-set, set-set, set_past, length-replicate, nil_from_length}
 use Rattle.std.proofs.lemmas.Iterator.Adapters.{position_from-zero}
@@ -28,13 +28,18 @@ use Rattle.cached_translations.specs.declared.cache.Translation.{Translation}
 use Rattle.cached_translations.specs.declared.processor.Processor.{Processor}
 use Rattle.cached_translations.specs.declared.processor.Mode.TheVariants as modes
 use Rattle.cached_translations.specs.Translations.{translation_of, with_translation}
+use Rattle.sgx_types.specs.Layouts.{flags_of}
+use Rattle.measure_log.specs.declared.measure.Measure.{Measure}
+use Rattle.measure_log.specs.Blocks.{eadd_block}
+use Rattle.measure_log.specs.Measure.{TakesIn}
 use Rattle.paging_machine.specs.State.{State, sight, seat_of, enter_row_of, is_seated_by, with_content, after_init, after_add, after_create, after_enter, after_exit, after_fill}
 use Rattle.paging_machine.specs.declared.enclaves.Enclave.{Enclave}
 use Rattle.paging_machine.specs.declared.enclaves.PageNote.{PageNote}
 use Rattle.paging_machine.specs.Parts.{Parts, held, content_of, enclave_of, no_note, note_at, kind_of, with_note, idle, cpu_at, seat_of_mode, state_of}
-use Rattle.paging_machine.specs.Whole.{IsNoted, IsFramed}
+use Rattle.paging_machine.specs.Whole.{IsNoted, IsMeasured, IsFramed}
 use Rattle.paging_machine.specs.Stands.{IsSound}
-use Rattle.paging_machine.proofs.Tools.{apart, none_holds, neither, not_false, both_true}
+use Rattle.paging_machine.specs.Steps.{IsAdded}
+use Rattle.paging_machine.proofs.Tools.{eqb-swap, none_holds, neither, not_false, both_true}
 use Rattle.paging_machine.proofs.Carry.{same_page-true, seat_at}
 use Rattle.paging_machine.proofs.ProcessorLaws.{enters, enter_sight, tcs_there, reg_there, usable_there, sound-enter}
 use Rattle.paging_machine.proofs.BuildLaws.{sound-put, is_free_frame as is_free_frame_content}
@@ -80,13 +85,6 @@ first_free_is epc =
     get_or-default [] i a b low = absurd (omega arith)
     get_or-default (x ∷ xs) zero a b low = refl
     get_or-default (x ∷ xs) (suc i) a b low = get_or-default xs i a b (omega arith)
-
-pub eqb-swap : (a b : ℕ) → (a == b) ≡ (b == a)
-eqb-swap a b = by_test (a == b) refl
-  where
-    by_test : (x : Bool) → (a == b) ≡ x → x ≡ (b == a)
-    by_test true e = sym (eq-eqb b a (sym (eqb-true a b e)))
-    by_test false e = sym (apart b a (λ same. false≢true (sym e ∙ eq-eqb a b (sym same))))
 
 -- ---- a written entry
 
@@ -138,6 +136,39 @@ state_enclaves d e x low = λ i. record (state_of d) { enclaves = λ n. each n i
     each n =
         rw (get_or-set_if d.enclaves e n (Some x) None low, eqb-swap e n)
         (elim (n == e) as (λ b. enclave_of (cond b (Some x) (get_or d.enclaves n None)) ≡ cond b (enclave_of (Some x)) (enclave_of (get_or d.enclaves n None))) [ true ↦ refl | false ↦ refl ])
+
+-- the running measurements
+measure_set : (measures : List (Option Measure)) (e n : ℕ) (m : Measure) → e < length measures → get_or (set measures e (Some m)) n None ≡ cond (n == e) (Some m) (get_or measures n None)
+measure_set measures e n m low = rw (eqb-swap n e) (get_or-set_if measures e n (Some m) None low)
+
+-- a measurement that was read from its place
+pub measure_there : (measures : List (Option Measure)) (e : ℕ) (m : Option Measure) → e < length measures → m ≡ get_or measures e m → get_or measures e None ≡ m
+measure_there measures e m low is = get_or-same measures e None m low ∙ sym is
+  where
+    get_or-same : (xs : List (Option Measure)) (i : ℕ) (a b : Option Measure) → i < length xs → get_or xs i a ≡ get_or xs i b
+    get_or-same [] i a b k = absurd (omega arith)
+    get_or-same (x ∷ xs) zero a b k = refl
+    get_or-same (x ∷ xs) (suc i) a b k = get_or-same xs i a b (omega arith)
+
+-- .. and has another one now
+pub measure_now : (before after : Option Measure) (P : Measure → Measure → Type 0) → IsSomeAnd before (λ x. IsSomeAnd after (P x)) → is_some after ≡ true
+measure_now None after P h = absurd h
+measure_now (Some x) None P h = absurd h
+measure_now (Some x) (Some y) P h = refl
+
+-- a measurement that is written at a created enclave, or at a new one
+pub measured_put : (enclaves enclaves' : List (Option Enclave)) (measures : List (Option Measure)) (e : ℕ) (m : Option Measure) → e < length measures → is_some m ≡ true
+    → ((k : ℕ) (x : Enclave) → (e == k) ≡ false → get_or enclaves' k None ≡ Some x → get_or enclaves k None ≡ Some x) → IsMeasured enclaves measures → IsMeasured enclaves' (set measures e m)
+measured_put enclaves enclaves' measures e m low some others h = record {
+  measures_len = length-set measures e m ∙ h.measures_len;
+  made = λ k x is.
+      rw (get_or-set_if measures e k m None low)
+      (cond_both (e == k) m (get_or measures k None) (λ v. is_some v ≡ true) (λ _. some) (λ other. h.made k x (others k x other is)));
+}
+
+-- .. what other enclaves were
+pub others_made : (enclaves : List (Option Enclave)) (e : ℕ) (y : Option Enclave) → e < length enclaves → (k : ℕ) (x : Enclave) → (e == k) ≡ false → get_or (set enclaves e y) k None ≡ Some x → get_or enclaves k None ≡ Some x
+others_made enclaves e y low k x other is = sym (rw other at (get_or-set_if enclaves e k y None low)) ∙ is
 
 -- the notes of pages
 pub note_written : (notes : List (List PageNote)) (e n : ℕ) (v : PageNote) → e < length notes → n < length (get_or notes e []) → (q : Page)
@@ -274,14 +305,14 @@ holds_added g kinds.Va perm init h = cc
 abbrev pub added_note : Parts → ℕ → ℕ → Kind → Perm → PageNote
 added_note d e n kind perm = record { added = Some (record { kind = kind; perm = perm }); is_busy = (note_at d e n).is_busy }
 
-pub page_state : (d : Parts) (g : Page) (f : ℕ) (kind : Kind) (perm : Perm) (init : PageInit) → Takes d f → table.is_addable kind init ≡ true → g.enclave < length d.pages → g.number < length (get_or d.pages g.enclave [])
-    → state_of (record d { epc = with_words (with_entry d.epc f (holding g kind perm)) f (first_words init); pages = with_note d.pages g.enclave g.number (added_note d g.enclave g.number kind perm) })
-    ≡ after_add (state_of d) g f kind perm init
-page_state d g f kind perm init k addable low in_page =
-    ap (λ (s : State). (let t : State = record s { added = added_now; is_busy = busy_now } in t))
+pub page_state : (d : Parts) (g : Page) (f : ℕ) (kind : Kind) (perm : Perm) (init : PageInit) (longer : Measure) → Takes d f → table.is_addable kind init ≡ true → g.enclave < length d.pages → g.number < length (get_or d.pages g.enclave []) → g.enclave < length d.measures
+    → state_of (record d { epc = with_words (with_entry d.epc f (holding g kind perm)) f (first_words init); pages = with_note d.pages g.enclave g.number (added_note d g.enclave g.number kind perm); measures = set d.measures g.enclave (Some longer) })
+    ≡ after_add (state_of d) g f kind perm init longer
+page_state d g f kind perm init longer k addable low in_page there =
+    ap (λ (s : State). (let t : State = record s { added = added_now; is_busy = busy_now; measure = λ e. get_or (set d.measures g.enclave (Some longer)) e None } in t))
     (state_written (record d { epc = with_entry d.epc f (holding g kind perm) }) f (first_words init) (rw length-set k.low)
     ∙ ap (λ (s : State). (let t : State = record s { words = λ n. cond (f == n) (first_words init) (s.words n) } in t)) (state_put d f g kind perm k.low k.idle ∙ ap (with_content (state_of d) f) (holds_added g kind perm init addable)))
-    ∙ (λ i. record (after_add (state_of d) g f kind perm init) { added = λ q. same_added q i; is_busy = λ q. same_busy q i })
+    ∙ (λ i. record (after_add (state_of d) g f kind perm init longer) { added = λ q. same_added q i; is_busy = λ q. same_busy q i; measure = λ e. measure_set d.measures g.enclave e longer there i })
   where
     v : PageNote
     v = added_note d g.enclave g.number kind perm
@@ -307,6 +338,14 @@ page_state d g f kind perm init k addable low in_page =
         by_test true same = let is : q ≡ g = same_page-true q g same in ap (λ (x : Page). (note_at d x.enclave x.number).is_busy) (sym is)
         by_test false other = refl
 
+-- .. where the measurement of its enclave took in its block
+pub page_added : (d : Parts) (g : Page) (f : ℕ) (kind : Kind) (perm : Perm) (init : PageInit) (before after : Option Measure) → Takes d f → table.is_addable kind init ≡ true → g.enclave < length d.pages → g.number < length (get_or d.pages g.enclave []) → g.enclave < length d.measures
+    → get_or d.measures g.enclave None ≡ before → IsSomeAnd before (λ x. IsSomeAnd after (λ y. TakesIn x (eadd_block (4096 * g.number) (flags_of kind perm)) y))
+    → IsAdded (state_of d) g f kind perm init (state_of (record d { epc = with_words (with_entry d.epc f (holding g kind perm)) f (first_words init); pages = with_note d.pages g.enclave g.number (added_note d g.enclave g.number kind perm); measures = set d.measures g.enclave after }))
+page_added d g f kind perm init None after k addable low in_page there is takes = absurd takes
+page_added d g f kind perm init (Some x) None k addable low in_page there is takes = absurd takes
+page_added d g f kind perm init (Some x) (Some y) k addable low in_page there is takes = record { longer = y; log = rw is takes; state = page_state d g f kind perm init y k addable low in_page there }
+
 -- a written note leaves each enclave as many
 pub note_lengths : (pages : List (List PageNote)) (e n : ℕ) (v : PageNote) (k : ℕ) → length (get_or (with_note pages e n v) k []) ≡ length (get_or pages k [])
 note_lengths pages e n v k = by_place (cases_lt e (length pages))
@@ -329,8 +368,8 @@ noted_page enclaves pages e n v x found h = record {
 pub in_enclave : (enclaves : List (Option Enclave)) (pages : List (List PageNote)) (e n : ℕ) (x : Enclave) → get_or enclaves e None ≡ Some x → n < x.size / 4096 → IsNoted enclaves pages → (e < length pages) × (n < length (get_or pages e []))
 in_enclave enclaves pages e n x found within h = (let low = there_below enclaves e x found in omega (arith, low, h.enclaves_len, h.pages_len), rw (h.made e x found) within)
 
-pub sound_add : (d : Parts) (g : Page) (f : ℕ) (kind : Kind) (perm : Perm) (init : PageInit) → Takes d f → IsSound (state_of d) → IsSound (after_add (state_of d) g f kind perm init)
-sound_add d g f kind perm init k sound = record { seated = (sound-put (state_of d) f (Holds g kind perm) sound k.free).seated }
+pub sound_add : (d : Parts) (g : Page) (f : ℕ) (kind : Kind) (perm : Perm) (init : PageInit) (t : State) → IsAdded (state_of d) g f kind perm init t → Takes d f → IsSound (state_of d) → IsSound t
+sound_add d g f kind perm init t added k sound = sound-state t _ added.state (record { seated = (sound-put (state_of d) f (Holds g kind perm) sound k.free).seated })
 
 -- ---- create
 
@@ -372,21 +411,23 @@ note_new pages e k low none q =
     get_or-replicated (suc n) zero = refl
     get_or-replicated (suc n) (suc i) = get_or-replicated n i
 
-pub secs_state : (d : Parts) (e f base size k : ℕ) → Takes d f → e < length d.pages → e < length d.enclaves → get_or d.pages e [] ≡ []
-    → state_of (record d { epc = with_entry d.epc f (holding (page_at e 0) kinds.Secs (record { r = false; w = false; x = false })); enclaves = set d.enclaves e (Some (record { base = base; size = size; is_init = false })); pages = set d.pages e (replicate k no_note) })
-    ≡ after_create (state_of d) e f base size
-secs_state d e f base size k takes low place none =
+pub secs_state : (d : Parts) (e f base size k : ℕ) (begun : Measure) → Takes d f → e < length d.pages → e < length d.enclaves → e < length d.measures → get_or d.pages e [] ≡ []
+    → state_of (record d { epc = with_entry d.epc f (holding (page_at e 0) kinds.Secs (record { r = false; w = false; x = false })); enclaves = set d.enclaves e (Some (record { base = base; size = size; is_init = false })); pages = set d.pages e (replicate k no_note); measures = set d.measures e (Some begun) })
+    ≡ after_create (state_of d) e f base size begun
+secs_state d e f base size k begun takes low place there none =
     let put = record d { epc = with_entry d.epc f (holding (page_at e 0) kinds.Secs (record { r = false; w = false; x = false })) } in
     ap (λ (s : State). (let t : State = record s {
       added = λ q. kind_of (get_or (get_or (set d.pages e (replicate k no_note)) q.enclave []) q.number no_note).added;
       is_busy = λ q. (get_or (get_or (set d.pages e (replicate k no_note)) q.enclave []) q.number no_note).is_busy;
+      measure = λ n. get_or (set d.measures e (Some begun)) n None;
     } in t))
     (state_enclaves put e (record { base = base; size = size; is_init = false }) place
     ∙ ap (λ (s : State). (let t : State = record s { enclaves = λ n. cond (n == e) (Some (record { base = base; size = size; is_init = false })) (enclave_of (get_or d.enclaves n None)) } in t))
     (state_put d f (page_at e 0) kinds.Secs (record { r = false; w = false; x = false }) takes.low takes.idle))
-    ∙ (λ i. record (after_create (state_of d) e f base size) {
+    ∙ (λ i. record (after_create (state_of d) e f base size begun) {
       added = λ q. kind_of (note_new d.pages e k low none q i).added;
       is_busy = λ q. (note_new d.pages e k low none q i).is_busy;
+      measure = λ n. measure_set d.measures e n begun there i;
     })
 
 pub noted_secs : (enclaves : List (Option Enclave)) (pages : List (List PageNote)) (e base size : ℕ) → e ≤ 8 → IsNoted enclaves pages
@@ -426,8 +467,8 @@ noted_secs enclaves pages e base size numbered h = record {
         let there = rw other at (get_or-set_if enclaves e k (Some (record { base = base; size = size; is_init = false })) None place) in
         ap length (rw other at (get_or-set_if pages e k (replicate (size / 4096) no_note) [] low)) ∙ h.made k y (sym there ∙ is)
 
-pub sound_create : (d : Parts) (e f base size : ℕ) → Takes d f → IsSound (state_of d) → IsSound (after_create (state_of d) e f base size)
-sound_create d e f base size k sound = record { seated = (sound-put (state_of d) f (SecsOf e) sound k.free).seated }
+pub sound_create : (d : Parts) (e f base size : ℕ) (begun : Measure) → Takes d f → IsSound (state_of d) → IsSound (after_create (state_of d) e f base size begun)
+sound_create d e f base size begun k sound = record { seated = (sound-put (state_of d) f (SecsOf e) sound k.free).seated }
 
 -- ---- pages in frames
 
@@ -449,11 +490,12 @@ framed_more content pages pages' more h n g kind perm at = omega (arith, h n g k
 pub framed_state : (s t : State) (pages : List (List PageNote)) → s ≡ t → IsFramed t.content pages → IsFramed s.content pages
 framed_state s t pages e h = rw e h
 
-pub framed_add : (content : ℕ → Content) (pages : List (List PageNote)) (f : ℕ) (g : Page) (kind : Kind) (perm : Perm) (v : PageNote) → g.number < length (get_or pages g.enclave []) → IsFramed content pages
-    → IsFramed (λ n. cond (f == n) (Holds g kind perm) (content n)) (with_note pages g.enclave g.number v)
-framed_add content pages f g kind perm v within h =
-    framed_page content (with_note pages g.enclave g.number v) f g kind perm (rw (note_lengths pages g.enclave g.number v g.enclave) within)
-    (framed_more content pages (with_note pages g.enclave g.number v) (λ k. omega (arith, note_lengths pages g.enclave g.number v k)) h)
+pub framed_add : (d : Parts) (g : Page) (f : ℕ) (kind : Kind) (perm : Perm) (init : PageInit) (t : State) (v : PageNote) → IsAdded (state_of d) g f kind perm init t → g.number < length (get_or d.pages g.enclave []) → IsFramed (state_of d).content d.pages
+    → IsFramed t.content (with_note d.pages g.enclave g.number v)
+framed_add d g f kind perm init t v added within h =
+    framed_state t _ (with_note d.pages g.enclave g.number v) added.state
+    (framed_page (state_of d).content (with_note d.pages g.enclave g.number v) f g kind perm (rw (note_lengths d.pages g.enclave g.number v g.enclave) within)
+    (framed_more (state_of d).content d.pages (with_note d.pages g.enclave g.number v) (λ k. omega (arith, note_lengths d.pages g.enclave g.number v k)) h))
 
 pub framed_new : (content : ℕ → Content) (pages : List (List PageNote)) (e : ℕ) (notes : List PageNote) → e < length pages → get_or pages e [] ≡ [] → IsFramed content pages → IsFramed content (set pages e notes)
 framed_new content pages e notes low none h = framed_more content pages (set pages e notes) more h

@@ -1,5 +1,6 @@
 -- The rows that build an enclave: each leaves a state that stands for one entry more, and keeps the rules.
-use Rattle.std.proofs.Common.{◌≡◌, ℕ, ◌==◌, ◌&&◌, ◌||◌, not, Bool, true, false, cond, leb, refl, sym, ap, ◌∙◌, Option, Some, None, IfSome, List, ◌∷◌, is_some}
+use Rattle.std.proofs.Common.{◌≡◌, ℕ, ◌*◌, ◌==◌, ◌&&◌, ◌||◌, not, Bool, true, false, cond, leb, refl, sym, ap, ◌∙◌, Option, Some, None, IfSome, List, [], ◌∷◌, is_some}
+use Rattle.std.specs.Option.{IsSomeAnd}
 use Rattle.std.proofs.lemmas.Bool.{cond_both, false≢true, eqb-true, leb-false}
 use Rattle.std.proofs.lemmas.List.Elements.{All-weaker}
 use Rattle.sgx_types.specs.declared.entries.Entry.{Entry}
@@ -18,9 +19,15 @@ use Rattle.sgx_types.specs.Flat.{FlatEnclave, FlatPage, FlatMemory, flat, open_f
 use Rattle.sgx_types.specs.Sights.{sight_at}
 use Rattle.sgx_types.specs.Rules.{NoPageTwice}
 use Rattle.cached_translations.specs.declared.cache.Translation.{Translation}
+use Rattle.sgx_types.specs.Layouts.{flags_of}
+use Rattle.measure_log.specs.declared.measure.Measure.{Measure}
+use Rattle.measure_log.specs.Blocks.{ecreate_block, eadd_block}
+use Rattle.measure_log.specs.Measure.{HoldsLog, TakesIn}
+use Rattle.measure_log.specs.Rule.{log, MeasureRule}
 use Rattle.paging_machine.specs.State.{State, sight, row_of, with_content, after_epa, after_create, after_add, after_init}
 use Rattle.paging_machine.specs.Stands.{StandsBy, Stands, added_as, IsUsable, IsTranslation, IsSeated, IsSound, Upholds}
 use Rattle.paging_machine.proofs.Tools.{none_holds, none_refused, neither, both_false, is_none-None, none_there, apart, each_there}
+use Rattle.paging_machine.proofs.MeasureLaws.{begins, goes_on, stays}
 use Rattle.paging_machine.proofs.Carry.{did_by, seat_at, stands_done, same_page-true, same_page-refl, IsHeld, upholds_more, held_before, once_before}
 
 -- what a row sees of a frame in the state, and by the entries
@@ -103,7 +110,7 @@ epa_upheld s past a f allowed sound h =
     let none = none_holds (epa_row (sight s f.0)) allowed in
     let free = is_free_frame (s.content f.0) (s.is_sealing f.0) none.1.0 none.1.1.0 in
     let stands = h.stands in
-    upholds_more (after_epa s f.0) past _ h.rules
+    upholds_more (after_epa s f.0) past _ h.rules h.measure
     (record {
       sound = sound-put s f.0 IsVa sound free;
       stands = record {
@@ -119,6 +126,7 @@ epa_upheld s past a f allowed sound h =
         words = λ n g kind perm.
             cond_both (f.0 == n) IsVa (s.content n) (λ v. v ≡ Holds g kind perm → (flat past).pages g ≡ Some (record { kind = kind; perm = perm; words = s.words n }))
             (λ _ at. cc) (λ _. stands.words n g kind perm);
+        measure = stands.measure;
         flat_inside = stands.flat_inside;
       };
       refusal = (ap (λ v. first_of_row (epa_row v)) (sym (sight_agrees s past stands f.0)) ∙ allowed, refl);
@@ -126,6 +134,7 @@ epa_upheld s past a f allowed sound h =
       fits = (leb-false _ _ none.0, sym (stands.content f.0) ∙ free);
       once = once-put past f.0 IsVa (λ g. refl) (once_before s.frames past h.rules);
       access = tt;
+      measure = tt;
       held = held-put s past sound stands (held_before s.frames past h.rules) f.0 IsVa free;
     })
 
@@ -144,20 +153,22 @@ create_by : (enclave base size : ℕ) (o o' : Option FlatEnclave) (v v' : FrameS
     → first_of_row (create_row enclave base size (is_some o') v') ≡ None
 create_by enclave base size o o' v v' e e' h = rw (← e, ← e') h
 
-pub create_upheld : (s : State) (past : List Entry) (a : Actor) (enclave : ℕ) (f : Frame) (base size : ℕ) → first_of_row (row_of s a (Create enclave f base size)) ≡ None → IsSound s
-    → Upholds s past → Upholds (after_create s enclave f.0 base size) (did_by a (Create enclave f base size) Plain ∷ past)
-create_upheld s past a enclave f base size allowed sound h =
+pub create_upheld : (s : State) (past : List Entry) (a : Actor) (enclave : ℕ) (f : Frame) (base size : ℕ) (begun : Measure) → first_of_row (row_of s a (Create enclave f base size)) ≡ None → HoldsLog begun (ecreate_block size) → IsSound s
+    → Upholds s past → Upholds (after_create s enclave f.0 base size begun) (did_by a (Create enclave f base size) Plain ∷ past)
+create_upheld s past a enclave f base size begun allowed holds sound h =
     let none = none_holds (create_row enclave base size (is_some (s.enclaves enclave)) (sight s f.0)) allowed in
     let range = neither (leb s.frames f.0) (not (is_enclave enclave)) (neither (leb s.frames f.0 || not (is_enclave enclave)) (not (is_lawful base size)) none.0).0 in
     let free = is_free_frame (s.content f.0) (s.is_sealing f.0) none.1.1.0 none.1.1.1.0 in
     let stands = h.stands in
+    let new : s.enclaves enclave ≡ None = none_there (s.enclaves enclave) none.1.0 in
+    let no_log : log past enclave ≡ [] = rw new at (stands.measure enclave) in
     let by_flat = rw (stands.enclaves enclave) at (create_open enclave base size (is_some (s.enclaves enclave)) (sight s f.0) allowed) in
     let taken : accepts (flat past) a (Create enclave f base size) ≡ true = is_none-None _ by_flat in
-    upholds_more (after_create s enclave f.0 base size) past _ h.rules
+    upholds_more (after_create s enclave f.0 base size begun) past _ h.rules h.measure
     (record {
       sound = record { seated = (sound-put s f.0 (SecsOf enclave) sound free).seated };
       stands =
-          stands_done (after_create s enclave f.0 base size) past a (Create enclave f base size) Plain taken
+          stands_done (after_create s enclave f.0 base size begun) past a (Create enclave f base size) Plain taken
           (record {
             content = λ n. rw (stands.content n) refl;
             is_blocked = blocked-put s past stands f.0;
@@ -171,6 +182,7 @@ create_upheld s past a enclave f base size allowed sound h =
             words = λ n g kind perm.
                 cond_both (f.0 == n) (SecsOf enclave) (s.content n) (λ v. v ≡ Holds g kind perm → (flat past).pages g ≡ Some (record { kind = kind; perm = perm; words = s.words n }))
                 (λ _ at. cc) (λ _. stands.words n g kind perm);
+            measure = λ e. begins e enclave (s.enclaves e) _ (s.measure e) begun (ecreate_block size) (log past e) (λ same. rw same no_log) holds (stands.measure e);
             flat_inside = stands.flat_inside;
           });
       refusal = (create_by enclave base size _ _ _ _ (stands.enclaves enclave) (sight_agrees s past stands f.0) allowed, refl);
@@ -178,6 +190,7 @@ create_upheld s past a enclave f base size allowed sound h =
       fits = (leb-false _ _ range.0, sym (stands.content f.0) ∙ free);
       once = once-put past f.0 (SecsOf enclave) (λ g. refl) (once_before s.frames past h.rules);
       access = tt;
+      measure = tt;
       held = held-put s past sound stands (held_before s.frames past h.rules) f.0 (SecsOf enclave) free;
     })
 
@@ -192,22 +205,28 @@ add_open number kind perm init (Some enclave) is_added v allowed =
     none_refused (add_row number kind perm init (Some enclave) is_added open_frame)
     (refl, (none.1.0, (none.1.1.0, (none.1.1.1.0, (none.1.1.1.1.0, (none.1.1.1.1.1.0, (refl, (refl, tt))))))))
 
--- what the row of `add` says of its frame and page
-record Adds (is_added : Bool) (v : FrameSight) : Type 0 where
+-- what the row of `add` says of its enclave, frame and page
+record Adds (o : Option EnclaveSight) (is_added : Bool) (v : FrameSight) : Type 0 where
+  pub made : is_some o ≡ true
   pub within : v.is_beyond ≡ false
   pub new : is_added ≡ false
   pub idle : is_busy v ≡ false
   pub empty : is_valid v.content ≡ false
 
-adds : (number : ℕ) (kind : Kind) (perm : Perm) (init : PageInit) (o : Option EnclaveSight) (is_added : Bool) (v : FrameSight) → first_of_row (add_row number kind perm init o is_added v) ≡ None → Adds is_added v
+adds : (number : ℕ) (kind : Kind) (perm : Perm) (init : PageInit) (o : Option EnclaveSight) (is_added : Bool) (v : FrameSight) → first_of_row (add_row number kind perm init o is_added v) ≡ None → Adds o is_added v
 adds number kind perm init None is_added v allowed = absurd (false≢true (sym (none_holds (add_row number kind perm init None is_added v) allowed).1.0))
 adds number kind perm init (Some enclave) is_added v allowed =
     let none = none_holds (add_row number kind perm init (Some enclave) is_added v) allowed in
-    record { within = none.0; new = none.1.1.1.1.1.0; idle = none.1.1.1.1.1.1.0; empty = none.1.1.1.1.1.1.1.0 }
+    record { made = refl; within = none.0; new = none.1.1.1.1.1.0; idle = none.1.1.1.1.1.1.0; empty = none.1.1.1.1.1.1.1.0 }
 
 add_by : (number : ℕ) (kind : Kind) (perm : Perm) (init : PageInit) (o o' : Option FlatEnclave) (b b' : Bool) (v v' : FrameSight) → o ≡ o' → b ≡ b' → v ≡ v'
     → first_of_row (add_row number kind perm init (enclave_sight_of o) b v) ≡ None → first_of_row (add_row number kind perm init (enclave_sight_of o') b' v') ≡ None
 add_by number kind perm init o o' b b' v v' e1 e2 e3 h = rw (← e1, ← e2, ← e3) h
+
+-- an enclave that a row sees was created
+pub is_some-sight : (o : Option FlatEnclave) → is_some (enclave_sight_of o) ≡ true → is_some o ≡ true
+is_some-sight None h = cc
+is_some-sight (Some x) h = refl
 
 pub is_some-added_as : (x : Option FlatPage) → is_some (added_as x) ≡ is_some x
 is_some-added_as None = refl
@@ -243,10 +262,10 @@ once-add past f g kind perm new once m n q =
     (λ _ there. once m n q here there))
 
 -- the words of the frames, and of the pages in them, with a new page in a frame
-words-add : (s : State) (past : List Entry) (m : FlatMemory) (f : ℕ) (g : Page) (kind : Kind) (perm : Perm) (init : PageInit) → StandsBy s past m → m.pages g ≡ None
-    → (n : ℕ) (q : Page) (k : Kind) (p : Perm) → (after_add s g f kind perm init).content n ≡ Holds q k p
-    → (with_page m g (record { kind = kind; perm = perm; words = first_words init })).pages q ≡ Some (record { kind = k; perm = p; words = (after_add s g f kind perm init).words n })
-words-add s past m f g kind perm init stands new n q k p =
+words-add : (s : State) (past : List Entry) (m : FlatMemory) (f : ℕ) (g : Page) (kind : Kind) (perm : Perm) (init : PageInit) (longer : Measure) → StandsBy s past m → m.pages g ≡ None
+    → (n : ℕ) (q : Page) (k : Kind) (p : Perm) → (after_add s g f kind perm init longer).content n ≡ Holds q k p
+    → (with_page m g (record { kind = kind; perm = perm; words = first_words init })).pages q ≡ Some (record { kind = k; perm = p; words = (after_add s g f kind perm init longer).words n })
+words-add s past m f g kind perm init longer stands new n q k p =
     elim (f == n) as (λ b. cond b (Holds g kind perm) (s.content n) ≡ Holds q k p
     → cond (same_page q g) (Some (record { kind = kind; perm = perm; words = first_words init })) (m.pages q) ≡ Some (record { kind = k; perm = p; words = cond b (first_words init) (s.words n) })) [
       | true ↦ here
@@ -266,10 +285,10 @@ words-add s past m f g kind perm init stands new n q k p =
     elsewhere at true same = absurd (let there = stands.words n q k p at in let is : q ≡ g = same_page-true q g same in cc (there, new, is))
     elsewhere at false other = stands.words n q k p at
 
-pub add_upheld : (s : State) (past : List Entry) (a : Actor) (enclave number : ℕ) (f : Frame) (kind : Kind) (perm : Perm) (init : PageInit)
-    → first_of_row (row_of s a (Add enclave number f kind perm init)) ≡ None → IsSound s
-    → Upholds s past → Upholds (after_add s (page_at enclave number) f.0 kind perm init) (did_by a (Add enclave number f kind perm init) Plain ∷ past)
-add_upheld s past a enclave number f kind perm init allowed sound h =
+pub add_upheld : (s : State) (past : List Entry) (a : Actor) (enclave number : ℕ) (f : Frame) (kind : Kind) (perm : Perm) (init : PageInit) (longer : Measure)
+    → first_of_row (row_of s a (Add enclave number f kind perm init)) ≡ None → IsSomeAnd (s.measure enclave) (λ m. TakesIn m (eadd_block (4096 * number) (flags_of kind perm)) longer) → IsSound s
+    → Upholds s past → Upholds (after_add s (page_at enclave number) f.0 kind perm init longer) (did_by a (Add enclave number f kind perm init) Plain ∷ past)
+add_upheld s past a enclave number f kind perm init longer allowed takes sound h =
     let g = page_at enclave number in
     let k = adds number kind perm init (enclave_sight_of (s.enclaves enclave)) (is_some (s.added g)) (sight s f.0) allowed in
     let free = is_free_frame (s.content f.0) (s.is_sealing f.0) k.idle k.empty in
@@ -280,11 +299,11 @@ add_upheld s past a enclave number f kind perm init allowed sound h =
     let by_entries = add_by number kind perm init _ _ _ _ _ _ (stands.enclaves enclave) same_added (sight_agrees s past stands f.0) allowed in
     let taken : accepts (flat past) a (Add enclave number f kind perm init) ≡ true =
     is_none-None _ (add_open number kind perm init (enclave_sight_of ((flat past).enclaves enclave)) (is_some ((flat past).pages g)) (sight_at s.frames past f.0) by_entries) in
-    upholds_more (after_add s g f.0 kind perm init) past _ h.rules
+    upholds_more (after_add s g f.0 kind perm init longer) past _ h.rules h.measure
     (record {
       sound = record { seated = (sound-put s f.0 (Holds g kind perm) sound free).seated };
       stands =
-          stands_done (after_add s g f.0 kind perm init) past a (Add enclave number f kind perm init) Plain taken
+          stands_done (after_add s g f.0 kind perm init longer) past a (Add enclave number f kind perm init) Plain taken
           (record {
             content = λ n. rw (stands.content n) refl;
             is_blocked = blocked-put s past stands f.0;
@@ -299,7 +318,8 @@ add_upheld s past a enclave number f kind perm init allowed sound h =
             inside = stands.inside;
             acc = stands.acc;
             cache = stands.cache;
-            words = words-add s past (flat past) f.0 g kind perm init stands new;
+            words = words-add s past (flat past) f.0 g kind perm init longer stands new;
+            measure = λ e. goes_on e enclave s.enclaves s.measure longer (eadd_block (4096 * number) (flags_of kind perm)) (log past e) (is_some-sight (s.enclaves enclave) k.made) takes (stands.measure e);
             flat_inside = stands.flat_inside;
           });
       refusal = (by_entries, refl);
@@ -307,6 +327,7 @@ add_upheld s past a enclave number f kind perm init allowed sound h =
       fits = (leb-false _ _ k.within, sym (stands.content f.0) ∙ free);
       once = once-add past f.0 g kind perm apart_from (once_before s.frames past h.rules);
       access = tt;
+      measure = tt;
       held = held-put s past sound stands (held_before s.frames past h.rules) f.0 (Holds g kind perm) free;
     })
 
@@ -315,13 +336,13 @@ add_upheld s past a enclave number f kind perm init allowed sound h =
 init_by : (o o' : Option FlatEnclave) → o ≡ o' → first_of_row (init_row (enclave_sight_of o)) ≡ None → first_of_row (init_row (enclave_sight_of o')) ≡ None
 init_by o o' e h = rw (← e) h
 
-pub init_upheld : (s : State) (past : List Entry) (a : Actor) (enclave : ℕ) (expect : Option (List ℕ)) (digest : List ℕ) → first_of_row (row_of s a (Init enclave expect)) ≡ None → IsSound s
+pub init_upheld : (s : State) (past : List Entry) (a : Actor) (enclave : ℕ) (expect : Option (List ℕ)) (digest : List ℕ) → first_of_row (row_of s a (Init enclave expect)) ≡ None → MeasureRule past (did_by a (Init enclave expect) (Hash digest)) → IsSound s
     → Upholds s past → Upholds (after_init s enclave) (did_by a (Init enclave expect) (Hash digest) ∷ past)
-init_upheld s past a enclave expect digest allowed sound h =
+init_upheld s past a enclave expect digest allowed measured sound h =
     let stands = h.stands in
     let by_entries = init_by _ _ (stands.enclaves enclave) allowed in
     let taken : accepts (flat past) a (Init enclave expect) ≡ true = is_none-None _ by_entries in
-    upholds_more (after_init s enclave) past _ h.rules
+    upholds_more (after_init s enclave) past _ h.rules h.measure
     (record {
       sound = record { seated = sound.seated };
       stands =
@@ -337,6 +358,7 @@ init_upheld s past a enclave expect digest allowed sound h =
             acc = stands.acc;
             cache = stands.cache;
             words = stands.words;
+            measure = λ e. stays (e == enclave) (s.enclaves e) (s.measure e) (log past e) (stands.measure e);
             flat_inside = stands.flat_inside;
           });
       refusal = (by_entries, (digest, refl));
@@ -344,5 +366,6 @@ init_upheld s past a enclave expect digest allowed sound h =
       fits = (tt, tt);
       once = once_before s.frames past h.rules;
       access = tt;
+      measure = measured;
       held = held_before s.frames past h.rules;
     })

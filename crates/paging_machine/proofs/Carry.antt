@@ -13,7 +13,8 @@ use Rattle.sgx_types.specs.declared.entries.Event.TheVariants.{Did}
 use Rattle.sgx_types.specs.Frames.{content, is_sealing, page_at, same_page}
 use Rattle.sgx_types.specs.Processors.{Seat, Stay, stay}
 use Rattle.sgx_types.specs.Flat.{FlatMemory, flat, accepts, memory_after, event_after}
-use Rattle.sgx_types.specs.Rules.{RefusalRule, FlatRule, FitsRule, NoPageTwice, IsCurrent, IsUndisturbed, NoneStale, StaleRule, KeepsRules}
+use Rattle.measure_log.specs.Rule.{MeasureRule}
+use Rattle.sgx_types.specs.Rules.{Along, RefusalRule, FlatRule, FitsRule, NoPageTwice, IsCurrent, IsUndisturbed, NoneStale, StaleRule, KeepsRules}
 use Rattle.cached_translations.specs.declared.cache.Translation.{Translation}
 use Rattle.paging_machine.specs.State.{State}
 use Rattle.paging_machine.specs.Stands.{StandsBy, Stands, IsTranslation, IsSeated, IsSound, Upholds, pair_of}
@@ -85,9 +86,10 @@ pub record IsNext (s' : State) (past : List Entry) (e : Entry) : Type 0 where
   pub once : NoPageTwice (e ∷ past)
   pub access : StaleRule past e
   pub held : IsHeld (e ∷ past)
+  pub measure : MeasureRule past e
 
-pub upholds_more : (s' : State) (past : List Entry) (e : Entry) → KeepsRules s'.frames past → IsNext s' past e → Upholds s' (e ∷ past)
-upholds_more s' past e before next = record {
+pub upholds_more : (s' : State) (past : List Entry) (e : Entry) → KeepsRules s'.frames past → Along MeasureRule past → IsNext s' past e → Upholds s' (e ∷ past)
+upholds_more s' past e before measured next = record {
   stands = next.stands;
   rules = record {
     refusal = (next.refusal, before.refusal);
@@ -95,6 +97,7 @@ upholds_more s' past e before next = record {
     fits = record { entries = (next.fits, before.fits.entries); pages = (next.once, before.fits.pages) };
     stale = record { entries = (next.access, before.stale.entries); places = (none_stale s' (e ∷ past) next.sound next.stands next.held, before.stale.places) };
   };
+  measure = (next.measure, measured);
 }
 
 pub held_before : (frames : ℕ) (past : List Entry) → KeepsRules frames past → IsHeld past

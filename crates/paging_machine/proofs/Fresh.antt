@@ -7,12 +7,13 @@ use Rattle.std.proofs.lemmas.List.Elements.{All-nil}
 use Rattle.epcm_entry.specs.EntryView.{block_of, goes_out}
 use Rattle.epcm_entry.specs.Epc.{EpcFrame, free_frame}
 use Rattle.cached_translations.specs.declared.processor.Processor.{Processor}
+use Rattle.measure_log.specs.declared.measure.Measure.{Measure}
 use Rattle.paging_machine.specs.declared.enclaves.PageNote.{PageNote}
 use Rattle.paging_machine.specs.declared.enclaves.Enclave.{Enclave}
 use Rattle.paging_machine.specs.State.{fresh}
 use Rattle.paging_machine.specs.Stands.{IsSound, Upholds}
 use Rattle.paging_machine.specs.Parts.{Parts, made, idle, state_of, held, no_note, kind_of, enclave_of, seat_of_mode, cpu_at}
-use Rattle.paging_machine.specs.Whole.{IsNoted, IsFramed, IsWhole, parts_of}
+use Rattle.paging_machine.specs.Whole.{IsNoted, IsMeasured, IsFramed, IsWhole, parts_of}
 use Rattle.paging_machine.specs.declared.machine.Machine.TheInside.{Inside}
 
 -- one item more
@@ -40,6 +41,7 @@ made_state frames cpus key epoch version = λ i. record {
   enclaves = λ e. ap enclave_of (like 9 e None) i;
   added = λ g. ap (λ x. kind_of x.added) (no_notes g.enclave g.number) i;
   is_busy = λ g. ap (λ x. x.is_busy) (no_notes g.enclave g.number) i;
+  measure = λ e. like {X = Option Measure} 9 e None i;
   inside = λ p. ap (λ x. seat_of_mode x.mode) (like cpus p idle) i;
   acc = λ p. ap (λ x. x.acc) (like cpus p idle) i;
   cache = λ p. ap (λ x. x.cache) (like cpus p idle) i;
@@ -54,6 +56,7 @@ fresh_upheld frames = record {
     enclaves = λ e. refl;
     added = λ g. refl;
     is_busy = λ g. refl;
+    measure = λ e. refl;
     inside = λ p. refl;
     acc = λ p. refl;
     cache = λ p. refl;
@@ -66,6 +69,7 @@ fresh_upheld frames = record {
     fits = record { entries = tt; pages = λ m n g is. cc };
     stale = record { entries = tt; places = λ p. tt };
   };
+  measure = tt;
 }
 
 pub made_upheld : (frames cpus : ℕ) (key : List ℕ) (epoch version : ℕ) → Upholds (state_of (made frames cpus key epoch version)) []
@@ -86,19 +90,22 @@ noted_made = record {
   made = λ e x is. absurd (no_enclave e x is);
 }
 
+pub measured_made : IsMeasured (replicate 9 None) (replicate 9 None)
+measured_made = record { measures_len = refl; made = λ e x is. absurd (no_enclave e x is) }
+
 pub framed_made : (frames cpus : ℕ) (key : List ℕ) (epoch version : ℕ) (pages : List (List PageNote)) → IsFramed (state_of (made frames cpus key epoch version)).content pages
 framed_made frames cpus key epoch version pages n g kind perm is = let free = ap (λ s. s.content n) (made_state frames cpus key epoch version) in cc (free, is)
 
 pub small_made : (frames cpus : ℕ) (key : List ℕ) (epoch version : ℕ) (p : ℕ) → All (λ t. t.number < 2 ^ 32) (cpu_at (made frames cpus key epoch version) p).cache
 small_made frames cpus key epoch version p = rw (like {X = Processor} cpus p idle) (All-nil (λ t. t.number < 2 ^ 32))
 
-pub whole_made : (m : Inside) (frames cpus : ℕ) (key : List ℕ) (epoch version : ℕ) → parts_of m ≡ made frames cpus key epoch version → length m.logs.items ≡ 9 → cpus ≤ 16 → IsWhole m
-whole_made m frames cpus key epoch version is logs few =
+pub whole_made : (m : Inside) (frames cpus : ℕ) (key : List ℕ) (epoch version : ℕ) → parts_of m ≡ made frames cpus key epoch version → cpus ≤ 16 → IsWhole m
+whole_made m frames cpus key epoch version is few =
     let count : length m.cpus.items ≡ cpus = ap (λ (d : Parts). length d.cpus) is ∙ length-replicate cpus idle in
     record {
       processors = rw count few;
-      logs = logs;
       noted = subst (λ (d : Parts). IsNoted d.enclaves d.pages) (sym is) noted_made;
+      measured = subst (λ (d : Parts). IsMeasured d.enclaves d.measures) (sym is) measured_made;
       framed = subst (λ (d : Parts). IsFramed (state_of d).content d.pages) (sym is) (framed_made frames cpus key epoch version (replicate 9 []));
       small = subst (λ (d : Parts). (p : ℕ) → All (λ t. t.number < 2 ^ 32) (cpu_at d p).cache) (sym is) (small_made frames cpus key epoch version);
       sound = subst (λ (d : Parts). IsSound (state_of d)) (sym is) (sound_made frames cpus key epoch version);

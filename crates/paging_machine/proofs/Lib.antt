@@ -1,4 +1,5 @@
 pub mod Tools
+pub mod MeasureLaws
 pub mod Carry
 pub mod BuildLaws
 pub mod ProcessorLaws

@@ -205,7 +205,7 @@ enter_upheld s past p enclave tcs tf sf low allowed sound h =
     (ap opened (ssa_same ∙ ap (λ f. flat_content (page_at enclave (f.ossa + f.cssa)) (m.pages (page_at enclave (f.ossa + f.cssa)))) same_fields))))
     ∙ enters_none enclave tcs (opened_sight v) (enters_opened enclave tcs v k) in
     let taken : accepts m (actors.Cpu p) (Enter enclave tcs tf sf) ≡ true = rw (lt-ltb p.0 16 low, by_flat) refl in
-    upholds_more (after_enter s p.0 seat) past _ h.rules
+    upholds_more (after_enter s p.0 seat) past _ h.rules h.measure
     (record {
       sound = sound-enter s p.0 seat sound (not_false _ k.tcs_page) (usable_there tcs_held.holds k.tcs_idle) (usable_there ssa_held.holds k.ssa_idle);
       stands =
@@ -230,6 +230,7 @@ enter_upheld s past p enclave tcs tf sf low allowed sound h =
                 ];
             cache = λ q. elim (p.0 == q) as (λ b. map pair_of (cond b [] (s.cache q)) ≡ cond b [] (translations past q)) [ true ↦ refl | false ↦ stands.cache q ];
             words = stands.words;
+            measure = stands.measure;
             flat_inside = λ q.
                 elim (p.0 == q) as (λ b. (let c : FlatCpu = cond b (record { inside = Some (record { enclave = enclave; tcs = tcs }); acc = (tcs_fields (words_of m g)).cssa }) (m.cpus q) in c).inside
                 ≡ inside_of_stay (cond b (Some (stay_from past seat)) (stay past q))) [
@@ -242,6 +243,7 @@ enter_upheld s past p enclave tcs tf sf low allowed sound h =
       fits = ((leb-false _ _ k.tcs_within, leb-false _ _ k.ssa_within), tt);
       once = once_before s.frames past h.rules;
       access = tt;
+      measure = tt;
       held = λ q.
           elim (p.0 == q) as (λ b. IfSome (cond b (Some (stay_from past seat)) (stay past q)) (λ t. (content past t.seat.tcs_frame ≡ t.tcs_held) × (content past t.seat.ssa_frame ≡ t.ssa_held))) [
             | true ↦ (refl, refl)
@@ -274,7 +276,7 @@ exit_upheld s past p low allowed sound h =
     let taken : accepts m (actors.Cpu p) Exit ≡ true = rw (lt-ltb p.0 16 low, by_flat) refl in
     let same_seat : (g : Page) → is_seated_by (s.inside p.0) g ≡ is_inside_by (m.cpus p.0).inside g =
     λ g. ap (λ o. is_seated_by o g) (stands.inside p.0) ∙ seated_same (stay past p.0) g ∙ sym (ap (λ o. is_inside_by o g) (stands.flat_inside p.0)) in
-    upholds_more (after_exit s p.0) past _ h.rules
+    upholds_more (after_exit s p.0) past _ h.rules h.measure
     (record {
       sound = sound-exit s p.0 sound;
       stands =
@@ -290,6 +292,7 @@ exit_upheld s past p low allowed sound h =
             acc = λ q. elim (p.0 == q) as (λ b. s.acc q ≡ (let c : FlatCpu = cond b (record (m.cpus q) { inside = None }) (m.cpus q) in c).acc) [ true ↦ stands.acc q | false ↦ stands.acc q ];
             cache = λ q. elim (p.0 == q) as (λ b. map pair_of (cond b [] (s.cache q)) ≡ cond b [] (translations past q)) [ true ↦ refl | false ↦ stands.cache q ];
             words = stands.words;
+            measure = stands.measure;
             flat_inside = λ q.
                 elim (p.0 == q) as (λ b. (let c : FlatCpu = cond b (record (m.cpus q) { inside = None }) (m.cpus q) in c).inside ≡ inside_of_stay (cond b None (stay past q))) [
                   | true ↦ refl
@@ -301,6 +304,7 @@ exit_upheld s past p low allowed sound h =
       fits = (tt, tt);
       once = once_before s.frames past h.rules;
       access = tt;
+      measure = tt;
       held = λ q.
           elim (p.0 == q) as (λ b. IfSome (cond b None (stay past q)) (λ t. (content past t.seat.tcs_frame ≡ t.tcs_held) × (content past t.seat.ssa_frame ≡ t.ssa_held))) [
             | true ↦ tt
@@ -407,7 +411,7 @@ fill_upheld s past p t low allowed perm sound h =
     let stands = h.stands in
     let by_entries : first_of_row (fill_row t.number (enclave_of_stay (stay past p.0)) (sight_at s.frames past t.frame.0)) ≡ None =
     fill_by t.number _ _ _ _ (ap seat_enclave (stands.inside p.0) ∙ enclave_by_entries (stay past p.0)) (sight_agrees s past stands t.frame.0) allowed in
-    upholds_more (after_fill s p.0 t) past _ h.rules
+    upholds_more (after_fill s p.0 t) past _ h.rules h.measure
     (record {
       sound = sound-fill s p.0 t allowed perm sound;
       stands = record {
@@ -425,6 +429,7 @@ fill_upheld s past p t low allowed perm sound h =
               | false ↦ stands.cache q
             ];
         words = stands.words;
+        measure = stands.measure;
         flat_inside = stands.flat_inside;
       };
       refusal = (by_entries, refl);
@@ -432,6 +437,7 @@ fill_upheld s past p t low allowed perm sound h =
       fits = (fill_within s p.0 t.number t.frame.0 allowed, tt);
       once = once_before s.frames past h.rules;
       access = tt;
+      measure = tt;
       held = held_before s.frames past h.rules;
     })
 
@@ -523,7 +529,7 @@ load_upheld s past p off low allowed sound h =
     let by_flat : first_of_row (load_row off (is_some (m.cpus p.0).inside) (flat_translation m (m.cpus p.0).inside off)) ≡ None =
     load_by off _ _ _ _ (mode_in_flat s past stands p.0) (k.machine ∙ sym k.in_flat) allowed in
     let taken : accepts m (actors.Cpu p) (Load off) ≡ true = rw (lt-ltb p.0 16 low, by_flat) refl in
-    upholds_more s past _ h.rules
+    upholds_more s past _ h.rules h.measure
     (record {
       sound = sound;
       stands =
@@ -539,6 +545,7 @@ load_upheld s past p off low allowed sound h =
             acc = stands.acc;
             cache = stands.cache;
             words = stands.words;
+            measure = stands.measure;
             flat_inside = stands.flat_inside;
           });
       refusal = (by_entries, (word_at s p.0 off, refl));
@@ -546,5 +553,6 @@ load_upheld s past p off low allowed sound h =
       fits = (tt, tt);
       once = once_before s.frames past h.rules;
       access = k.held;
+      measure = tt;
       held = held_before s.frames past h.rules;
     })

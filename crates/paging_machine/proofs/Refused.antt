@@ -20,6 +20,7 @@ use Rattle.sgx_types.specs.Table.{FrameSight, EnterSight, TcsSight, is_tcs, epa_
 use Rattle.sgx_types.specs.Flat.{FlatEnclave, flat, enclave_sight_of, tcs_fields, words_of, page_words}
 use Rattle.sgx_types.specs.Sights.{row_at}
 use Rattle.sgx_types.specs.Rules.{NoPageTwice, case_of}
+use Rattle.measure_log.specs.Rule.{log, MeasureRule}
 use Rattle.paging_machine.specs.State.{State, seat_of, seat_enclave, row_of}
 use Rattle.paging_machine.specs.Stands.{Stands, IsSound, Upholds, seat_of_stay}
 use Rattle.paging_machine.proofs.Tools.{tested}
@@ -32,10 +33,10 @@ refused_by actor action refusal = record { actor = actor; event = Refused action
 
 -- an entry that leaves every column as it was
 pub refused_upheld : (s : State) (past : List Entry) (a : Actor) (action : Action) (refusal : Refusal) → Stands s (refused_by a action refusal ∷ past) → NoPageTwice (refused_by a action refusal ∷ past)
-    → IsHeld (refused_by a action refusal ∷ past) → first_of_row (row_at s.frames past a action) ≡ case_of action refusal → IsSound s
+    → IsHeld (refused_by a action refusal ∷ past) → first_of_row (row_at s.frames past a action) ≡ case_of action refusal → MeasureRule past (refused_by a action refusal) → IsSound s
     → Upholds s past → Upholds s (refused_by a action refusal ∷ past)
-refused_upheld s past a action refusal stands once held refused sound h =
-    upholds_more s past _ h.rules (record { sound = sound; stands = stands; refusal = refused; flat = tt; fits = tt; once = once; access = tt; held = held })
+refused_upheld s past a action refusal stands once held refused measure sound h =
+    upholds_more s past _ h.rules h.measure (record { sound = sound; stands = stands; refusal = refused; flat = tt; fits = tt; once = once; access = tt; held = held; measure = measure })
 
 -- ---- the rows by the state and by the entries
 
@@ -117,14 +118,15 @@ enter_agrees s past p enclave tcs tf sf stands =
 -- an entry that no column sees
 pub stands_same : (s : State) (past : List Entry) (e : Entry) → ((n : ℕ) → content (e ∷ past) n ≡ content past n) → ((n : ℕ) → is_blocked (e ∷ past) n ≡ is_blocked past n)
     → ((n : ℕ) → is_sealing (e ∷ past) n ≡ is_sealing past n) → ((p : ℕ) → stay (e ∷ past) p ≡ stay past p) → ((p : ℕ) → translations (e ∷ past) p ≡ translations past p)
-    → flat (e ∷ past) ≡ flat past → Stands s past → Stands s (e ∷ past)
-stands_same s past e c b q t x m stands = record {
+    → ((n : ℕ) → log (e ∷ past) n ≡ log past n) → flat (e ∷ past) ≡ flat past → Stands s past → Stands s (e ∷ past)
+stands_same s past e c b q t x l m stands = record {
   content = λ n. stands.content n ∙ sym (c n);
   is_blocked = λ n. stands.is_blocked n ∙ sym (b n);
   is_sealing = λ n. stands.is_sealing n ∙ sym (q n);
   enclaves = λ e. rw m (stands.enclaves e);
   added = λ g. rw m (stands.added g);
   is_busy = λ g. rw m (stands.is_busy g);
+  measure = λ k. rw (l k) (stands.measure k);
   inside = λ p. stands.inside p ∙ ap seat_of_stay (sym (t p));
   acc = λ p. rw m (stands.acc p);
   cache = λ p. stands.cache p ∙ sym (x p);
@@ -135,47 +137,48 @@ stands_same s past e c b q t x m stands = record {
 pub epa_refused : (s : State) (past : List Entry) (a : Actor) (f : Frame) (refusal : Refusal) → first_of_row (row_of s a (Epa f)) ≡ case_of (Epa f) refusal → IsSound s
     → Upholds s past → Upholds s (refused_by a (Epa f) refusal ∷ past)
 epa_refused s past a f refusal refused sound h =
-    refused_upheld s past a (Epa f) refusal (stands_same s past _ (λ n. refl) (λ n. refl) (λ n. refl) (λ q. refl) (λ q. refl) refl h.stands) (once_before s.frames past h.rules)
-    (held_before s.frames past h.rules) (sym (epa_agrees s past a f h.stands) ∙ refused) sound h
+    refused_upheld s past a (Epa f) refusal (stands_same s past _ (λ n. refl) (λ n. refl) (λ n. refl) (λ q. refl) (λ q. refl) (λ n. refl) refl h.stands) (once_before s.frames past h.rules)
+    (held_before s.frames past h.rules) (sym (epa_agrees s past a f h.stands) ∙ refused) tt sound h
 
 pub create_refused : (s : State) (past : List Entry) (a : Actor) (enclave : ℕ) (f : Frame) (base size : ℕ) (refusal : Refusal) → first_of_row (row_of s a (Create enclave f base size)) ≡ case_of (Create enclave f base size) refusal → IsSound s
     → Upholds s past → Upholds s (refused_by a (Create enclave f base size) refusal ∷ past)
 create_refused s past a enclave f base size refusal refused sound h =
-    refused_upheld s past a (Create enclave f base size) refusal (stands_same s past _ (λ n. refl) (λ n. refl) (λ n. refl) (λ q. refl) (λ q. refl) refl h.stands) (once_before s.frames past h.rules)
-    (held_before s.frames past h.rules) (sym (create_agrees s past a enclave f base size h.stands) ∙ refused) sound h
+    refused_upheld s past a (Create enclave f base size) refusal (stands_same s past _ (λ n. refl) (λ n. refl) (λ n. refl) (λ q. refl) (λ q. refl) (λ n. refl) refl h.stands) (once_before s.frames past h.rules)
+    (held_before s.frames past h.rules) (sym (create_agrees s past a enclave f base size h.stands) ∙ refused) tt sound h
 
 pub add_refused : (s : State) (past : List Entry) (a : Actor) (enclave number : ℕ) (f : Frame) (kind : Kind) (perm : Perm) (init : PageInit) (refusal : Refusal) → first_of_row (row_of s a (Add enclave number f kind perm init)) ≡ case_of (Add enclave number f kind perm init) refusal → IsSound s
     → Upholds s past → Upholds s (refused_by a (Add enclave number f kind perm init) refusal ∷ past)
 add_refused s past a enclave number f kind perm init refusal refused sound h =
-    refused_upheld s past a (Add enclave number f kind perm init) refusal (stands_same s past _ (λ n. refl) (λ n. refl) (λ n. refl) (λ q. refl) (λ q. refl) refl h.stands) (once_before s.frames past h.rules)
-    (held_before s.frames past h.rules) (sym (add_agrees s past a enclave number f kind perm init h.stands) ∙ refused) sound h
+    refused_upheld s past a (Add enclave number f kind perm init) refusal (stands_same s past _ (λ n. refl) (λ n. refl) (λ n. refl) (λ q. refl) (λ q. refl) (λ n. refl) refl h.stands) (once_before s.frames past h.rules)
+    (held_before s.frames past h.rules) (sym (add_agrees s past a enclave number f kind perm init h.stands) ∙ refused) tt sound h
 
-pub init_refused : (s : State) (past : List Entry) (a : Actor) (enclave : ℕ) (expect : Option (List ℕ)) (refusal : Refusal) → first_of_row (row_of s a (Init enclave expect)) ≡ case_of (Init enclave expect) refusal → IsSound s
+pub init_refused : (s : State) (past : List Entry) (a : Actor) (enclave : ℕ) (expect : Option (List ℕ)) (refusal : Refusal) → first_of_row (row_of s a (Init enclave expect)) ≡ case_of (Init enclave expect) refusal
+    → MeasureRule past (refused_by a (Init enclave expect) refusal) → IsSound s
     → Upholds s past → Upholds s (refused_by a (Init enclave expect) refusal ∷ past)
-init_refused s past a enclave expect refusal refused sound h =
-    refused_upheld s past a (Init enclave expect) refusal (stands_same s past _ (λ n. refl) (λ n. refl) (λ n. refl) (λ q. refl) (λ q. refl) refl h.stands) (once_before s.frames past h.rules)
-    (held_before s.frames past h.rules) (sym (init_agrees s past a enclave expect h.stands) ∙ refused) sound h
+init_refused s past a enclave expect refusal refused measure sound h =
+    refused_upheld s past a (Init enclave expect) refusal (stands_same s past _ (λ n. refl) (λ n. refl) (λ n. refl) (λ q. refl) (λ q. refl) (λ n. refl) refl h.stands) (once_before s.frames past h.rules)
+    (held_before s.frames past h.rules) (sym (init_agrees s past a enclave expect h.stands) ∙ refused) measure sound h
 
 pub enter_refused : (s : State) (past : List Entry) (p : Cpu) (enclave tcs : ℕ) (tf sf : Frame) (refusal : Refusal) → first_of_row (row_of s (actors.Cpu p) (Enter enclave tcs tf sf)) ≡ case_of (Enter enclave tcs tf sf) refusal → IsSound s
     → Upholds s past → Upholds s (refused_by (actors.Cpu p) (Enter enclave tcs tf sf) refusal ∷ past)
 enter_refused s past p enclave tcs tf sf refusal refused sound h =
-    refused_upheld s past (actors.Cpu p) (Enter enclave tcs tf sf) refusal (stands_same s past _ (λ n. refl) (λ n. refl) (λ n. refl) (λ q. refl) (λ q. refl) refl h.stands) (once_before s.frames past h.rules)
-    (held_before s.frames past h.rules) (sym (enter_agrees s past p enclave tcs tf sf h.stands) ∙ refused) sound h
+    refused_upheld s past (actors.Cpu p) (Enter enclave tcs tf sf) refusal (stands_same s past _ (λ n. refl) (λ n. refl) (λ n. refl) (λ q. refl) (λ q. refl) (λ n. refl) refl h.stands) (once_before s.frames past h.rules)
+    (held_before s.frames past h.rules) (sym (enter_agrees s past p enclave tcs tf sf h.stands) ∙ refused) tt sound h
 
 pub exit_refused : (s : State) (past : List Entry) (p : Cpu) (refusal : Refusal) → first_of_row (row_of s (actors.Cpu p) Exit) ≡ case_of Exit refusal → IsSound s
     → Upholds s past → Upholds s (refused_by (actors.Cpu p) Exit refusal ∷ past)
 exit_refused s past p refusal refused sound h =
-    refused_upheld s past (actors.Cpu p) Exit refusal (stands_same s past _ (λ n. refl) (λ n. refl) (λ n. refl) (λ q. refl) (λ q. refl) refl h.stands) (once_before s.frames past h.rules)
-    (held_before s.frames past h.rules) (sym (exit_agrees s past p h.stands) ∙ refused) sound h
+    refused_upheld s past (actors.Cpu p) Exit refusal (stands_same s past _ (λ n. refl) (λ n. refl) (λ n. refl) (λ q. refl) (λ q. refl) (λ n. refl) refl h.stands) (once_before s.frames past h.rules)
+    (held_before s.frames past h.rules) (sym (exit_agrees s past p h.stands) ∙ refused) tt sound h
 
 pub fill_refused : (s : State) (past : List Entry) (p : Cpu) (number : ℕ) (f : Frame) (refusal : Refusal) → first_of_row (row_of s (actors.Cpu p) (Fill number f)) ≡ case_of (Fill number f) refusal → IsSound s
     → Upholds s past → Upholds s (refused_by (actors.Cpu p) (Fill number f) refusal ∷ past)
 fill_refused s past p number f refusal refused sound h =
-    refused_upheld s past (actors.Cpu p) (Fill number f) refusal (stands_same s past _ (λ n. refl) (λ n. refl) (λ n. refl) (λ q. refl) (λ q. refl) refl h.stands) (once_before s.frames past h.rules)
-    (held_before s.frames past h.rules) (sym (fill_agrees s past p number f h.stands) ∙ refused) sound h
+    refused_upheld s past (actors.Cpu p) (Fill number f) refusal (stands_same s past _ (λ n. refl) (λ n. refl) (λ n. refl) (λ q. refl) (λ q. refl) (λ n. refl) refl h.stands) (once_before s.frames past h.rules)
+    (held_before s.frames past h.rules) (sym (fill_agrees s past p number f h.stands) ∙ refused) tt sound h
 
 pub load_refused : (s : State) (past : List Entry) (p : Cpu) (off : ℕ) (refusal : Refusal) → first_of_row (row_of s (actors.Cpu p) (Load off)) ≡ case_of (Load off) refusal → IsSound s
     → Upholds s past → Upholds s (refused_by (actors.Cpu p) (Load off) refusal ∷ past)
 load_refused s past p off refusal refused sound h =
-    refused_upheld s past (actors.Cpu p) (Load off) refusal (stands_same s past _ (λ n. refl) (λ n. refl) (λ n. refl) (λ q. refl) (λ q. refl) refl h.stands) (once_before s.frames past h.rules)
-    (held_before s.frames past h.rules) (sym (load_agrees s past p off sound h.stands) ∙ refused) sound h
+    refused_upheld s past (actors.Cpu p) (Load off) refusal (stands_same s past _ (λ n. refl) (λ n. refl) (λ n. refl) (λ q. refl) (λ q. refl) (λ n. refl) refl h.stands) (once_before s.frames past h.rules)
+    (held_before s.frames past h.rules) (sym (load_agrees s past p off sound h.stands) ∙ refused) tt sound h

@@ -1,5 +1,5 @@
 -- A step takes a state that stands for its entries, and keeps the rules, on to one that does.
-use Rattle.std.proofs.Common.{ℕ, ◌≡◌, ◌≤◌, refl, arith, ◌⊎◌, inl, inr, Option, Some, None, List, ◌∷◌, cond, Bool, true, false, MatchOption, unwrap_or, is_some}
+use Rattle.std.proofs.Common.{ℕ, ◌≡◌, ◌≤◌, refl, ap, arith, ◌⊎◌, inl, inr, Option, Some, None, List, ◌∷◌, cond, Bool, true, false, MatchOption, unwrap_or, is_some}
 use Rattle.sgx_types.specs.declared.entries.Entry.{Entry}
 use Rattle.sgx_types.specs.declared.entries.Actor.{Actor}
 use Rattle.sgx_types.specs.declared.entries.Actor.TheVariants as actors
@@ -16,8 +16,10 @@ use Rattle.sgx_types.specs.Table.{EnclaveSight, init_row, first_of_row, perm_in,
 use Rattle.sgx_types.specs.Rules.{case_of}
 use Rattle.paging_machine.specs.State.{State, row_of, sight, seat_enclave, after_init}
 use Rattle.paging_machine.specs.Stands.{IsSound, Upholds}
-use Rattle.paging_machine.specs.Steps.{CanApply, IsStep, did_by, refused_by, no_perm}
-use Rattle.paging_machine.proofs.BuildLaws.{epa_upheld, create_upheld, add_upheld, init_upheld}
+use Rattle.measure_log.specs.Rule.{log, measurement, IsExpected, IsOther}
+use Rattle.paging_machine.specs.Steps.{CanApply, IsStep, IsJudged, did_by, refused_by, no_perm}
+use Rattle.paging_machine.proofs.MeasureLaws.{finished_as, quiet}
+use Rattle.paging_machine.proofs.BuildLaws.{epa_upheld, create_upheld, add_upheld, init_upheld, is_some-sight}
 use Rattle.paging_machine.proofs.Tools.{not_false}
 use Rattle.paging_machine.proofs.ProcessorLaws.{fills, outside_refused, enter_upheld, exit_upheld, fill_upheld, load_upheld}
 use Rattle.paging_machine.proofs.Refused.{epa_refused, create_refused, add_refused, init_refused, enter_refused, exit_refused, fill_refused, load_refused}
@@ -37,6 +39,11 @@ init_case (Some x) enclave expect r is = by_test x.is_init is
     by_test : (b : Bool) → cond b (Some why.IsInit) None ≡ Some r → case_of (Init enclave expect) r ≡ Some r
     by_test true k = cc
     by_test false k = cc
+
+-- .. and finds a created enclave
+init_made : (o : Option EnclaveSight) → first_of_row (init_row o) ≡ None → is_some o ≡ true
+init_made None allowed = cc
+init_made (Some x) allowed = refl
 
 reg_has_perm : (c : Content) → is_reg c ≡ true → is_some (perm_in c) ≡ true
 reg_has_perm (Holds page kinds.Reg perm) is = refl
@@ -68,20 +75,27 @@ pub step_upheld : (s t : State) (past : List Entry) (cpus : ℕ) (a : Actor) (ac
 step_upheld s t past cpus a (Epa f) e few can sound k h =
     step_cases _ _ _ e s t past (λ allowed done. rw (done.0, done.1) (epa_upheld s past a f allowed sound h)) (λ r refused. epa_refused s past a f r refused sound h) k
 step_upheld s t past cpus a (Create enclave f base size) e few can sound k h =
-    step_cases _ _ _ e s t past (λ allowed done. rw (done.0, done.1) (create_upheld s past a enclave f base size allowed sound h))
+    step_cases _ _ _ e s t past (λ allowed done. rw (done.0, done.1.state) (create_upheld s past a enclave f base size done.1.begun allowed done.1.log sound h))
     (λ r refused. create_refused s past a enclave f base size r refused sound h) k
 step_upheld s t past cpus a (Add enclave number f kind perm init) e few can sound k h =
-    step_cases _ _ _ e s t past (λ allowed done. rw (done.0, done.1) (add_upheld s past a enclave number f kind perm init allowed sound h))
+    step_cases _ _ _ e s t past (λ allowed done. rw (done.0, done.1.state) (add_upheld s past a enclave number f kind perm init done.1.longer allowed done.1.log sound h))
     (λ r refused. add_refused s past a enclave number f kind perm init r refused sound h) k
 step_upheld s t past cpus a (Init enclave expect) e few can sound k h =
-    step_cases _ _ _ e s t past (λ allowed done. by_measure allowed done.0 done.1)
-    (λ r refused. init_refused s past a enclave expect r (rw (init_case _ enclave expect r refused) refused) sound h) k
+    step_cases _ _ _ e s t past by_measure
+    (λ r refused. init_refused s past a enclave expect r (rw (init_case _ enclave expect r refused) refused) (quiet _ past a enclave expect r refused) sound h) k
   where
-    by_measure : first_of_row (row_of s a (Init enclave expect)) ≡ None → (digest : List ℕ)
-        → ((e ≡ did_by a (Init enclave expect) (answers.Hash digest)) × (t ≡ after_init s enclave)) ⊎ ((e ≡ refused_by a (Init enclave expect) (why.BadMeasure digest)) × (t ≡ s))
+    by_judgement : (digest : List ℕ) → first_of_row (row_of s a (Init enclave expect)) ≡ None → digest ≡ measurement past enclave
+        → (IsExpected expect digest × (e ≡ did_by a (Init enclave expect) (answers.Hash digest)) × (t ≡ after_init s enclave)) ⊎ (IsOther expect digest × (e ≡ refused_by a (Init enclave expect) (why.BadMeasure digest)) × (t ≡ s))
         → Upholds t (e ∷ past)
-    by_measure allowed digest (inl done) = rw (done.0, done.1) (init_upheld s past a enclave expect digest allowed sound h)
-    by_measure allowed digest (inr other) = rw (other.0, other.1) (init_refused s past a enclave expect (why.BadMeasure digest) allowed sound h)
+    by_judgement digest allowed is (inl done) =
+        rw (done.1, done.2) (init_upheld s past a enclave expect digest allowed (ap answers.Hash is, rw is at done.0) sound h)
+    by_judgement digest allowed is (inr other) =
+        rw (other.1, other.2) (init_refused s past a enclave expect (why.BadMeasure digest) allowed (is, rw is at other.0) sound h)
+
+    by_measure : first_of_row (row_of s a (Init enclave expect)) ≡ None → IsJudged s a enclave expect e t → Upholds t (e ∷ past)
+    by_measure allowed done =
+        by_judgement done.digest allowed
+        (finished_as (s.enclaves enclave) (s.measure enclave) done.digest (log past enclave) (is_some-sight (s.enclaves enclave) (init_made _ allowed)) (h.stands.measure enclave) done.finished) done.judged
 step_upheld s t past cpus (actors.Cpu p) (Enter enclave tcs tf sf) e few can sound k h =
     step_cases _ _ _ e s t past (λ allowed done. rw (done.0, done.1) (enter_upheld s past p enclave tcs tf sf (omega arith) allowed sound h))
     (λ r refused. enter_refused s past p enclave tcs tf sf r refused sound h) k

@@ -1,6 +1,6 @@
 -- Facts on tests, rows and places.
-use Rattle.std.proofs.Common.{◌≡◌, ℕ, ◌==◌, ◌&&◌, ◌||◌, not, Bool, true, false, cond, refl, Option, Some, None, IfSome, is_some, is_none, List, [], ◌∷◌, ◌⊎◌, inl, inr}
-use Rattle.std.proofs.lemmas.Bool.{eqb-true}
+use Rattle.std.proofs.Common.{◌≡◌, ℕ, ◌==◌, ◌&&◌, ◌||◌, not, Bool, true, false, cond, refl, sym, ◌∙◌, Option, Some, None, IfSome, is_some, is_none, List, [], ◌∷◌, ◌⊎◌, inl, inr}
+use Rattle.std.proofs.lemmas.Bool.{eqb-true, eq-eqb, false≢true}
 use Rattle.sgx_types.specs.declared.entries.Entry.{Entry}
 use Rattle.sgx_types.specs.Table.{Case, first_of_row}
 use Rattle.sgx_types.specs.Rules.{AtEachPlace}
@@ -40,6 +40,13 @@ apart f n h = by_test (f == n) refl
     by_test : (b : Bool) → (f == n) ≡ b → b ≡ false
     by_test true e = absurd (h (eqb-true f n e))
     by_test false e = refl
+
+pub eqb-swap : (a b : ℕ) → (a == b) ≡ (b == a)
+eqb-swap a b = by_test (a == b) refl
+  where
+    by_test : (x : Bool) → (a == b) ≡ x → x ≡ (b == a)
+    by_test true e = sym (eq-eqb b a (sym (eqb-true a b e)))
+    by_test false e = sym (apart b a (λ same. false≢true (sym e ∙ eq-eqb a b (sym same))))
 
 -- the two outcomes of a test
 pub tested : (b : Bool) → (b ≡ true) ⊎ (b ≡ false)

@@ -20,16 +20,19 @@ use Rattle.epcm_entry.specs.Epc.{EpcFrame, free_frames, entry_at, words_at}
 use Rattle.cached_translations.specs.declared.processor.Processor.{Processor}
 use Rattle.cached_translations.specs.declared.processor.Mode.{Mode}
 use Rattle.cached_translations.specs.declared.processor.Mode.TheVariants.{Outside, Inside}
+use Rattle.measure_log.specs.declared.measure.Measure.{Measure}
 use Rattle.paging_machine.specs.declared.enclaves.Enclave.{Enclave}
 use Rattle.paging_machine.specs.declared.enclaves.PageNote.{PageNote}
 use Rattle.paging_machine.specs.declared.enclaves.Added.{Added}
 use Rattle.paging_machine.specs.State.{State}
 
--- the EPC, the enclaves and their pages by the enclave's number, the processors, and the numbers of the making
+-- the EPC, the enclaves, their pages and their running measurements by the enclave's number, the processors, and the
+-- numbers of the making
 pub record Parts : Type 0 where
   pub epc : List EpcFrame
   pub enclaves : List (Option Enclave)
   pub pages : List (List PageNote)
+  pub measures : List (Option Measure)
   pub cpus : List Processor
   pub key : List ℕ
   pub start_epoch : ℕ
@@ -90,6 +93,7 @@ made frames cpus key start_epoch start_version = record {
   epc = free_frames frames;
   enclaves = replicate 9 None;
   pages = replicate 9 [];
+  measures = replicate 9 None;
   cpus = replicate cpus idle;
   key = key;
   start_epoch = start_epoch;
@@ -108,6 +112,7 @@ state_of d = record {
   enclaves = λ e. enclave_of (slice_index_or d.enclaves e None);
   added = λ g. kind_of (note_at d g.enclave g.number).added;
   is_busy = λ g. (note_at d g.enclave g.number).is_busy;
+  measure = λ e. slice_index_or d.measures e None;
   inside = λ p. seat_of_mode (cpu_at d p).mode;
   acc = λ p. (cpu_at d p).acc;
   cache = λ p. (cpu_at d p).cache;

@@ -1,7 +1,8 @@
 -- The machine's state is what the entries make it, column by column and without a bound: beyond the last frame, enclave
 -- or processor there is nothing on either side.
-use Rattle.std.specs.Prelude.{ℕ, ◌≡◌, Bool, true, false, List, Option, Some, None, IfSome, map}
+use Rattle.std.specs.Prelude.{ℕ, ◌≡◌, Bool, true, false, List, [], Option, Some, None, IfSome, map}
 use Rattle.std.specs.List.{All}
+use Rattle.std.specs.Option.{IsSomeAnd}
 use Rattle.sgx_types.specs.declared.entries.Entry.{Entry}
 use Rattle.sgx_types.specs.declared.names.Page.{Page}
 use Rattle.sgx_types.specs.declared.names.Kind.{Kind}
@@ -9,8 +10,11 @@ use Rattle.sgx_types.specs.declared.names.Kind.TheVariants as kinds
 use Rattle.sgx_types.specs.declared.names.Perm.{Perm}
 use Rattle.sgx_types.specs.Frames.{Content, Holds, content, is_blocked, is_sealing, enclave_in, is_page, page_at}
 use Rattle.sgx_types.specs.Processors.{Seat, Stay, stay, Pair, translations}
-use Rattle.sgx_types.specs.Flat.{FlatMemory, FlatPage, Inside, flat}
-use Rattle.sgx_types.specs.Rules.{KeepsRules}
+use Rattle.sgx_types.specs.Flat.{FlatEnclave, FlatMemory, FlatPage, Inside, flat}
+use Rattle.sgx_types.specs.Rules.{Along, KeepsRules}
+use Rattle.measure_log.specs.declared.measure.Measure.{Measure}
+use Rattle.measure_log.specs.Measure.{HoldsLog}
+use Rattle.measure_log.specs.Rule.{log, MeasureRule}
 use Rattle.cached_translations.specs.declared.cache.Translation.{Translation}
 use Rattle.paging_machine.specs.State.{State}
 
@@ -29,6 +33,11 @@ abbrev pub added_as : Option FlatPage → Option (Kind × Perm)
 added_as None = None
 added_as (Some x) = Some (x.kind, x.perm)
 
+-- a created enclave's measurement has taken in its log, and one that was not created has no log
+abbrev pub IsMeasuring : Option FlatEnclave → Option Measure → List ℕ → Type 0
+IsMeasuring None measure log = log ≡ []
+IsMeasuring (Some x) measure log = IsSomeAnd measure (λ m. HoldsLog m log)
+
 -- .. with the flat memory that the entries make
 pub record StandsBy (s : State) (past : List Entry) (m : FlatMemory) : Type 0 where
   pub content : (n : ℕ) → s.content n ≡ content past n
@@ -37,6 +46,7 @@ pub record StandsBy (s : State) (past : List Entry) (m : FlatMemory) : Type 0 wh
   pub enclaves : (e : ℕ) → s.enclaves e ≡ m.enclaves e
   pub added : (g : Page) → s.added g ≡ added_as (m.pages g)
   pub is_busy : (g : Page) → s.is_busy g ≡ m.is_busy g
+  pub measure : (e : ℕ) → IsMeasuring (s.enclaves e) (s.measure e) (log past e)
   pub inside : (p : ℕ) → s.inside p ≡ seat_of_stay (stay past p)
   pub acc : (p : ℕ) → s.acc p ≡ (m.cpus p).acc
   pub cache : (p : ℕ) → map pair_of (s.cache p) ≡ translations past p
@@ -75,3 +85,4 @@ pub record IsSound (s : State) : Type 0 where
 pub record Upholds (s : State) (past : List Entry) : Type 0 where
   pub stands : Stands s past
   pub rules : KeepsRules s.frames past
+  pub measure : Along MeasureRule past

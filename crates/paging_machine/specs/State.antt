@@ -15,6 +15,7 @@ use Rattle.sgx_types.specs.Table.{Case, allowed, FrameSight, epa_row, create_row
 use Rattle.epcm_entry.specs.Words.{zero_words}
 use Rattle.cached_translations.specs.declared.cache.Translation.{Translation}
 use Rattle.cached_translations.specs.Translations.{translation_of, with_translation}
+use Rattle.measure_log.specs.declared.measure.Measure.{Measure}
 use Rattle.sgx_types.specs.Flat.{FlatEnclave, enclave_sight_of, marked, tcs_fields, first_words, word_index}
 
 pub record State : Type 0 where
@@ -26,6 +27,7 @@ pub record State : Type 0 where
   pub enclaves : ℕ → Option FlatEnclave
   pub added : Page → Option (Kind × Perm)
   pub is_busy : Page → Bool
+  pub measure : ℕ → Option Measure
   pub inside : ℕ → Option Seat
   pub acc : ℕ → ℕ
   pub cache : ℕ → List Translation
@@ -41,6 +43,7 @@ fresh frames = record {
   enclaves = λ e. None;
   added = λ g. None;
   is_busy = λ g. false;
+  measure = λ e. None;
   inside = λ p. None;
   acc = λ p. 0;
   cache = λ p. [];
@@ -107,15 +110,17 @@ with_content s f c = record s {
 abbrev pub after_epa : State → ℕ → State
 after_epa s f = with_content s f IsVa
 
-abbrev pub after_create : State → ℕ → ℕ → ℕ → ℕ → State
-after_create s enclave f base size = record (with_content s f (SecsOf enclave)) {
+abbrev pub after_create : State → ℕ → ℕ → ℕ → ℕ → Measure → State
+after_create s enclave f base size begun = record (with_content s f (SecsOf enclave)) {
   enclaves = λ e. if e == enclave then Some (record { base = base; size = size; is_init = false }) else s.enclaves e;
+  measure = λ e. if e == enclave then Some begun else s.measure e;
 }
 
-abbrev pub after_add : State → Page → ℕ → Kind → Perm → PageInit → State
-after_add s g f kind perm init = record (with_content s f (Holds g kind perm)) {
+abbrev pub after_add : State → Page → ℕ → Kind → Perm → PageInit → Measure → State
+after_add s g f kind perm init longer = record (with_content s f (Holds g kind perm)) {
   words = λ n. if f == n then first_words init else s.words n;
   added = λ q. if same_page q g then Some (kind, perm) else s.added q;
+  measure = λ e. if e == g.enclave then Some longer else s.measure e;
 }
 
 abbrev pub after_init : State → ℕ → State

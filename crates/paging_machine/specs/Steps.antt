@@ -1,5 +1,6 @@
 -- One instruction of the machine: its entry and the state after it, exactly by its row.
-use Rattle.std.specs.Prelude.{ℕ, ◌≡◌, ◌<◌, ◌⊎◌, false, List, MatchOption, unwrap_or}
+use Rattle.std.specs.Prelude.{ℕ, ◌≡◌, ◌<◌, ◌*◌, ◌⊎◌, false, List, Option, MatchOption, unwrap_or}
+use Rattle.std.specs.Option.{IsSomeAnd}
 use Rattle.sgx_types.specs.declared.entries.Entry.{Entry}
 use Rattle.sgx_types.specs.declared.entries.Event.TheVariants.{Did, Refused}
 use Rattle.sgx_types.specs.declared.entries.Actor.{Actor}
@@ -10,10 +11,18 @@ use Rattle.sgx_types.specs.declared.entries.Answer.{Answer}
 use Rattle.sgx_types.specs.declared.entries.Answer.TheVariants as answers
 use Rattle.sgx_types.specs.declared.refusals.Refusal.{Refusal}
 use Rattle.sgx_types.specs.declared.refusals.Refusal.TheVariants as why
+use Rattle.sgx_types.specs.declared.entries.PageInit.{PageInit}
+use Rattle.sgx_types.specs.declared.names.Kind.{Kind}
+use Rattle.sgx_types.specs.declared.names.Page.{Page}
 use Rattle.sgx_types.specs.declared.names.Perm.{Perm}
 use Rattle.sgx_types.specs.Frames.{page_at}
 use Rattle.sgx_types.specs.Table.{first_of_row, perm_in}
 use Rattle.sgx_types.specs.Flat.{tcs_fields}
+use Rattle.sgx_types.specs.Layouts.{flags_of}
+use Rattle.measure_log.specs.declared.measure.Measure.{Measure}
+use Rattle.measure_log.specs.Blocks.{ecreate_block, eadd_block}
+use Rattle.measure_log.specs.Measure.{HoldsLog, TakesIn, FinishesTo}
+use Rattle.measure_log.specs.Rule.{IsExpected, IsOther}
 use Rattle.paging_machine.specs.State.{State, row_of, seat_of, word_at, after_epa, after_create, after_add, after_init, after_enter, after_exit, after_fill}
 
 abbrev pub did_by : Actor → Action → Answer → Entry
@@ -49,21 +58,39 @@ answer_of s actor (Enter enclave tcs tf sf) = answers.Cssa (tcs_fields (s.words 
 answer_of s (actors.Cpu p) (Load off) = answers.Value (word_at s p.0 off)
 answer_of s actor action = answers.Plain
 
--- the state after an instruction that its row allows
+-- the state after an instruction that its row allows, but for those that measure
 abbrev pub after_of : State → Actor → Action → State
 after_of s actor (Epa f) = after_epa s f.0
-after_of s actor (Create enclave f base size) = after_create s enclave f.0 base size
-after_of s actor (Add enclave number f kind perm init) = after_add s (page_at enclave number) f.0 kind perm init
-after_of s actor (Init enclave expect) = after_init s enclave
 after_of s (actors.Cpu p) (Enter enclave tcs tf sf) = after_enter s p.0 (seat_of enclave tcs tf.0 sf.0)
 after_of s (actors.Cpu p) Exit = after_exit s p.0
 after_of s (actors.Cpu p) (Fill number f) = after_fill s p.0 (record { number = number; frame = f; perm = unwrap_or (perm_in (s.content f.0)) no_perm })
 after_of s actor action = s
 
--- an instruction that its row allows is done; `init` answers a digest, or is refused where another was expected
+-- a new enclave's measurement has taken in the block of ECREATE
+pub record IsCreated (s : State) (enclave f base size : ℕ) (s' : State) : Type 0 where
+  pub begun : Measure
+  pub log : HoldsLog begun (ecreate_block size)
+  pub state : s' ≡ after_create s enclave f base size begun
+
+-- the enclave's measurement takes in the block of EADD
+pub record IsAdded (s : State) (g : Page) (f : ℕ) (kind : Kind) (perm : Perm) (init : PageInit) (s' : State) : Type 0 where
+  pub longer : Measure
+  pub log : IsSomeAnd (s.measure g.enclave) (λ measure. TakesIn measure (eadd_block (4096 * g.number) (flags_of kind perm)) longer)
+  pub state : s' ≡ after_add s g f kind perm init longer
+
+-- the enclave's measurement finishes to a digest: where it is as expected the enclave is initialised, else nothing changes
+pub record IsJudged (s : State) (actor : Actor) (enclave : ℕ) (expect : Option (List ℕ)) (e : Entry) (s' : State) : Type 0 where
+  pub digest : List ℕ
+  pub finished : IsSomeAnd (s.measure enclave) (λ measure. FinishesTo measure digest)
+  pub judged : (IsExpected expect digest × (e ≡ did_by actor (Init enclave expect) (answers.Hash digest)) × (s' ≡ after_init s enclave))
+      ⊎ (IsOther expect digest × (e ≡ refused_by actor (Init enclave expect) (why.BadMeasure digest)) × (s' ≡ s))
+
+-- an instruction that its row allows is done, but for an `init` whose measurement is not as expected
 abbrev pub IsDone : State → Actor → Action → Entry → State → Type 0
-IsDone s actor (Init enclave expect) e s' =
-    (digest : List ℕ) × (((e ≡ did_by actor (Init enclave expect) (answers.Hash digest)) × (s' ≡ after_init s enclave)) ⊎ ((e ≡ refused_by actor (Init enclave expect) (why.BadMeasure digest)) × (s' ≡ s)))
+IsDone s actor (Create enclave f base size) e s' = (e ≡ did_by actor (Create enclave f base size) answers.Plain) × IsCreated s enclave f.0 base size s'
+IsDone s actor (Add enclave number f kind perm init) e s' =
+    (e ≡ did_by actor (Add enclave number f kind perm init) answers.Plain) × IsAdded s (page_at enclave number) f.0 kind perm init s'
+IsDone s actor (Init enclave expect) e s' = IsJudged s actor enclave expect e s'
 IsDone s actor action e s' = (e ≡ did_by actor action (answer_of s actor action)) × (s' ≡ after_of s actor action)
 
 -- .. and any other is refused by the first case that holds, and changes nothing

@@ -1,12 +1,10 @@
-ghost use Rattle.std.specs.Prelude.{◌≡◌, ◌<◌, ◌%◌, ◌/◌, IfOk, OnErr, length, List, ◌∷◌, Some};
+ghost use Rattle.std.specs.Prelude.{◌≡◌, ◌<◌, IfOk, OnErr, length, List, ◌∷◌, Some};
 ghost use Rattle.sgx_types.specs.declared.entries.Entry.{Entry};
 ghost use Rattle.sgx_types.specs.declared.entries.Actor.TheVariants as actors;
 ghost use Rattle.sgx_types.specs.declared.entries.Action.TheVariants as actions;
 ghost use Rattle.sgx_types.specs.declared.entries.Answer.TheVariants as answers;
-ghost use Rattle.sgx_types.specs.Flat.{tcs_fields};
 ghost use Rattle.paging_machine.specs.Parts.{state_of};
 ghost use Rattle.paging_machine.specs.Stands.{Upholds};
-ghost use Rattle.paging_machine.specs.State.{word_at};
 ghost use Rattle.paging_machine.specs.Steps.{IsStep, CanApply, MayNeedMemory, did_by, refused_by};
 
 use crate::machine::Machine;

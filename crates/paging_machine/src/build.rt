@@ -1,22 +1,25 @@
-ghost use Rattle.std.specs.Prelude.{◌≡◌, ◌<◌, ◌%◌, ◌==◌, is_some, slice_index, slice_index_or, replicate, IfOk, OnOk, OnErr, length, vec_len, [], Some, None};
+ghost use Rattle.std.specs.Prelude.{◌≡◌, ◌<◌, ◌%◌, ◌==◌, true, is_some, slice_index_or, replicate, IfOk, OnOk, OnErr, length, vec_len, [], None};
+ghost use Rattle.std.specs.Option.{IsSomeAnd};
 ghost use Rattle.sgx_types.specs.Frames.{page_at};
 ghost use Rattle.sgx_types.specs.Table.{is_enclave, is_lawful, is_lawful_size, is_addable, is_lawful_perm, is_within, first_of_row, epa_row, create_row, add_row, init_row};
 ghost use Rattle.sgx_types.specs.Flat.{enclave_sight_of, first_words};
 ghost use Rattle.epcm_entry.specs.Epc.{with_words};
+ghost use Rattle.measure_log.specs.Blocks.{eadd_block};
+ghost use Rattle.measure_log.specs.Measure.{TakesIn, FinishesTo};
 ghost use Rattle.paging_machine.specs.Parts.{state_of, note_at, no_note, notes_of, with_note};
 ghost use Rattle.paging_machine.specs.Stands.{IsSound};
-ghost use Rattle.paging_machine.specs.State.{sight, after_epa, after_create, after_add, after_init};
+ghost use Rattle.paging_machine.specs.State.{sight, after_epa, after_init};
+ghost use Rattle.paging_machine.specs.Steps.{IsCreated, IsAdded};
 
 use crate::enclaves::{Added, Enclave, PageNote};
 use crate::machine::Machine;
-use crate::measure::{add_block, begun};
 use crate::sights::{is_busy, is_valid};
 use epcm_entry::epc::Epc;
+use measure_log::measure::Measure;
 use sgx_types::entries::PageInit;
 use sgx_types::layouts::flags;
 use sgx_types::names::{Frame, Kind, Memory, Page, Perm};
 use sgx_types::refusals::Refusal;
-use sha2::Digest;
 use std::alloc::Global;
 
 impl Machine {
@@ -161,14 +164,14 @@ impl Machine {
         size: u64,
     ) -> Result<(), Memory>
         requires { first_of_row (create_row enclave base size (is_some ((state_of self.old).enclaves enclave)) (sight (state_of self.old) frame.0)) ≡ None }
-        ensures done { OnOk result (state_of self.new ≡ after_create (state_of self.old) enclave frame.0 base size) }
+        ensures done { OnOk result (IsCreated (state_of self.old) enclave frame.0 base size (state_of self.new)) }
         ensures refused { OnErr result (self.new ≡ self.old) }
         ensures cpus { length self.new.cpus ≡ length self.old.cpus }
     {
         let notes = blank_notes(alloc, size / 4096)?;
         let place = usize::from(enclave);
         self.pages[place] = notes;
-        self.logs[place] = begun(size);
+        self.measures[place] = Some(Measure::create(size));
         self.enclaves[place] = Some(Enclave {
             base,
             size,
@@ -190,7 +193,7 @@ impl Machine {
     )
         requires { first_of_row (add_row page.number kind perm init (enclave_sight_of ((state_of self.old).enclaves page.enclave))
             (is_some ((state_of self.old).added page)) (sight (state_of self.old) frame.0)) ≡ None }
-        ensures done { state_of self.new ≡ after_add (state_of self.old) page frame.0 kind perm init }
+        ensures done { IsAdded (state_of self.old) page frame.0 kind perm init (state_of self.new) }
         ensures cpus { length self.new.cpus ≡ length self.old.cpus }
     {
         let place = usize::from(page.enclave);
@@ -200,17 +203,19 @@ impl Machine {
         write_note(&mut self.pages, place, number, PageNote { added, is_busy });
         self.epc.set(frame, page, kind, perm);
         write_words(&mut self.epc, frame, init);
-        let block = add_block(u64::from(page.number) * 4096, flags(kind, perm));
-        self.logs[place].update(block.as_slice());
+        let offset = 4096 * u64::from(page.number);
+        measure_page(&mut self.measures[place], offset, flags(kind, perm));
     }
 
     /// The measurement of an enclave so far.
     pub(crate) fn measurement(&self, enclave: u16) -> [u8; 32]
         requires { first_of_row (init_row (enclave_sight_of ((state_of self.now).enclaves enclave))) ≡ None }
-        ensures { IsSound (state_of self.now) }
+        ensures { IsSomeAnd ((state_of self.now).measure enclave) (λ measure. FinishesTo measure result) }
     {
-        let log = self.logs[usize::from(enclave)].clone().unwrap();
-        log.finalize()
+        self.measures[usize::from(enclave)]
+            .as_ref()
+            .unwrap()
+            .finish()
     }
 
     /// Marks an enclave initialised.
@@ -247,6 +252,14 @@ pub(crate) fn write_note(
     ensures len { vec_len pages.new ≡ vec_len pages.old }
 {
     pages[place][number] = note;
+}
+
+// Adds a page, at this offset and with these SECINFO.FLAGS, to the measurement of its enclave.
+fn measure_page(measure: &mut Option<Measure>, offset: u64, flags: u64)
+    requires { is_some measure.old ≡ true }
+    ensures { IsSomeAnd measure.old (λ before. IsSomeAnd measure.new (λ after. TakesIn before (eadd_block offset flags) after)) }
+{
+    measure.as_mut().unwrap().add(offset, flags);
 }
 
 // The words with which a page is added.

@@ -6,7 +6,6 @@ mod build;
 mod enclaves;
 pub mod machine;
 mod making;
-mod measure;
 mod processor;
 mod sights;
 #[cfg(test)]

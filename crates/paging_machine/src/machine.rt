@@ -1,12 +1,11 @@
-ghost use Rattle.std.specs.Prelude.{◌≡◌, ◌<◌, ◌≤◌, ◌^◌, ◌-◌, ◌||◌, ◌%◌, ◌/◌, count_by, length, is_some, IfOk, OnErr, nat_le};
+ghost use Rattle.std.specs.Prelude.{◌≡◌, ◌<◌, ◌^◌, ◌%◌, ◌/◌, count_by, length, is_some};
 ghost use Rattle.std.specs.Option.{option_map};
-ghost use Rattle.sgx_types.specs.Frames.{least_free, page_at, is_page};
-ghost use Rattle.sgx_types.specs.Table.{is_loading, is_valid, is_tcs, is_reg, perm_in, allows_update, is_ready, first_of_row, epa_row};
-ghost use Rattle.sgx_types.specs.Flat.{enclave_sight_of, tcs_fields};
-ghost use Rattle.epcm_entry.specs.EntryView.{block_of, goes_out};
-ghost use Rattle.epcm_entry.specs.Epc.{entry_at, words_at, is_free_frame};
+ghost use Rattle.sgx_types.specs.Frames.{least_free};
+ghost use Rattle.sgx_types.specs.Table.{is_ready};
+ghost use Rattle.sgx_types.specs.Flat.{enclave_sight_of};
+ghost use Rattle.epcm_entry.specs.Epc.{is_free_frame};
 ghost use Rattle.cached_translations.specs.Translations.{translation_of};
-ghost use Rattle.paging_machine.specs.Parts.{state_of, held, cpu_at, tcs_of, is_lawful_access};
+ghost use Rattle.paging_machine.specs.Parts.{state_of, cpu_at, tcs_of, allows, is_lawful_access};
 ghost use Rattle.paging_machine.specs.Stands.{IsSound};
 
 use crate::enclaves::{Enclave, PageNote};
@@ -15,11 +14,10 @@ use cached_translations::cache::Translation;
 use cached_translations::processor::{Mode, Processor};
 use epcm_entry::entry_view::EntryView;
 use epcm_entry::epc::Epc;
+use measure_log::measure::Measure;
 use sgx_types::entries::AccessOp;
 use sgx_types::layouts::TcsFields;
-use sgx_types::names::{Cpu, Frame, Kind, Memory, Page};
-use sgx_types::refusals::Refusal;
-use sha2::{Digest, Sha256};
+use sgx_types::names::{Cpu, Frame, Kind, Page, Perm};
 use std::alloc::Global;
 use std::marker::Model;
 
@@ -30,7 +28,7 @@ pub struct Machine {
     // By the enclave's number; place 0 stays empty.
     pub(crate) enclaves: Vec<Option<Enclave>>,
     pub(crate) pages: Vec<Vec<PageNote>>,
-    pub(crate) logs: Vec<Sha256>,
+    pub(crate) measures: Vec<Option<Measure>>,
     pub(crate) cpus: Vec<Processor>,
     pub(crate) key: [u8; 32],
     pub(crate) start_epoch: u64,
@@ -115,6 +113,27 @@ impl Machine {
             cssa: low_half(counts),
             nssa: high_half(counts),
         })
+    }
+
+    /// Whether a page was added as a PT_REG page with the permission that an access needs: R for a load, W for a store,
+    /// both for an exchange and add. No other access of it can succeed, wherever the page is.
+    pub fn lawful(&self, page: Page, op: AccessOp) -> bool
+        ensures { result ≡ is_lawful_access ((state_of self.now).added page) op }
+    {
+        match self.note(page.enclave, page.number).added {
+            Some(added) => matches!(added.kind, Kind::Reg) && allows(added.perm, op),
+            None => false,
+        }
+    }
+}
+
+fn allows(perm: Perm, op: AccessOp) -> bool
+    ensures { result ≡ allows perm op }
+{
+    match op {
+        AccessOp::Load => perm.r,
+        AccessOp::Store => perm.w,
+        AccessOp::Xadd => perm.r && perm.w,
     }
 }
 

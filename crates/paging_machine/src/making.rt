@@ -1,4 +1,4 @@
-ghost use Rattle.std.specs.Prelude.{◌≡◌, ◌≤◌, [], IfOk, None, length, replicate};
+ghost use Rattle.std.specs.Prelude.{◌≡◌, ◌≤◌, [], IfOk, None, replicate};
 ghost use Rattle.paging_machine.specs.Parts.{idle, made, notes_of, state_of};
 ghost use Rattle.paging_machine.specs.Stands.{Upholds};
 
@@ -6,8 +6,8 @@ use crate::enclaves::{Enclave, PageNote};
 use crate::machine::Machine;
 use cached_translations::processor::Processor;
 use epcm_entry::epc::Epc;
+use measure_log::measure::Measure;
 use sgx_types::names::Memory;
-use sha2::{Digest, Sha256};
 use std::alloc::Global;
 
 // One place for each enclave from 1 to 8; place 0 stays empty.
@@ -34,7 +34,7 @@ impl Machine {
             epc: Epc::new(alloc, frames)?,
             enclaves: no_enclaves(alloc)?,
             pages: blank_pages(alloc)?,
-            logs: blank_logs(alloc)?,
+            measures: no_measures(alloc)?,
             cpus: idle_processors(alloc, cpus)?,
             key,
             start_epoch,
@@ -65,14 +65,15 @@ fn blank_pages(alloc: Global) -> Result<Vec<Vec<PageNote>>, Memory>
     Ok(pages)
 }
 
-fn blank_logs(alloc: Global) -> Result<Vec<Sha256>, Memory>
-    ensures { IfOk result (λ logs. length logs.items ≡ 9) }
+#[tactic(auto, using(crate::proofs::Fresh::replicate_more))]
+fn no_measures(alloc: Global) -> Result<Vec<Option<Measure>>, Memory>
+    ensures { IfOk result (λ measures. measures.items ≡ replicate 9 None) }
 {
-    let mut logs = Vec::with_capacity(alloc, PLACES)?;
+    let mut measures = Vec::with_capacity(alloc, PLACES)?;
     for _ in 0..PLACES {
-        logs.push(Sha256::new())?;
+        measures.push(None)?;
     }
-    Ok(logs)
+    Ok(measures)
 }
 
 #[tactic(auto, using(crate::proofs::Fresh::replicate_more))]

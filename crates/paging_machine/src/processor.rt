@@ -1,5 +1,5 @@
-ghost use Rattle.std.specs.Prelude.{◌≡◌, ◌<◌, ◌/◌, ◌+◌, is_some, length, [], None, Some};
-ghost use Rattle.sgx_types.specs.Table.{first_of_row, enter_row, ssa_row, exit_row, fill_row, load_row, perm_in};
+ghost use Rattle.std.specs.Prelude.{◌≡◌, ◌<◌, ◌/◌, is_some, length, [], None, Some};
+ghost use Rattle.sgx_types.specs.Table.{first_of_row, ssa_row, exit_row, fill_row, load_row, perm_in};
 ghost use Rattle.paging_machine.specs.Parts.{state_of, fields_of};
 ghost use Rattle.sgx_types.specs.Flat.{tcs_fields};
 ghost use Rattle.cached_translations.specs.Translations.{translation_of};

@@ -1,4 +1,4 @@
-ghost use Rattle.std.specs.Prelude.{◌≡◌, ◌||◌, ◌^◌, ◌%◌, ◌/◌, ◌==◌, is_some};
+ghost use Rattle.std.specs.Prelude.{◌≡◌, ◌||◌, is_some};
 ghost use Rattle.sgx_types.specs.Frames.{page_at, is_page};
 ghost use Rattle.sgx_types.specs.Table.{is_loading, is_valid, is_tcs, is_reg, perm_in, allows_update};
 ghost use Rattle.epcm_entry.specs.EntryView.{block_of, goes_out};

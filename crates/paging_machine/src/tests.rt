@@ -3,9 +3,9 @@ ghost use Rattle.paging_machine.specs.Steps.{CanApply};
 
 use crate::machine::Machine;
 use cached_translations::processor::Mode;
-use sgx_types::entries::{Action, Actor, Answer, Entry, Event, PageInit};
+use sgx_types::entries::{AccessOp, Action, Actor, Answer, Entry, Event, PageInit};
 use sgx_types::layouts::TcsFields;
-use sgx_types::names::{Cpu, Frame, Kind, Memory, Perm};
+use sgx_types::names::{Cpu, Frame, Kind, Memory, Page, Perm};
 use sgx_types::refusals::Refusal;
 use std::alloc::Global;
 use std::process::Abort;
@@ -29,6 +29,14 @@ const READ_WRITE: Perm = Perm {
     x: false,
 };
 
+const READ_EXECUTE: Perm = Perm {
+    r: true,
+    w: false,
+    x: true,
+};
+
+// The digests are those of sha256sum over the blocks, written out.
+
 // SHA-256 of the blocks of an enclave of 0x10000 bytes with a TCS page 0 and a REG page 1 that may be read and written.
 const TWO_PAGES: [u8; 32] = [
     0x33, 0x0a, 0xba, 0x8b, 0x01, 0xce, 0x90, 0x82, 0x84, 0x11, 0x84, 0x72, 0x74, 0xc3, 0x48, 0x9e,
@@ -39,6 +47,12 @@ const TWO_PAGES: [u8; 32] = [
 const THREE_PAGES: [u8; 32] = [
     0x00, 0x6d, 0x51, 0x8b, 0xbd, 0x88, 0x25, 0xda, 0x4a, 0x0e, 0x7d, 0x35, 0xd4, 0x18, 0xaa, 0xf1,
     0x6b, 0x77, 0x49, 0xc6, 0x28, 0x54, 0xa6, 0xf4, 0x0d, 0x8d, 0x58, 0xdb, 0x41, 0x5a, 0x8c, 0x31,
+];
+
+// SHA-256 of the blocks of an enclave of 0x2000 bytes with a REG page 1 that may be read and executed.
+const OTHER: [u8; 32] = [
+    0x63, 0x6f, 0x54, 0x91, 0xdc, 0x29, 0xcf, 0x7e, 0xce, 0x42, 0xe4, 0xd7, 0xd5, 0xd3, 0x1a, 0x46,
+    0x6f, 0x6e, 0x67, 0xb5, 0xac, 0xda, 0x1f, 0x8a, 0x01, 0x91, 0xa3, 0xca, 0x31, 0xf1, 0xe1, 0xb2,
 ];
 
 fn epa(frame: u32) -> Action {
@@ -270,5 +284,94 @@ fn a_fault_is_told_and_changes_nothing(rt: HostRuntime) -> Result<(), Fail> {
         step(&rt, rt.alloc(), &mut machine, actor, action, want)?;
     }
     assert_eq!(rt; machine.first_free(), None);
+    Ok(())
+}
+
+// Another enclave is built in between: each has a log of its own.
+#[test]
+fn init_compares_the_digest_of_its_log(rt: HostRuntime) -> Result<(), Fail> {
+    let mut machine = Machine::new(rt.alloc(), 6, CPUS, [0; 32], 1, 1)?;
+    let mut wrong = TWO_PAGES;
+    wrong[31] ^= 1;
+    let create_other = Action::Create {
+        enclave: 2,
+        frame: Frame(1),
+        base: 0x2000,
+        size: 0x2000,
+    };
+    let add_other = Action::Add {
+        enclave: 2,
+        number: 1,
+        frame: Frame(3),
+        kind: Kind::Reg,
+        perm: READ_EXECUTE,
+        init: PageInit::Words(7),
+    };
+    let init_other = |expect| Action::Init { enclave: 2, expect };
+    let made = Refusal::BadMeasure { made: TWO_PAGES };
+    let other_made = Refusal::BadMeasure { made: OTHER };
+    let rows = [
+        (init(None), Err(Refusal::Absent)),
+        (create(0), Ok(Answer::Plain)),
+        (create_other, Ok(Answer::Plain)),
+        (add_tcs(2), Ok(Answer::Plain)),
+        (add_other, Ok(Answer::Plain)),
+        (add_reg(1, 4, 0), Ok(Answer::Plain)),
+        (init_other(Some(TWO_PAGES)), Err(other_made)),
+        (init(Some(wrong)), Err(made)),
+        (init(Some(TWO_PAGES)), Ok(Answer::Hash(TWO_PAGES))),
+        (init(Some(TWO_PAGES)), Err(Refusal::IsInit)),
+        (init_other(None), Ok(Answer::Hash(OTHER))),
+    ];
+    for (action, want) in rows {
+        step(&rt, rt.alloc(), &mut machine, Actor::Builder, action, want)?;
+    }
+    assert!(rt; machine.is_init(1));
+    assert!(rt; machine.is_init(2));
+    assert!(rt; !machine.is_init(3));
+    Ok(())
+}
+
+// The pages that were added decide, whatever frames hold.
+#[test]
+fn accesses_are_lawful_by_page_and_permission(rt: HostRuntime) -> Result<(), Fail> {
+    let mut machine = Machine::new(rt.alloc(), 6, CPUS, [0; 32], 1, 1)?;
+    let read_only = Perm {
+        w: false,
+        ..READ_WRITE
+    };
+    let build = [
+        create(0),
+        add_tcs(1),
+        add_reg(1, 2, 0),
+        add(2, 3, Kind::Reg, read_only, PageInit::Words(0)),
+        add(3, 4, Kind::Reg, NONE, PageInit::Words(0)),
+    ];
+    for action in build {
+        step(
+            &rt,
+            rt.alloc(),
+            &mut machine,
+            Actor::Builder,
+            action,
+            Ok(Answer::Plain),
+        )?;
+    }
+    // Whether a load, a store, and an exchange and add can succeed.
+    let rows = [
+        (1, 0, [false, false, false]),
+        (1, 1, [true, true, true]),
+        (1, 2, [true, false, false]),
+        (1, 3, [false, false, false]),
+        (1, 4, [false, false, false]),
+        (2, 1, [false, false, false]),
+    ];
+    for (enclave, number, wants) in rows {
+        let page = Page { enclave, number };
+        let ops = [AccessOp::Load, AccessOp::Store, AccessOp::Xadd];
+        for (op, want) in ops.into_iter().zip(wants) {
+            assert_eq!(rt; machine.lawful(page, op), want, "{page:?} {op:?}");
+        }
+    }
     Ok(())
 }

@@ -19,7 +19,7 @@ invariant_of-self c =
     rw (← c.self.view_is) at (ap (λ (f : TcsSight). f.cssa) c.tcs_fields-cssa.ensures) in
     record {
       processors = rw length-set c.self.invariant.processors;
-      logs = c.self.invariant.logs;
+      measured = c.self.invariant.measured;
       noted = rw (c.write_note.ensures.written, c.from-place.ensures) (noted_note d.enclaves d.pages c.args.enclave c.args.tcs _ c.self.invariant.noted);
       framed = rw (c.write_note.ensures.written, c.from-place.ensures) (framed_note (state_of d).content d.pages c.args.enclave c.args.tcs _ c.self.invariant.framed);
       small = rw (c.from.ensures, c.seat.ensures) (small_set d c.args.cpu.0 _ cpu_in (All-nil _) c.self.invariant.small);

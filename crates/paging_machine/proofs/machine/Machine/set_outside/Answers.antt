@@ -25,7 +25,7 @@ invariant_of-self c =
     let place = exit_place d c.args.cpu.0 inside.enclave inside.tcs inside.tcs_frame inside.ssa_frame inside.epoch is c.self.invariant.sound c.self.invariant.framed in
     record {
       processors = rw length-set c.self.invariant.processors;
-      logs = c.self.invariant.logs;
+      measured = c.self.invariant.measured;
       noted = rw (c.write_note.ensures.written, c.from-place.ensures) (noted_note d.enclaves d.pages inside.enclave inside.tcs _ c.self.invariant.noted);
       framed = rw (c.write_note.ensures.written, c.from-place.ensures) (framed_note (state_of d).content d.pages inside.enclave inside.tcs _ c.self.invariant.framed);
       small = rw (c.from.ensures, c.unseat.ensures) (small_set d c.args.cpu.0 _ cpu_in (All-nil _) c.self.invariant.small);

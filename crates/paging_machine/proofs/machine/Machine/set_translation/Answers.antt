@@ -14,7 +14,7 @@ invariant_of-self c =
     let low : c.args.translation.number < 2 ^ 32 = omega arith in
     record {
       processors = rw length-set c.self.invariant.processors;
-      logs = c.self.invariant.logs;
+      measured = c.self.invariant.measured;
       noted = c.self.invariant.noted;
       framed = c.self.invariant.framed;
       small =

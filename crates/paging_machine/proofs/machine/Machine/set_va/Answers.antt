@@ -14,7 +14,7 @@ invariant_of-self c =
     let k = takes-epa (parts_of c.self.inside) c.args.frame.0 (rw (← c.self.view_is) at c.requires) in
     record {
       processors = c.self.invariant.processors;
-      logs = c.self.invariant.logs;
+      measured = c.self.invariant.measured;
       noted = c.self.invariant.noted;
       framed = rw c.set.ensures (framed_state _ _ _ (state_put (parts_of c.self.inside) c.args.frame.0 _ _ _ k.low k.idle) (framed_put _ _ c.args.frame.0 IsVa (λ g kind perm at. cc) c.self.invariant.framed));
       small = c.self.invariant.small;

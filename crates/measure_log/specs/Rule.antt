@@ -1,0 +1,56 @@
+-- The rule of the measurement: what `init` answers, by the entries before it, which stand newest first.
+use Rattle.std.specs.Prelude.{ℕ, ◌≡◌, ◌≢◌, List, Option, Some, None}
+use Rattle.std.specs.List.{flat_map}
+use Rattle.std.specs.Int.{w64, to_le_bytes}
+use Rattle.sgx_types.specs.declared.entries.Entry.{Entry}
+use Rattle.sgx_types.specs.declared.entries.Event.{Event}
+use Rattle.sgx_types.specs.declared.entries.Event.TheVariants.{Did, Refused}
+use Rattle.sgx_types.specs.declared.entries.Action.TheVariants.{Init}
+use Rattle.sgx_types.specs.declared.entries.Answer.TheVariants.{Hash}
+use Rattle.sgx_types.specs.declared.refusals.Refusal.TheVariants.{BadMeasure}
+use Rattle.sgx_types.specs.declared.names.Page.{Page}
+use Rattle.sgx_types.specs.Frames.{Content, Holds, content}
+use Rattle.sgx_types.specs.Flat.{flat, words_of}
+use Rattle.measure_log.specs.Log.{log_of}
+use Rattle.measure_log.specs.Measure.{measurement_of}
+
+-- the TCS or REG page that a frame with this content holds
+abbrev pub page_held : Content → Option Page
+page_held (Holds page kind perm) = Some page
+page_held _ = None
+
+-- the page in a frame
+abbrev pub page_in : List Entry → ℕ → Option Page
+page_in past frame = page_held (content past frame)
+
+-- a page's bytes in flat memory: each word's 8 bytes, the low byte first
+abbrev pub bytes_of : List Entry → Page → List ℕ
+bytes_of past page = flat_map (to_le_bytes w64) (words_of (flat past) page)
+
+-- the measurement log of an enclave
+abbrev pub log : List Entry → ℕ → List ℕ
+log = log_of page_in bytes_of
+
+-- the SHA-256 of that log
+abbrev pub measurement : List Entry → ℕ → List ℕ
+measurement past enclave = measurement_of (log past enclave)
+
+-- no digest is expected, or this one is
+abbrev pub IsExpected : Option (List ℕ) → List ℕ → Type 0
+IsExpected None digest = Unit {0}
+IsExpected (Some wanted) digest = wanted ≡ digest
+
+-- a digest is expected, and it is another than this one
+abbrev pub IsOther : Option (List ℕ) → List ℕ → Type 0
+IsOther None digest = ⊥
+IsOther (Some wanted) digest = wanted ≢ digest
+
+-- a done `init` answers its enclave's measurement, which is the expected one where one is expected; an `init` that is
+-- refused for its measurement names it, and another one was expected
+abbrev pub MeasureRule : List Entry → Entry → Type 0
+MeasureRule past e = by_event e.event
+  where
+    by_event : Event → Type 0
+    by_event (Did (Init enclave expect) answer) = (answer ≡ Hash (measurement past enclave)) × IsExpected expect (measurement past enclave)
+    by_event (Refused (Init enclave expect) (BadMeasure made)) = (made ≡ measurement past enclave) × IsOther expect (measurement past enclave)
+    by_event _ = Unit {0}
