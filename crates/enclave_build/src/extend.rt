@@ -63,10 +63,11 @@ fn measure_chunk(epc: &Epc, log: &mut Measure, frame: Frame, chunk: u8)
     requires { first_of_row (extend_row chunk false (sight_in epc.now frame.0)) ≡ None }
     ensures { Appends log.old log.new (chunk_block epc.now frame.0 chunk) }
 {
-    if let EntryView::Valid { page, .. } = epc.entry(frame) {
-        let offset = 4096 * u64::from(page.number) + 256 * u64::from(chunk);
-        log.extend(offset, chunk_at(epc.bytes(frame), chunk));
-    }
+    let EntryView::Valid { page, .. } = epc.entry(frame) else {
+        unreachable!();
+    };
+    let offset = 4096 * u64::from(page.number) + 256 * u64::from(chunk);
+    log.extend(offset, chunk_at(epc.bytes(frame), chunk));
 }
 
 // A chunk of a page's bytes.

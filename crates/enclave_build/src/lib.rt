@@ -7,3 +7,5 @@ pub mod create;
 pub mod extend;
 pub mod init;
 mod sights;
+#[cfg(test)]
+mod tests;
