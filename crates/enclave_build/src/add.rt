@@ -19,7 +19,12 @@ use sgx_types::names::{Frame, Kind, Page, Perm};
 use sgx_types::refusals::Refusal;
 
 /// EADD (Intel SDM volume 3D): a free frame becomes page `number` of an enclave that is not initialised, with the bytes
-/// of `init`, and the log gets the page's offset and SECINFO.FLAGS. The page counts as resident from then on.
+/// of `init`. The log gets the page's offset and SECINFO.FLAGS, and the page counts as resident.
+///
+/// Refused, in this order, as BadRange where the frame is past the EPC's end; IsInit; BadKind where the kind is neither TCS
+/// nor REG, or `init` is of the other; BadPerm for W without R, or a TCS with a permission; BadRange where the page or a
+/// TCS's state save frames are past the enclave's end, or the TCS has none; PageExists where the page was added before;
+/// Conflict where the frame is busy; and FrameBusy where it holds a page.
 pub fn eadd(
     epc: &mut Epc,
     secs: &mut Secs,
@@ -30,8 +35,10 @@ pub fn eadd(
     perm: Perm,
     init: PageInit,
 ) -> Result<(), Refusal>
-    ensures row { refusal_in result ≡ first_of_row (add_row number kind perm init (Some (sight_of secs.old)) (is_some (added_at secs.old number)) (sight_in epc.old frame.0)) }
-    ensures done { OnOk result ((epc.new ≡ with_added epc.old frame.0 (page_at secs.old.enclave number) kind perm init) × (secs.new ≡ with_resident secs.old number kind perm)) }
+    ensures row { refusal_in result
+        ≡ first_of_row (add_row number kind perm init (Some (sight_of secs.old)) (is_some (added_at secs.old number)) (sight_in epc.old frame.0)) }
+    ensures done { OnOk result (epc.new ≡ with_added epc.old frame.0 (page_at secs.old.enclave number) kind perm init) }
+    ensures secs { OnOk result (secs.new ≡ with_resident secs.old number kind perm) }
     ensures log { OnOk result (Appends log.old log.new (eadd_block (4096 * number) (flags_of kind perm))) }
     ensures refused { OnErr result ((epc.new ≡ epc.old) × (secs.new ≡ secs.old) × (log.new ≡ log.old)) }
 {
@@ -55,7 +62,8 @@ fn add_refusal(
     perm: Perm,
     init: PageInit,
 ) -> Option<Refusal>
-    ensures { result ≡ first_of_row (add_row number kind perm init (Some (sight_of secs.now)) (is_some (added_at secs.now number)) (sight_in epc.now frame.0)) }
+    ensures { result
+        ≡ first_of_row (add_row number kind perm init (Some (sight_of secs.now)) (is_some (added_at secs.now number)) (sight_in epc.now frame.0)) }
 {
     if frame.0 >= epc.frames() {
         return Some(Refusal::BadRange);
@@ -85,7 +93,7 @@ fn add_refusal(
     None
 }
 
-// The frame holds the page with its first bytes.
+// A free frame holds the page from now on, with its first bytes.
 fn put_page(epc: &mut Epc, frame: Frame, page: Page, kind: Kind, perm: Perm, init: PageInit)
     requires within { frame.0 < length epc.old }
     requires vacant { is_valid (entry_at epc.old frame.0) ≡ false }
@@ -102,7 +110,8 @@ fn put_page(epc: &mut Epc, frame: Frame, page: Page, kind: Kind, perm: Perm, ini
     }
 }
 
-// The page is added and resident.
+// The page is added and resident. An EPC has at most 4096 frames, so the count does not come to its end; `child_added`
+// needs that.
 fn note_page(secs: &mut Secs, number: u32, kind: Kind, perm: Perm)
     requires within { number < page_count secs.old.size }
     requires absent { added_at secs.old number ≡ None }

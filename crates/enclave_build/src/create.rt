@@ -21,9 +21,12 @@ const NO_PERM: Perm = Perm {
     x: false,
 };
 
-/// ECREATE (Intel SDM volume 3D): a free frame becomes the SECS of a new enclave, numbered from 1 to 8, over `size`
-/// bytes from `base` on, and its measurement begins. `exists` tells whether the enclave was created before. Want of
-/// memory changes nothing either.
+/// ECREATE (Intel SDM volume 3D): a free frame becomes the SECS of enclave `enclave`, numbered from 1 to 8, over `size`
+/// bytes from `base` on, and the enclave's measurement begins. `exists` tells whether it was created before.
+///
+/// Refused, in this order, as BadRange where the frame is past the EPC's end, the number is not from 1 to 8, or the range
+/// is not lawful; PageExists; Conflict where the frame is busy; and FrameBusy where it holds a page. Want of memory
+/// changes nothing either.
 pub fn ecreate(
     alloc: Global,
     epc: &mut Epc,
@@ -33,7 +36,8 @@ pub fn ecreate(
     base: u64,
     size: u64,
 ) -> Result<(Secs, Measure), BuildRefusal>
-    ensures row { refusal_in_build result ≡ first_of_row (create_row enclave base size exists (sight_in epc.old frame.0)) }
+    ensures row { refusal_in_build result
+        ≡ first_of_row (create_row enclave base size exists (sight_in epc.old frame.0)) }
     ensures done { OnOk result (epc.new ≡ with_secs epc.old frame.0 enclave) }
     ensures secs { IfOk result (λ made. made.0 ≡ created enclave base size) }
     ensures log { IfOk result (λ made. HoldsLog made.1 (ecreate_block size)) }

@@ -14,7 +14,11 @@ use sgx_types::names::Frame;
 use sgx_types::refusals::Refusal;
 
 /// EEXTEND (Intel SDM volume 3D): the log of an enclave that is not initialised gets the 256 bytes of chunk `chunk`,
-/// from 0 to 15, of the TCS or REG page in a frame, with their offset in the enclave.
+/// from 0 to 15, of the TCS or REG page in a frame, with their offset in the enclave. `secs` and `log` are those of the
+/// page's enclave.
+///
+/// Refused, in this order, as BadRange where the frame is past the EPC's end or there is no such chunk; Conflict where the
+/// frame is busy; PgInvld where it is free; BadKind where it holds another page than a TCS or REG page; and IsInit.
 pub fn eextend(
     epc: &Epc,
     secs: &Secs,
@@ -23,7 +27,8 @@ pub fn eextend(
     chunk: u8,
 ) -> Result<(), Refusal>
     requires { IfSome (enclave_in (sight_in epc.now frame.0).content) (λ enclave. enclave ≡ secs.now.enclave) }
-    ensures row { refusal_in result ≡ first_of_row (extend_row chunk secs.now.is_init (sight_in epc.now frame.0)) }
+    ensures row { refusal_in result
+        ≡ first_of_row (extend_row chunk secs.now.is_init (sight_in epc.now frame.0)) }
     ensures done { OnOk result (Appends log.old log.new (chunk_block epc.now frame.0 chunk)) }
     ensures refused { OnErr result (log.new ≡ log.old) }
 {

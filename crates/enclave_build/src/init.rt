@@ -8,13 +8,15 @@ use measure_log::measure::Measure;
 use secs_state::secs::Secs;
 use sgx_types::refusals::Refusal;
 
-/// EINIT (Intel SDM volume 3D): an enclave is initialised, and answers the measurement of its log. Where `expect` has
-/// another digest the enclave is refused as BadMeasure with the measurement. No signature, token or attribute is
-/// looked at, which is this project's own.
+/// EINIT (Intel SDM volume 3D): an enclave is initialised, and answers the measurement of its log, SHA-256.
+///
+/// Refused, in this order, as IsInit; and as BadMeasure, with the measurement, where `expect` has another digest. No
+/// signature, token or attribute is looked at, which is this project's own.
 pub fn einit(secs: &mut Secs, log: &Measure, expect: Option<[u8; 32]>) -> Result<[u8; 32], Refusal>
     ensures row { unless_measured (refusal_in result) ≡ first_of_row (init_row (Some (sight_of secs.old))) }
-    // With the measurement as the last case.
-    ensures measured { (bytes : List ℕ) → HoldsLog log.now bytes → refusal_in result ≡ first_of_row (measured_row (sight_of secs.old) expect (measurement_of bytes)) }
+    // .. and with the measurement as its last case.
+    ensures measured { (bytes : List ℕ) → HoldsLog log.now bytes
+        → refusal_in result ≡ first_of_row (measured_row (sight_of secs.old) expect (measurement_of bytes)) }
     ensures done { OnOk result (secs.new ≡ with_init secs.old) }
     ensures answer { (bytes : List ℕ) → HoldsLog log.now bytes → IfOk result (λ digest. digest ≡ measurement_of bytes) }
     ensures refused { OnErr result (secs.new ≡ secs.old) }
