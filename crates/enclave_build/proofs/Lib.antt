@@ -1,2 +1,3 @@
 mod Chunks
 mod Writes
+pub mod Columns
