@@ -3,3 +3,4 @@ pub mod EntryView
 pub mod Words
 pub mod Epc
 pub mod Kept
+pub mod Sights

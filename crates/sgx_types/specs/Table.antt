@@ -144,6 +144,16 @@ add_row number kind perm init (Some enclave) is_added s =
     otherwise when (is_valid s.content) why.FrameBusy
     otherwise allowed
 
+-- `extend` of a chunk of 256 bytes of the page in a frame, by whether its enclave is initialised
+abbrev pub extend_row : ℕ → Bool → FrameSight → List Case
+extend_row chunk is_init s =
+    when (s.is_beyond || nat_lt 15 chunk) why.BadRange
+    otherwise when (is_busy s) why.Conflict
+    otherwise when (not (is_valid s.content)) why.PgInvld
+    otherwise when (not (is_tcs s.content || is_reg s.content)) why.BadKind
+    otherwise when is_init why.IsInit
+    otherwise allowed
+
 -- without the measurement, which is compared last
 abbrev pub init_row : Option EnclaveSight → List Case
 init_row None = when true why.Absent otherwise allowed

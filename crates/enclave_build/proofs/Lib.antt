@@ -1,0 +1,3 @@
+mod Chunks
+mod Writes
+pub mod Columns

@@ -1,0 +1,89 @@
+-- What the instructions that build an enclave see of it, and what each leaves.
+use Rattle.std.specs.Prelude.{ℕ, ◌+◌, ◌-◌, ◌*◌, ◌^◌, Bool, true, false, not, List, [], ◌++◌, Option, Some, None, Result, Ok, Err, min}
+use Rattle.std.specs.Str.{bytes_eq}
+use Rattle.sgx_types.specs.declared.entries.PageInit.{PageInit}
+use Rattle.sgx_types.specs.declared.names.Page.{Page}
+use Rattle.sgx_types.specs.declared.names.Kind.{Kind}
+use Rattle.sgx_types.specs.declared.names.Kind.TheVariants as kinds
+use Rattle.sgx_types.specs.declared.names.Perm.{Perm}
+use Rattle.sgx_types.specs.declared.refusals.Refusal.{Refusal}
+use Rattle.sgx_types.specs.declared.refusals.Refusal.TheVariants as why
+use Rattle.sgx_types.specs.Frames.{Content, Holds, page_at}
+use Rattle.sgx_types.specs.Table.{Case, allowed, when, ◌otherwise◌, EnclaveSight, init_row}
+use Rattle.sgx_types.specs.Flat.{first_words}
+use Rattle.epcm_entry.specs.Epc.{EpcFrame, with_page, with_words, bytes_at, entry_at}
+use Rattle.epcm_entry.specs.Sights.{held}
+use Rattle.secs_state.specs.Secs.{SecsState, with_children}
+use Rattle.secs_state.specs.Secs.{with_page as with_noted}
+use Rattle.measure_log.specs.declared.measure.Measure.{Measure}
+use Rattle.measure_log.specs.Measure.{HoldsLog}
+use Rattle.measure_log.specs.Blocks.{eextend_block, chunk_of}
+use Rattle.enclave_build.specs.declared.build_refusal.BuildRefusal.{BuildRefusal}
+use Rattle.enclave_build.specs.declared.build_refusal.BuildRefusal.TheVariants as ends
+
+-- ---- refusals
+
+-- why an instruction was refused, None where it was done
+abbrev pub refusal_in : {T : Type 0} → Result T Refusal → Option Refusal
+refusal_in (Ok x) = None
+refusal_in (Err refusal) = Some refusal
+
+-- the same of one that may want memory, which is no refusal
+abbrev pub refusal_in_build : {T : Type 0} → Result T BuildRefusal → Option Refusal
+refusal_in_build (Ok x) = None
+refusal_in_build (Err (ends.Refused refusal)) = Some refusal
+refusal_in_build (Err ends.Memory) = None
+
+-- an enclave as the rows see it
+abbrev pub sight_of : SecsState → EnclaveSight
+sight_of secs = record { size = secs.size; is_init = secs.is_init }
+
+-- ---- ECREATE
+
+abbrev pub no_perm : Perm
+no_perm = record { r = false; w = false; x = false }
+
+-- the frame is the SECS of an enclave
+abbrev pub with_secs : List EpcFrame → ℕ → ℕ → List EpcFrame
+with_secs epc f enclave = with_page epc f (page_at enclave 0) kinds.Secs no_perm
+
+-- ---- EADD
+
+-- the frame holds a page with the bytes with which it is added
+abbrev pub with_added : List EpcFrame → ℕ → Page → Kind → Perm → PageInit → List EpcFrame
+with_added epc f page kind perm init = with_words (with_page epc f page kind perm) f (first_words init)
+
+-- the page is added and resident; a count at the end of its type stands still
+abbrev pub with_resident : SecsState → ℕ → Kind → Perm → SecsState
+with_resident secs number kind perm = with_children (with_noted secs number kind perm) (min (secs.children + 1) (2 ^ 32 - 1))
+
+-- the log goes on by a block
+abbrev pub Appends : Measure → Measure → List ℕ → Type 0
+Appends old new block = (log : List ℕ) → HoldsLog old log → HoldsLog new (log ++ block)
+
+-- ---- EEXTEND
+
+-- the block of a chunk of the TCS or REG page in a frame
+abbrev pub block_in : Content → List ℕ → ℕ → List ℕ
+block_in (Holds page kind perm) bytes chunk = eextend_block (4096 * page.number + 256 * chunk) (chunk_of bytes chunk)
+block_in _ bytes chunk = []
+
+-- the same of a frame of an EPC
+abbrev pub chunk_block : List EpcFrame → ℕ → ℕ → List ℕ
+chunk_block epc f chunk = block_in (held (entry_at epc f)) (bytes_at epc f) chunk
+
+-- ---- EINIT
+
+-- a digest is the expected one, if one is expected
+abbrev pub is_expected : Option (List ℕ) → List ℕ → Bool
+is_expected None made = true
+is_expected (Some wanted) made = bytes_eq wanted made
+
+-- the row of `init`, with the measurement as its last case
+abbrev pub measured_row : EnclaveSight → Option (List ℕ) → List ℕ → List Case
+measured_row enclave expect made = init_row (Some enclave) ++ (when (not (is_expected expect made)) (why.BadMeasure made) otherwise allowed)
+
+-- a refusal but for the measurement
+abbrev pub unless_measured : Option Refusal → Option Refusal
+unless_measured (Some (why.BadMeasure made)) = None
+unless_measured refusal = refusal

@@ -1,0 +1,42 @@
+ghost use Rattle.std.specs.Prelude.{◌≡◌, List, ℕ, Some, OnOk, OnErr, IfOk};
+ghost use Rattle.sgx_types.specs.Table.{first_of_row, init_row};
+ghost use Rattle.secs_state.specs.Secs.{with_init};
+ghost use Rattle.measure_log.specs.Measure.{HoldsLog, measurement_of};
+ghost use Rattle.enclave_build.specs.Build.{refusal_in, sight_of, is_expected, measured_row, unless_measured};
+
+use measure_log::measure::Measure;
+use secs_state::secs::Secs;
+use sgx_types::refusals::Refusal;
+
+/// EINIT (Intel SDM volume 3D): an enclave is initialised, and answers the measurement of its log, SHA-256.
+///
+/// Refused, in this order, as IsInit; and as BadMeasure, with the measurement, where `expect` has another digest. No
+/// signature, token or attribute is looked at, which is this project's own.
+pub fn einit(secs: &mut Secs, log: &Measure, expect: Option<[u8; 32]>) -> Result<[u8; 32], Refusal>
+    ensures row { unless_measured (refusal_in result) ≡ first_of_row (init_row (Some (sight_of secs.old))) }
+    // .. and with the measurement as its last case.
+    ensures measured { (bytes : List ℕ) → HoldsLog log.now bytes
+        → refusal_in result ≡ first_of_row (measured_row (sight_of secs.old) expect (measurement_of bytes)) }
+    ensures done { OnOk result (secs.new ≡ with_init secs.old) }
+    ensures answer { (bytes : List ℕ) → HoldsLog log.now bytes → IfOk result (λ digest. digest ≡ measurement_of bytes) }
+    ensures refused { OnErr result (secs.new ≡ secs.old) }
+{
+    if secs.is_init() {
+        return Err(Refusal::IsInit);
+    }
+    let made = log.finish();
+    if !is_expected(expect, made) {
+        return Err(Refusal::BadMeasure { made });
+    }
+    secs.set_init();
+    Ok(made)
+}
+
+fn is_expected(expect: Option<[u8; 32]>, made: [u8; 32]) -> bool
+    ensures { result ≡ is_expected expect made }
+{
+    match expect {
+        Some(wanted) => wanted == made,
+        None => true,
+    }
+}
