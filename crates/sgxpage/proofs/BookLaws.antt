@@ -10,6 +10,7 @@ use Rattle.sgx_types.specs.declared.refusals.Refusal.{Refusal}
 use Rattle.sgx_types.specs.declared.refusals.Refusal.TheVariants as why
 use Rattle.sgx_types.specs.Table.{first_of_row}
 use Rattle.job_grammar.specs.Script.{action_of}
+use Rattle.measure_log.specs.Rule.{IsExpected, IsOther}
 use Rattle.paging_machine.specs.State.{State, row_of, after_init}
 use Rattle.paging_machine.specs.Steps.{IsDone, IsStep, after_of, did_by, refused_by}
 
@@ -21,20 +22,20 @@ pub record IsOf (actor : Actor) (action : Action) (e : Entry) (frames frames' : 
 
 same_frames : (s : State) (a : Actor) (action : Action) → (after_of s a action).frames ≡ s.frames
 same_frames s a (actions.Epa f) = refl
-same_frames s a (actions.Create enclave f base size) = refl
-same_frames s a (actions.Add enclave number f kind perm init) = refl
-same_frames s a (actions.Init enclave expect) = refl
 same_frames s (actors.Cpu p) (actions.Enter enclave tcs tf sf) = refl
 same_frames s (actors.Cpu p) actions.Exit = refl
 same_frames s (actors.Cpu p) (actions.Fill number f) = refl
 same_frames s a action = refl
 
 done_of : (s t : State) (a : Actor) (action : Action) (e : Entry) → IsDone s a action e t → IsOf a action e s.frames t.frames
-done_of s t a (actions.Init enclave expect) e k = by_measure k.1
+done_of s t a (actions.Create enclave f base size) e k = rw (k.0, k.1.state) (record { actor_is = refl; action_is = refl; frames_same = refl })
+done_of s t a (actions.Add enclave number f kind perm init) e k = rw (k.0, k.1.state) (record { actor_is = refl; action_is = refl; frames_same = refl })
+done_of s t a (actions.Init enclave expect) e k = by_measure k.judged
   where
-    by_measure : ((e ≡ did_by a (actions.Init enclave expect) (answers.Hash k.0)) × (t ≡ after_init s enclave)) ⊎ ((e ≡ refused_by a (actions.Init enclave expect) (why.BadMeasure k.0)) × (t ≡ s)) → IsOf a (actions.Init enclave expect) e s.frames t.frames
-    by_measure (inl done) = rw (done.0, done.1) (record { actor_is = refl; action_is = refl; frames_same = refl })
-    by_measure (inr refused) = rw (refused.0, refused.1) (record { actor_is = refl; action_is = refl; frames_same = refl })
+    by_measure : (IsExpected expect k.digest × (e ≡ did_by a (actions.Init enclave expect) (answers.Hash k.digest)) × (t ≡ after_init s enclave))
+        ⊎ (IsOther expect k.digest × (e ≡ refused_by a (actions.Init enclave expect) (why.BadMeasure k.digest)) × (t ≡ s)) → IsOf a (actions.Init enclave expect) e s.frames t.frames
+    by_measure (inl done) = rw (done.1, done.2) (record { actor_is = refl; action_is = refl; frames_same = refl })
+    by_measure (inr refused) = rw (refused.1, refused.2) (record { actor_is = refl; action_is = refl; frames_same = refl })
 done_of s t a action e k = rw (k.0, k.1) (record { actor_is = refl; action_is = refl; frames_same = same_frames s a action })
 
 pub step_of : (s t : State) (a : Actor) (action : Action) (e : Entry) → IsStep s a action e t → IsOf a action e s.frames t.frames

@@ -3,7 +3,8 @@ use Rattle.std.specs.Prelude.{ℕ, ◌≡◌, ◌^◌, ◌⊎◌, if◌then◌el
 use Rattle.std.specs.Fmt.{decimal}
 use Rattle.io_edges.specs.Sinks.{followed_by, GivesPart}
 use Rattle.sgx_types.specs.declared.entries.Entry.{Entry}
-use Rattle.sgx_types.specs.Rules.{KeepsRules}
+use Rattle.sgx_types.specs.Rules.{Along, KeepsRules}
+use Rattle.measure_log.specs.Rule.{MeasureRule}
 use Rattle.job_grammar.specs.declared.refusals.JobKind.{JobKind}
 use Rattle.job_grammar.specs.declared.refusals.JobKind.TheVariants as kinds
 use Rattle.job_grammar.specs.Jobs.{JobView}
@@ -30,12 +31,13 @@ IsNoJob bytes = (j : JobView) → IsJobText bytes j → ⊥
 
 -- ---- what a run gives
 
--- what each sink had and has: some trace is of the job's script to its end, and keeps the rules of an EPC of the job's
--- size, and the sinks got its text and its replies
+-- what each sink had and has: some trace is the job's script to its end, keeps the rules of an EPC of the job's size, and
+-- measures its enclaves; and the sinks got its text and its replies
 pub record Gave (job : JobView) (out out' trace trace' : Option (List ℕ)) : Type 0 where
   pub past : List Entry
   pub script : Script job past
   pub rules : KeepsRules job.epc past
+  pub measure : Along MeasureRule past
   pub trace_given : trace' ≡ followed_by trace (trace_of past)
   pub out_given : out' ≡ followed_by out (out_of job past)
 
@@ -45,6 +47,7 @@ pub record Broke (job : JobView) (out out' trace trace' : Option (List ℕ)) : T
   pub past : List Entry
   pub script : Script job past
   pub rules : KeepsRules job.epc past
+  pub measure : Along MeasureRule past
   pub given : (GivesPart trace trace' (trace_of past) × (out' ≡ out)) ⊎ ((trace' ≡ followed_by trace (trace_of past)) × GivesPart out out' (out_of job past))
 
 -- what was given, and the job is the one that these bytes spell

@@ -4,7 +4,8 @@ ghost use Rattle.sgx_types.specs.Frames.{content, frame_of, least_free};
 ghost use Rattle.sgx_types.specs.Processors.{stay, translations, holds_number};
 ghost use Rattle.sgx_types.specs.Table.{is_ready};
 ghost use Rattle.sgx_types.specs.Flat.{flat, enclave_sight};
-ghost use Rattle.sgx_types.specs.Rules.{KeepsRules};
+ghost use Rattle.sgx_types.specs.Rules.{Along, KeepsRules};
+ghost use Rattle.measure_log.specs.Rule.{MeasureRule};
 ghost use Rattle.job_grammar.specs.Script.{frame_at};
 ghost use Rattle.paging_machine.specs.Parts.{seat_of_mode, state_of};
 ghost use Rattle.paging_machine.specs.Stands.{Upholds, seat_of_stay};
@@ -117,6 +118,7 @@ impl Book {
     pub fn entries(&self) -> &[Entry]
         ensures value { reverse result.now ≡ self.now.past }
         ensures rules { KeepsRules self.now.frames self.now.past }
+        ensures measure { Along MeasureRule self.now.past }
     {
         &self.entries
     }
