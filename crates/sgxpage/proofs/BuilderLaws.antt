@@ -1,11 +1,9 @@
 -- One step of the builder.
-use Rattle.std.proofs.Common.{◌≡◌, ℕ, zero, suc, ◌+◌, ◌==◌, ◌<◌, ◌≤◌, Bool, true, false, cond, refl, arith, sym, ap, ◌∙◌, Option, Some, None, is_some, List, [], ◌∷◌, length, nat_le, slice_get}
-use Rattle.std.specs.Option.{option_map}
+use Rattle.std.proofs.Common.{◌≡◌, ℕ, ◌+◌, ◌==◌, ◌≤◌, Bool, true, false, refl, arith, sym, ap, ◌∙◌, Option, Some, None, is_some, List, [], ◌∷◌, slice_get}
 use Rattle.std.proofs.lemmas.Bool.{cond_both, eq-eqb, lt-leb}
 use Rattle.sgx_types.specs.declared.entries.Entry.{Entry}
 use Rattle.sgx_types.specs.declared.entries.Event.{Event}
 use Rattle.sgx_types.specs.declared.entries.Event.TheVariants as events
-use Rattle.sgx_types.specs.declared.entries.Actor.{Actor}
 use Rattle.sgx_types.specs.declared.entries.Actor.TheVariants as actors
 use Rattle.sgx_types.specs.declared.entries.Action.{Action}
 use Rattle.sgx_types.specs.declared.entries.Action.TheVariants.{Epa, Create, Add, Init}
@@ -16,22 +14,21 @@ use Rattle.sgx_types.specs.declared.names.Frame.{Frame}
 use Rattle.sgx_types.specs.declared.names.Page.{Page}
 use Rattle.sgx_types.specs.declared.names.Kind.{Kind}
 use Rattle.sgx_types.specs.declared.names.Perm.{Perm}
-use Rattle.sgx_types.specs.Frames.{Content, Free, IsVa, SecsOf, Holds, content, frame_of, least_free, page_at, same_page}
+use Rattle.sgx_types.specs.Frames.{Free, IsVa, SecsOf, Holds, content, frame_of, least_free, page_at, same_page}
 use Rattle.sgx_types.specs.Processors.{Move, Enters, Leaves, Keeps, Stay, stay, stay_after, move_by}
 use Rattle.sgx_types.specs.Table.{EnclaveSight, add_row, create_row, first_of_row}
 use Rattle.sgx_types.specs.Flat.{FlatMemory, FlatPage, accepts, flat, enclave_sight, first_words, initialised, memory_after, open_frame, with_enclave, with_page}
 use Rattle.sgx_types.specs.Sights.{row_at, sight_at}
-use Rattle.sgx_types.specs.Rules.{Along, KeepsRules, case_of}
+use Rattle.sgx_types.specs.Rules.{KeepsRules, case_of}
 use Rattle.job_grammar.specs.Jobs.{JobView}
-use Rattle.job_grammar.specs.Script.{BuildStep, MakeVa, MakeSecs, AddPage, Finish, ScriptRule, action_of, build_of, builder_due, built, frame_at, replied, step_action, step_due, takes_frame}
+use Rattle.job_grammar.specs.Script.{BuildStep, MakeVa, MakeSecs, AddPage, Finish, action_of, build_of, builder_due, built, step_action, step_due}
 use Rattle.paging_machine.specs.Steps.{did_by, refused_by}
-use Rattle.paging_machine.proofs.Bridge.{eqb-swap}
+use Rattle.paging_machine.proofs.Tools.{apart, eqb-swap, none_holds, none_there}
 use Rattle.paging_machine.proofs.Carry.{flat_done, same_page-refl, same_page-true}
-use Rattle.paging_machine.proofs.Tools.{apart, none_holds, none_there}
-use Rattle.sgxpage.specs.Books.{BookView, GoesOn, IsCalm, IsNext, IsPlaced}
+use Rattle.sgxpage.specs.Books.{BookView, IsCalm, IsNext, IsPlaced}
 use Rattle.sgxpage.specs.Building.{AreNext, AreTaken, Grows, IsUnmade, MakesOnly, count_free, frames_taken, free_frames}
 use Rattle.sgxpage.proofs.CalmLaws.{taken_none}
-use Rattle.sgxpage.proofs.FreeLaws.{IsLeast, found_least, none_left, put_at, put_room}
+use Rattle.sgxpage.proofs.FreeLaws.{IsLeast, found_least, put_room}
 
 -- the four instructions of a builder
 abbrev pub IsBuilders : Action → Type 0

@@ -1,5 +1,5 @@
 -- The enclaves of a job, one after another.
-use Rattle.std.proofs.Common.{◌≡◌, ℕ, zero, suc, ◌+◌, ◌/◌, ◌==◌, ◌≤◌, ◌<◌, nat_le, false, true, refl, arith, sym, ap, ◌∙◌, ◌⊎◌, inl, inr, Option, Some, None, List, [], ◌∷◌, ◌++◌, length, get_or, slice_get, map, take, replicate, sum_by}
+use Rattle.std.proofs.Common.{◌≡◌, ℕ, zero, suc, ◌+◌, ◌≤◌, ◌<◌, nat_le, false, true, refl, arith, sym, ap, ◌∙◌, ◌⊎◌, inl, inr, Option, Some, None, List, [], ◌∷◌, ◌++◌, length, get_or, slice_get, map, take, replicate, sum_by}
 use Rattle.std.specs.List.{All}
 use Rattle.std.proofs.lemmas.Bool.{le-leb}
 use Rattle.std.proofs.lemmas.Bool.Decides.{leb_tells}
@@ -7,13 +7,11 @@ use Rattle.std.proofs.lemmas.List.{append-nil, append_assoc, length-map, length-
 use Rattle.std.proofs.lemmas.List.Sums.{sum_by-append, sum_by-cons, sum_by_more_le}
 use Rattle.std.proofs.lemmas.Option.{get_or_from_slice_get, slice_get-get_or, slice_get_within}
 use Rattle.std.proofs.Math.ListN.{get_or-map}
-use Rattle.sgx_types.specs.declared.entries.Entry.{Entry}
 use Rattle.sgx_types.specs.Table.{is_enclave}
-use Rattle.job_grammar.specs.declared.jobs.PageLine.{PageLine}
 use Rattle.job_grammar.specs.declared.jobs.EnclaveJob.{EnclaveJob}
 use Rattle.job_grammar.specs.declared.jobs.Op.{Op}
 use Rattle.job_grammar.specs.Jobs.{EnclaveView, JobView, va_pages, enclave_pages, enclave_view, lines_at, lines_in}
-use Rattle.job_grammar.specs.Script.{BuildStep, MakeVa, build_of, enclave_steps, enclaves_steps}
+use Rattle.job_grammar.specs.Script.{MakeVa, build_of, enclave_steps, enclaves_steps}
 use Rattle.job_grammar.specs.Valid.{AreFirstEnclaves, IsFirstForm, IsValidEnclave}
 use Rattle.paging_machine.proofs.Tools.{apart}
 use Rattle.sgxpage.specs.Books.{BookView, IsCalm}

@@ -1,5 +1,5 @@
 -- Every instruction of today leaves a calm book calm.
-use Rattle.std.proofs.Common.{◌≡◌, ℕ, ◌==◌, ◌&&◌, ◌||◌, not, Bool, true, false, cond, refl, sym, ap, ◌∙◌, Option, Some, None, IfSome, List, [], ◌∷◌, is_some, is_none}
+use Rattle.std.proofs.Common.{◌≡◌, ℕ, ◌==◌, ◌||◌, not, Bool, true, false, cond, refl, sym, ap, ◌∙◌, Option, Some, None, IfSome, List, [], ◌∷◌, is_some, is_none}
 use Rattle.std.proofs.lemmas.Bool.{cond_both, eqb-true}
 use Rattle.std.proofs.Math.Bool.{and-false}
 use Rattle.sgx_types.specs.declared.entries.Entry.{Entry}
@@ -14,14 +14,13 @@ use Rattle.sgx_types.specs.declared.refusals.Refusal.{Refusal}
 use Rattle.sgx_types.specs.declared.names.Frame.{Frame}
 use Rattle.sgx_types.specs.declared.names.Page.{Page}
 use Rattle.sgx_types.specs.Frames.{is_blocked, is_sealing, is_block}
-use Rattle.sgx_types.specs.Table.{EnclaveSight, create_row, first_of_row, init_row, is_ready, is_enclave, is_lawful}
+use Rattle.sgx_types.specs.Table.{create_row, first_of_row, init_row, is_ready, is_enclave, is_lawful}
 use Rattle.sgx_types.specs.Flat.{FlatEnclave, FlatMemory, accepts, enclave_sight_of, flat, initialised, marked, memory_after, open_frame, with_enclave}
 use Rattle.sgx_types.specs.Rules.{KeepsRules}
 use Rattle.job_grammar.specs.Script.{action_of, is_init_of, is_initialised, saved}
 use Rattle.paging_machine.specs.Steps.{CanApply, did_by, refused_by}
-use Rattle.paging_machine.proofs.Bridge.{eqb-swap}
+use Rattle.paging_machine.proofs.Tools.{eqb-swap, neither, none_holds, none_there, not_false}
 use Rattle.paging_machine.proofs.Carry.{flat_done}
-use Rattle.paging_machine.proofs.Tools.{neither, none_holds, none_there, not_false}
 use Rattle.sgxpage.specs.Books.{IsCalm, IsLawful}
 
 pub taken_none : {X : Type 0} (o : Option X) → is_none o ≡ true → o ≡ None

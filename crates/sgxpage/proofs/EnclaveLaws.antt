@@ -1,5 +1,5 @@
 -- The lines of an enclave, one after another.
-use Rattle.std.proofs.Common.{◌≡◌, ℕ, zero, suc, ◌+◌, ◌*◌, ◌/◌, ◌%◌, ◌^◌, ◌==◌, ◌&&◌, ◌≤◌, ◌<◌, nat_le, nat_lt, not, Bool, true, false, cond, refl, arith, sym, ap, ◌∙◌, Some, None, IfSome, List, [], ◌∷◌, ◌++◌, length, get_or, map, take, sum_by}
+use Rattle.std.proofs.Common.{◌≡◌, ℕ, ◌+◌, ◌/◌, ◌==◌, ◌≤◌, ◌<◌, Bool, true, false, cond, refl, arith, sym, ap, ◌∙◌, Some, None, List, [], ◌∷◌, ◌++◌, length, get_or, take, sum_by}
 use Rattle.std.specs.List.{All, count_by, flat_map}
 use Rattle.std.proofs.lemmas.Bool.{eq-eqb, le-leb, lt-ltb}
 use Rattle.std.proofs.lemmas.Grind.{flat_map-append}
@@ -11,21 +11,19 @@ use Rattle.std.proofs.Math.Bool.{and-false}
 use Rattle.sgx_types.specs.declared.entries.Entry.{Entry}
 use Rattle.sgx_types.specs.declared.entries.Actor.TheVariants as actors
 use Rattle.sgx_types.specs.declared.entries.PageInit.TheVariants as inits
-use Rattle.sgx_types.specs.declared.names.Page.{Page}
 use Rattle.sgx_types.specs.declared.names.Kind.TheVariants as kinds
 use Rattle.sgx_types.specs.declared.names.Perm.{Perm}
 use Rattle.sgx_types.specs.Frames.{page_at}
-use Rattle.sgx_types.specs.Table.{is_enclave, is_lawful}
-use Rattle.sgx_types.specs.Flat.{FlatEnclave, FlatMemory, accepts, flat, with_enclave}
+use Rattle.sgx_types.specs.Table.{is_enclave}
+use Rattle.sgx_types.specs.Flat.{FlatEnclave, accepts, flat, with_enclave}
 use Rattle.job_grammar.specs.declared.jobs.PageLine.{PageLine}
 use Rattle.job_grammar.specs.declared.jobs.PageLine.TheVariants as lines
 use Rattle.job_grammar.specs.Jobs.{EnclaveView, covers, first_page, page_count}
-use Rattle.job_grammar.specs.Script.{BuildStep, AddPage, Finish, MakeSecs, enclave_steps, line_steps, no_perm, numbers_from, step_action}
+use Rattle.job_grammar.specs.Script.{AddPage, Finish, MakeSecs, enclave_steps, line_steps, no_perm, step_action}
 use Rattle.job_grammar.specs.Valid.{IsValidEnclave, IsValidLine}
-use Rattle.paging_machine.proofs.Bridge.{eqb-swap}
-use Rattle.paging_machine.proofs.Tools.{apart}
+use Rattle.paging_machine.proofs.Tools.{apart, eqb-swap}
 use Rattle.sgxpage.specs.Books.{BookView}
-use Rattle.sgxpage.specs.Building.{AddsOnly, AreTaken, Grows, IsPlacedLine, IsUnmade, MakesOnly, adds, frame_count, frames_taken, free_frames}
+use Rattle.sgxpage.specs.Building.{AddsOnly, AreTaken, Grows, IsPlacedLine, IsUnmade, MakesOnly, frame_count, frames_taken, free_frames}
 use Rattle.sgxpage.proofs.GrowthLaws.{grows_append, lines_kept}
 use Rattle.sgxpage.proofs.HomeLaws.{most_size}
 use Rattle.sgxpage.proofs.PlacingLaws.{steps_at, steps_taken}

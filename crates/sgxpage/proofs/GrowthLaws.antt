@@ -1,5 +1,5 @@
 -- Steps of the builder one after another.
-use Rattle.std.proofs.Common.{◌≡◌, ℕ, zero, suc, ◌+◌, ◌≤◌, ◌<◌, refl, arith, sym, ap, ◌∙◌, Some, List, [], ◌∷◌, ◌++◌, length, get_or, slice_get, replicate, sum_by}
+use Rattle.std.proofs.Common.{◌≡◌, ℕ, ◌+◌, refl, arith, sym, ap, ◌∙◌, Some, List, [], ◌∷◌, ◌++◌, length, get_or, slice_get, replicate}
 use Rattle.std.specs.List.{All}
 use Rattle.std.proofs.lemmas.List.{get_or-append-add, length-append, replicate-append-replicate}
 use Rattle.std.proofs.lemmas.List.Folds.{sum_by-replicate}
@@ -7,11 +7,10 @@ use Rattle.std.proofs.lemmas.List.Sums.{sum_by-append}
 use Rattle.std.proofs.lemmas.Option.{get_or_from_slice_get, slice_get-get_or, slice_get_within}
 use Rattle.std.proofs.Math.ListN.{get_or-append}
 use Rattle.sgx_types.specs.declared.entries.Entry.{Entry}
-use Rattle.sgx_types.specs.Rules.{Along}
 use Rattle.job_grammar.specs.declared.jobs.PageLine.{PageLine}
 use Rattle.job_grammar.specs.declared.jobs.PageLine.TheVariants as lines
 use Rattle.job_grammar.specs.Jobs.{JobView}
-use Rattle.job_grammar.specs.Script.{BuildStep, MakeVa, ScriptRule, build_of, built}
+use Rattle.job_grammar.specs.Script.{BuildStep, MakeVa, built}
 use Rattle.sgxpage.specs.Books.{BookView, GoesOn, IsCalm}
 use Rattle.sgxpage.specs.Building.{AreNext, Grows, IsPlacedLine, frame_count, frames_taken}
 

@@ -1,5 +1,5 @@
 -- The pages of a line, one after another.
-use Rattle.std.proofs.Common.{◌≡◌, ℕ, zero, suc, ◌+◌, ◌==◌, ◌&&◌, ◌≤◌, ◌<◌, nat_le, nat_lt, Bool, true, false, refl, arith, sym, ap, ◌∙◌, ◌⊎◌, inl, inr, Some, is_some, List, [], ◌∷◌, ◌++◌, length, get_or, map}
+use Rattle.std.proofs.Common.{◌≡◌, ℕ, zero, suc, ◌+◌, ◌==◌, ◌&&◌, ◌≤◌, ◌<◌, nat_le, nat_lt, Bool, true, false, refl, arith, ap, ◌∙◌, ◌⊎◌, inl, inr, List, [], ◌∷◌, ◌++◌, length, get_or, map}
 use Rattle.std.specs.List.{All}
 use Rattle.std.proofs.lemmas.Bool.{le-ltb, leb-false, ltb-false}
 use Rattle.std.proofs.lemmas.Bool.Decides.{leb_tells}
@@ -8,21 +8,19 @@ use Rattle.std.proofs.lemmas.List.Sums.{sum_by-cons}
 use Rattle.std.proofs.Math.Bool.{and-false}
 use Rattle.sgx_types.specs.declared.entries.Entry.{Entry}
 use Rattle.sgx_types.specs.declared.entries.Actor.TheVariants as actors
-use Rattle.sgx_types.specs.declared.entries.PageInit.{PageInit}
 use Rattle.sgx_types.specs.declared.entries.PageInit.TheVariants as inits
 use Rattle.sgx_types.specs.declared.names.Page.{Page}
-use Rattle.sgx_types.specs.declared.names.Kind.{Kind}
 use Rattle.sgx_types.specs.declared.names.Kind.TheVariants as kinds
 use Rattle.sgx_types.specs.declared.names.Perm.{Perm}
 use Rattle.sgx_types.specs.Frames.{page_at, same_page}
-use Rattle.sgx_types.specs.Flat.{FlatMemory, FlatPage, accepts, flat, with_page}
+use Rattle.sgx_types.specs.Flat.{FlatPage, accepts, flat, with_page}
 use Rattle.job_grammar.specs.declared.jobs.PageLine.{PageLine}
 use Rattle.job_grammar.specs.declared.jobs.PageLine.TheVariants as lines
 use Rattle.job_grammar.specs.Script.{BuildStep, AddPage, line_steps, numbers_from, step_action}
 use Rattle.paging_machine.proofs.Tools.{apart}
 use Rattle.sgxpage.specs.Books.{BookView, GoesOn, IsPlaced}
 use Rattle.sgxpage.specs.Building.{AddsOnly, AreTaken, Grows, IsPlacedLine, adds, frame_count, frames_taken}
-use Rattle.sgxpage.proofs.GrowthLaws.{grows_append, line_kept}
+use Rattle.sgxpage.proofs.GrowthLaws.{grows_append}
 
 -- ---- numbers
 
@@ -117,10 +115,11 @@ module _ (enclave first : ℕ) (perm : Perm) (value : ℕ) where
       → Grows (page_step (first + k) ∷ []) b' b'' → IsPlaced b''.past (page_at enclave (first + k)) kinds.Reg perm (inits.Words value)
       → flat b''.past ≡ with_page (flat b'.past) (page_at enclave (first + k)) x
       → Grows (line_steps enclave (first_ones (k + 1))) b b'' × IsPlacedLine b''.past enclave (first_ones (k + 1)) × AddsOnly enclave (first_ones (k + 1)) b b''
-  page_more b b' b'' k x h grown new is =
-      (rw (steps_more k) (grows_append (line_steps enclave (first_ones k)) (page_step (first + k) ∷ []) b b' b'' h.0 grown),
-      placed_more b' b'' k grown.goes h.1 new,
-      only_more b b' b'' k x h.2 is)
+  page_more b b' b'' k x h grown new is = (
+    rw (steps_more k) (grows_append (line_steps enclave (first_ones k)) (page_step (first + k) ∷ []) b b' b'' h.0 grown),
+    placed_more b' b'' k grown.goes h.1 new,
+    only_more b b' b'' k x h.2 is,
+  )
 
   ones_taken : (ns : List ℕ) → frames_taken (map page_step ns) ≡ length ns
   ones_taken [] = refl

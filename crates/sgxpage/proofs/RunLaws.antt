@@ -1,10 +1,10 @@
 -- From an empty book to the end of a run.
-use Rattle.std.proofs.Common.{◌≡◌, ℕ, ◌+◌, refl, arith, sym, ap, ◌∙◌, Some, List, [], length, slice_get}
+use Rattle.std.proofs.Common.{◌≡◌, ℕ, ◌+◌, refl, arith, sym, ◌∙◌, List, []}
 use Rattle.std.specs.List.{All}
 use Rattle.sgx_types.specs.declared.entries.Entry.{Entry}
 use Rattle.sgx_types.specs.Rules.{Along}
 use Rattle.job_grammar.specs.Jobs.{JobView, lines_at}
-use Rattle.job_grammar.specs.Script.{BuildStep, ScriptRule, build_of, built}
+use Rattle.job_grammar.specs.Script.{ScriptRule, build_of, built}
 use Rattle.job_grammar.specs.Valid.{IsValid}
 use Rattle.sgxpage.specs.Books.{BookView}
 use Rattle.sgxpage.specs.Building.{AreNext, Grows, IsPlacedLine}

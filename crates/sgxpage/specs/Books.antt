@@ -1,5 +1,5 @@
 -- The book: the machine with the entries of its trace, and where the pages are.
-use Rattle.std.specs.Prelude.{ℕ, ◌≡◌, ◌≤◌, Bool, true, false, List, [], ◌∷◌, Option, Some, None, IfSome, length, reverse}
+use Rattle.std.specs.Prelude.{ℕ, ◌≡◌, ◌≤◌, true, false, List, [], ◌∷◌, Option, Some, IfSome, length, reverse}
 use Rattle.std.specs.Option.{option_map}
 use Rattle.sgx_types.specs.declared.entries.Actor.{Actor}
 use Rattle.sgx_types.specs.declared.entries.Action.{Action}
@@ -12,7 +12,7 @@ use Rattle.sgx_types.specs.declared.names.Kind.{Kind}
 use Rattle.sgx_types.specs.declared.names.Perm.{Perm}
 use Rattle.sgx_types.specs.Frames.{Content, Free, Holds, content, frame_of, is_blocked, is_sealing}
 use Rattle.sgx_types.specs.Table.{is_enclave, is_lawful, is_ready}
-use Rattle.sgx_types.specs.Flat.{FlatEnclave, FlatPage, flat, enclave_sight, first_words, words_of}
+use Rattle.sgx_types.specs.Flat.{FlatEnclave, flat, enclave_sight, first_words, words_of}
 use Rattle.sgx_types.specs.Rules.{KeepsRules}
 use Rattle.job_grammar.specs.Script.{action_of, frame_at, is_initialised, saved}
 use Rattle.paging_machine.specs.Parts.{state_of, tcs_of}

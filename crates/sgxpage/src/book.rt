@@ -129,13 +129,12 @@ fn note_home(homes: &mut Homes, event: Event)
     ensures { (g : Page) → home_in homes.new g ≡ home_by event g (home_in homes.old g) }
 {
     if let Event::Did {
-        action:
-            Action::Add {
-                enclave,
-                number,
-                frame,
-                ..
-            },
+        action: Action::Add {
+            enclave,
+            number,
+            frame,
+            ..
+        },
         ..
     } = event
     {

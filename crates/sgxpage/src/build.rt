@@ -105,12 +105,7 @@ fn create(alloc: Global, book: &mut Book, enclave: u16, base: u64, size: u64) ->
     book.apply(alloc, Actor::Builder, action)
 }
 
-fn add_line(
-    alloc: Global,
-    book: &mut Book,
-    enclave: u16,
-    line: &PageLine,
-) -> Result<(), Memory>
+fn add_line(alloc: Global, book: &mut Book, enclave: u16, line: &PageLine) -> Result<(), Memory>
     requires calm { IsCalm book.old.past }
     requires small { first_page line.now + page_count line.now ≤ 4096 }
     requires room { page_count line.now ≤ free_frames book.old }
@@ -145,7 +140,17 @@ fn add_line(
             perm,
             value,
             ..
-        } => add_pages(alloc, book, Page { enclave, number: first }, count, perm, value),
+        } => add_pages(
+            alloc,
+            book,
+            Page {
+                enclave,
+                number: first,
+            },
+            count,
+            perm,
+            value,
+        ),
     }
 }
 
@@ -203,7 +208,12 @@ fn add(
     book.apply(alloc, Actor::Builder, action)
 }
 
-fn finish(alloc: Global, book: &mut Book, enclave: u16, expect: Option<[u8; 32]>) -> Result<(), Memory>
+fn finish(
+    alloc: Global,
+    book: &mut Book,
+    enclave: u16,
+    expect: Option<[u8; 32]>,
+) -> Result<(), Memory>
     requires calm { IsCalm book.old.past }
     ensures grows { OnOk result (Grows (Finish enclave expect ∷ []) book.old book.new) }
     ensures others { OnOk result (MakesOnly enclave book.old book.new) }

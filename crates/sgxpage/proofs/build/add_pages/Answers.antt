@@ -1,4 +1,4 @@
-use Rattle.std.proofs.Common.{◌∙◌, arith}
+use Rattle.std.proofs.Common.{arith}
 use Rattle.sgxpage.proofs.PlacingLaws.{next_taken, page_more, steps_taken}
 use Rattle.sgxpage.proofs.build.add_pages.Goals as goal
 

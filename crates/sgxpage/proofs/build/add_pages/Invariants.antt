@@ -1,4 +1,3 @@
-use Rattle.job_grammar.specs.declared.jobs.PageLine.{PageLine}
 use Rattle.job_grammar.specs.declared.jobs.PageLine.TheVariants as lines
 use Rattle.std.proofs.Common.{true}
 use Rattle.job_grammar.specs.Script.{line_steps}

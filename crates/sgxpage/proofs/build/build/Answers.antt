@@ -1,9 +1,9 @@
-use Rattle.std.proofs.Common.{◌≡◌, map, replicate}
+use Rattle.std.proofs.Common.{replicate}
 use Rattle.std.proofs.lemmas.Result.{on_ok_weaker}
-use Rattle.job_grammar.specs.Jobs.{enclave_view, va_pages}
-use Rattle.job_grammar.specs.Script.{MakeVa, enclaves_steps}
+use Rattle.job_grammar.specs.Jobs.{va_pages}
+use Rattle.job_grammar.specs.Script.{MakeVa}
 use Rattle.sgxpage.specs.Building.{Grows}
-use Rattle.sgxpage.proofs.BuildingLaws.{build_grows, enclaves_room, vas_room}
+use Rattle.sgxpage.proofs.BuildingLaws.{build_grows, enclaves_room}
 use Rattle.sgxpage.proofs.build.build.Goals as goal
 
 pub build_enclaves-requires-clause-room : goal.build_enclaves-requires-clause-room

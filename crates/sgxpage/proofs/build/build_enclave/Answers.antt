@@ -1,11 +1,9 @@
-use Rattle.std.proofs.Common.{◌≡◌, ◌<◌, ◌∙◌, arith, ap, false, length, take}
+use Rattle.std.proofs.Common.{◌≡◌, arith, ap, false, length, take}
 use Rattle.std.proofs.lemmas.List.{take_all}
 use Rattle.std.proofs.lemmas.Result.{on_ok_weaker}
 use Rattle.job_grammar.specs.declared.jobs.PageLine.TheVariants.{Tcs}
 use Rattle.job_grammar.specs.Jobs.{enclave_view}
-use Rattle.job_grammar.specs.Script.{Finish, MakeSecs, line_steps}
-use Rattle.std.specs.List.{flat_map}
-use Rattle.sgxpage.proofs.EnclaveLaws.{HasLines, finished, first_lines, kept_lines, line_room, lines_more, secs_room, secs_taken, this_taken}
+use Rattle.sgxpage.proofs.EnclaveLaws.{finished, kept_lines, line_room, lines_more, secs_room, secs_taken, this_taken}
 use Rattle.sgxpage.proofs.build.build_enclave.Goals as goal
 
 pub create-requires-clause-room : goal.create-requires-clause-room
@@ -37,7 +35,7 @@ pub returns-clause-grows : goal.returns-clause-grows
 returns-clause-grows c =
     let len = ap length c.deref-line-items.ensures.value in
     let all : take c.loop-line.line-index c.args.made.now.lines.items ≡ c.args.made.now.lines.items =
-        take_all c.loop-line.line-index c.args.made.now.lines.items (omega (arith, len, c.loop-line-test.false)) in
+    take_all c.loop-line.line-index c.args.made.now.lines.items (omega (arith, len, c.loop-line-test.false)) in
     on_ok_weaker c.finish.result
     (λ last. finished c.args.enclave (enclave_view c.args.made.now) c.args.book.now c.loop-line.book c.finish.new.book (let h = c.loop-line.invariant in rw all at h) last) c.finish.ensures.grows
 
@@ -45,6 +43,6 @@ pub returns-clause-placed : goal.returns-clause-placed
 returns-clause-placed c =
     let len = ap length c.deref-line-items.ensures.value in
     let all : take c.loop-line.line-index c.args.made.now.lines.items ≡ c.args.made.now.lines.items =
-        take_all c.loop-line.line-index c.args.made.now.lines.items (omega (arith, len, c.loop-line-test.false)) in
+    take_all c.loop-line.line-index c.args.made.now.lines.items (omega (arith, len, c.loop-line-test.false)) in
     on_ok_weaker c.finish.result
     (λ last. kept_lines c.args.enclave (enclave_view c.args.made.now) c.args.book.now c.loop-line.book c.finish.new.book (let h = c.loop-line.invariant in rw all at h) last) c.finish.ensures.grows

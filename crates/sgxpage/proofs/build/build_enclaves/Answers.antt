@@ -1,5 +1,5 @@
-use Rattle.std.proofs.Common.{◌≡◌, ◌≤◌, arith, length, map, take}
-use Rattle.std.proofs.lemmas.List.{length-map, take_all}
+use Rattle.std.proofs.Common.{arith, map}
+use Rattle.std.proofs.lemmas.List.{length-map}
 use Rattle.job_grammar.specs.Jobs.{enclave_view}
 use Rattle.sgxpage.proofs.BuildingLaws.{all_placed, at_end, first_enclaves, one_enclave_more, room_at, valid_at}
 use Rattle.sgxpage.proofs.build.build_enclaves.Goals as goal

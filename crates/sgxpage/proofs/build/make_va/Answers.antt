@@ -1,5 +1,4 @@
 use Rattle.std.proofs.Common.{◌∙◌, sym}
-use Rattle.std.specs.Result.{OnOk}
 use Rattle.std.proofs.lemmas.Result.{on_ok_weaker}
 use Rattle.sgx_types.specs.Frames.{content, least_free}
 use Rattle.sgxpage.proofs.BuilderLaws.{grow_va}

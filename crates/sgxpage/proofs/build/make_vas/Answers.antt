@@ -1,5 +1,5 @@
-use Rattle.std.proofs.Common.{◌∙◌, arith}
-use Rattle.sgxpage.proofs.GrowthLaws.{grows_vas, vas_taken}
+use Rattle.std.proofs.Common.{◌∙◌}
+use Rattle.sgxpage.proofs.GrowthLaws.{grows_vas}
 use Rattle.sgxpage.proofs.build.make_vas.Goals as goal
 
 pub loop-preserved : goal.loop-preserved

@@ -1,4 +1,4 @@
-use Rattle.sgxpage.proofs.RunLaws.{build_scripted, built_of, quiet_of}
+use Rattle.sgxpage.proofs.RunLaws.{build_scripted}
 use Rattle.sgxpage.proofs.run.run.Goals as goal
 
 pub returns-clause-script : goal.returns-clause-script

@@ -1,4 +1,3 @@
-use Rattle.std.proofs.Common.{reverse}
 use Rattle.sgxpage.proofs.CalmLaws.{calm_fresh}
 use Rattle.sgxpage.proofs.HomeLaws.{homes_fresh}
 use Rattle.sgxpage.proofs.book.Book.new.Goals as goal
