@@ -25,11 +25,12 @@ use Rattle.job_grammar.specs.Jobs.{EnclaveView, JobView, va_pages, lines_at, tcs
 
 -- ---- the build
 
--- a step of the builder. All but the last kind take a free frame
+-- a step of the builder. Those that make a page take a free frame
 pub data BuildStep : Type 0 where
   MakeVa : BuildStep
   MakeSecs : (enclave base size : ℕ) → BuildStep
   AddPage : (enclave number : ℕ) → (kind : Kind) → (perm : Perm) → (init : PageInit) → BuildStep
+  ExtendPage : (enclave number chunk : ℕ) → BuildStep
   Finish : (enclave : ℕ) → (expect : Option (List ℕ)) → BuildStep
 
 abbrev pub numbers_from : ℕ → ℕ → List ℕ
@@ -39,10 +40,19 @@ numbers_from n (suc count) = n ∷ numbers_from (n + 1) count
 abbrev pub no_perm : Perm
 no_perm = record { r = false; w = false; x = false }
 
+-- the 16 chunks of a page, unless its bytes are not measured
+abbrev pub chunk_steps : ℕ → ℕ → Bool → List BuildStep
+chunk_steps enclave number true = []
+chunk_steps enclave number false = map (ExtendPage enclave number) (numbers_from 0 16)
+
+-- a page is added, and then measured
+abbrev pub page_steps : ℕ → ℕ → Kind → Perm → PageInit → Bool → List BuildStep
+page_steps enclave number kind perm init plain = AddPage enclave number kind perm init ∷ chunk_steps enclave number plain
+
 -- a line's pages, rising
 abbrev pub line_steps : ℕ → PageLine → List BuildStep
-line_steps enclave (lines.Tcs page ossa nssa plain) = AddPage enclave page kinds.Tcs no_perm (inits.Tcs ossa nssa) ∷ []
-line_steps enclave (lines.Reg first count perm value plain) = map (λ n. AddPage enclave n kinds.Reg perm (inits.Words value)) (numbers_from first count)
+line_steps enclave (lines.Tcs page ossa nssa plain) = page_steps enclave page kinds.Tcs no_perm (inits.Tcs ossa nssa) plain
+line_steps enclave (lines.Reg first count perm value plain) = flat_map (λ n. page_steps enclave n kinds.Reg perm (inits.Words value) plain) (numbers_from first count)
 
 abbrev pub enclave_steps : ℕ → EnclaveView → List BuildStep
 enclave_steps enclave e = MakeSecs enclave e.base e.size ∷ flat_map (line_steps enclave) e.lines ++ Finish enclave e.expect ∷ []
@@ -64,9 +74,11 @@ abbrev pub step_action : BuildStep → ℕ → Action
 step_action MakeVa f = actions.Epa (frame_at f)
 step_action (MakeSecs enclave base size) f = actions.Create enclave (frame_at f) base size
 step_action (AddPage enclave number kind perm init) f = actions.Add enclave number (frame_at f) kind perm init
+step_action (ExtendPage enclave number chunk) f = actions.Extend (frame_at f) chunk
 step_action (Finish enclave expect) f = actions.Init enclave expect
 
 abbrev pub takes_frame : BuildStep → Bool
+takes_frame (ExtendPage enclave number chunk) = false
 takes_frame (Finish enclave expect) = false
 takes_frame _ = true
 
@@ -74,9 +86,10 @@ abbrev pub with_frame : BuildStep → Option ℕ → Option Action
 with_frame step None = None
 with_frame step (Some f) = Some (step_action step f)
 
--- a step takes the least free frame
+-- a step takes the least free frame, or is of the frame of its page
 abbrev pub step_due : ℕ → List Entry → BuildStep → Option Action
 step_due frames past (Finish enclave expect) = Some (actions.Init enclave expect)
+step_due frames past (ExtendPage enclave number chunk) = with_frame (ExtendPage enclave number chunk) (frame_of past (page_at enclave number))
 step_due frames past step = with_frame step (least_free frames (content past))
 
 -- ---- entries and replies

@@ -6,7 +6,7 @@ use Rattle.job_grammar.specs.declared.jobs.PageLine.{PageLine}
 use Rattle.job_grammar.specs.declared.jobs.PageLine.TheVariants.{Tcs, Reg}
 use Rattle.job_grammar.specs.declared.jobs.Op.{Op}
 use Rattle.job_grammar.specs.declared.jobs.Op.TheVariants.{Enter, Exit, Load}
-use Rattle.job_grammar.specs.Jobs.{EnclaveView, JobView, covers, is_tcs_line, is_tcs_page, is_reg_page, is_save_page, lines_at, job_pages, needed, default_marks}
+use Rattle.job_grammar.specs.Jobs.{EnclaveView, JobView, covers, is_tcs_page, is_reg_page, is_save_page, lines_at, job_pages, va_pages, needed, default_marks}
 use Rattle.job_grammar.specs.Text.{job_text}
 
 -- ---- lines
@@ -52,12 +52,8 @@ pub record IsValid (j : JobView) : Type 0 where
   pub few_ops : sum_by length j.scripts ≤ 100000
   pub ops : All (All (IsValidOp j)) j.scripts
 
--- ---- what is accepted yet: one enclave of at most 64 plain pages that all fit, and one processor that enters, loads
--- and exits
-
-abbrev pub is_plain : PageLine → Bool
-is_plain (Tcs page ossa nssa plain) = plain
-is_plain (Reg first count perm value plain) = plain
+-- ---- what is accepted yet: enclaves of at most 64 pages in all that all fit, and one processor that enters, loads and
+-- exits
 
 -- loads of REG pages, and then an exit
 abbrev pub AreLoads : List PageLine → List Op → Type 0
@@ -65,25 +61,15 @@ AreLoads lines (Exit ∷ []) = Unit {0}
 AreLoads lines (Load off ∷ ops) = (is_reg_page lines (off / 4096) ≡ true) × AreLoads lines ops
 AreLoads lines _ = ⊥
 
--- an entry into enclave A, loads, and an exit
-abbrev pub IsFirstScript : List PageLine → List Op → Type 0
-IsFirstScript lines (Enter enclave tcs ∷ ops) = (enclave ≡ 1) × AreLoads lines ops
-IsFirstScript lines _ = ⊥
+-- an entry into an enclave, loads from it, and an exit
+abbrev pub IsFirstScript : List EnclaveView → List Op → Type 0
+IsFirstScript enclaves (Enter enclave tcs ∷ ops) = AreLoads (lines_at enclaves enclave) ops
+IsFirstScript enclaves _ = ⊥
 
 -- one processor
-abbrev pub AreFirstScripts : List PageLine → List (List Op) → Type 0
-AreFirstScripts lines (script ∷ []) = IsFirstScript lines script
-AreFirstScripts lines _ = ⊥
-
--- one enclave of plain pages, one of them a TCS page
-pub record IsFirstEnclave (e : EnclaveView) : Type 0 where
-  pub one_tcs : count_by is_tcs_line e.lines ≡ 1
-  pub plain : All (λ line. is_plain line ≡ true) e.lines
-  pub unexpected : e.expect ≡ None
-
-abbrev pub AreFirstEnclaves : List EnclaveView → List (List Op) → Type 0
-AreFirstEnclaves (e ∷ []) scripts = IsFirstEnclave e × AreFirstScripts e.lines scripts
-AreFirstEnclaves _ scripts = ⊥
+abbrev pub AreFirstScripts : List EnclaveView → List (List Op) → Type 0
+AreFirstScripts enclaves (script ∷ []) = IsFirstScript enclaves script
+AreFirstScripts enclaves _ = ⊥
 
 pub record IsFirstForm (j : JobView) : Type 0 where
   pub marks : j.marks ≡ default_marks j.epc
@@ -92,8 +78,9 @@ pub record IsFirstForm (j : JobView) : Type 0 where
   pub start_version : j.start_version ≡ 1
   pub plans : j.plans ≡ []
   pub few_pages : job_pages j ≤ 64
-  pub room : job_pages j + 2 ≤ j.epc
-  pub enclaves : AreFirstEnclaves j.enclaves j.scripts
+  pub room : job_pages j + length j.enclaves + va_pages j ≤ j.epc
+  pub unexpected : All (λ e. e.expect ≡ None) j.enclaves
+  pub scripts : AreFirstScripts j.enclaves j.scripts
 
 -- the bytes are the text of this job, which is valid and of the form that is accepted yet
 pub record IsJobText (bytes : List ℕ) (j : JobView) : Type 0 where

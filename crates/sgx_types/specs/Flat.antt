@@ -7,7 +7,7 @@ use Rattle.sgx_types.specs.declared.entries.Event.TheVariants.{Did}
 use Rattle.sgx_types.specs.declared.entries.Actor.{Actor}
 use Rattle.sgx_types.specs.declared.entries.Actor.TheVariants as actors
 use Rattle.sgx_types.specs.declared.entries.Action.{Action}
-use Rattle.sgx_types.specs.declared.entries.Action.TheVariants.{Create, Add, Init, Enter, Exit, Load}
+use Rattle.sgx_types.specs.declared.entries.Action.TheVariants.{Create, Add, Extend, Init, Enter, Exit, Load}
 use Rattle.sgx_types.specs.declared.entries.Answer.{Answer}
 use Rattle.sgx_types.specs.declared.entries.Answer.TheVariants as answers
 use Rattle.sgx_types.specs.declared.entries.PageInit.{PageInit}
@@ -17,7 +17,7 @@ use Rattle.sgx_types.specs.declared.names.Kind.{Kind}
 use Rattle.sgx_types.specs.declared.names.Kind.TheVariants as kinds
 use Rattle.sgx_types.specs.declared.names.Perm.{Perm}
 use Rattle.sgx_types.specs.Frames.{Content, Free, Holds, same_page, page_at}
-use Rattle.sgx_types.specs.Table.{Case, allowed, first_of_row, FrameSight, EnclaveSight, TcsSight, create_row, add_row, init_row, enter_row, exit_row, load_row}
+use Rattle.sgx_types.specs.Table.{Case, allowed, first_of_row, FrameSight, EnclaveSight, TcsSight, create_row, add_row, extend_row, init_row, enter_row, exit_row, load_row}
 
 -- ---- the memory
 
@@ -97,6 +97,10 @@ first_words (inits.Tcs ossa nssa) = slice_set (slice_set (replicate 512 0) 2 (os
 abbrev pub open_frame : FrameSight
 open_frame = record { is_beyond = false; content = Free; is_sealing = false; is_blocked = false }
 
+-- the frame of some page
+abbrev pub some_page : FrameSight
+some_page = record open_frame { content = Holds (page_at 0 0) kinds.Reg (record { r = true; w = false; x = false }) }
+
 abbrev pub flat_content : Page → Option FlatPage → Content
 flat_content g None = Free
 flat_content g (Some x) = Holds g x.kind x.perm
@@ -150,6 +154,7 @@ is_processors _ = false
 abbrev pub is_visible : Action → Bool
 is_visible (Create enclave f base size) = true
 is_visible (Add enclave number f kind perm init) = true
+is_visible (Extend f chunk) = true
 is_visible (Init enclave expect) = true
 is_visible (Enter enclave tcs tf sf) = true
 is_visible Exit = true
@@ -167,6 +172,7 @@ flat_cpu_row m p _ = allowed
 abbrev pub flat_build_row : FlatMemory → Action → List Case
 flat_build_row m (Create enclave f base size) = create_row enclave base size (is_some (m.enclaves enclave)) open_frame
 flat_build_row m (Add enclave number f kind perm init) = add_row number kind perm init (enclave_sight m enclave) (is_some (m.pages (page_at enclave number))) open_frame
+flat_build_row m (Extend f chunk) = extend_row chunk false some_page
 flat_build_row m (Init enclave expect) = init_row (enclave_sight m enclave)
 flat_build_row m _ = allowed
 

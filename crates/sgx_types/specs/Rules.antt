@@ -8,7 +8,7 @@ use Rattle.sgx_types.specs.declared.entries.Event.TheVariants.{Did, Refused}
 use Rattle.sgx_types.specs.declared.entries.Actor.{Actor}
 use Rattle.sgx_types.specs.declared.entries.Actor.TheVariants as actors
 use Rattle.sgx_types.specs.declared.entries.Action.{Action}
-use Rattle.sgx_types.specs.declared.entries.Action.TheVariants.{Epa, Create, Add, Init, Enter, Exit, Fill, Load}
+use Rattle.sgx_types.specs.declared.entries.Action.TheVariants.{Epa, Create, Add, Extend, Init, Enter, Exit, Fill, Load}
 use Rattle.sgx_types.specs.declared.entries.Answer.{Answer}
 use Rattle.sgx_types.specs.declared.entries.Answer.TheVariants as answers
 use Rattle.sgx_types.specs.declared.names.Page.{Page}
@@ -37,6 +37,7 @@ abbrev pub HasForm : Action → Answer → Type 0
 HasForm (Epa f) answer = answer ≡ answers.Plain
 HasForm (Create enclave f base size) answer = answer ≡ answers.Plain
 HasForm (Add enclave number f kind perm init) answer = answer ≡ answers.Plain
+HasForm (Extend f chunk) answer = answer ≡ answers.Plain
 HasForm (Init enclave expect) answer = (digest : List ℕ) × (answer ≡ answers.Hash digest)
 HasForm (Enter enclave tcs tf sf) answer = (cssa : ℕ) × (answer ≡ answers.Cssa cssa)
 HasForm Exit answer = answer ≡ answers.Plain
@@ -82,6 +83,7 @@ abbrev pub NamesFrames : ℕ → Action → Type 0
 NamesFrames frames (Epa f) = f.0 < frames
 NamesFrames frames (Create enclave f base size) = f.0 < frames
 NamesFrames frames (Add enclave number f kind perm init) = f.0 < frames
+NamesFrames frames (Extend f chunk) = f.0 < frames
 NamesFrames frames (Enter enclave tcs tf sf) = (tf.0 < frames) × (sf.0 < frames)
 NamesFrames frames (Fill number f) = f.0 < frames
 NamesFrames frames _ = Unit {0}

@@ -1,16 +1,16 @@
 -- What the rows of the instruction table see, read from the entries before a place.
-use Rattle.std.specs.Prelude.{ℕ, ◌/◌, Bool, true, if◌then◌else◌, List, Option, Some, None, nat_le, is_some}
+use Rattle.std.specs.Prelude.{ℕ, ◌/◌, Bool, true, false, if◌then◌else◌, List, Option, Some, None, nat_le, is_some}
 use Rattle.sgx_types.specs.declared.entries.Entry.{Entry}
 use Rattle.sgx_types.specs.declared.entries.Actor.{Actor}
 use Rattle.sgx_types.specs.declared.entries.Actor.TheVariants as actors
 use Rattle.sgx_types.specs.declared.entries.Action.{Action}
-use Rattle.sgx_types.specs.declared.entries.Action.TheVariants.{Epa, Create, Add, Init, Enter, Exit, Fill, Load}
+use Rattle.sgx_types.specs.declared.entries.Action.TheVariants.{Epa, Create, Add, Extend, Init, Enter, Exit, Fill, Load}
 use Rattle.sgx_types.specs.declared.names.Perm.{Perm}
-use Rattle.sgx_types.specs.Frames.{content, is_sealing, is_blocked, page_at}
+use Rattle.sgx_types.specs.Frames.{content, enclave_in, is_sealing, is_blocked, page_at}
 use Rattle.sgx_types.specs.Processors.{Seat, Stay, stay, holds_number, translations}
 use Rattle.sgx_types.specs.declared.refusals.Refusal.TheVariants as why
-use Rattle.sgx_types.specs.Table.{Case, allowed, when, ◌otherwise◌, FrameSight, epa_row, create_row, add_row, init_row, enter_row, exit_row, fill_row, load_row}
-use Rattle.sgx_types.specs.Flat.{FlatPage, flat, enclave_sight, tcs_fields, words_of}
+use Rattle.sgx_types.specs.Table.{Case, allowed, when, ◌otherwise◌, FrameSight, is_ready, epa_row, create_row, add_row, extend_row, init_row, enter_row, exit_row, fill_row, load_row}
+use Rattle.sgx_types.specs.Flat.{FlatMemory, FlatPage, flat, enclave_sight, tcs_fields, words_of}
 
 -- a frame of an EPC with so many frames
 abbrev pub sight_at : ℕ → List Entry → ℕ → FrameSight
@@ -36,6 +36,11 @@ translation_at past p (Some s) number = held (holds_number (translations past p)
   where
     held : Bool → Option Perm
     held held_now = if held_now then perm_of_page ((flat past).pages (page_at s.seat.enclave number)) else None
+
+-- whether the enclave of the page in a frame is initialised
+abbrev pub is_closed : FlatMemory → Option ℕ → Bool
+is_closed m None = false
+is_closed m (Some enclave) = is_ready (enclave_sight m enclave)
 
 abbrev pub enter_row_at : ℕ → List Entry → ℕ → Seat → List Case
 enter_row_at frames past p seat =
@@ -67,6 +72,7 @@ row_at frames past actor (Epa f) = epa_row (sight_at frames past f.0)
 row_at frames past actor (Create enclave f base size) = create_row enclave base size (is_some ((flat past).enclaves enclave)) (sight_at frames past f.0)
 row_at frames past actor (Add enclave number f kind perm init) =
     add_row number kind perm init (enclave_sight (flat past) enclave) (is_some ((flat past).pages (page_at enclave number))) (sight_at frames past f.0)
+row_at frames past actor (Extend f chunk) = extend_row chunk (is_closed (flat past) (enclave_in (content past f.0))) (sight_at frames past f.0)
 row_at frames past actor (Init enclave expect) = init_row (enclave_sight (flat past) enclave)
 row_at frames past (actors.Cpu p) action = cpu_row_at frames past p.0 action
 row_at frames past actor (Enter enclave tcs tf sf) = no_processor
