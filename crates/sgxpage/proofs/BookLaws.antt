@@ -30,6 +30,7 @@ same_frames s a action = refl
 done_of : (s t : State) (a : Actor) (action : Action) (e : Entry) → IsDone s a action e t → IsOf a action e s.frames t.frames
 done_of s t a (actions.Create enclave f base size) e k = rw (k.0, k.1.state) (record { actor_is = refl; action_is = refl; frames_same = refl })
 done_of s t a (actions.Add enclave number f kind perm init) e k = rw (k.0, k.1.state) (record { actor_is = refl; action_is = refl; frames_same = refl })
+done_of s t a (actions.Extend f chunk) e k = rw (k.0, k.1.state) (record { actor_is = refl; action_is = refl; frames_same = refl })
 done_of s t a (actions.Init enclave expect) e k = by_measure k.judged
   where
     by_measure : (IsExpected expect k.digest × (e ≡ did_by a (actions.Init enclave expect) (answers.Hash k.digest)) × (t ≡ after_init s enclave))

@@ -6,7 +6,7 @@ use Rattle.sgx_types.specs.declared.entries.Event.{Event}
 use Rattle.sgx_types.specs.declared.entries.Event.TheVariants as events
 use Rattle.sgx_types.specs.declared.entries.Actor.TheVariants as actors
 use Rattle.sgx_types.specs.declared.entries.Action.{Action}
-use Rattle.sgx_types.specs.declared.entries.Action.TheVariants.{Epa, Create, Add, Init}
+use Rattle.sgx_types.specs.declared.entries.Action.TheVariants.{Epa, Create, Add, Extend, Init}
 use Rattle.sgx_types.specs.declared.entries.Answer.{Answer}
 use Rattle.sgx_types.specs.declared.entries.PageInit.{PageInit}
 use Rattle.sgx_types.specs.declared.refusals.Refusal.{Refusal}
@@ -21,20 +21,21 @@ use Rattle.sgx_types.specs.Flat.{FlatMemory, FlatPage, accepts, flat, enclave_si
 use Rattle.sgx_types.specs.Sights.{row_at, sight_at}
 use Rattle.sgx_types.specs.Rules.{KeepsRules, case_of}
 use Rattle.job_grammar.specs.Jobs.{JobView}
-use Rattle.job_grammar.specs.Script.{BuildStep, MakeVa, MakeSecs, AddPage, Finish, action_of, build_of, builder_due, built, step_action, step_due}
+use Rattle.job_grammar.specs.Script.{BuildStep, MakeVa, MakeSecs, AddPage, ExtendPage, Finish, action_of, build_of, builder_due, built, step_action, step_due}
 use Rattle.paging_machine.specs.Steps.{did_by, refused_by}
 use Rattle.paging_machine.proofs.Tools.{apart, eqb-swap, none_holds, none_there}
 use Rattle.paging_machine.proofs.Carry.{flat_done, same_page-refl, same_page-true}
 use Rattle.sgxpage.specs.Books.{BookView, IsCalm, IsNext, IsPlaced}
-use Rattle.sgxpage.specs.Building.{AreNext, AreTaken, Grows, IsUnmade, MakesOnly, count_free, frames_taken, free_frames}
+use Rattle.sgxpage.specs.Building.{AreNext, AreTaken, Grows, IsHere, IsUnmade, MakesOnly, count_free, frames_taken, free_frames}
 use Rattle.sgxpage.proofs.CalmLaws.{taken_none}
 use Rattle.sgxpage.proofs.FreeLaws.{IsLeast, found_least, put_room}
 
--- the four instructions of a builder
+-- the instructions of a builder
 abbrev pub IsBuilders : Action → Type 0
 IsBuilders (Epa f) = Unit {0}
 IsBuilders (Create enclave f base size) = Unit {0}
 IsBuilders (Add enclave number f kind perm init) = Unit {0}
+IsBuilders (Extend f chunk) = Unit {0}
 IsBuilders (Init enclave expect) = Unit {0}
 IsBuilders _ = ⊥
 
@@ -86,6 +87,8 @@ placed_did frames past (Add enclave number f kind' perm' init') ans can rules g 
     let other = other_page (flat past) a g _ unadded h.words in
     kept_by past (did_by actors.Builder (Add enclave number f kind' perm' init') ans) g kind perm init h (rw other.0 refl) (rw apart_from refl)
     (same_pages past (Add enclave number f kind' perm' init') ans g (rw other.1 refl))
+placed_did frames past (Extend f chunk) ans can rules g kind perm init h =
+    kept_by past (did_by actors.Builder (Extend f chunk) ans) g kind perm init h refl refl (same_pages past (Extend f chunk) ans g refl)
 placed_did frames past (Init enclave expect) ans can rules g kind perm init h =
     kept_by past (did_by actors.Builder (Init enclave expect) ans) g kind perm init h refl refl (same_pages past (Init enclave expect) ans g refl)
 placed_did frames past act ans can rules g kind perm init h = absurd can
@@ -101,6 +104,7 @@ placed_refused : (past : List Entry) (act : Action) (why : Refusal) → IsBuilde
 placed_refused past (Epa f) why can g kind perm init h = kept_by past (refused_by actors.Builder (Epa f) why) g kind perm init h refl refl refl
 placed_refused past (Create enclave f base size) why can g kind perm init h = kept_by past (refused_by actors.Builder (Create enclave f base size) why) g kind perm init h refl refl refl
 placed_refused past (Add enclave number f kind' perm' init') why can g kind perm init h = kept_by past (refused_by actors.Builder (Add enclave number f kind' perm' init') why) g kind perm init h refl refl refl
+placed_refused past (Extend f chunk) why can g kind perm init h = kept_by past (refused_by actors.Builder (Extend f chunk) why) g kind perm init h refl refl refl
 placed_refused past (Init enclave expect) why can g kind perm init h = kept_by past (refused_by actors.Builder (Init enclave expect) why) g kind perm init h refl refl refl
 placed_refused past act why can g kind perm init h = absurd can
 
@@ -123,6 +127,7 @@ room_more frames past act (events.Did action ans) can is = by_action action (rw 
     by_action (Epa f) can = put_room (content past) f.0 IsVa frames
     by_action (Create enclave f base size) can = put_room (content past) f.0 (SecsOf enclave) frames
     by_action (Add enclave number f kind perm init) can = put_room (content past) f.0 (Holds (page_at enclave number) kind perm) frames
+    by_action (Extend f chunk) can = same_room (count_free (content past) frames)
     by_action (Init enclave expect) can = same_room (count_free (content past) frames)
     by_action action can = absurd can
 room_more frames past act (events.Refused action why) can is = by_action action (rw (some_same action act is) can)
@@ -131,9 +136,16 @@ room_more frames past act (events.Refused action why) can is = by_action action 
     by_action (Epa f) can = same_room (count_free (content past) frames)
     by_action (Create enclave f base size) can = same_room (count_free (content past) frames)
     by_action (Add enclave number f kind perm init) can = same_room (count_free (content past) frames)
+    by_action (Extend f chunk) can = same_room (count_free (content past) frames)
     by_action (Init enclave expect) can = same_room (count_free (content past) frames)
     by_action action can = absurd can
 room_more frames past act _ can is = cc
+
+room_extend : (frames : ℕ) (past : List Entry) (f : Frame) (chunk : ℕ) (event : Event) → action_of event ≡ Some (Extend f chunk)
+    → count_free (content (entry_of event ∷ past)) frames ≡ count_free (content past) frames
+room_extend frames past f chunk (events.Did action ans) is = rw (some_same action (Extend f chunk) is) refl
+room_extend frames past f chunk (events.Refused action why) is = rw (some_same action (Extend f chunk) is) refl
+room_extend frames past f chunk _ is = cc
 
 room_init : (frames : ℕ) (past : List Entry) (enclave : ℕ) (expect : Option (List ℕ)) (event : Event) → action_of event ≡ Some (Init enclave expect)
     → count_free (content (entry_of event ∷ past)) frames ≡ count_free (content past) frames
@@ -250,6 +262,25 @@ page_placed b b' g f kind perm init calm least taken next =
       held = rw (next.past, did.is, eq-eqb f.0 f.0 refl) refl;
       words = rw (page_made b b' g f kind perm init calm least taken next, same_page-refl g.enclave g.number) refl;
     }
+
+-- ---- its measurement
+
+pub grow_chunk : (b b' : BookView) (g : Page) (f : Frame) (chunk : ℕ) → frame_of b.past g ≡ Some f.0 → IsNext actors.Builder (Extend f chunk) b b' → Grows (ExtendPage g.enclave g.number chunk ∷ []) b b'
+grow_chunk b b' g f chunk there next =
+    let same = room_extend b.frames b.past f chunk next.event next.is_action in
+    grow b b' (ExtendPage g.enclave g.number chunk) (Extend f chunk) tt (rw there refl) next (rw (next.past, next.frames, same) (omega arith))
+
+flat_chunk : (past : List Entry) (f : Frame) (chunk : ℕ) (event : Event) → action_of event ≡ Some (Extend f chunk) → flat (entry_of event ∷ past) ≡ flat past
+flat_chunk past f chunk (events.Did action ans) is =
+    rw (some_same action (Extend f chunk) is) (cond_both (accepts (flat past) actors.Builder (Extend f chunk)) (flat past) (flat past) (λ v. v ≡ flat past) (λ _. refl) (λ _. refl))
+flat_chunk past f chunk (events.Refused action why) is = refl
+flat_chunk past f chunk _ is = cc
+
+pub chunk_flat : (b b' : BookView) (f : Frame) (chunk : ℕ) → IsNext actors.Builder (Extend f chunk) b b' → flat b'.past ≡ flat b.past
+chunk_flat b b' f chunk next = rw next.past (flat_chunk b.past f chunk next.event next.is_action)
+
+pub here_later : (b b' : BookView) (g : Page) → GoesOn b b' → IsHere b.past g → IsHere b'.past g
+here_later b b' g goes h = record { kind = h.kind; perm = h.perm; init = h.init; placed = goes.keeps g h.kind h.perm h.init h.placed }
 
 -- ---- its end
 

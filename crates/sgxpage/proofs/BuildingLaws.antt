@@ -9,10 +9,9 @@ use Rattle.std.proofs.lemmas.Option.{get_or_from_slice_get, slice_get-get_or, sl
 use Rattle.std.proofs.Math.ListN.{get_or-map}
 use Rattle.sgx_types.specs.Table.{is_enclave}
 use Rattle.job_grammar.specs.declared.jobs.EnclaveJob.{EnclaveJob}
-use Rattle.job_grammar.specs.declared.jobs.Op.{Op}
 use Rattle.job_grammar.specs.Jobs.{EnclaveView, JobView, va_pages, enclave_pages, enclave_view, lines_at, lines_in}
 use Rattle.job_grammar.specs.Script.{MakeVa, build_of, enclave_steps, enclaves_steps}
-use Rattle.job_grammar.specs.Valid.{AreFirstEnclaves, IsFirstForm, IsValidEnclave}
+use Rattle.job_grammar.specs.Valid.{IsFirstForm, IsValidEnclave}
 use Rattle.paging_machine.proofs.Tools.{apart}
 use Rattle.sgxpage.specs.Books.{BookView, IsCalm}
 use Rattle.sgxpage.specs.Building.{Grows, IsPlacedLine, IsUnmade, MakesOnly, frame_count, frames_taken, free_frames}
@@ -120,29 +119,27 @@ at_end es i b b' low high h = let same : i ≡ length es = omega (arith, low, hi
 
 -- ---- the whole build
 
--- one enclave, whose frames and version array fit
-first_sums : (es : List EnclaveView) (scripts : List (List Op)) → AreFirstEnclaves es scripts → (length es ≡ 1) × (sum_by frames_of es ≡ 1 + sum_by enclave_pages es)
-first_sums [] scripts h = absurd h
-first_sums (e ∷ []) scripts h = (refl, sum_by-cons frames_of e [] ∙ rest)
-  where
-    rest : 1 + enclave_pages e + 0 ≡ 1 + sum_by enclave_pages (e ∷ [])
-    rest = let whole = sum_by-cons enclave_pages e [] in omega (arith, whole)
-first_sums (e ∷ x ∷ es) scripts h = absurd h
+sum_frames : (es : List EnclaveView) → sum_by frames_of es ≡ length es + sum_by enclave_pages es
+sum_frames [] = refl
+sum_frames (e ∷ es) =
+    let frames = sum_by-cons frames_of e es in
+    let pages = sum_by-cons enclave_pages e es in
+    let rest = sum_frames es in
+    omega (arith, frames, pages, rest)
 
 pub vas_room : (j : JobView) (b : BookView) → b.frames ≡ j.epc → b.past ≡ [] → IsFirstForm j → va_pages j ≤ free_frames b
 vas_room j b frames past form =
-    let one = (first_sums j.enclaves j.scripts form.enclaves).0 in
     let free : free_frames b ≡ j.epc = rw (past, frames) (all_free j.epc) in
-    omega (arith, one, free, form.few_pages, form.room)
+    omega (arith, free, form.room)
 
 pub enclaves_room : (j : JobView) (b b' : BookView) → b.frames ≡ j.epc → b.past ≡ [] → IsFirstForm j → Grows (replicate (va_pages j) MakeVa) b b' → frames_taken (enclaves_steps 1 j.enclaves) ≤ free_frames b'
 enclaves_room j b b' frames past form grown =
-    let sums = first_sums j.enclaves j.scripts form.enclaves in
+    let sums = sum_frames j.enclaves in
     let free : free_frames b ≡ j.epc = rw (past, frames) (all_free j.epc) in
     let vas = vas_taken (va_pages j) in
     let taken = enclaves_taken 1 j.enclaves in
     let left = grown.room in
-    omega (arith, sums.0, sums.1, free, vas, taken, left, form.few_pages, form.room)
+    omega (arith, sums, free, vas, taken, left, form.room)
 
 pub build_grows : (j : JobView) (b b' b'' : BookView) → Grows (replicate (va_pages j) MakeVa) b b' → Grows (enclaves_steps 1 j.enclaves) b' b'' → Grows (build_of j) b b''
 build_grows j b b' b'' vas enclaves = grows_append (replicate (va_pages j) MakeVa) (enclaves_steps 1 j.enclaves) b b' b'' vas enclaves

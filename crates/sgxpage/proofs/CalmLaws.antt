@@ -8,7 +8,7 @@ use Rattle.sgx_types.specs.declared.entries.Event.TheVariants as events
 use Rattle.sgx_types.specs.declared.entries.Actor.{Actor}
 use Rattle.sgx_types.specs.declared.entries.Actor.TheVariants as actors
 use Rattle.sgx_types.specs.declared.entries.Action.{Action}
-use Rattle.sgx_types.specs.declared.entries.Action.TheVariants.{Epa, Create, Add, Init, Enter, Exit, Fill, Load}
+use Rattle.sgx_types.specs.declared.entries.Action.TheVariants.{Epa, Create, Add, Extend, Init, Enter, Exit, Fill, Load}
 use Rattle.sgx_types.specs.declared.entries.Answer.{Answer}
 use Rattle.sgx_types.specs.declared.refusals.Refusal.{Refusal}
 use Rattle.sgx_types.specs.declared.names.Frame.{Frame}
@@ -119,6 +119,8 @@ calm_did cpus frames a (Epa f) ans past can rules h =
 calm_did cpus frames a (Create enclave f base size) ans past can rules h = create_calm past a enclave f base size ans (rules.flat.0 refl).taken h
 calm_did cpus frames a (Add enclave number f kind perm init) ans past can rules h =
     calm_left past (did_by a (Add enclave number f kind perm init) ans) (record { settled = λ n. refl; unblocked = λ n. refl; unsaved = λ g. refl; no_init = λ x. refl; enclaves = left_did past a (Add enclave number f kind perm init) ans (λ x. refl) }) h
+calm_did cpus frames a (Extend f chunk) ans past can rules h =
+    calm_left past (did_by a (Extend f chunk) ans) (record { settled = λ n. refl; unblocked = λ n. refl; unsaved = λ g. refl; no_init = λ x. refl; enclaves = left_did past a (Extend f chunk) ans (λ x. refl) }) h
 calm_did cpus frames a (Init enclave expect) ans past can rules h = init_calm past a enclave expect ans (rules.flat.0 refl).taken h
 calm_did cpus frames (actors.Cpu p) (Enter enclave tcs tf sf) ans past can rules h =
     calm_left past (did_by (actors.Cpu p) (Enter enclave tcs tf sf) ans) (record { settled = λ n. refl; unblocked = λ n. refl; unsaved = λ g. refl; no_init = λ x. refl; enclaves = left_did past (actors.Cpu p) (Enter enclave tcs tf sf) ans (λ x. refl) }) h

@@ -23,10 +23,10 @@ use Rattle.job_grammar.specs.Script.{AddPage, Finish, MakeSecs, enclave_steps, l
 use Rattle.job_grammar.specs.Valid.{IsValidEnclave, IsValidLine}
 use Rattle.paging_machine.proofs.Tools.{apart, eqb-swap}
 use Rattle.sgxpage.specs.Books.{BookView}
-use Rattle.sgxpage.specs.Building.{AddsOnly, AreTaken, Grows, IsPlacedLine, IsUnmade, MakesOnly, frame_count, frames_taken, free_frames}
+use Rattle.sgxpage.specs.Building.{AddsOnly, AreTaken, Grows, IsPlacedLine, IsUnmade, MakesOnly, frame_count, frames_taken, free_frames, line_adds}
 use Rattle.sgxpage.proofs.GrowthLaws.{grows_append, lines_kept}
 use Rattle.sgxpage.proofs.HomeLaws.{most_size}
-use Rattle.sgxpage.proofs.PlacingLaws.{steps_at, steps_taken}
+use Rattle.sgxpage.proofs.PlacingLaws.{page_taken, steps_at, steps_taken}
 
 -- ---- counts
 
@@ -34,8 +34,8 @@ count_take_le : {X : Type 0} (p : X → Bool) (xs : List X) (k : ℕ) → count_
 count_take_le p xs k = sum_by-take-le (λ x. cond (p x) 1 0) xs k
 
 one_line_taken : (enclave : ℕ) (line : PageLine) → frames_taken (line_steps enclave line) ≡ page_count line
-one_line_taken enclave (lines.Tcs page ossa nssa plain) = refl
-one_line_taken enclave (lines.Reg first count perm value plain) = steps_taken enclave first perm value count
+one_line_taken enclave (lines.Tcs page ossa nssa plain) = page_taken enclave page kinds.Tcs no_perm (inits.Tcs ossa nssa) plain
+one_line_taken enclave (lines.Reg first count perm value plain) = steps_taken enclave first perm value plain count
 
 pub lines_taken : (enclave : ℕ) (ls : List PageLine) → frames_taken (flat_map (line_steps enclave) ls) ≡ sum_by page_count ls
 lines_taken enclave [] = refl
@@ -136,16 +136,16 @@ module _ (enclave : ℕ) (e : EnclaveView) (b b' b'' : BookView) (i : ℕ) (d : 
       → accepts (flat b'.past) actors.Builder (step_action (AddPage enclave n kinds.Reg perm (inits.Words value)) 0) ≡ true
   reg_taken n value perm created unadded reads within = rw (created, unadded, reads, lt-ltb n (e.size / 4096) within) refl
 
-  line_taken : (line : PageLine) → this ≡ line → HasLines enclave e (take i e.lines) b b' → IsValidEnclave e → IsValidLine (e.size / 4096) line → AreTaken b'.past (line_steps enclave line)
+  line_taken : (line : PageLine) → this ≡ line → HasLines enclave e (take i e.lines) b b' → IsValidEnclave e → IsValidLine (e.size / 4096) line → AreTaken b'.past (line_adds enclave line)
   line_taken (lines.Tcs page ossa nssa plain) is h valid ok =
       tcs_taken page ossa nssa h.created (unadded_here h valid page (rw (is, eq-eqb page page refl) refl)) ok.0 ok.2 ok.3
   line_taken (lines.Reg first count perm value plain) is h valid ok =
-      steps_at enclave first perm value (λ step. accepts (flat b'.past) actors.Builder (step_action step 0) ≡ true) count
+      steps_at enclave first perm value plain (λ step. accepts (flat b'.past) actors.Builder (step_action step 0) ≡ true) count
       (λ k below. reg_taken (first + k) value perm h.created
       (unadded_here h valid (first + k) (rw (is, le-leb first (first + k) (omega arith), lt-ltb (first + k) (first + count) (omega (arith, below))) refl)) ok.2
       (omega (arith, below, ok.1)))
 
-  pub this_taken : HasLines enclave e (take i e.lines) b b' → IsValidEnclave e → AreTaken b'.past (line_steps enclave this)
+  pub this_taken : HasLines enclave e (take i e.lines) b b' → IsValidEnclave e → AreTaken b'.past (line_adds enclave this)
   this_taken h valid = line_taken this refl h valid (valid.lines i d here)
 
 small_line : (pages : ℕ) (line : PageLine) → pages ≤ 4096 → IsValidLine pages line → first_page line + page_count line ≤ 4096

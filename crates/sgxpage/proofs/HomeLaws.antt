@@ -9,7 +9,7 @@ use Rattle.sgx_types.specs.declared.entries.Event.TheVariants as events
 use Rattle.sgx_types.specs.declared.entries.Actor.{Actor}
 use Rattle.sgx_types.specs.declared.entries.Actor.TheVariants as actors
 use Rattle.sgx_types.specs.declared.entries.Action.{Action}
-use Rattle.sgx_types.specs.declared.entries.Action.TheVariants.{Epa, Create, Add, Init, Enter, Exit, Fill, Load}
+use Rattle.sgx_types.specs.declared.entries.Action.TheVariants.{Epa, Create, Add, Extend, Init, Enter, Exit, Fill, Load}
 use Rattle.sgx_types.specs.declared.entries.Answer.{Answer}
 use Rattle.sgx_types.specs.declared.entries.PageInit.{PageInit}
 use Rattle.sgx_types.specs.declared.names.Frame.{Frame}
@@ -81,6 +81,7 @@ homes_did cpus frames a (Add enclave number f kind perm init) ans past home home
     by_test : (b : Bool) → cond b (Some f) (option_map frame_at (frame_of past g)) ≡ option_map frame_at (cond b (Some f.0) (frame_of past g))
     by_test true = refl
     by_test false = refl
+homes_did cpus frames a (Extend f chunk) ans past home home' can rules calm h more g = more g ∙ h g
 homes_did cpus frames a (Init enclave expect) ans past home home' can rules calm h more g = more g ∙ h g
 homes_did cpus frames (actors.Cpu p) (Enter enclave tcs tf sf) ans past home home' can rules calm h more g = more g ∙ h g
 homes_did cpus frames (actors.Cpu p) Exit ans past home home' can rules calm h more g = more g ∙ h g

@@ -24,7 +24,7 @@ use Rattle.job_grammar.specs.Script.{access_due, action_of, frame_at}
 use Rattle.paging_machine.proofs.Carry.{same_page-refl}
 use Rattle.paging_machine.proofs.Tools.{NoneHolds, none_refused}
 use Rattle.sgxpage.specs.Books.{BookView, IsCalm, IsNext}
-use Rattle.sgxpage.specs.Playing.{Fills, HasFilled, IsReady, Prepares, Rests}
+use Rattle.sgxpage.specs.Playing.{Fills, HasFilled, IsReady, Prepares, Rests, home_of}
 use Rattle.sgxpage.proofs.PlayLaws.{entry_of, newest_refusal, on_script, goes_on, built_same, playable_is, replied_silent, rests_same, some_same, content_same}
 use Rattle.sgxpage.proofs.PlayPages.{IsRegAt, reg_at, reg_below}
 
@@ -103,9 +103,9 @@ fill_rests cpu number f b b' n = record {
 
 -- ---- the script's fill
 
-inside_first : (o : Option Stay) (enclave : ℕ) → IfSome o (λ s. s.seat.enclave ≡ 1) → enclave_of_stay o ≡ Some enclave → enclave ≡ 1
-inside_first None enclave home h = cc
-inside_first (Some s) enclave home h = let same : s.seat.enclave ≡ enclave = cc in sym same ∙ home
+inside_home : (home : ℕ) (o : Option Stay) (enclave : ℕ) → IfSome o (λ s. s.seat.enclave ≡ home) → enclave_of_stay o ≡ Some enclave → enclave ≡ home
+inside_home home None enclave at h = cc
+inside_home home (Some s) enclave at h = let same : s.seat.enclave ≡ enclave = cc in sym same ∙ at
 
 fill_due : (past : List Entry) (p off enclave number f : ℕ) (o : Option Stay) → enclave_of_stay o ≡ Some enclave → off / 4096 ≡ number → holds_number (translations past p) number ≡ false
     → frame_of past (page_at enclave number) ≡ Some f → access_due past p o off (Load off) ≡ Some (Fill number (frame_at f))
@@ -114,11 +114,11 @@ fill_due past p off enclave number f (Some s) h same missing there =
     let at : s.seat.enclave ≡ enclave = some_same s.seat.enclave enclave h in
     rw (same, missing, at, there) refl
 
--- the REG page by which a processor inside enclave A loads next
+-- the REG page by which a processor inside loads next
 next_page : (j : JobView) (p off : ℕ) (page : Page) (past : List Entry) → IsReady j p (ops.Load off ∷ []) past → enclave_of_stay (stay past p) ≡ Some page.enclave → off / 4096 ≡ page.number
     → IsRegAt past page
 next_page j p off page past ready inside same =
-    let first : page.enclave ≡ 1 = inside_first (stay past p) page.enclave ready.home inside in
+    let first : page.enclave ≡ home_of j p = inside_home (home_of j p) (stay past p) page.enclave ready.home inside in
     let is : is_reg_page (lines_at j.enclaves page.enclave) page.number ≡ true = rw (first, ← same) (playable_is j p (ops.Load off) past ready) in
     reg_at j past page.enclave page.number ready.job is
 
@@ -165,5 +165,5 @@ never_filled p page b calm none = record {
 pub prepares_never : (p off : ℕ) (b : BookView) → IsCalm b.past → (off / 4096 < 2 ^ 32 → ⊥) → Prepares p off b b
 prepares_never p off b calm high = record {
   rests = rests_same b calm;
-  prepared = λ j ready. absurd (high (let low = reg_below j b.past 1 (off / 4096) ready.job (playable_is j p (ops.Load off) b.past ready) in omega (arith, low)));
+  prepared = λ j ready. absurd (high (let low = reg_below j b.past (home_of j p) (off / 4096) ready.job (playable_is j p (ops.Load off) b.past ready) in omega (arith, low)));
 }

@@ -29,12 +29,12 @@ use Rattle.job_grammar.specs.declared.jobs.Op.{Op}
 use Rattle.job_grammar.specs.declared.jobs.Op.TheVariants as ops
 use Rattle.job_grammar.specs.declared.jobs.PageLine.{PageLine}
 use Rattle.job_grammar.specs.declared.jobs.PageLine.TheVariants as lines
-use Rattle.job_grammar.specs.Jobs.{JobView, lines_at}
+use Rattle.job_grammar.specs.Jobs.{JobView, is_tcs_page, lines_at}
 use Rattle.job_grammar.specs.Script.{ScriptRule, action_of, build_of, built, cpu_due, is_reply, is_reply_action, op_due, replied, script_of}
 use Rattle.paging_machine.specs.Steps.{did_by}
 use Rattle.sgxpage.specs.Books.{BookView, GoesOn, IsCalm, IsNext, IsPlaced}
 use Rattle.sgxpage.specs.Building.{IsPlacedLine}
-use Rattle.sgxpage.specs.Playing.{IsBuilt, IsHome, IsPlayable, IsReady, Plays, Prepares, Rests}
+use Rattle.sgxpage.specs.Playing.{IsBuilt, IsHome, IsPlayable, IsReady, Plays, Prepares, Rests, home_of}
 
 -- the instructions by which a processor plays its script
 abbrev pub IsOfScript : Action → Type 0
@@ -173,7 +173,7 @@ replied_own cpu action b b' reply n = rw (n.past, eq-eqb cpu.0 cpu.0 refl, reply
 
 -- an operation that its own entry replies to, where its processor did nothing before it but fill
 pub plays_after : (cpu : Cpu) (op : Op) (action : Action) (b m b' : BookView) → IsOfScript action → is_reply_action action ≡ true → Rests b m → IsNext (actors.Cpu cpu) action m b'
-    → ((j : JobView) → IsReady j cpu.0 (op ∷ []) b.past → (op_due j m.past cpu.0 (Some op) ≡ Some action) × (Along (ScriptRule j) b.past → Along (ScriptRule j) m.past) × IsHome b'.past cpu.0)
+    → ((j : JobView) → IsReady j cpu.0 (op ∷ []) b.past → (op_due j m.past cpu.0 (Some op) ≡ Some action) × (Along (ScriptRule j) b.past → Along (ScriptRule j) m.past) × IsHome j b'.past cpu.0)
     → Plays cpu.0 (op ∷ []) b b'
 plays_after cpu op action b m b' of reply rests n each =
     let goes = goes_on cpu action m b' of n in
@@ -194,29 +194,29 @@ plays_after cpu op action b m b' of reply rests n each =
           });
     }
 
-pub playable_is : (j : JobView) (p : ℕ) (op : Op) (past : List Entry) → IsReady j p (op ∷ []) past → IsPlayable j op
-playable_is j p op past ready = All-head (IsPlayable j) op [] ready.playable
+pub playable_is : (j : JobView) (p : ℕ) (op : Op) (past : List Entry) → IsReady j p (op ∷ []) past → IsPlayable j p op
+playable_is j p op past ready = All-head (IsPlayable j p) op [] ready.playable
 
--- ---- an entry into enclave A
+-- ---- an entry
 
-enter_home : (enclave tcs : ℕ) (tf sf : Frame) (event : Event) (past : List Entry) (before : Option Stay) → action_of event ≡ Some (Enter enclave tcs tf sf) → enclave ≡ 1
-    → IfSome before (λ s. s.seat.enclave ≡ 1) → IfSome (stay_after (move_by event) true past before) (λ s. s.seat.enclave ≡ 1)
-enter_home enclave tcs tf sf (events.Did act ans) past before is one h = rw (some_same act (Enter enclave tcs tf sf) is) one
-enter_home enclave tcs tf sf (events.Refused act why) past before is one h = h
-enter_home enclave tcs tf sf _ past before is one h = cc
+enter_home : (home enclave tcs : ℕ) (tf sf : Frame) (event : Event) (past : List Entry) (before : Option Stay) → action_of event ≡ Some (Enter enclave tcs tf sf) → enclave ≡ home
+    → IfSome before (λ s. s.seat.enclave ≡ home) → IfSome (stay_after (move_by event) true past before) (λ s. s.seat.enclave ≡ home)
+enter_home home enclave tcs tf sf (events.Did act ans) past before is one h = rw (some_same act (Enter enclave tcs tf sf) is) one
+enter_home home enclave tcs tf sf (events.Refused act why) past before is one h = h
+enter_home home enclave tcs tf sf _ past before is one h = cc
 
 pub plays_enter : (cpu : Cpu) (enclave tcs : ℕ) (tf sf : Frame) (b b' : BookView) → IsCalm b.past
-    → ((j : JobView) → IsBuilt j b.past → IsPlayable j (ops.Enter enclave tcs) → op_due j b.past cpu.0 (Some (ops.Enter enclave tcs)) ≡ Some (Enter enclave tcs tf sf))
+    → ((j : JobView) → IsBuilt j b.past → is_tcs_page (lines_at j.enclaves enclave) tcs ≡ true → op_due j b.past cpu.0 (Some (ops.Enter enclave tcs)) ≡ Some (Enter enclave tcs tf sf))
     → IsNext (actors.Cpu cpu) (Enter enclave tcs tf sf) b b' → Plays cpu.0 (ops.Enter enclave tcs ∷ []) b b'
 plays_enter cpu enclave tcs tf sf b b' calm due_by n = plays_after cpu (ops.Enter enclave tcs) (Enter enclave tcs tf sf) b b b' tt refl (rests_same b calm) n each
   where
     each : (j : JobView) → IsReady j cpu.0 (ops.Enter enclave tcs ∷ []) b.past
-        → (op_due j b.past cpu.0 (Some (ops.Enter enclave tcs)) ≡ Some (Enter enclave tcs tf sf)) × (Along (ScriptRule j) b.past → Along (ScriptRule j) b.past) × IsHome b'.past cpu.0
+        → (op_due j b.past cpu.0 (Some (ops.Enter enclave tcs)) ≡ Some (Enter enclave tcs tf sf)) × (Along (ScriptRule j) b.past → Along (ScriptRule j) b.past) × IsHome j b'.past cpu.0
     each j ready =
         let playable = playable_is j cpu.0 (ops.Enter enclave tcs) b.past ready in (
-          due_by j ready.job playable,
+          due_by j ready.job playable.1,
           λ along. along,
-          rw (n.past, eq-eqb cpu.0 cpu.0 refl) (enter_home enclave tcs tf sf n.event b.past (stay b.past cpu.0) n.is_action playable.0 ready.home),
+          rw (n.past, eq-eqb cpu.0 cpu.0 refl) (enter_home (home_of j cpu.0) enclave tcs tf sf n.event b.past (stay b.past cpu.0) n.is_action playable.0 ready.home),
         )
 
 -- ---- an exit

@@ -12,11 +12,11 @@ use Rattle.sgx_types.specs.Rules.{Along}
 use Rattle.job_grammar.specs.declared.jobs.PageLine.{PageLine}
 use Rattle.job_grammar.specs.declared.jobs.Op.{Op}
 use Rattle.job_grammar.specs.declared.jobs.Op.TheVariants as ops
-use Rattle.job_grammar.specs.Jobs.{EnclaveView, JobView, is_tcs_page, lines_at}
+use Rattle.job_grammar.specs.Jobs.{EnclaveView, JobView, lines_at}
 use Rattle.job_grammar.specs.Script.{ScriptRule, replied, script_of}
-use Rattle.job_grammar.specs.Valid.{AreFirstEnclaves, AreLoads, IsFirstForm, IsFirstScript, IsValid, IsValidOp}
+use Rattle.job_grammar.specs.Valid.{AreFirstScripts, AreLoads, IsFirstForm, IsFirstScript, IsValid, IsValidOp}
 use Rattle.sgxpage.specs.Books.{BookView, IsCalm}
-use Rattle.sgxpage.specs.Playing.{HasPlayed, IsBuilt, IsPlayable, IsReady, LeavesLast, Plays}
+use Rattle.sgxpage.specs.Playing.{HasPlayed, IsBuilt, IsPlayable, IsReady, LeavesLast, Plays, entered_by, home_of}
 use Rattle.sgxpage.proofs.PlayLaws.{goes_then}
 
 -- ---- lists
@@ -45,7 +45,7 @@ ready_first j p xs ys past h = record {
   job = h.job;
   home = h.home;
   next = λ i op is. h.next i op (get_left xs ys i op is);
-  playable = all_left (IsPlayable j) xs ys h.playable;
+  playable = all_left (IsPlayable j p) xs ys h.playable;
 }
 
 ready_then : (j : JobView) (p : ℕ) (xs ys : List Op) (b m : BookView) → IsReady j p (xs ++ ys) b.past → HasPlayed j p xs b m → IsReady j p ys m.past
@@ -56,7 +56,7 @@ ready_then j p xs ys b m h played = record {
       (let ahead : slice_get (script_of j p) (replied b.past p + (length xs + i)) ≡ Some op = h.next (length xs + i) op (get_right xs ys i ∙ is) in
       let place : replied m.past p + i ≡ replied b.past p + (length xs + i) = omega (arith, played.replied) in
       rw place ahead);
-  playable = all_right (IsPlayable j) xs ys h.playable;
+  playable = all_right (IsPlayable j p) xs ys h.playable;
 }
 
 pub plays_append : (p : ℕ) (xs ys : List Op) (b m b' : BookView) → Plays p xs b m → Plays p ys m b' → Plays p (xs ++ ys) b b'
@@ -96,20 +96,18 @@ leaves_more p script i d b m b' within h plays leaves =
       leaves = λ last. leaves (let same : Some op ≡ Some ops.Exit = sym (last_is (take i script) op) ∙ last in cc);
     })
 
--- ---- the scripts of a job of the first form
+-- ---- the scripts of a job of the form of today
 
-first_script : (es : List EnclaveView) (scripts : List (List Op)) (i : ℕ) → AreFirstEnclaves es scripts → i < length scripts → IsFirstScript (lines_at es 1) (unwrap_or (slice_get scripts i) [])
-first_script [] scripts i h within = absurd h
-first_script (e ∷ []) [] i h within = absurd h.1
-first_script (e ∷ []) (script ∷ []) zero h within = h.1
-first_script (e ∷ []) (script ∷ []) (suc i) h within = absurd (omega arith)
-first_script (e ∷ []) (script ∷ next ∷ scripts) i h within = absurd h.1
-first_script (e ∷ next ∷ es) scripts i h within = absurd h
+first_script : (es : List EnclaveView) (scripts : List (List Op)) (i : ℕ) → AreFirstScripts es scripts → i < length scripts → IsFirstScript es (unwrap_or (slice_get scripts i) [])
+first_script es [] i h within = absurd h
+first_script es (script ∷ []) zero h within = h
+first_script es (script ∷ []) (suc i) h within = absurd (omega arith)
+first_script es (script ∷ next ∷ scripts) i h within = absurd h
 
-loads_playable : (j : JobView) (ops : List Op) → AreLoads (lines_at j.enclaves 1) ops → All (IsPlayable j) ops
-loads_playable j (ops.Exit ∷ []) h = All-cons (IsPlayable j) ops.Exit [] tt (All-nil (IsPlayable j))
-loads_playable j (ops.Load off ∷ rest) h = All-cons (IsPlayable j) (ops.Load off) rest h.0 (loads_playable j rest h.1)
-loads_playable j _ h = absurd h
+loads_playable : (j : JobView) (p : ℕ) (ops : List Op) → AreLoads (lines_at j.enclaves (home_of j p)) ops → All (IsPlayable j p) ops
+loads_playable j p (ops.Exit ∷ []) h = All-cons (IsPlayable j p) ops.Exit [] tt (All-nil (IsPlayable j p))
+loads_playable j p (ops.Load off ∷ rest) h = All-cons (IsPlayable j p) (ops.Load off) rest h.0 (loads_playable j p rest h.1)
+loads_playable j p _ h = absurd h
 
 last_cons : (x : Op) (xs : List Op) → LeavesLast xs → LeavesLast (x ∷ xs)
 last_cons x [] h = cc
@@ -120,15 +118,15 @@ loads_leave lines (ops.Exit ∷ []) h = refl
 loads_leave lines (ops.Load off ∷ rest) h = last_cons (ops.Load off) rest (loads_leave lines rest h.1)
 loads_leave lines _ h = absurd h
 
-first_playable : (j : JobView) (script : List Op) → IsFirstScript (lines_at j.enclaves 1) script → All (IsValidOp j) script → All (IsPlayable j) script × LeavesLast script
-first_playable j (ops.Enter enclave tcs ∷ rest) h valid =
-    let tcs_is : is_tcs_page (lines_at j.enclaves 1) tcs ≡ true = rw h.0 at (All-head (IsValidOp j) (ops.Enter enclave tcs) rest valid) in
-    (All-cons (IsPlayable j) (ops.Enter enclave tcs) rest (h.0, tcs_is) (loads_playable j rest h.1), last_cons (ops.Enter enclave tcs) rest (loads_leave (lines_at j.enclaves 1) rest h.1))
-first_playable j _ h valid = absurd h
+first_playable : (j : JobView) (p : ℕ) (script : List Op) → home_of j p ≡ entered_by script → IsFirstScript j.enclaves script → All (IsValidOp j) script → All (IsPlayable j p) script × LeavesLast script
+first_playable j p (ops.Enter enclave tcs ∷ rest) home h valid =
+    (All-cons (IsPlayable j p) (ops.Enter enclave tcs) rest (sym home, All-head (IsValidOp j) (ops.Enter enclave tcs) rest valid) (loads_playable j p rest (rw home h)),
+    last_cons (ops.Enter enclave tcs) rest (loads_leave (lines_at j.enclaves enclave) rest h))
+first_playable j p _ home h valid = absurd h
 
-script_playable : (j : JobView) (i : ℕ) → IsValid j → IsFirstForm j → i < length j.scripts → All (IsPlayable j) (script_of j i) × LeavesLast (script_of j i)
+script_playable : (j : JobView) (i : ℕ) → IsValid j → IsFirstForm j → i < length j.scripts → All (IsPlayable j i) (script_of j i) × LeavesLast (script_of j i)
 script_playable j i valid form within =
-    first_playable j (script_of j i) (first_script j.enclaves j.scripts i form.enclaves within) (rw (unwrap_or-slice_get j.scripts i []) (valid.ops i [] within))
+    first_playable j i (script_of j i) refl (first_script j.enclaves j.scripts i form.scripts within) (rw (unwrap_or-slice_get j.scripts i []) (valid.ops i [] within))
 
 -- ---- processors one after the other
 
@@ -162,7 +160,7 @@ one_played j i script b m b' form within is h plays leaves = record {
   script = λ along. played.script (h.script along);
 }
   where
-    facts : All (IsPlayable j) (script_of j i) × LeavesLast (script_of j i)
+    facts : All (IsPlayable j i) (script_of j i) × LeavesLast (script_of j i)
     facts = script_playable j i h.job.valid form within
 
     ready : IsReady j i script m.past

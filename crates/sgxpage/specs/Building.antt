@@ -1,11 +1,14 @@
 -- What the builder does to a book, and when it can.
-use Rattle.std.specs.Prelude.{ℕ, zero, suc, ◌≡◌, ◌==◌, ◌&&◌, ◌+◌, ◌<◌, ◌≤◌, Bool, true, false, if◌then◌else◌, List, Some, None, length, slice_get, sum_by}
+use Rattle.std.specs.Prelude.{ℕ, zero, suc, ◌≡◌, ◌==◌, ◌&&◌, ◌+◌, ◌<◌, ◌≤◌, Bool, true, false, if◌then◌else◌, List, [], ◌∷◌, Some, None, length, map, slice_get, sum_by}
 use Rattle.std.specs.List.{All}
 use Rattle.sgx_types.specs.declared.entries.Entry.{Entry}
 use Rattle.sgx_types.specs.declared.entries.Actor.TheVariants as actors
+use Rattle.sgx_types.specs.declared.entries.PageInit.{PageInit}
 use Rattle.sgx_types.specs.declared.entries.PageInit.TheVariants as inits
 use Rattle.sgx_types.specs.declared.names.Page.{Page}
+use Rattle.sgx_types.specs.declared.names.Kind.{Kind}
 use Rattle.sgx_types.specs.declared.names.Kind.TheVariants as kinds
+use Rattle.sgx_types.specs.declared.names.Perm.{Perm}
 use Rattle.sgx_types.specs.Frames.{Content, content, is_free, page_at}
 use Rattle.sgx_types.specs.Processors.{stay}
 use Rattle.sgx_types.specs.Flat.{flat, accepts}
@@ -13,7 +16,7 @@ use Rattle.sgx_types.specs.Rules.{Along}
 use Rattle.job_grammar.specs.declared.jobs.PageLine.{PageLine}
 use Rattle.job_grammar.specs.declared.jobs.PageLine.TheVariants as lines
 use Rattle.job_grammar.specs.Jobs.{JobView, covers}
-use Rattle.job_grammar.specs.Script.{BuildStep, Finish, ScriptRule, build_of, built, no_perm, replied, step_action}
+use Rattle.job_grammar.specs.Script.{BuildStep, AddPage, ExtendPage, Finish, ScriptRule, build_of, built, no_perm, numbers_from, replied, step_action}
 use Rattle.sgxpage.specs.Books.{BookView, GoesOn, IsPlaced}
 
 -- ---- frames
@@ -27,6 +30,7 @@ abbrev pub free_frames : BookView → ℕ
 free_frames b = count_free (content b.past) b.frames
 
 abbrev pub frame_count : BuildStep → ℕ
+frame_count (ExtendPage enclave number chunk) = 0
 frame_count (Finish enclave expect) = 0
 frame_count _ = 1
 
@@ -59,6 +63,18 @@ pub record Grows (steps : List BuildStep) (b b' : BookView) : Type 0 where
 pub record IsUnmade (past : List Entry) (enclave : ℕ) : Type 0 where
   pub created : (flat past).enclaves enclave ≡ None
   pub added : (n : ℕ) → (flat past).pages (page_at enclave n) ≡ None
+
+-- the adds among a line's steps
+abbrev pub line_adds : ℕ → PageLine → List BuildStep
+line_adds enclave (lines.Tcs page ossa nssa plain) = AddPage enclave page kinds.Tcs no_perm (inits.Tcs ossa nssa) ∷ []
+line_adds enclave (lines.Reg first count perm value plain) = map (λ n. AddPage enclave n kinds.Reg perm (inits.Words value)) (numbers_from first count)
+
+-- a page is in a frame
+pub record IsHere (past : List Entry) (g : Page) : Type 0 where
+  pub kind : Kind
+  pub perm : Perm
+  pub init : PageInit
+  pub placed : IsPlaced past g kind perm init
 
 -- the pages of a line are in frames
 abbrev pub IsPlacedLine : List Entry → ℕ → PageLine → Type 0

@@ -19,16 +19,24 @@ use Rattle.sgxpage.specs.Building.{IsPlacedLine}
 abbrev pub AreAhead : JobView → List Entry → ℕ → List Op → Type 0
 AreAhead j past p ops = (i : ℕ) (op : Op) → slice_get ops i ≡ Some op → slice_get (script_of j p) (replied past p + i) ≡ Some op
 
--- the operations of today: an entry into enclave A by a TCS page of it, a load from a REG page of it, an exit
-abbrev pub IsPlayable : JobView → Op → Type 0
-IsPlayable j (ops.Enter enclave tcs) = (enclave ≡ 1) × (is_tcs_page (lines_at j.enclaves 1) tcs ≡ true)
-IsPlayable j (ops.Load off) = is_reg_page (lines_at j.enclaves 1) (off / 4096) ≡ true
-IsPlayable j ops.Exit = Unit {0}
-IsPlayable j _ = ⊥
+-- the enclave that a script enters
+abbrev pub entered_by : List Op → ℕ
+entered_by (ops.Enter enclave tcs ∷ rest) = enclave
+entered_by _ = 0
 
--- a processor is inside no other enclave than A
-abbrev pub IsHome : List Entry → ℕ → Type 0
-IsHome past p = IfSome (stay past p) (λ s. s.seat.enclave ≡ 1)
+abbrev pub home_of : JobView → ℕ → ℕ
+home_of j p = entered_by (script_of j p)
+
+-- the operations of today: an entry into that enclave by a TCS page of it, a load from a REG page of it, an exit
+abbrev pub IsPlayable : JobView → ℕ → Op → Type 0
+IsPlayable j p (ops.Enter enclave tcs) = (enclave ≡ home_of j p) × (is_tcs_page (lines_at j.enclaves enclave) tcs ≡ true)
+IsPlayable j p (ops.Load off) = is_reg_page (lines_at j.enclaves (home_of j p)) (off / 4096) ≡ true
+IsPlayable j p ops.Exit = Unit {0}
+IsPlayable j p _ = ⊥
+
+-- a processor is inside no other enclave
+abbrev pub IsHome : JobView → List Entry → ℕ → Type 0
+IsHome j past p = IfSome (stay past p) (λ s. s.seat.enclave ≡ home_of j p)
 
 -- a valid job was built: each page is in its frame
 pub record IsBuilt (j : JobView) (past : List Entry) : Type 0 where
@@ -39,14 +47,14 @@ pub record IsBuilt (j : JobView) (past : List Entry) : Type 0 where
 -- where a job was built and these operations are next, a processor can play them
 pub record IsReady (j : JobView) (p : ℕ) (ops : List Op) (past : List Entry) : Type 0 where
   pub job : IsBuilt j past
-  pub home : IsHome past p
+  pub home : IsHome j past p
   pub next : AreAhead j past p ops
-  pub playable : All (IsPlayable j) ops
+  pub playable : All (IsPlayable j p) ops
 
 -- a processor played operations, each by the script
 pub record HasPlayed (j : JobView) (p : ℕ) (ops : List Op) (b b' : BookView) : Type 0 where
   pub job : IsBuilt j b'.past
-  pub home : IsHome b'.past p
+  pub home : IsHome j b'.past p
   pub replied : replied b'.past p ≡ replied b.past p + length ops
   pub script : Along (ScriptRule j) b.past → Along (ScriptRule j) b'.past
 

@@ -4,10 +4,10 @@ ghost use Rattle.sgx_types.specs.declared.names.Page.{Page};
 ghost use Rattle.sgx_types.specs.Flat.{flat, first_words, with_enclave, with_page};
 ghost use Rattle.sgx_types.specs.Table.{is_enclave};
 ghost use Rattle.job_grammar.specs.Jobs.{enclave_view, lines_at, va_pages, page_count, first_page};
-ghost use Rattle.job_grammar.specs.Script.{BuildStep, MakeVa, MakeSecs, AddPage, Finish, build_of, enclave_steps, enclaves_steps, line_steps};
+ghost use Rattle.job_grammar.specs.Script.{MakeVa, MakeSecs, AddPage, ExtendPage, Finish, build_of, chunk_steps, enclave_steps, enclaves_steps, line_steps, page_steps};
 ghost use Rattle.job_grammar.specs.Valid.{IsFirstForm, IsValidEnclave};
 ghost use Rattle.sgxpage.specs.Books.{IsCalm, IsPlaced};
-ghost use Rattle.sgxpage.specs.Building.{AddsOnly, AreTaken, Grows, IsPlacedLine, IsUnmade, MakesOnly, frames_taken, free_frames};
+ghost use Rattle.sgxpage.specs.Building.{AddsOnly, AreTaken, Grows, IsHere, IsPlacedLine, IsUnmade, MakesOnly, frames_taken, free_frames, line_adds};
 
 use crate::book::Book;
 use job_grammar::jobs::{EnclaveJob, Job, PageLine};
@@ -109,7 +109,7 @@ fn add_line(alloc: Global, book: &mut Book, enclave: u16, line: &PageLine) -> Re
     requires calm { IsCalm book.old.past }
     requires small { first_page line.now + page_count line.now ≤ 4096 }
     requires room { page_count line.now ≤ free_frames book.old }
-    requires taken { AreTaken book.old.past (line_steps enclave line.now) }
+    requires taken { AreTaken book.old.past (line_adds enclave line.now) }
     ensures grows { OnOk result (Grows (line_steps enclave line.now) book.old book.new) }
     ensures placed { OnOk result (IsPlacedLine book.new.past enclave line.now) }
     ensures only { OnOk result (AddsOnly enclave line.now book.old book.new) }
@@ -119,38 +119,28 @@ fn add_line(alloc: Global, book: &mut Book, enclave: u16, line: &PageLine) -> Re
             page,
             ossa,
             nssa,
-            ..
+            plain,
         } => {
             let page = Page {
                 enclave,
                 number: page,
             };
-            add(
-                alloc,
-                book,
-                page,
-                Kind::Tcs,
-                NO_PERM,
-                PageInit::Tcs { ossa, nssa },
-            )
+            let init = PageInit::Tcs { ossa, nssa };
+            add_page(alloc, book, page, Kind::Tcs, NO_PERM, init, plain)
         }
         PageLine::Reg {
             first,
             count,
             perm,
             value,
-            ..
-        } => add_pages(
-            alloc,
-            book,
-            Page {
+            plain,
+        } => {
+            let from = Page {
                 enclave,
                 number: first,
-            },
-            count,
-            perm,
-            value,
-        ),
+            };
+            add_pages(alloc, book, from, count, perm, value, plain)
+        }
     }
 }
 
@@ -162,23 +152,56 @@ fn add_pages(
     count: u32,
     perm: Perm,
     value: u64,
+    plain: bool,
 ) -> Result<(), Memory>
     requires calm { IsCalm book.old.past }
     requires small { from.number + count ≤ 4096 }
     requires room { count ≤ free_frames book.old }
-    requires taken { AreTaken book.old.past (line_steps from.enclave (PageLine.Reg from.number count perm value true)) }
-    ensures grows { OnOk result (Grows (line_steps from.enclave (PageLine.Reg from.number count perm value true)) book.old book.new) }
-    ensures placed { OnOk result (IsPlacedLine book.new.past from.enclave (PageLine.Reg from.number count perm value true)) }
-    ensures only { OnOk result (AddsOnly from.enclave (PageLine.Reg from.number count perm value true) book.old book.new) }
+    requires taken { AreTaken book.old.past (line_adds from.enclave (PageLine.Reg from.number count perm value plain)) }
+    ensures grows { OnOk result (Grows (line_steps from.enclave (PageLine.Reg from.number count perm value plain)) book.old book.new) }
+    ensures placed { OnOk result (IsPlacedLine book.new.past from.enclave (PageLine.Reg from.number count perm value plain)) }
+    ensures only { OnOk result (AddsOnly from.enclave (PageLine.Reg from.number count perm value plain) book.old book.new) }
 {
     for index in 0..count {
         let page = Page {
             enclave: from.enclave,
             number: from.number + index,
         };
-        add(alloc, book, page, Kind::Reg, perm, PageInit::Words(value))?;
+        add_page(
+            alloc,
+            book,
+            page,
+            Kind::Reg,
+            perm,
+            PageInit::Words(value),
+            plain,
+        )?;
     }
     Ok(())
+}
+
+// A page, and the measurement of its bytes unless it is plain.
+fn add_page(
+    alloc: Global,
+    book: &mut Book,
+    page: Page,
+    kind: Kind,
+    perm: Perm,
+    init: PageInit,
+    plain: bool,
+) -> Result<(), Memory>
+    requires calm { IsCalm book.old.past }
+    requires room { 1 ≤ free_frames book.old }
+    requires taken { AreTaken book.old.past (AddPage page.enclave page.number kind perm init ∷ []) }
+    ensures grows { OnOk result (Grows (page_steps page.enclave page.number kind perm init plain) book.old book.new) }
+    ensures placed { OnOk result (IsPlaced book.new.past page kind perm init) }
+    ensures flat { OnOk result (flat book.new.past ≡ with_page (flat book.old.past) page (record { kind = kind; perm = perm; words = first_words init })) }
+{
+    add(alloc, book, page, kind, perm, init)?;
+    if plain {
+        return Ok(());
+    }
+    extend(alloc, book, page)
 }
 
 fn add(
@@ -206,6 +229,29 @@ fn add(
         init,
     };
     book.apply(alloc, Actor::Builder, action)
+}
+
+// The 16 chunks of a page's bytes.
+fn extend(alloc: Global, book: &mut Book, page: Page) -> Result<(), Memory>
+    requires calm { IsCalm book.old.past }
+    requires here { IsHere book.old.past page }
+    ensures grows { OnOk result (Grows (chunk_steps page.enclave page.number false) book.old book.new) }
+    ensures flat { OnOk result (flat book.new.past ≡ flat book.old.past) }
+{
+    for chunk in 0..16 {
+        extend_chunk(alloc, book, page, chunk)?;
+    }
+    Ok(())
+}
+
+fn extend_chunk(alloc: Global, book: &mut Book, page: Page, chunk: u8) -> Result<(), Memory>
+    requires calm { IsCalm book.old.past }
+    requires here { IsHere book.old.past page }
+    ensures grows { OnOk result (Grows (ExtendPage page.enclave page.number chunk ∷ []) book.old book.new) }
+    ensures flat { OnOk result (flat book.new.past ≡ flat book.old.past) }
+{
+    let frame = book.frame_of(page).unwrap();
+    book.apply(alloc, Actor::Builder, Action::Extend { frame, chunk })
 }
 
 fn finish(

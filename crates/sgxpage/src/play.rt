@@ -1,12 +1,12 @@
-ghost use Rattle.std.specs.Prelude.{ℕ, ◌≡◌, ◌<◌, ◌≤◌, [], ◌∷◌, length, None, Some, OnOk, unwrap_or};
+ghost use Rattle.std.specs.Prelude.{ℕ, ◌≡◌, ◌<◌, ◌≤◌, [], ◌∷◌, length, None, Some, true, OnOk, unwrap_or};
 ghost use Rattle.sgx_types.specs.Frames.{frame_of, page_at};
 ghost use Rattle.sgx_types.specs.Processors.{stay};
 ghost use Rattle.sgx_types.specs.Rules.{Along};
-ghost use Rattle.job_grammar.specs.Jobs.{JobView, lines_at, tcs_line};
+ghost use Rattle.job_grammar.specs.Jobs.{JobView, is_tcs_page, lines_at, tcs_line};
 ghost use Rattle.job_grammar.specs.Script.{IsEnded, ScriptRule, enter_by, op_due};
 ghost use Rattle.job_grammar.specs.Valid.{IsFirstForm};
 ghost use Rattle.sgxpage.specs.Books.{IsCalm};
-ghost use Rattle.sgxpage.specs.Playing.{Fills, IsBuilt, IsPlayable, IsQuiet, LeavesLast, Plays, Prepares};
+ghost use Rattle.sgxpage.specs.Playing.{Fills, IsBuilt, IsQuiet, LeavesLast, Plays, Prepares};
 
 use crate::book::Book;
 use cached_translations::processor::Mode;
@@ -80,7 +80,7 @@ fn enter(alloc: Global, book: &mut Book, cpu: Cpu, enclave: u16, tcs: u32) -> Re
 fn frames_to_enter(book: &Book, cpu: Cpu, enclave: u16, tcs: u32) -> (Frame, Frame)
     requires cpu { cpu.0 < book.now.cpus }
     requires calm { IsCalm book.now.past }
-    ensures due { (j : JobView) → IsBuilt j book.now.past → IsPlayable j (Op.Enter enclave tcs)
+    ensures due { (j : JobView) → IsBuilt j book.now.past → is_tcs_page (lines_at j.enclaves enclave) tcs ≡ true
         → op_due j book.now.past cpu.0 (Some (Op.Enter enclave tcs)) ≡ Some (Action.Enter enclave tcs result.0 result.1) }
 {
     if book.mode(cpu) != Mode::Outside || !book.is_init(enclave) {
@@ -99,7 +99,7 @@ fn frames_to_enter(book: &Book, cpu: Cpu, enclave: u16, tcs: u32) -> (Frame, Fra
 // The frame of the next state save page of a TCS page, None where all are in use.
 fn next_ssa(book: &Book, enclave: u16, tcs_frame: Frame) -> Option<Frame>
     requires { IsCalm book.now.past }
-    ensures { (j : JobView) (tcs : ℕ) → IsBuilt j book.now.past → IsPlayable j (Op.Enter enclave tcs) → frame_of book.now.past (page_at enclave tcs) ≡ Some tcs_frame.0
+    ensures { (j : JobView) (tcs : ℕ) → IsBuilt j book.now.past → is_tcs_page (lines_at j.enclaves enclave) tcs ≡ true → frame_of book.now.past (page_at enclave tcs) ≡ Some tcs_frame.0
         → enter_by book.now.past enclave tcs (tcs_line (lines_at j.enclaves enclave) tcs) ≡ Some (Action.Enter enclave tcs tcs_frame (unwrap_or result tcs_frame)) }
 {
     let fields = book.tcs(tcs_frame)?;
