@@ -13,6 +13,8 @@ mod run;
 #[cfg(test)]
 mod tests;
 mod trace;
+#[cfg(test)]
+mod two_enclaves;
 mod words;
 #[cfg(test)]
 mod worked;

@@ -2,6 +2,7 @@ ghost use Rattle.std.specs.Prelude.{◌≤◌};
 
 use crate::command::{Status, sgxpage};
 use crate::print_usage;
+use crate::two_enclaves;
 use io_edges::mem_sink::MemSink;
 use io_edges::mem_source::MemSource;
 use sgx_types::names::Memory;
@@ -65,6 +66,19 @@ fn a_job_gives_its_trace_and_its_output(rt: HostRuntime) -> Result<(), Fail> {
         ends(&rt, JOB, piece, [&[], &[], &[]], Status::Done, OUT, TRACE)?;
     }
     Ok(())
+}
+
+#[test]
+fn enclaves_are_measured_apart(rt: HostRuntime) -> Result<(), Fail> {
+    ends(
+        &rt,
+        two_enclaves::JOB,
+        100,
+        [&[], &[], &[]],
+        Status::Done,
+        two_enclaves::OUT,
+        two_enclaves::TRACE,
+    )
 }
 
 #[test]
