@@ -138,7 +138,7 @@ state_enclaves d e x low = λ i. record (state_of d) { enclaves = λ n. each n i
         (elim (n == e) as (λ b. enclave_of (cond b (Some x) (get_or d.enclaves n None)) ≡ cond b (enclave_of (Some x)) (enclave_of (get_or d.enclaves n None))) [ true ↦ refl | false ↦ refl ])
 
 -- the running measurements
-measure_set : (measures : List (Option Measure)) (e n : ℕ) (m : Measure) → e < length measures → get_or (set measures e (Some m)) n None ≡ cond (n == e) (Some m) (get_or measures n None)
+pub measure_set : (measures : List (Option Measure)) (e n : ℕ) (m : Measure) → e < length measures → get_or (set measures e (Some m)) n None ≡ cond (n == e) (Some m) (get_or measures n None)
 measure_set measures e n m low = rw (eqb-swap n e) (get_or-set_if measures e n (Some m) None low)
 
 -- a measurement that was read from its place

@@ -1,3 +1,4 @@
+mod Chunks
 pub mod Tools
 pub mod MeasureLaws
 pub mod Carry
@@ -6,5 +7,6 @@ pub mod ProcessorLaws
 pub mod Refused
 pub mod Bridge
 pub mod Reading
+pub mod ExtendLaws
 pub mod StepLaws
 pub mod Fresh

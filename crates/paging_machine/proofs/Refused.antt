@@ -1,10 +1,10 @@
 -- A refused instruction changes nothing, and is refused by the first case that holds by the entries too.
-use Rattle.std.proofs.Common.{◌≡◌, ℕ, Bool, true, false, refl, sym, ap, ◌∙◌, ◌⊎◌, inl, inr, Option, List, ◌∷◌, is_some}
+use Rattle.std.proofs.Common.{◌≡◌, ℕ, Bool, true, false, refl, sym, ap, ◌∙◌, ◌⊎◌, inl, inr, Option, Some, None, List, ◌∷◌, is_some}
 use Rattle.sgx_types.specs.declared.entries.Entry.{Entry}
 use Rattle.sgx_types.specs.declared.entries.Actor.{Actor}
 use Rattle.sgx_types.specs.declared.entries.Actor.TheVariants as actors
 use Rattle.sgx_types.specs.declared.entries.Action.{Action}
-use Rattle.sgx_types.specs.declared.entries.Action.TheVariants.{Epa, Create, Add, Init, Enter, Exit, Fill, Load}
+use Rattle.sgx_types.specs.declared.entries.Action.TheVariants.{Epa, Create, Add, Extend, Init, Enter, Exit, Fill, Load}
 use Rattle.sgx_types.specs.declared.entries.PageInit.{PageInit}
 use Rattle.sgx_types.specs.declared.entries.Event.TheVariants.{Refused}
 use Rattle.sgx_types.specs.declared.refusals.Refusal.{Refusal}
@@ -14,14 +14,15 @@ use Rattle.sgx_types.specs.declared.names.Page.{Page}
 use Rattle.sgx_types.specs.declared.names.Kind.{Kind}
 use Rattle.sgx_types.specs.declared.names.Kind.TheVariants as kinds
 use Rattle.sgx_types.specs.declared.names.Perm.{Perm}
-use Rattle.sgx_types.specs.Frames.{content, is_blocked, is_sealing, is_page, page_at}
+use Rattle.sgx_types.specs.Frames.{content, enclave_in, is_blocked, is_sealing, is_page, page_at}
 use Rattle.sgx_types.specs.Processors.{stay, translations}
-use Rattle.sgx_types.specs.Table.{FrameSight, EnterSight, TcsSight, is_tcs, epa_row, create_row, add_row, init_row, enter_row, exit_row, fill_row, load_row, first_of_row}
+use Rattle.sgx_types.specs.Table.{FrameSight, EnterSight, TcsSight, is_tcs, is_ready, epa_row, create_row, add_row, extend_row, init_row, enter_row, exit_row, fill_row, load_row, first_of_row}
 use Rattle.sgx_types.specs.Flat.{FlatEnclave, flat, enclave_sight_of, tcs_fields, words_of, page_words}
 use Rattle.sgx_types.specs.Sights.{row_at}
+use Rattle.sgx_types.specs.Sights as sights
 use Rattle.sgx_types.specs.Rules.{NoPageTwice, case_of}
 use Rattle.measure_log.specs.Rule.{log, MeasureRule}
-use Rattle.paging_machine.specs.State.{State, seat_of, seat_enclave, row_of}
+use Rattle.paging_machine.specs.State.{State, seat_of, seat_enclave, is_closed, row_of}
 use Rattle.paging_machine.specs.Stands.{Stands, IsSound, Upholds, seat_of_stay}
 use Rattle.paging_machine.proofs.Tools.{tested}
 use Rattle.paging_machine.proofs.Carry.{IsHeld, upholds_more, held_before, once_before}
@@ -59,6 +60,18 @@ pub add_agrees : (s : State) (past : List Entry) (a : Actor) (enclave number : �
 add_agrees s past a enclave number f kind perm init stands =
     add_row_same number kind perm init _ _ _ _ _ _ (stands.enclaves enclave)
     (ap is_some (stands.added (page_at enclave number)) ∙ is_some-added_as ((flat past).pages (page_at enclave number))) (sight_agrees s past stands f.0)
+
+closed_agrees : (s : State) (past : List Entry) → Stands s past → (o : Option ℕ) → is_closed s o ≡ sights.is_closed (flat past) o
+closed_agrees s past stands None = refl
+closed_agrees s past stands (Some enclave) = ap (λ x. is_ready (enclave_sight_of x)) (stands.enclaves enclave)
+
+extend_row_same : (chunk : ℕ) (b b' : Bool) (v v' : FrameSight) → b ≡ b' → v ≡ v' → first_of_row (extend_row chunk b v) ≡ first_of_row (extend_row chunk b' v')
+extend_row_same chunk b b' v v' e e' = rw (e, e') refl
+
+pub extend_agrees : (s : State) (past : List Entry) (a : Actor) (f : Frame) (chunk : ℕ) → Stands s past
+    → first_of_row (row_of s a (Extend f chunk)) ≡ first_of_row (row_at s.frames past a (Extend f chunk))
+extend_agrees s past a f chunk stands =
+    extend_row_same chunk _ _ _ _ (closed_agrees s past stands (enclave_in (s.content f.0)) ∙ ap (λ c. sights.is_closed (flat past) (enclave_in c)) (stands.content f.0)) (sight_agrees s past stands f.0)
 
 pub init_agrees : (s : State) (past : List Entry) (a : Actor) (enclave : ℕ) (expect : Option (List ℕ)) → Stands s past
     → first_of_row (row_of s a (Init enclave expect)) ≡ first_of_row (row_at s.frames past a (Init enclave expect))
@@ -151,6 +164,12 @@ pub add_refused : (s : State) (past : List Entry) (a : Actor) (enclave number : 
 add_refused s past a enclave number f kind perm init refusal refused sound h =
     refused_upheld s past a (Add enclave number f kind perm init) refusal (stands_same s past _ (λ n. refl) (λ n. refl) (λ n. refl) (λ q. refl) (λ q. refl) (λ n. refl) refl h.stands) (once_before s.frames past h.rules)
     (held_before s.frames past h.rules) (sym (add_agrees s past a enclave number f kind perm init h.stands) ∙ refused) tt sound h
+
+pub extend_refused : (s : State) (past : List Entry) (a : Actor) (f : Frame) (chunk : ℕ) (refusal : Refusal) → first_of_row (row_of s a (Extend f chunk)) ≡ case_of (Extend f chunk) refusal → IsSound s
+    → Upholds s past → Upholds s (refused_by a (Extend f chunk) refusal ∷ past)
+extend_refused s past a f chunk refusal refused sound h =
+    refused_upheld s past a (Extend f chunk) refusal (stands_same s past _ (λ n. refl) (λ n. refl) (λ n. refl) (λ q. refl) (λ q. refl) (λ n. refl) refl h.stands) (once_before s.frames past h.rules)
+    (held_before s.frames past h.rules) (sym (extend_agrees s past a f chunk h.stands) ∙ refused) tt sound h
 
 pub init_refused : (s : State) (past : List Entry) (a : Actor) (enclave : ℕ) (expect : Option (List ℕ)) (refusal : Refusal) → first_of_row (row_of s a (Init enclave expect)) ≡ case_of (Init enclave expect) refusal
     → MeasureRule past (refused_by a (Init enclave expect) refusal) → IsSound s

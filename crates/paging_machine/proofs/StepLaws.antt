@@ -4,7 +4,7 @@ use Rattle.sgx_types.specs.declared.entries.Entry.{Entry}
 use Rattle.sgx_types.specs.declared.entries.Actor.{Actor}
 use Rattle.sgx_types.specs.declared.entries.Actor.TheVariants as actors
 use Rattle.sgx_types.specs.declared.entries.Action.{Action}
-use Rattle.sgx_types.specs.declared.entries.Action.TheVariants.{Epa, Create, Add, Init, Enter, Exit, Fill, Load}
+use Rattle.sgx_types.specs.declared.entries.Action.TheVariants.{Epa, Create, Add, Extend, Init, Enter, Exit, Fill, Load}
 use Rattle.sgx_types.specs.declared.entries.Answer.TheVariants as answers
 use Rattle.sgx_types.specs.declared.names.Perm.{Perm}
 use Rattle.sgx_types.specs.declared.refusals.Refusal.{Refusal}
@@ -22,7 +22,8 @@ use Rattle.paging_machine.proofs.MeasureLaws.{finished_as, quiet}
 use Rattle.paging_machine.proofs.BuildLaws.{epa_upheld, create_upheld, add_upheld, init_upheld, is_some-sight}
 use Rattle.paging_machine.proofs.Tools.{not_false}
 use Rattle.paging_machine.proofs.ProcessorLaws.{fills, outside_refused, enter_upheld, exit_upheld, fill_upheld, load_upheld}
-use Rattle.paging_machine.proofs.Refused.{epa_refused, create_refused, add_refused, init_refused, enter_refused, exit_refused, fill_refused, load_refused}
+use Rattle.paging_machine.proofs.ExtendLaws.{IsMade, extend_upheld}
+use Rattle.paging_machine.proofs.Refused.{epa_refused, create_refused, add_refused, extend_refused, init_refused, enter_refused, exit_refused, fill_refused, load_refused}
 
 -- a row allows an instruction, or refuses it
 step_cases : (o : Option Refusal) (Done : Type 0) (made : Refusal → Entry) (e : Entry) (s t : State) (past : List Entry)
@@ -70,17 +71,20 @@ fill_perm s p number f allowed = by_perm (perm_in (s.content f)) (fill_some s p 
     by_perm None k = cc
     by_perm (Some x) k = refl
 
-pub step_upheld : (s t : State) (past : List Entry) (cpus : ℕ) (a : Actor) (action : Action) (e : Entry) → cpus ≤ 16 → CanApply cpus a action → IsSound s
+pub step_upheld : (s t : State) (past : List Entry) (cpus : ℕ) (a : Actor) (action : Action) (e : Entry) → cpus ≤ 16 → CanApply cpus a action → IsSound s → IsMade s
     → IsStep s a action e t → Upholds s past → Upholds t (e ∷ past)
-step_upheld s t past cpus a (Epa f) e few can sound k h =
+step_upheld s t past cpus a (Epa f) e few can sound made k h =
     step_cases _ _ _ e s t past (λ allowed done. rw (done.0, done.1) (epa_upheld s past a f allowed sound h)) (λ r refused. epa_refused s past a f r refused sound h) k
-step_upheld s t past cpus a (Create enclave f base size) e few can sound k h =
+step_upheld s t past cpus a (Create enclave f base size) e few can sound made k h =
     step_cases _ _ _ e s t past (λ allowed done. rw (done.0, done.1.state) (create_upheld s past a enclave f base size done.1.begun allowed done.1.log sound h))
     (λ r refused. create_refused s past a enclave f base size r refused sound h) k
-step_upheld s t past cpus a (Add enclave number f kind perm init) e few can sound k h =
+step_upheld s t past cpus a (Add enclave number f kind perm init) e few can sound made k h =
     step_cases _ _ _ e s t past (λ allowed done. rw (done.0, done.1.state) (add_upheld s past a enclave number f kind perm init done.1.longer allowed done.1.log sound h))
     (λ r refused. add_refused s past a enclave number f kind perm init r refused sound h) k
-step_upheld s t past cpus a (Init enclave expect) e few can sound k h =
+step_upheld s t past cpus a (Extend f chunk) e few can sound made k h =
+    step_cases _ _ _ e s t past (λ allowed done. rw (done.0, done.1.state) (extend_upheld s past a f chunk done.1.page done.1.longer allowed done.1.held done.1.log made sound h))
+    (λ r refused. extend_refused s past a f chunk r refused sound h) k
+step_upheld s t past cpus a (Init enclave expect) e few can sound made k h =
     step_cases _ _ _ e s t past by_measure
     (λ r refused. init_refused s past a enclave expect r (rw (init_case _ enclave expect r refused) refused) (quiet _ past a enclave expect r refused) sound h) k
   where
@@ -96,17 +100,17 @@ step_upheld s t past cpus a (Init enclave expect) e few can sound k h =
     by_measure allowed done =
         by_judgement done.digest allowed
         (finished_as (s.enclaves enclave) (s.measure enclave) done.digest (log past enclave) (is_some-sight (s.enclaves enclave) (init_made _ allowed)) (h.stands.measure enclave) done.finished) done.judged
-step_upheld s t past cpus (actors.Cpu p) (Enter enclave tcs tf sf) e few can sound k h =
+step_upheld s t past cpus (actors.Cpu p) (Enter enclave tcs tf sf) e few can sound made k h =
     step_cases _ _ _ e s t past (λ allowed done. rw (done.0, done.1) (enter_upheld s past p enclave tcs tf sf (omega arith) allowed sound h))
     (λ r refused. enter_refused s past p enclave tcs tf sf r refused sound h) k
-step_upheld s t past cpus (actors.Cpu p) Exit e few can sound k h =
+step_upheld s t past cpus (actors.Cpu p) Exit e few can sound made k h =
     step_cases _ _ _ e s t past (λ allowed done. rw (done.0, done.1) (exit_upheld s past p (omega arith) allowed sound h)) (λ r refused. exit_refused s past p r refused sound h) k
-step_upheld s t past cpus (actors.Cpu p) (Fill number f) e few can sound k h =
+step_upheld s t past cpus (actors.Cpu p) (Fill number f) e few can sound made k h =
     step_cases _ _ _ e s t past
     (λ allowed done. rw (done.0, done.1)
     (fill_upheld s past p (record { number = number; frame = f; perm = unwrap_or (perm_in (s.content f.0)) no_perm }) (omega arith) allowed (fill_perm s p.0 number f.0 allowed) sound h))
     (λ r refused. fill_refused s past p number f r refused sound h) k
-step_upheld s t past cpus (actors.Cpu p) (Load off) e few can sound k h =
+step_upheld s t past cpus (actors.Cpu p) (Load off) e few can sound made k h =
     step_cases _ _ _ e s t past (λ allowed done. rw (done.0, done.1) (load_upheld s past p off (omega arith) allowed sound h))
     (λ r refused. load_refused s past p off r refused sound h) k
-step_upheld s t past cpus a action e few can sound k h = absurd can
+step_upheld s t past cpus a action e few can sound made k h = absurd can

@@ -4,14 +4,14 @@ use Rattle.std.specs.Prelude.{ℕ, ◌==◌, ◌/◌, Bool, true, false, if◌th
 use Rattle.sgx_types.specs.declared.entries.Actor.{Actor}
 use Rattle.sgx_types.specs.declared.entries.Actor.TheVariants as actors
 use Rattle.sgx_types.specs.declared.entries.Action.{Action}
-use Rattle.sgx_types.specs.declared.entries.Action.TheVariants.{Epa, Create, Add, Init, Enter, Exit, Fill, Load}
+use Rattle.sgx_types.specs.declared.entries.Action.TheVariants.{Epa, Create, Add, Extend, Init, Enter, Exit, Fill, Load}
 use Rattle.sgx_types.specs.declared.entries.PageInit.{PageInit}
 use Rattle.sgx_types.specs.declared.names.Kind.{Kind}
 use Rattle.sgx_types.specs.declared.names.Page.{Page}
 use Rattle.sgx_types.specs.declared.names.Perm.{Perm}
-use Rattle.sgx_types.specs.Frames.{Content, Free, IsVa, SecsOf, Holds, same_page, page_at}
+use Rattle.sgx_types.specs.Frames.{Content, Free, IsVa, SecsOf, Holds, enclave_in, same_page, page_at}
 use Rattle.sgx_types.specs.Processors.{Seat}
-use Rattle.sgx_types.specs.Table.{Case, allowed, FrameSight, epa_row, create_row, add_row, init_row, enter_row, exit_row, fill_row, load_row}
+use Rattle.sgx_types.specs.Table.{Case, allowed, FrameSight, is_ready, epa_row, create_row, add_row, extend_row, init_row, enter_row, exit_row, fill_row, load_row}
 use Rattle.epcm_entry.specs.Words.{zero_words}
 use Rattle.cached_translations.specs.declared.cache.Translation.{Translation}
 use Rattle.cached_translations.specs.Translations.{translation_of, with_translation}
@@ -89,12 +89,18 @@ cpu_row_of s p (Fill number f) = fill_row number (seat_enclave (s.inside p)) (si
 cpu_row_of s p (Load off) = load_row off (is_some (s.inside p)) (translation s p (s.inside p) (off / 4096))
 cpu_row_of s p _ = allowed
 
+-- whether the enclave of the page in a frame is initialised
+abbrev pub is_closed : State → Option ℕ → Bool
+is_closed s None = false
+is_closed s (Some enclave) = is_ready (enclave_sight_of (s.enclaves enclave))
+
 -- the row of an instruction
 abbrev pub row_of : State → Actor → Action → List Case
 row_of s actor (Epa f) = epa_row (sight s f.0)
 row_of s actor (Create enclave f base size) = create_row enclave base size (is_some (s.enclaves enclave)) (sight s f.0)
 row_of s actor (Add enclave number f kind perm init) =
     add_row number kind perm init (enclave_sight_of (s.enclaves enclave)) (is_some (s.added (page_at enclave number))) (sight s f.0)
+row_of s actor (Extend f chunk) = extend_row chunk (is_closed s (enclave_in (s.content f.0))) (sight s f.0)
 row_of s actor (Init enclave expect) = init_row (enclave_sight_of (s.enclaves enclave))
 row_of s (actors.Cpu p) action = cpu_row_of s p.0 action
 row_of s actor action = allowed
@@ -122,6 +128,9 @@ after_add s g f kind perm init longer = record (with_content s f (Holds g kind p
   added = λ q. if same_page q g then Some (kind, perm) else s.added q;
   measure = λ e. if e == g.enclave then Some longer else s.measure e;
 }
+
+abbrev pub after_extend : State → ℕ → Measure → State
+after_extend s enclave longer = record s { measure = λ e. if e == enclave then Some longer else s.measure e }
 
 abbrev pub after_init : State → ℕ → State
 after_init s enclave = record s { enclaves = λ e. if e == enclave then marked (s.enclaves e) else s.enclaves e }

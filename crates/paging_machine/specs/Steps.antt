@@ -1,12 +1,12 @@
 -- One instruction of the machine: its entry and the state after it, exactly by its row.
-use Rattle.std.specs.Prelude.{ℕ, ◌≡◌, ◌<◌, ◌*◌, ◌⊎◌, false, List, Option, MatchOption, unwrap_or}
+use Rattle.std.specs.Prelude.{ℕ, ◌≡◌, ◌<◌, ◌+◌, ◌*◌, ◌⊎◌, false, List, Option, Some, MatchOption, unwrap_or}
 use Rattle.std.specs.Option.{IsSomeAnd}
 use Rattle.sgx_types.specs.declared.entries.Entry.{Entry}
 use Rattle.sgx_types.specs.declared.entries.Event.TheVariants.{Did, Refused}
 use Rattle.sgx_types.specs.declared.entries.Actor.{Actor}
 use Rattle.sgx_types.specs.declared.entries.Actor.TheVariants as actors
 use Rattle.sgx_types.specs.declared.entries.Action.{Action}
-use Rattle.sgx_types.specs.declared.entries.Action.TheVariants.{Epa, Create, Add, Init, Enter, Exit, Fill, Load}
+use Rattle.sgx_types.specs.declared.entries.Action.TheVariants.{Epa, Create, Add, Extend, Init, Enter, Exit, Fill, Load}
 use Rattle.sgx_types.specs.declared.entries.Answer.{Answer}
 use Rattle.sgx_types.specs.declared.entries.Answer.TheVariants as answers
 use Rattle.sgx_types.specs.declared.refusals.Refusal.{Refusal}
@@ -19,11 +19,12 @@ use Rattle.sgx_types.specs.Frames.{page_at}
 use Rattle.sgx_types.specs.Table.{first_of_row, perm_in}
 use Rattle.sgx_types.specs.Flat.{tcs_fields}
 use Rattle.sgx_types.specs.Layouts.{flags_of}
+use Rattle.epcm_entry.specs.Words.{bytes_of}
 use Rattle.measure_log.specs.declared.measure.Measure.{Measure}
-use Rattle.measure_log.specs.Blocks.{ecreate_block, eadd_block}
+use Rattle.measure_log.specs.Blocks.{ecreate_block, eadd_block, eextend_block, chunk_of}
 use Rattle.measure_log.specs.Measure.{HoldsLog, TakesIn, FinishesTo}
-use Rattle.measure_log.specs.Rule.{IsExpected, IsOther}
-use Rattle.paging_machine.specs.State.{State, row_of, seat_of, word_at, after_epa, after_create, after_add, after_init, after_enter, after_exit, after_fill}
+use Rattle.measure_log.specs.Rule.{page_held, IsExpected, IsOther}
+use Rattle.paging_machine.specs.State.{State, row_of, seat_of, word_at, after_epa, after_create, after_add, after_extend, after_init, after_enter, after_exit, after_fill}
 
 abbrev pub did_by : Actor → Action → Answer → Entry
 did_by actor action answer = record { actor = actor; event = Did action answer }
@@ -36,6 +37,7 @@ abbrev pub CanApply : ℕ → Actor → Action → Type 0
 CanApply cpus actor (Epa f) = Unit {0}
 CanApply cpus actor (Create enclave f base size) = Unit {0}
 CanApply cpus actor (Add enclave number f kind perm init) = Unit {0}
+CanApply cpus actor (Extend f chunk) = Unit {0}
 CanApply cpus actor (Init enclave expect) = Unit {0}
 CanApply cpus (actors.Cpu p) (Enter enclave tcs tf sf) = p.0 < cpus
 CanApply cpus (actors.Cpu p) Exit = p.0 < cpus
@@ -78,6 +80,14 @@ pub record IsAdded (s : State) (g : Page) (f : ℕ) (kind : Kind) (perm : Perm) 
   pub log : IsSomeAnd (s.measure g.enclave) (λ measure. TakesIn measure (eadd_block (4096 * g.number) (flags_of kind perm)) longer)
   pub state : s' ≡ after_add s g f kind perm init longer
 
+-- the measurement of the enclave of the page in a frame takes in the block of EEXTEND of a chunk of the page's bytes
+pub record IsExtended (s : State) (f chunk : ℕ) (s' : State) : Type 0 where
+  pub page : Page
+  pub held : page_held (s.content f) ≡ Some page
+  pub longer : Measure
+  pub log : IsSomeAnd (s.measure page.enclave) (λ measure. TakesIn measure (eextend_block (4096 * page.number + 256 * chunk) (chunk_of (bytes_of (s.words f)) chunk)) longer)
+  pub state : s' ≡ after_extend s page.enclave longer
+
 -- the enclave's measurement finishes to a digest: where it is as expected the enclave is initialised, else nothing changes
 pub record IsJudged (s : State) (actor : Actor) (enclave : ℕ) (expect : Option (List ℕ)) (e : Entry) (s' : State) : Type 0 where
   pub digest : List ℕ
@@ -90,6 +100,7 @@ abbrev pub IsDone : State → Actor → Action → Entry → State → Type 0
 IsDone s actor (Create enclave f base size) e s' = (e ≡ did_by actor (Create enclave f base size) answers.Plain) × IsCreated s enclave f.0 base size s'
 IsDone s actor (Add enclave number f kind perm init) e s' =
     (e ≡ did_by actor (Add enclave number f kind perm init) answers.Plain) × IsAdded s (page_at enclave number) f.0 kind perm init s'
+IsDone s actor (Extend f chunk) e s' = (e ≡ did_by actor (Extend f chunk) answers.Plain) × IsExtended s f.0 chunk s'
 IsDone s actor (Init enclave expect) e s' = IsJudged s actor enclave expect e s'
 IsDone s actor action e s' = (e ≡ did_by actor action (answer_of s actor action)) × (s' ≡ after_of s actor action)
 

@@ -51,6 +51,7 @@ impl Machine {
                     init,
                 },
             ) => { self.add(actor, Page { enclave, number }, frame, kind, perm, init) }
+            (_, Action::Extend { frame, chunk }) => self.extend(actor, frame, chunk),
             (_, Action::Init { enclave, expect }) => self.init(actor, enclave, expect),
             (
                 Actor::Cpu(cpu),
@@ -141,6 +142,19 @@ impl Machine {
             return refused(actor, action, refusal);
         }
         self.set_page(page, frame, kind, perm, init);
+        done(actor, action, Answer::Plain)
+    }
+
+    /// A chunk of 256 bytes of a page is added to the measurement of its enclave, which is not initialised (EEXTEND).
+    fn extend(&mut self, actor: Actor, frame: Frame, chunk: u8) -> Entry
+        ensures step { IsStep (state_of self.old) actor (actions.Extend frame chunk) result (state_of self.new) }
+        ensures cpus { length self.new.cpus ≡ length self.old.cpus }
+    {
+        let action = Action::Extend { frame, chunk };
+        if let Some(refusal) = self.extend_refusal(frame, chunk) {
+            return refused(actor, action, refusal);
+        }
+        self.set_extended(frame, chunk);
         done(actor, action, Answer::Plain)
     }
 

@@ -4,6 +4,7 @@
 mod apply;
 mod build;
 mod enclaves;
+mod extend;
 pub mod machine;
 mod making;
 mod processor;

@@ -2,10 +2,11 @@ ghost use Rattle.std.specs.Prelude.{◌≡◌, ◌||◌, is_some};
 ghost use Rattle.sgx_types.specs.Frames.{page_at, is_page};
 ghost use Rattle.sgx_types.specs.Table.{is_loading, is_valid, is_tcs, is_reg, perm_in, allows_update};
 ghost use Rattle.epcm_entry.specs.EntryView.{block_of, goes_out};
+ghost use Rattle.measure_log.specs.Rule.{page_held};
 ghost use Rattle.paging_machine.specs.Parts.{held};
 
 use epcm_entry::entry_view::EntryView;
-use sgx_types::names::{Kind, Perm};
+use sgx_types::names::{Kind, Page, Perm};
 
 // What the rows of the instruction table see of a frame's entry.
 
@@ -71,6 +72,20 @@ pub fn is_reg(entry: EntryView) -> bool
             ..
         }
     )
+}
+
+/// The TCS or REG page in a frame.
+pub fn page_in(entry: EntryView) -> Option<Page>
+    ensures { result ≡ page_held (held entry) }
+{
+    match entry {
+        EntryView::Valid {
+            page,
+            kind: Kind::Tcs | Kind::Reg,
+            ..
+        } => Some(page),
+        _ => None,
+    }
 }
 
 /// The permissions of the TCS or REG page in a frame.

@@ -10,6 +10,7 @@ use Rattle.paging_machine.specs.Stands.{Upholds}
 use Rattle.paging_machine.specs.State.{State}
 use Rattle.paging_machine.specs.Steps.{IsStep, CanApply}
 use Rattle.paging_machine.specs.Whole.{IsWhole, parts_of}
+use Rattle.paging_machine.proofs.ExtendLaws.{pages_made}
 use Rattle.paging_machine.proofs.StepLaws.{step_upheld}
 use Rattle.paging_machine.proofs.machine.Machine.apply.Goals as goal
 
@@ -17,7 +18,7 @@ use Rattle.paging_machine.proofs.machine.Machine.apply.Goals as goal
 upheld : (m : Inside) (now : Parts) (t : State) (a : Actor) (action : Action) (e : Entry) → parts_of m ≡ now → IsWhole m → CanApply (length now.cpus) a action
     → IsStep (state_of now) a action e t → (past : List Entry) → Upholds (state_of now) past → Upholds t (e ∷ past)
 upheld m now t a action e is whole can step past h =
-    step_upheld (state_of now) t past (length now.cpus) a action e (rw (← is) whole.processors) can (rw (← is) whole.sound) step h
+    step_upheld (state_of now) t past (length now.cpus) a action e (rw (← is) whole.processors) can (rw (← is) whole.sound) (rw (← is) (pages_made (parts_of m) whole.noted whole.framed)) step h
 
 pub returns-in_default-Epa-clause-history : goal.returns-in_default-Epa-clause-history
 returns-in_default-Epa-clause-history c = upheld c.self.inside c.args.self.now _ c.args.actor (actions.Epa _) _ c.self.view_is c.self.invariant tt c.epa-entry.ensures.step
@@ -28,6 +29,9 @@ returns-in_ok-entry-in_default-Create-clause-history c =
 
 pub returns-in_default-Add-clause-history : goal.returns-in_default-Add-clause-history
 returns-in_default-Add-clause-history c = upheld c.self.inside c.args.self.now _ c.args.actor (actions.Add _ _ _ _ _ _) _ c.self.view_is c.self.invariant tt c.add-entry.ensures.step
+
+pub returns-in_default-Extend-clause-history : goal.returns-in_default-Extend-clause-history
+returns-in_default-Extend-clause-history c = upheld c.self.inside c.args.self.now _ c.args.actor (actions.Extend _ _) _ c.self.view_is c.self.invariant tt c.extend-entry.ensures.step
 
 pub returns-in_default-Init-clause-history : goal.returns-in_default-Init-clause-history
 returns-in_default-Init-clause-history c = upheld c.self.inside c.args.self.now _ c.args.actor (actions.Init _ _) _ c.self.view_is c.self.invariant tt c.init-entry.ensures.step
