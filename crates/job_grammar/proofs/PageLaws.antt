@@ -1,5 +1,5 @@
 -- What the table of an enclave's pages says of its lines.
-use Rattle.std.proofs.Common.{◌≡◌, ℕ, zero, suc, ◌+◌, ◌<◌, ◌≤◌, Bool, true, false, cond, ◌&&◌, ◌||◌, ◌⊎◌, List, [], ◌∷◌, ◌++◌, length, get_or, take, replicate, Option, Some, None, IsSome, count_by, find, refl, sym, ap, ◌∙◌, arith, inl, inr}
+use Rattle.std.proofs.Common.{◌≡◌, ℕ, zero, suc, ◌+◌, ◌<◌, ◌≤◌, Bool, true, false, cond, ◌&&◌, ◌||◌, ◌⊎◌, List, [], ◌∷◌, ◌++◌, length, get_or, take, replicate, Option, Some, None, IsSome, MatchOption, HoldsAt, Bor, count_by, find, refl, sym, ap, ◌∙◌, arith, inl, inr}
 use Rattle.std.specs.List.{list_any}
 use Rattle.std.specs.Option.{option_map_or, option_or}
 use Rattle.std.proofs.lemmas.Bool.{cases_Bool, cases_lt}
@@ -145,15 +145,22 @@ AreTablesOf-push (e' ∷ es) [] e t of this = absurd of
 AreTablesOf-push (e' ∷ es) (t' ∷ ts) e t of this = (of.0, AreTablesOf-push es ts e t of.1 this)
 
 -- the table at an index tells the lines of the enclave whose number is one more
-pub Tells-at : (es : List EnclaveView) (ts : List PageTable) (i : ℕ) (t : PageTable) → AreTablesOf es ts → i < length ts → t ≡ get_or ts i t → Tells t.lines.items (lines_at es (suc i))
+Tells-at : (es : List EnclaveView) (ts : List PageTable) (i : ℕ) (t : PageTable) → AreTablesOf es ts → i < length ts → t ≡ get_or ts i t → Tells t.lines.items (lines_at es (suc i))
 Tells-at [] [] i t of lt here = absurd (omega arith)
 Tells-at [] (t' ∷ ts) i t of lt here = absurd of
 Tells-at (e ∷ es) [] i t of lt here = absurd of
 Tells-at (e ∷ es) (t' ∷ ts) zero t of lt here = rw here of.0
 Tells-at (e ∷ es) (t' ∷ ts) (suc i) t of lt here = Tells-at es ts i t of.1 (omega arith) here
 
-pub lines_at-past : (es : List EnclaveView) (ts : List PageTable) (i : ℕ) → AreTablesOf es ts → length ts ≤ i → lines_at es (suc i) ≡ []
+lines_at-past : (es : List EnclaveView) (ts : List PageTable) (i : ℕ) → AreTablesOf es ts → length ts ≤ i → lines_at es (suc i) ≡ []
 lines_at-past [] ts i of le = refl
 lines_at-past (e ∷ es) [] i of le = absurd of
 lines_at-past (e ∷ es) (t ∷ ts) zero of le = absurd (omega arith)
 lines_at-past (e ∷ es) (t ∷ ts) (suc i) of le = lines_at-past es ts i of.1 (omega arith)
+
+-- a table that is looked up at an index tells the lines of the enclave whose number is one more; where none is found, there
+-- is no such enclave
+pub table-told : (es : List EnclaveView) (ts : List PageTable) (i : ℕ) (found : Option (Bor PageTable)) → AreTablesOf es ts
+    → MatchOption found (length ts ≤ i) (λ t. (i < length ts) × HoldsAt (λ y. t.now ≡ y) ts i) → MatchOption found (lines_at es (suc i) ≡ []) (λ t. Tells t.now.lines.items (lines_at es (suc i)))
+table-told es ts i None of past = lines_at-past es ts i of past
+table-told es ts i (Some t) of here = Tells-at es ts i t.now of here.0 (here.1 t.now)

@@ -1,11 +1,11 @@
 -- Loads and then an exit, as a loop goes over them.
-use Rattle.std.proofs.Common.{◌≡◌, ℕ, ◌+◌, ◌-◌, ◌/◌, ◌<◌, ◌≤◌, Bool, true, List, [], ◌∷◌, length, get_or, take, drop, refl, arith}
-use Rattle.std.proofs.lemmas.List.{take_all, drop_more, drop_all, length-drop}
+use Rattle.std.proofs.Common.{◌≡◌, ℕ, ◌+◌, ◌/◌, ◌<◌, ◌≤◌, true, List, [], ◌∷◌, length, get_or, drop, refl, arith}
+use Rattle.std.proofs.lemmas.List.{drop_more, drop_all, length-drop}
 use Rattle.job_grammar.specs.declared.jobs.PageLine.{PageLine}
 use Rattle.job_grammar.specs.declared.jobs.Op.{Op}
-use Rattle.job_grammar.specs.declared.jobs.Op.TheVariants.{Enter, Load, Exit}
+use Rattle.job_grammar.specs.declared.jobs.Op.TheVariants.{Load, Exit}
 use Rattle.job_grammar.specs.Jobs.{is_reg_page}
-use Rattle.job_grammar.specs.Valid.{AreLoads, IsFirstScript}
+use Rattle.job_grammar.specs.Valid.{AreLoads}
 
 -- the operations from this index on decide it
 pub record Decided (lines : List PageLine) (ops : List Op) (i : ℕ) : Type 0 where
@@ -48,14 +48,3 @@ no_end lines h = h
 
 pub never_ends : (lines : List PageLine) (ops : List Op) (i : ℕ) → length ops ≤ i → Decided lines ops i → AreLoads lines ops → ⊥
 never_ends lines ops i le h all = no_end lines (let ahead = h.to all in rw (drop_all i ops le) at ahead)
-
-abbrev others : List Op → List Op
-others script = take (length script - 1) (drop 1 script)
-
-pub enters_first : (lines : List PageLine) (script : List Op) (d : Op) (enclave tcs : ℕ) (r : Bool) → 1 ≤ length script → get_or script 0 d ≡ Enter enclave tcs → enclave ≡ 1
-    → (r ≡ true → AreLoads lines (others script)) × (AreLoads lines (others script) → r ≡ true) → (r ≡ true → IsFirstScript lines script) × (IsFirstScript lines script → r ≡ true)
-enters_first lines [] d enclave tcs r some is one h = absurd (omega arith)
-enters_first lines (op ∷ ops) d enclave tcs r some is one h =
-    let whole : take (length (op ∷ ops) - 1) ops ≡ ops = take_all (length (op ∷ ops) - 1) ops (omega arith) in
-    let loads = rw whole at h in
-    rw is (λ e. (one, loads.0 e), λ first. loads.1 first.1)

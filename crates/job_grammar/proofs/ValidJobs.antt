@@ -1,5 +1,5 @@
 -- A valid job has a text that is read, and a job that is accepted yet is determined by its lines.
-use Rattle.std.proofs.Common.{◌≡◌, ℕ, zero, suc, ◌+◌, ◌/◌, ◌^◌, ◌<◌, ◌≤◌, true, ◌&&◌, List, [], ◌∷◌, ◌++◌, Option, length, map, flat_map, All, refl, sym, ap, ◌∙◌, arith, inl, inr}
+use Rattle.std.proofs.Common.{◌≡◌, ℕ, zero, suc, ◌+◌, ◌/◌, ◌^◌, ◌<◌, ◌≤◌, true, ◌&&◌, List, [], ◌∷◌, ◌++◌, Option, None, length, map, flat_map, All, refl, sym, ap, ◌∙◌, arith, inl, inr}
 use Rattle.std.specs.List.{AllByRecursion}
 use Rattle.std.proofs.lemmas.Bool.{and_parts, or_cases, eqb-true, leb-true, false≢true}
 use Rattle.std.proofs.lemmas.List.Elements.{All-head, All-tail, All-weaker}
@@ -14,7 +14,7 @@ use Rattle.job_grammar.specs.declared.lines.Line.TheVariants as lines
 use Rattle.job_grammar.specs.Jobs.{EnclaveView, JobView, covers, is_tcs_line, is_tcs_page, lines_at}
 use Rattle.job_grammar.specs.Text.{line_text, job_text}
 use Rattle.job_grammar.specs.Lines.{line_words, lines_text, lines_of_enclaves, lines_of_scripts, HasLetter}
-use Rattle.job_grammar.specs.Valid.{IsValidLine, IsValidEnclave, IsValidOp, IsValid, AreFirstEnclaves, IsFirstForm}
+use Rattle.job_grammar.specs.Valid.{IsValidLine, IsValidEnclave, IsValidOp, IsValid, IsFirstForm}
 use Rattle.job_grammar.specs.Checks.{default_job}
 use Rattle.job_grammar.proofs.LineWords.{FitsPage, FitsOp, FitsLine}
 use Rattle.job_grammar.proofs.WrittenJobs.{lines_of_job, job-written, unexpected}
@@ -122,10 +122,15 @@ module _ (j : JobView) (valid : IsValid j) where
 
 -- ---- a job that is accepted yet
 
-unexpected-first : (es : List EnclaveView) (scripts : List (List Op)) → AreFirstEnclaves es scripts → map unexpected es ≡ es
-unexpected-first [] scripts form = absurd form
-unexpected-first (e ∷ []) scripts form = let with : Option (List ℕ) → List EnclaveView = λ o. record e { expect = o } ∷ [] in ap with (sym form.0.unexpected)
-unexpected-first (e ∷ f ∷ es) scripts form = absurd form
+abbrev IsUnexpected : EnclaveView → Type 0
+IsUnexpected e = e.expect ≡ None
+
+all-unexpected : (es : List EnclaveView) → All IsUnexpected es → map unexpected es ≡ es
+all-unexpected [] are = refl
+all-unexpected (e ∷ es) are =
+    let with : Option (List ℕ) → EnclaveView = λ o. record e { expect = o } in
+    let first : unexpected e ≡ e = ap with (sym (All-head IsUnexpected e es are)) in
+    rw (first, all-unexpected es (All-tail IsUnexpected e es are)) refl
 
 same-parts : (f : Marks → List ℕ → ℕ → ℕ → List EnclaveView → List PlanLine → JobView) {m m' : Marks} {k k' : List ℕ} {a a' b b' : ℕ} {es es' : List EnclaveView} {ps ps' : List PlanLine}
     → m' ≡ m → k' ≡ k → a' ≡ a → b' ≡ b → es ≡ es' → ps' ≡ ps → f m k a b es ps ≡ f m' k' a' b' es' ps'
@@ -135,4 +140,4 @@ pub default_job-form : (j : JobView) → IsFirstForm j → default_job j.epc (ma
 default_job-form j form =
     same-parts
     (λ marks key epoch version enclaves plans. record { epc = j.epc; marks = marks; key = key; start_epoch = epoch; start_version = version; enclaves = enclaves; plans = plans; scripts = j.scripts })
-    form.marks form.key form.start_epoch form.start_version (unexpected-first j.enclaves j.scripts form.enclaves) form.plans
+    form.marks form.key form.start_epoch form.start_version (all-unexpected j.enclaves form.unexpected) form.plans

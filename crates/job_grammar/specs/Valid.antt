@@ -1,5 +1,5 @@
 -- When a job is valid, and which jobs are accepted yet.
-use Rattle.std.specs.Prelude.{ℕ, ◌≡◌, ◌+◌, ◌/◌, ◌%◌, ◌^◌, ◌<◌, ◌≤◌, Bool, true, List, [], ◌∷◌, None, length, count_by, replicate, sum_by}
+use Rattle.std.specs.Prelude.{ℕ, ◌≡◌, ◌+◌, ◌/◌, ◌%◌, ◌^◌, ◌<◌, ◌≤◌, true, List, [], ◌∷◌, None, length, count_by, replicate, sum_by}
 use Rattle.std.specs.List.{All}
 use Rattle.sgx_types.specs.Table.{is_lawful}
 use Rattle.job_grammar.specs.declared.jobs.PageLine.{PageLine}

@@ -51,8 +51,6 @@ pub enum PageLine {
 }
 
 impl PageLine {
-    ghost use Rattle.job_grammar.specs.Valid.{is_plain};
-
     /// The first page that it adds.
     pub fn first(&self) -> u32
         ensures { result ≡ first_page self.now }
@@ -70,15 +68,6 @@ impl PageLine {
         match self {
             PageLine::Tcs { .. } => 1,
             PageLine::Reg { count, .. } => *count,
-        }
-    }
-
-    /// Whether its pages are added and not measured further.
-    pub fn is_plain(&self) -> bool
-        ensures { result ≡ is_plain self.now }
-    {
-        match self {
-            PageLine::Tcs { plain, .. } | PageLine::Reg { plain, .. } => *plain,
         }
     }
 

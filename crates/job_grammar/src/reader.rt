@@ -42,9 +42,9 @@ fn accept(alloc: Global, draft: Draft) -> Result<Job, JobRefusal>
     Ok(Job::new(alloc, epc, enclaves, scripts))
 }
 
-/// Reads a job: its one text, of at most 2^24 bytes. Accepted yet are valid jobs with one enclave of at most 64 plain
-/// pages, one of them a TCS page, which all stay in the EPC, and with one processor that enters, loads from REG pages and
-/// exits. A longer text is refused as line 0, TooLong, and every other one as line 0, NotYetBuilt.
+/// Reads a job: its one text, of at most 2^24 bytes. Accepted yet are valid jobs whose enclaves have at most 64 pages in
+/// all, which all stay in the EPC, and with one processor that enters an enclave, loads from its REG pages and exits. A
+/// longer text is refused as line 0, TooLong, and every other one as line 0, NotYetBuilt.
 pub fn read_job(alloc: Global, bytes: &[u8]) -> Result<Job, JobRefusal>
     ensures found { IfOk result (IsJobText bytes.now) }
     ensures only { (job : JobView) → IsJobText bytes.now job → IsJob result job }
