@@ -136,13 +136,11 @@ impl Machine {
         ensures row { result ≡ first_of_row (init_row (enclave_sight_of ((state_of self.now).enclaves enclave))) }
         ensures sound { IsSound (state_of self.now) }
     {
-        let Some(found) = self.enclave(enclave) else {
-            return Some(Refusal::Absent);
-        };
-        if found.is_init {
-            return Some(Refusal::IsInit);
+        match self.enclave(enclave) {
+            None => Some(Refusal::Absent),
+            Some(found) if found.is_init => Some(Refusal::IsInit),
+            Some(_) => None,
         }
-        None
     }
 
     /// Makes a free frame a version array page.

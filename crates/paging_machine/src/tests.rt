@@ -1,6 +1,8 @@
 ghost use Rattle.std.specs.Prelude.{IsTrue};
 ghost use Rattle.paging_machine.specs.Steps.{CanApply};
 
+mod building;
+
 use crate::machine::Machine;
 use cached_translations::processor::Mode;
 use sgx_types::entries::{AccessOp, Action, Actor, Answer, Entry, Event, PageInit};
@@ -126,7 +128,11 @@ fn can_apply(actor: Actor, action: Action) -> bool
     match (actor, action) {
         (
             _,
-            Action::Epa { .. } | Action::Create { .. } | Action::Add { .. } | Action::Init { .. },
+            Action::Epa { .. }
+            | Action::Create { .. }
+            | Action::Add { .. }
+            | Action::Extend { .. }
+            | Action::Init { .. },
         ) => true,
         (
             Actor::Cpu(cpu),
