@@ -25,7 +25,7 @@ use Rattle.job_grammar.specs.Script.{BuildStep, MakeVa, MakeSecs, AddPage, Exten
 use Rattle.paging_machine.specs.Steps.{did_by, refused_by}
 use Rattle.paging_machine.proofs.Tools.{apart, eqb-swap, none_holds, none_there}
 use Rattle.paging_machine.proofs.Carry.{flat_done, same_page-refl, same_page-true}
-use Rattle.sgxpage.specs.Books.{BookView, IsCalm, IsNext, IsPlaced}
+use Rattle.sgxpage.specs.Books.{BookView, IsCalm, IsNext, IsPlaced, GoesOn}
 use Rattle.sgxpage.specs.Building.{AreNext, AreTaken, Grows, IsHere, IsUnmade, MakesOnly, count_free, frames_taken, free_frames}
 use Rattle.sgxpage.proofs.CalmLaws.{taken_none}
 use Rattle.sgxpage.proofs.FreeLaws.{IsLeast, found_least, put_room}

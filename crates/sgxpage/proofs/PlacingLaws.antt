@@ -1,4 +1,5 @@
 -- The pages of a line, one after another.
+use Rattle.sgx_types.specs.declared.names.Kind.{Kind}
 use Rattle.std.proofs.Common.{◌≡◌, ℕ, zero, suc, ◌+◌, ◌==◌, ◌&&◌, ◌≤◌, ◌<◌, nat_le, nat_lt, Bool, true, false, refl, arith, ap, ◌∙◌, ◌⊎◌, inl, inr, List, [], ◌∷◌, ◌++◌, length, get_or, map}
 use Rattle.std.specs.List.{All, flat_map}
 use Rattle.std.proofs.lemmas.Bool.{le-ltb, leb-false, ltb-false}
@@ -10,6 +11,7 @@ use Rattle.std.proofs.lemmas.List.Sums.{sum_by-append, sum_by-cons}
 use Rattle.std.proofs.Math.Bool.{and-false}
 use Rattle.sgx_types.specs.declared.entries.Entry.{Entry}
 use Rattle.sgx_types.specs.declared.entries.Actor.TheVariants as actors
+use Rattle.sgx_types.specs.declared.entries.PageInit.{PageInit}
 use Rattle.sgx_types.specs.declared.entries.PageInit.TheVariants as inits
 use Rattle.sgx_types.specs.declared.names.Page.{Page}
 use Rattle.sgx_types.specs.declared.names.Kind.TheVariants as kinds
@@ -60,6 +62,9 @@ pub chunks_more : (enclave number k : ℕ) (b b' b'' : BookView) → Grows (map 
     → Grows (map (ExtendPage enclave number) (numbers_from 0 (k + 1))) b b''
 chunks_more enclave number k b b' b'' h more =
     rw (chunk_more enclave number k) (grows_append (map (ExtendPage enclave number) (numbers_from 0 k)) (ExtendPage enclave number k ∷ []) b b' b'' h more)
+
+pub all_chunks : (enclave number k : ℕ) (b b' : BookView) → k ≡ 16 → Grows (map (ExtendPage enclave number) (numbers_from 0 k)) b b' → Grows (chunk_steps enclave number false) b b'
+all_chunks enclave number k b b' all h = rw all at h
 
 -- ---- the pages of a line of REG pages
 

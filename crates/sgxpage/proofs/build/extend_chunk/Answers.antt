@@ -1,4 +1,4 @@
-use Rattle.std.proofs.Common.{◌≡◌, ◌∙◌, sym, Some}
+use Rattle.std.proofs.Common.{◌≡◌, ◌∙◌, sym, Some, refl}
 use Rattle.std.proofs.lemmas.Result.{on_ok_weaker}
 use Rattle.sgx_types.specs.Frames.{frame_of}
 use Rattle.sgxpage.proofs.BuilderLaws.{chunk_flat, grow_chunk}
