@@ -248,6 +248,17 @@ load 0x4000
 eexit
 ";
 
+/// Enclave B of this job, and the script up to its exit.
+const B: &str = "enclave B 0x10000 0x8000
+reg 4 2 r 9 plain
+tcs 0 1 1 plain
+reg 1 1 rw 0 plain
+cpu 0
+eenter B 0
+load 0x5ff8
+load 0x4000
+";
+
 #[test]
 fn two_enclaves(rt: HostRuntime) -> Result<(), Fail> {
     let job = read_job(rt.alloc(), TWO.as_bytes())?;
@@ -325,6 +336,18 @@ fn parts_of_two_enclaves(rt: HostRuntime) -> Result<(), Fail> {
             "an entry into B by a page that is a TCS page of A alone",
             "tcs 0 1 1 plain",
             "tcs 3 1 1 plain",
+            Some(NOT_YET_BUILT),
+        ),
+        (
+            "an enclave without pages",
+            B,
+            "enclave B 0x0 0x2000\ncpu 0\neenter A 0\n",
+            None,
+        ),
+        (
+            "an entry into an enclave without pages",
+            B,
+            "enclave B 0x0 0x2000\ncpu 0\neenter B 0\n",
             Some(NOT_YET_BUILT),
         ),
         (
