@@ -122,6 +122,7 @@ module _ (j : JobView) (valid : IsValid j) where
 
 -- ---- a job that is accepted yet
 
+-- no measurement is expected of the enclave
 abbrev IsUnexpected : EnclaveView → Type 0
 IsUnexpected e = e.expect ≡ None
 
