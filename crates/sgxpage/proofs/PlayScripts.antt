@@ -119,9 +119,10 @@ loads_leave lines (ops.Load off ∷ rest) h = last_cons (ops.Load off) rest (loa
 loads_leave lines _ h = absurd h
 
 first_playable : (j : JobView) (p : ℕ) (script : List Op) → home_of j p ≡ entered_by script → IsFirstScript j.enclaves script → All (IsValidOp j) script → All (IsPlayable j p) script × LeavesLast script
-first_playable j p (ops.Enter enclave tcs ∷ rest) home h valid =
-    (All-cons (IsPlayable j p) (ops.Enter enclave tcs) rest (sym home, All-head (IsValidOp j) (ops.Enter enclave tcs) rest valid) (loads_playable j p rest (rw home h)),
-    last_cons (ops.Enter enclave tcs) rest (loads_leave (lines_at j.enclaves enclave) rest h))
+first_playable j p (ops.Enter enclave tcs ∷ rest) home h valid = (
+  All-cons (IsPlayable j p) (ops.Enter enclave tcs) rest (sym home, All-head (IsValidOp j) (ops.Enter enclave tcs) rest valid) (loads_playable j p rest (rw home h)),
+  last_cons (ops.Enter enclave tcs) rest (loads_leave (lines_at j.enclaves enclave) rest h),
+)
 first_playable j p _ home h valid = absurd h
 
 script_playable : (j : JobView) (i : ℕ) → IsValid j → IsFirstForm j → i < length j.scripts → All (IsPlayable j i) (script_of j i) × LeavesLast (script_of j i)

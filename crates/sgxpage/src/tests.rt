@@ -1,8 +1,7 @@
 ghost use Rattle.std.specs.Prelude.{◌≤◌};
 
 use crate::command::{Status, sgxpage};
-use crate::print_usage;
-use crate::two_enclaves;
+use crate::{print_usage, two_enclaves};
 use io_edges::mem_sink::MemSink;
 use io_edges::mem_source::MemSource;
 use sgx_types::names::Memory;
