@@ -1,3 +1,2 @@
-mod Chunks
 mod Writes
 pub mod Columns

@@ -1,4 +1,3 @@
-mod Chunks
 pub mod Tools
 pub mod MeasureLaws
 pub mod Carry

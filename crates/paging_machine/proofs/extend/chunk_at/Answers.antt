@@ -1,5 +1,5 @@
 use Rattle.std.proofs.Common.{arith}
-use Rattle.paging_machine.proofs.Chunks.{chunk_of_chunks}
+use Rattle.sgx_types.proofs.Chunks.{chunk_of_chunks}
 use Rattle.paging_machine.proofs.extend.chunk_at.Goals as goal
 
 pub returns : goal.returns
