@@ -23,20 +23,11 @@ use Rattle.enclave_build.specs.declared.build_refusal.BuildRefusal.TheVariants a
 
 -- ---- refusals
 
--- why an instruction was refused, None where it was done
-abbrev pub refusal_in : {T : Type 0} → Result T Refusal → Option Refusal
-refusal_in (Ok x) = None
-refusal_in (Err refusal) = Some refusal
-
--- the same of one that may want memory, which is no refusal
+-- why an instruction that may want memory was refused; want of memory is no refusal
 abbrev pub refusal_in_build : {T : Type 0} → Result T BuildRefusal → Option Refusal
 refusal_in_build (Ok x) = None
 refusal_in_build (Err (ends.Refused refusal)) = Some refusal
 refusal_in_build (Err ends.Memory) = None
-
--- an enclave as the rows see it
-abbrev pub sight_of : SecsState → EnclaveSight
-sight_of secs = record { size = secs.size; is_init = secs.is_init }
 
 -- ---- ECREATE
 

@@ -1,13 +1,14 @@
 ghost use Rattle.std.specs.Prelude.{◌≡◌, ◌<◌, ◌*◌, false, None, Some, OnOk, OnErr, is_some, length};
 ghost use Rattle.sgx_types.specs.Frames.{page_at};
 ghost use Rattle.sgx_types.specs.Layouts.{flags_of};
-ghost use Rattle.sgx_types.specs.Table.{is_addable, is_lawful_perm, is_within, first_of_row, add_row};
+ghost use Rattle.sgx_types.specs.Table.{is_addable, is_lawful_perm, is_within, refusal_in, first_of_row, add_row};
 ghost use Rattle.epcm_entry.specs.EntryView.{is_valid};
 ghost use Rattle.epcm_entry.specs.Epc.{entry_at};
 ghost use Rattle.epcm_entry.specs.Sights.{sight_in};
 ghost use Rattle.secs_state.specs.Secs.{added_at, page_count};
 ghost use Rattle.measure_log.specs.Blocks.{eadd_block};
-ghost use Rattle.enclave_build.specs.Build.{Appends, refusal_in, sight_of, with_added, with_resident};
+ghost use Rattle.secs_state.specs.Sights.{sight_of};
+ghost use Rattle.enclave_build.specs.Build.{Appends, with_added, with_resident};
 
 use crate::sights::{is_busy, is_valid};
 use epcm_entry::epc::Epc;

@@ -1,9 +1,9 @@
 ghost use Rattle.std.specs.Prelude.{◌≡◌, ◌<◌, ◌==◌, None, IfSome, OnOk, OnErr, length, false};
 ghost use Rattle.sgx_types.specs.Frames.{enclave_in};
-ghost use Rattle.sgx_types.specs.Table.{first_of_row, extend_row};
+ghost use Rattle.sgx_types.specs.Table.{refusal_in, first_of_row, extend_row};
 ghost use Rattle.epcm_entry.specs.Sights.{sight_in, held};
 ghost use Rattle.measure_log.specs.Blocks.{chunk_of};
-ghost use Rattle.enclave_build.specs.Build.{Appends, refusal_in, chunk_block};
+ghost use Rattle.enclave_build.specs.Build.{Appends, chunk_block};
 
 use crate::sights::{is_busy, is_tcs_or_reg, is_valid};
 use epcm_entry::entry_view::EntryView;

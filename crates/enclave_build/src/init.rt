@@ -1,8 +1,9 @@
 ghost use Rattle.std.specs.Prelude.{◌≡◌, List, ℕ, Some, OnOk, OnErr, IfOk};
-ghost use Rattle.sgx_types.specs.Table.{first_of_row, init_row};
+ghost use Rattle.sgx_types.specs.Table.{refusal_in, first_of_row, init_row};
 ghost use Rattle.secs_state.specs.Secs.{with_init};
 ghost use Rattle.measure_log.specs.Measure.{HoldsLog, measurement_of};
-ghost use Rattle.enclave_build.specs.Build.{refusal_in, sight_of, is_expected, measured_row, unless_measured};
+ghost use Rattle.secs_state.specs.Sights.{sight_of};
+ghost use Rattle.enclave_build.specs.Build.{is_expected, measured_row, unless_measured};
 
 use measure_log::measure::Measure;
 use secs_state::secs::Secs;

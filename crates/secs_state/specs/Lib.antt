@@ -3,3 +3,4 @@ pub mod Secs
 pub mod Kept
 pub mod Table
 pub mod Lending
+pub mod Sights

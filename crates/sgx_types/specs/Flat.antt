@@ -1,13 +1,13 @@
 -- Plain memory that is never evicted, and what each instruction that programs see does to it. It has no EPC, no frames,
 -- no translations and no epochs: it is the manual's view of enclaves that have all their memory.
-use Rattle.std.specs.Prelude.{ℕ, ◌==◌, ◌+◌, ◌*◌, ◌/◌, ◌%◌, ◌^◌, ◌&&◌, Bool, true, false, if◌then◌else◌, List, [], ◌∷◌, Option, Some, None, replicate, slice_index, slice_set, nat_lt, is_some, is_none}
+use Rattle.std.specs.Prelude.{ℕ, ◌==◌, ◌+◌, ◌-◌, ◌*◌, ◌/◌, ◌%◌, ◌^◌, ◌&&◌, Bool, true, false, if◌then◌else◌, List, [], ◌∷◌, Option, Some, None, replicate, slice_index, slice_set, nat_lt, is_some, is_none}
 use Rattle.sgx_types.specs.declared.entries.Entry.{Entry}
 use Rattle.sgx_types.specs.declared.entries.Event.{Event}
 use Rattle.sgx_types.specs.declared.entries.Event.TheVariants.{Did}
 use Rattle.sgx_types.specs.declared.entries.Actor.{Actor}
 use Rattle.sgx_types.specs.declared.entries.Actor.TheVariants as actors
 use Rattle.sgx_types.specs.declared.entries.Action.{Action}
-use Rattle.sgx_types.specs.declared.entries.Action.TheVariants.{Create, Add, Extend, Init, Enter, Exit, Load}
+use Rattle.sgx_types.specs.declared.entries.Action.TheVariants.{Create, Add, Extend, Init, Enter, Resume, Exit, Aex, Load, Store, Xadd, Set, Plus, Pf, OutLoad, OutStore}
 use Rattle.sgx_types.specs.declared.entries.Answer.{Answer}
 use Rattle.sgx_types.specs.declared.entries.Answer.TheVariants as answers
 use Rattle.sgx_types.specs.declared.entries.PageInit.{PageInit}
@@ -17,7 +17,7 @@ use Rattle.sgx_types.specs.declared.names.Kind.{Kind}
 use Rattle.sgx_types.specs.declared.names.Kind.TheVariants as kinds
 use Rattle.sgx_types.specs.declared.names.Perm.{Perm}
 use Rattle.sgx_types.specs.Frames.{Content, Free, Holds, same_page, page_at}
-use Rattle.sgx_types.specs.Table.{Case, allowed, first_of_row, FrameSight, EnclaveSight, TcsSight, create_row, add_row, extend_row, init_row, enter_row, exit_row, load_row}
+use Rattle.sgx_types.specs.Table.{Case, allowed, first_of_row, FrameSight, EnclaveSight, EnterSight, TcsSight, fault_of, create_row, add_row, extend_row, init_row, enter_row, resume_row, exit_row, aex_row, load_row, store_row, xadd_row, set_row, plus_row, pf_row, outload_row, outstore_row}
 
 -- ---- the memory
 
@@ -57,6 +57,14 @@ with_enclave m e x = record m { enclaves = λ n. if n == e then Some x else m.en
 abbrev pub with_page : FlatMemory → Page → FlatPage → FlatMemory
 with_page m g x = record m { pages = λ q. if same_page q g then Some x else m.pages q }
 
+-- a page whose words are changed, nothing where it was not added
+abbrev pub rewritten : (List ℕ → List ℕ) → Option FlatPage → Option FlatPage
+rewritten change None = None
+rewritten change (Some x) = Some (record x { words = change x.words })
+
+abbrev pub with_words : FlatMemory → Page → (List ℕ → List ℕ) → FlatMemory
+with_words m g change = record m { pages = λ q. if same_page q g then rewritten change (m.pages q) else m.pages q }
+
 abbrev pub with_busy : FlatMemory → Page → Bool → FlatMemory
 with_busy m g b = record m { is_busy = λ q. if same_page q g then b else m.is_busy q }
 
@@ -86,6 +94,10 @@ tcs_fields words = record {
   cssa = slice_index words 3 % 2 ^ 32;
   nssa = slice_index words 3 / 2 ^ 32;
 }
+
+-- the words of a TCS page with another CSSA, which counts mod 2^32
+abbrev pub with_cssa : List ℕ → ℕ → List ℕ
+with_cssa words cssa = slice_set words 3 (cssa % 2 ^ 32 + slice_index words 3 / 2 ^ 32 * 2 ^ 32)
 
 -- the words with which a page is added: all alike, or OSSA in bytes in the third and NSSA in the upper half of the fourth
 abbrev pub first_words : PageInit → List ℕ
@@ -129,25 +141,56 @@ abbrev pub flat_translation : FlatMemory → Option Inside → ℕ → Option Pe
 flat_translation m None off = None
 flat_translation m (Some i) off = reg_perm (m.pages (at_offset i.enclave off))
 
+-- the kind and permissions with which a page was added
+abbrev pub added_as : Option FlatPage → Option (Kind × Perm)
+added_as None = None
+added_as (Some x) = Some (x.kind, x.perm)
+
+-- .. of the page at an offset in the enclave that a processor is inside
+abbrev pub added_at_offset : FlatMemory → Option Inside → ℕ → Option (Kind × Perm)
+added_at_offset m None off = None
+added_at_offset m (Some i) off = added_as (m.pages (at_offset i.enclave off))
+
+abbrev pub fields_in : FlatMemory → ℕ → ℕ → TcsSight
+fields_in m enclave tcs = tcs_fields (words_of m (page_at enclave tcs))
+
+-- what `enter` and `resume` see, where the state save page has this number
+abbrev pub flat_enter_sight : FlatMemory → ℕ → ℕ → ℕ → ℕ → EnterSight
+flat_enter_sight m p enclave tcs saved = record {
+  is_inside = is_some (m.cpus p).inside;
+  enclave = enclave_sight m enclave;
+  tcs = flat_frame m (page_at enclave tcs);
+  tcs_busy = m.is_busy (page_at enclave tcs);
+  fields = fields_in m enclave tcs;
+  ssa = flat_frame m (page_at enclave saved);
+}
+
 abbrev pub flat_enter_row : FlatMemory → ℕ → ℕ → ℕ → List Case
 flat_enter_row m p enclave tcs =
-    let fields = tcs_fields (words_of m (page_at enclave tcs)) in
-    enter_row enclave tcs (record {
-      is_inside = is_some (m.cpus p).inside;
-      enclave = enclave_sight m enclave;
-      tcs = flat_frame m (page_at enclave tcs);
-      tcs_busy = m.is_busy (page_at enclave tcs);
-      fields = fields;
-      ssa = flat_frame m (page_at enclave (fields.ossa + fields.cssa));
-    })
+    let fields = fields_in m enclave tcs in
+    enter_row enclave tcs (flat_enter_sight m p enclave tcs (fields.ossa + fields.cssa))
+
+abbrev pub flat_resume_row : FlatMemory → ℕ → ℕ → ℕ → List Case
+flat_resume_row m p enclave tcs =
+    let fields = fields_in m enclave tcs in
+    resume_row enclave tcs (flat_enter_sight m p enclave tcs (fields.ossa + fields.cssa - 1))
 
 -- ---- the step
 
 -- an instruction of a processor, among those that programs see
 abbrev pub is_processors : Action → Bool
 is_processors (Enter enclave tcs tf sf) = true
+is_processors (Resume enclave tcs tf sf) = true
 is_processors Exit = true
+is_processors (Aex cause) = true
 is_processors (Load off) = true
+is_processors (Store off value) = true
+is_processors (Xadd off value) = true
+is_processors (Set value) = true
+is_processors (Plus value) = true
+is_processors (Pf op off) = true
+is_processors (OutLoad enclave off) = true
+is_processors (OutStore enclave off value) = true
 is_processors _ = false
 
 -- an instruction that programs see
@@ -157,15 +200,33 @@ is_visible (Add enclave number f kind perm init) = true
 is_visible (Extend f chunk) = true
 is_visible (Init enclave expect) = true
 is_visible (Enter enclave tcs tf sf) = true
+is_visible (Resume enclave tcs tf sf) = true
 is_visible Exit = true
+is_visible (Aex cause) = true
 is_visible (Load off) = true
+is_visible (Store off value) = true
+is_visible (Xadd off value) = true
+is_visible (Set value) = true
+is_visible (Plus value) = true
+is_visible (Pf op off) = true
+is_visible (OutLoad enclave off) = true
+is_visible (OutStore enclave off value) = true
 is_visible _ = false
 
 -- the row of an instruction of processor p
 abbrev pub flat_cpu_row : FlatMemory → ℕ → Action → List Case
 flat_cpu_row m p (Enter enclave tcs tf sf) = flat_enter_row m p enclave tcs
+flat_cpu_row m p (Resume enclave tcs tf sf) = flat_resume_row m p enclave tcs
 flat_cpu_row m p Exit = exit_row (is_some (m.cpus p).inside)
+flat_cpu_row m p (Aex cause) = aex_row (is_some (m.cpus p).inside)
 flat_cpu_row m p (Load off) = load_row off (is_some (m.cpus p).inside) (flat_translation m (m.cpus p).inside off)
+flat_cpu_row m p (Store off value) = store_row off (is_some (m.cpus p).inside) (flat_translation m (m.cpus p).inside off)
+flat_cpu_row m p (Xadd off value) = xadd_row off (is_some (m.cpus p).inside) (flat_translation m (m.cpus p).inside off)
+flat_cpu_row m p (Set value) = set_row (is_some (m.cpus p).inside)
+flat_cpu_row m p (Plus value) = plus_row (is_some (m.cpus p).inside)
+flat_cpu_row m p (Pf op off) = pf_row op off (is_some (m.cpus p).inside) (added_at_offset m (m.cpus p).inside off)
+flat_cpu_row m p (OutLoad enclave off) = outload_row (is_some (m.cpus p).inside)
+flat_cpu_row m p (OutStore enclave off value) = outstore_row (is_some (m.cpus p).inside)
 flat_cpu_row m p _ = allowed
 
 -- the row of another instruction
@@ -184,13 +245,37 @@ accepts m actor action = if is_processors action then by_cpu actor else is_none 
     by_cpu (actors.Cpu p) = nat_lt p.0 16 && is_none (first_of_row (flat_cpu_row m p.0 action))
     by_cpu _ = false
 
+-- the word at an offset in the enclave that a processor is inside
+abbrev pub word_seen : FlatMemory → Option Inside → ℕ → ℕ
+word_seen m None off = 0
+word_seen m (Some i) off = slice_index (words_of m (at_offset i.enclave off)) (word_index off)
+
+-- the first word of the state save page of this number
+abbrev pub saved_word : FlatMemory → ℕ → ℕ → ℕ
+saved_word m enclave saved = slice_index (words_of m (page_at enclave saved)) 0
+
+-- what `resume` puts into the accumulator: the word that was saved last
+abbrev pub resumed_word : FlatMemory → ℕ → ℕ → ℕ
+resumed_word m enclave tcs =
+    let fields = fields_in m enclave tcs in
+    saved_word m enclave (fields.ossa + fields.cssa - 1)
+
+-- outside an enclave its memory reads as all ones
+abbrev pub all_ones : ℕ
+all_ones = 2 ^ 64 - 1
+
+-- numbers count mod 2^64
+abbrev pub sum_of : ℕ → ℕ → ℕ
+sum_of a b = (a + b) % 2 ^ 64
+
 abbrev pub cpu_answer : FlatMemory → ℕ → Action → Answer
-cpu_answer m p (Enter enclave tcs tf sf) = answers.Cssa (tcs_fields (words_of m (page_at enclave tcs))).cssa
-cpu_answer m p (Load off) = answers.Value (loaded (m.cpus p).inside)
-  where
-    loaded : Option Inside → ℕ
-    loaded None = 0
-    loaded (Some i) = slice_index (words_of m (at_offset i.enclave off)) (word_index off)
+cpu_answer m p (Enter enclave tcs tf sf) = answers.Cssa (fields_in m enclave tcs).cssa
+cpu_answer m p (Resume enclave tcs tf sf) = answers.Value (resumed_word m enclave tcs)
+cpu_answer m p (Load off) = answers.Value (word_seen m (m.cpus p).inside off)
+cpu_answer m p (Xadd off value) = answers.Value (word_seen m (m.cpus p).inside off)
+cpu_answer m p (Plus value) = answers.Value (sum_of (m.cpus p).acc value)
+cpu_answer m p (Pf op off) = answers.Pf (fault_of (added_at_offset m (m.cpus p).inside off))
+cpu_answer m p (OutLoad enclave off) = answers.Value all_ones
 cpu_answer m p _ = answers.Plain
 
 -- what flat memory answers to an instruction that it takes
@@ -217,9 +302,36 @@ left m p = record m {
   is_busy = λ g. if is_inside_by (m.cpus p).inside g then false else m.is_busy g;
 }
 
+-- enters again by a TCS page with what was saved last, and one state save frame fewer is in use
+abbrev pub resumed : FlatMemory → ℕ → ℕ → ℕ → FlatMemory
+resumed m p enclave tcs =
+    let cssa = (fields_in m enclave tcs).cssa in
+    entered (with_words m (page_at enclave tcs) (λ words. with_cssa words (cssa - 1))) p enclave tcs (resumed_word m enclave tcs)
+
+-- the accumulator goes into the first word of the state save page that CSSA names, and one more is in use
+abbrev pub saved : FlatMemory → ℕ → Option Inside → FlatMemory
+saved m acc None = m
+saved m acc (Some i) =
+    let fields = fields_in m i.enclave i.tcs in
+    with_words (with_words m (page_at i.enclave (fields.ossa + fields.cssa)) (λ words. slice_set words 0 acc)) (page_at i.enclave i.tcs) (λ words. with_cssa words (fields.cssa + 1))
+
+-- the word at an offset in the enclave that a processor is inside becomes this one
+abbrev pub stored : FlatMemory → Option Inside → ℕ → ℕ → FlatMemory
+stored m None off value = m
+stored m (Some i) off value = with_words m (at_offset i.enclave off) (λ words. slice_set words (word_index off) value)
+
+abbrev pub with_acc : FlatMemory → ℕ → ℕ → FlatMemory
+with_acc m p acc = with_cpu m p (record (m.cpus p) { acc = acc })
+
 abbrev pub cpu_after : ℕ → Action → FlatMemory → FlatMemory
-cpu_after p (Enter enclave tcs tf sf) m = entered m p enclave tcs (tcs_fields (words_of m (page_at enclave tcs))).cssa
+cpu_after p (Enter enclave tcs tf sf) m = entered m p enclave tcs (fields_in m enclave tcs).cssa
+cpu_after p (Resume enclave tcs tf sf) m = resumed m p enclave tcs
 cpu_after p Exit m = left m p
+cpu_after p (Aex cause) m = left (saved m (m.cpus p).acc (m.cpus p).inside) p
+cpu_after p (Store off value) m = stored m (m.cpus p).inside off value
+cpu_after p (Xadd off value) m = stored m (m.cpus p).inside off (sum_of (word_seen m (m.cpus p).inside off) value)
+cpu_after p (Set value) m = with_acc m p value
+cpu_after p (Plus value) m = with_acc m p (sum_of (m.cpus p).acc value)
 cpu_after p _ m = m
 
 abbrev pub marked : Option FlatEnclave → Option FlatEnclave

@@ -8,9 +8,10 @@ use Rattle.sgx_types.specs.declared.entries.Event.TheVariants.{Did, Refused}
 use Rattle.sgx_types.specs.declared.entries.Actor.{Actor}
 use Rattle.sgx_types.specs.declared.entries.Actor.TheVariants as actors
 use Rattle.sgx_types.specs.declared.entries.Action.{Action}
-use Rattle.sgx_types.specs.declared.entries.Action.TheVariants.{Epa, Create, Add, Extend, Init, Enter, Exit, Fill, Load}
+use Rattle.sgx_types.specs.declared.entries.Action.TheVariants.{Epa, Create, Add, Extend, Init, Enter, Resume, Exit, Aex, Fill, Load, Store, Xadd, Set, Plus, Pf, OutLoad, OutStore}
 use Rattle.sgx_types.specs.declared.entries.Answer.{Answer}
 use Rattle.sgx_types.specs.declared.entries.Answer.TheVariants as answers
+use Rattle.sgx_types.specs.declared.entries.PfWhy.{PfWhy}
 use Rattle.sgx_types.specs.declared.names.Page.{Page}
 use Rattle.sgx_types.specs.declared.refusals.Refusal.{Refusal}
 use Rattle.sgx_types.specs.declared.refusals.Refusal.TheVariants as why
@@ -40,9 +41,18 @@ HasForm (Add enclave number f kind perm init) answer = answer ≡ answers.Plain
 HasForm (Extend f chunk) answer = answer ≡ answers.Plain
 HasForm (Init enclave expect) answer = (digest : List ℕ) × (answer ≡ answers.Hash digest)
 HasForm (Enter enclave tcs tf sf) answer = (cssa : ℕ) × (answer ≡ answers.Cssa cssa)
+HasForm (Resume enclave tcs tf sf) answer = (acc : ℕ) × (answer ≡ answers.Value acc)
 HasForm Exit answer = answer ≡ answers.Plain
+HasForm (Aex cause) answer = answer ≡ answers.Plain
 HasForm (Fill number f) answer = answer ≡ answers.Plain
 HasForm (Load off) answer = (word : ℕ) × (answer ≡ answers.Value word)
+HasForm (Store off value) answer = answer ≡ answers.Plain
+HasForm (Xadd off value) answer = (word : ℕ) × (answer ≡ answers.Value word)
+HasForm (Set value) answer = answer ≡ answers.Plain
+HasForm (Plus value) answer = (acc : ℕ) × (answer ≡ answers.Value acc)
+HasForm (Pf op off) answer = (fault : PfWhy) × (answer ≡ answers.Pf fault)
+HasForm (OutLoad enclave off) answer = (word : ℕ) × (answer ≡ answers.Value word)
+HasForm (OutStore enclave off value) answer = answer ≡ answers.Plain
 HasForm _ answer = Unit {0}
 
 -- whether an expected digest differs only the measurement can tell
@@ -85,6 +95,7 @@ NamesFrames frames (Create enclave f base size) = f.0 < frames
 NamesFrames frames (Add enclave number f kind perm init) = f.0 < frames
 NamesFrames frames (Extend f chunk) = f.0 < frames
 NamesFrames frames (Enter enclave tcs tf sf) = (tf.0 < frames) × (sf.0 < frames)
+NamesFrames frames (Resume enclave tcs tf sf) = (tf.0 < frames) × (sf.0 < frames)
 NamesFrames frames (Fill number f) = f.0 < frames
 NamesFrames frames _ = Unit {0}
 
@@ -142,6 +153,8 @@ StaleRule past e = by_event e.event
   where
     by_event : Event → Type 0
     by_event (Did (Load off) answer) = HoldsPageAt past e.actor off
+    by_event (Did (Store off value) answer) = HoldsPageAt past e.actor off
+    by_event (Did (Xadd off value) answer) = HoldsPageAt past e.actor off
     by_event _ = Unit {0}
 
 pub record Stale (past : List Entry) : Type 0 where

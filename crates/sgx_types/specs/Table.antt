@@ -1,7 +1,7 @@
 -- The instruction table: for each instruction the refusals in their order, as a function of what it looks at. The
 -- machine reads what an instruction looks at from its own state, the rule on refusals from the entries, and flat memory
 -- from itself, so that no row can mean two things.
-use Rattle.std.specs.Prelude.{ℕ, ◌==◌, ◌+◌, ◌/◌, ◌%◌, ◌^◌, ◌&&◌, ◌||◌, Bool, true, false, if◌then◌else◌, Option, Some, None, List, [], ◌∷◌, nat_le, nat_lt, not, is_none}
+use Rattle.std.specs.Prelude.{ℕ, ◌==◌, ◌+◌, ◌-◌, ◌/◌, ◌%◌, ◌^◌, ◌&&◌, ◌||◌, Bool, true, false, if◌then◌else◌, Option, Some, None, Result, Ok, Err, List, [], ◌∷◌, nat_le, nat_lt, not, is_none}
 use Rattle.std.specs.Int.{is_power_of_two}
 use Rattle.sgx_types.specs.declared.refusals.Refusal.{Refusal}
 use Rattle.sgx_types.specs.declared.refusals.Refusal.TheVariants as why
@@ -10,7 +10,11 @@ use Rattle.sgx_types.specs.declared.names.Kind.TheVariants as kinds
 use Rattle.sgx_types.specs.declared.names.Perm.{Perm}
 use Rattle.sgx_types.specs.declared.entries.PageInit.{PageInit}
 use Rattle.sgx_types.specs.declared.entries.PageInit.TheVariants as inits
-use Rattle.sgx_types.specs.Frames.{Content, Free, Holds, IsLoading, is_page, page_at}
+use Rattle.sgx_types.specs.declared.entries.AccessOp.{AccessOp}
+use Rattle.sgx_types.specs.declared.entries.AccessOp.TheVariants as accesses
+use Rattle.sgx_types.specs.declared.entries.PfWhy.{PfWhy}
+use Rattle.sgx_types.specs.declared.entries.PfWhy.TheVariants as faults
+use Rattle.sgx_types.specs.Frames.{Content, Free, IsVa, SecsOf, Holds, IsLoading, is_page, is_free, page_at}
 
 -- ---- rows
 
@@ -33,6 +37,11 @@ allowed = []
 abbrev pub first_of_row : List Case → Option Refusal
 first_of_row [] = None
 first_of_row (c ∷ cases) = if c.holds then Some c.why else first_of_row cases
+
+-- why an instruction was refused, None where it was done
+abbrev pub refusal_in : {T : Type 0} → Result T Refusal → Option Refusal
+refusal_in (Ok x) = None
+refusal_in (Err refusal) = Some refusal
 
 -- ---- what an instruction sees of a frame
 
@@ -59,6 +68,14 @@ abbrev pub is_reg : Content → Bool
 is_reg (Holds page kinds.Reg perm) = true
 is_reg _ = false
 
+abbrev pub is_secs : Content → Bool
+is_secs (SecsOf enclave) = true
+is_secs _ = false
+
+abbrev pub is_va : Content → Bool
+is_va IsVa = true
+is_va _ = false
+
 -- the permissions of the page in a frame, None where no page is there
 abbrev pub perm_in : Content → Option Perm
 perm_in (Holds page kind perm) = Some perm
@@ -67,6 +84,10 @@ perm_in _ = None
 abbrev pub allows_read : Option Perm → Bool
 allows_read None = false
 allows_read (Some perm) = perm.r
+
+abbrev pub allows_write : Option Perm → Bool
+allows_write None = false
+allows_write (Some perm) = perm.w
 
 abbrev pub allows_update : Option Perm → Bool
 allows_update None = false
@@ -167,7 +188,7 @@ pub record TcsSight : Type 0 where
   pub cssa : ℕ
   pub nssa : ℕ
 
--- what `enter` sees
+-- what `enter` and `resume` see
 pub record EnterSight : Type 0 where
   pub is_inside : Bool
   pub enclave : Option EnclaveSight
@@ -194,8 +215,9 @@ abbrev pub is_ready : Option EnclaveSight → Bool
 is_ready None = false
 is_ready (Some enclave) = enclave.is_init
 
-abbrev pub enter_row : ℕ → ℕ → EnterSight → List Case
-enter_row enclave tcs s =
+-- an entry by a TCS page, with what is asked of its CSSA, and the page into which or from which the state goes
+abbrev pub entry_row : ℕ → ℕ → EnterSight → Case → ℕ → List Case
+entry_row enclave tcs s saves saved =
     when s.is_inside why.WrongMode
     otherwise when (s.tcs.is_beyond || s.ssa.is_beyond) why.BadRange
     otherwise when (not (is_made s.enclave)) why.Absent
@@ -205,13 +227,34 @@ enter_row enclave tcs s =
     otherwise when (not (is_tcs s.tcs.content)) why.BadKind
     otherwise when s.tcs.is_blocked why.Blocked
     otherwise when s.tcs_busy why.TcsBusy
-    otherwise when (s.fields.cssa == s.fields.nssa) why.NoFrame
-    otherwise ssa_row enclave (s.fields.ossa + s.fields.cssa) s.ssa
+    otherwise saves
+    otherwise ssa_row enclave saved s.ssa
 
-abbrev pub exit_row : Bool → List Case
-exit_row is_inside =
+-- `enter` needs a state save frame that is not in use, the one that CSSA names
+abbrev pub enter_row : ℕ → ℕ → EnterSight → List Case
+enter_row enclave tcs s = entry_row enclave tcs s (when (s.fields.cssa == s.fields.nssa) why.NoFrame) (s.fields.ossa + s.fields.cssa)
+
+-- `resume` needs one in use, and takes the last
+abbrev pub resume_row : ℕ → ℕ → EnterSight → List Case
+resume_row enclave tcs s = entry_row enclave tcs s (when (s.fields.cssa == 0) why.NoSaved) (s.fields.ossa + s.fields.cssa - 1)
+
+-- what a processor does inside an enclave alone
+abbrev pub inside_row : Bool → List Case
+inside_row is_inside =
     when (not is_inside) why.WrongMode
     otherwise allowed
+
+-- what a processor does outside alone
+abbrev pub outside_row : Bool → List Case
+outside_row is_inside =
+    when is_inside why.WrongMode
+    otherwise allowed
+
+abbrev pub exit_row : Bool → List Case
+exit_row is_inside = inside_row is_inside
+
+abbrev pub aex_row : Bool → List Case
+aex_row is_inside = inside_row is_inside
 
 -- ---- translations and accesses
 
@@ -228,11 +271,132 @@ fill_row number (Some enclave) s =
     otherwise when (not (is_reg s.content)) why.BadKind
     otherwise allowed
 
--- `load` at an offset in bytes, with the permissions of the translation that is held
-abbrev pub load_row : ℕ → Bool → Option Perm → List Case
-load_row off is_inside translation =
+-- an access at an offset in bytes, with the permissions of the translation that is held, and whether they allow it
+abbrev pub access_row : ℕ → Bool → Option Perm → Bool → List Case
+access_row off is_inside translation is_allowed =
     when (not is_inside) why.WrongMode
     otherwise when (not (off % 8 == 0)) why.BadRange
     otherwise when (is_none translation) why.Miss
-    otherwise when (not (allows_read translation)) why.NoPerm
+    otherwise when (not is_allowed) why.NoPerm
+    otherwise allowed
+
+abbrev pub load_row : ℕ → Bool → Option Perm → List Case
+load_row off is_inside translation = access_row off is_inside translation (allows_read translation)
+
+abbrev pub store_row : ℕ → Bool → Option Perm → List Case
+store_row off is_inside translation = access_row off is_inside translation (allows_write translation)
+
+abbrev pub xadd_row : ℕ → Bool → Option Perm → List Case
+xadd_row off is_inside translation = access_row off is_inside translation (allows_update translation)
+
+-- the accumulator is used inside alone
+abbrev pub set_row : Bool → List Case
+set_row is_inside = inside_row is_inside
+
+abbrev pub plus_row : Bool → List Case
+plus_row is_inside = inside_row is_inside
+
+abbrev pub allows : Perm → AccessOp → Bool
+allows perm accesses.Load = perm.r
+allows perm accesses.Store = perm.w
+allows perm accesses.Xadd = perm.r && perm.w
+
+abbrev pub is_reg_that_allows : Kind → Perm → AccessOp → Bool
+is_reg_that_allows kinds.Reg perm op = allows perm op
+is_reg_that_allows _ perm op = false
+
+-- an access can succeed: its page was added as a REG page, with the permission
+abbrev pub is_lawful_access : Option (Kind × Perm) → AccessOp → Bool
+is_lawful_access None op = false
+is_lawful_access (Some x) op = is_reg_that_allows x.0 x.1 op
+
+-- why no reload can help an access, by the page's kind
+abbrev pub fault_by_kind : Kind → PfWhy
+fault_by_kind kinds.Reg = faults.NoPerm
+fault_by_kind _ = faults.WrongType
+
+-- .. of a page that was added or not
+abbrev pub fault_of : Option (Kind × Perm) → PfWhy
+fault_of None = faults.Absent
+fault_of (Some x) = fault_by_kind x.0
+
+-- `pf` tells that an access cannot succeed, by what its page was added as
+abbrev pub pf_row : AccessOp → ℕ → Bool → Option (Kind × Perm) → List Case
+pf_row op off is_inside added =
+    when (not is_inside) why.WrongMode
+    otherwise when (not (off % 8 == 0)) why.BadRange
+    otherwise when (is_lawful_access added op) why.NoFault
+    otherwise allowed
+
+abbrev pub outload_row : Bool → List Case
+outload_row is_inside = outside_row is_inside
+
+abbrev pub outstore_row : Bool → List Case
+outstore_row is_inside = outside_row is_inside
+
+-- ---- block, track, write-out and reload
+
+abbrev pub block_row : FrameSight → List Case
+block_row s =
+    when s.is_beyond why.BadRange
+    otherwise when (is_busy s) why.Conflict
+    otherwise when (is_free s.content) why.PgInvld
+    otherwise when (is_secs s.content) why.PgIsSecs
+    otherwise when (is_va s.content) why.NotBlockable
+    otherwise when s.is_blocked why.BlkState
+    otherwise allowed
+
+-- what `track` sees of its enclave: how many processors inside have an older epoch, and whether the epoch is the last
+pub record TrackSight : Type 0 where
+  pub is_created : Bool
+  pub older : ℕ
+  pub is_spent : Bool
+
+abbrev pub track_row : TrackSight → List Case
+track_row s =
+    when (not s.is_created) why.Absent
+    otherwise when (not (s.older == 0)) (why.PrevTrk s.older)
+    otherwise when s.is_spent why.EpochSpent
+    otherwise allowed
+
+-- what is seen of a slot: its frame, whether an EWB or ELDU that has started names it, and the version in it
+pub record SlotSight : Type 0 where
+  pub frame : FrameSight
+  pub is_beyond : Bool
+  pub is_busy : Bool
+  pub version : ℕ
+
+-- a frame or a slot past its end
+abbrev pub is_out_of_range : FrameSight → SlotSight → Bool
+is_out_of_range s slot = s.is_beyond || slot.frame.is_beyond || slot.is_beyond
+
+-- what is seen of the tracking of the page in a frame: the enclave's epoch, how many processors inside have an epoch at
+-- or below the block's, and whether none of its translations can be left
+pub record DrainSight : Type 0 where
+  pub epoch : ℕ
+  pub kept_back : ℕ
+  pub is_drained : Bool
+
+-- the start of EWB, by whether the last version was drawn
+abbrev pub ewbstart_row : FrameSight → SlotSight → DrainSight → Bool → List Case
+ewbstart_row s slot drain is_spent =
+    when (is_out_of_range s slot) why.BadRange
+    otherwise when (is_busy s || slot.is_busy) why.Conflict
+    otherwise when (is_free s.content) why.PgInvld
+    otherwise when (is_secs s.content || is_va s.content || not (is_va slot.frame.content)) why.BadKind
+    otherwise when (not s.is_blocked) why.PageNotBlocked
+    otherwise when (not drain.is_drained) (why.NotTracked drain.epoch drain.kept_back)
+    otherwise when (not (slot.version == 0)) (why.SlotOccupied slot.version)
+    otherwise when is_spent why.VersionSpent
+    otherwise allowed
+
+-- the start of ELDU, by whether the page was added to an enclave that was created
+abbrev pub eldstart_row : FrameSight → Bool → SlotSight → List Case
+eldstart_row s is_added slot =
+    when (is_out_of_range s slot) why.BadRange
+    otherwise when (not is_added) why.Absent
+    otherwise when (is_busy s || slot.is_busy) why.Conflict
+    otherwise when (is_valid s.content) why.FrameBusy
+    otherwise when (not (is_va slot.frame.content)) why.BadKind
+    otherwise when (slot.version == 0) why.SlotEmpty
     otherwise allowed
