@@ -1,2 +1,5 @@
 pub mod Chunks
+pub mod CountLaws
+pub mod Keystone
 mod Worked
+mod WorkedEviction

@@ -7,3 +7,8 @@ pub mod Table
 pub mod Flat
 pub mod Sights
 pub mod Rules
+pub mod Counts
+pub mod Epochs
+pub mod Eviction
+pub mod Slots
+pub mod ByEpochs

@@ -1,0 +1,61 @@
+-- The slots of version array pages by the entries before a place: which starts of EWB and ELDU are open, and which version
+-- each slot holds.
+use Rattle.std.specs.Prelude.{ℕ, ◌==◌, ◌+◌, ◌&&◌, Bool, true, false, if◌then◌else◌, List, [], ◌∷◌, Option, Some, None}
+use Rattle.sgx_types.specs.declared.entries.Entry.{Entry}
+use Rattle.sgx_types.specs.declared.entries.Event.{Event}
+use Rattle.sgx_types.specs.declared.entries.Event.TheVariants.{Did, Refused}
+use Rattle.sgx_types.specs.declared.entries.Action.TheVariants.{EwbStart, Ewb, EldStart, Eld}
+use Rattle.sgx_types.specs.declared.entries.Answer.TheVariants.{Moved}
+use Rattle.sgx_types.specs.declared.names.SlotAt.{SlotAt}
+
+abbrev pub same_slot : SlotAt → SlotAt → Bool
+same_slot a b = (a.frame.0 == b.frame.0) && (a.index == b.index)
+
+abbrev pub start_after : Event → ℕ → Option SlotAt → Option SlotAt
+start_after (Did (EwbStart f slot) answer) n before = if f.0 == n then Some slot else before
+start_after (Did (EldStart f page slot) answer) n before = if f.0 == n then Some slot else before
+start_after (Did (Ewb f) answer) n before = if f.0 == n then None else before
+start_after (Did (Eld f) answer) n before = if f.0 == n then None else before
+start_after (Refused (Eld f) why) n before = if f.0 == n then None else before
+start_after _ n before = before
+
+-- the slot that the open start of a frame named, None where no start of it is open
+abbrev pub open_slot : List Entry → ℕ → Option SlotAt
+open_slot [] n = None
+open_slot (e ∷ past) n = start_after e.event n (open_slot past n)
+
+abbrev pub names_slot : Option SlotAt → SlotAt → Bool
+names_slot None s = false
+names_slot (Some slot) s = same_slot slot s
+
+abbrev pub busy_after : Event → (ℕ → Option SlotAt) → SlotAt → Bool → Bool
+busy_after (Did (EwbStart f slot) answer) opened s before = if same_slot slot s then true else before
+busy_after (Did (EldStart f page slot) answer) opened s before = if same_slot slot s then true else before
+busy_after (Did (Ewb f) answer) opened s before = if names_slot (opened f.0) s then false else before
+busy_after (Did (Eld f) answer) opened s before = if names_slot (opened f.0) s then false else before
+busy_after (Refused (Eld f) why) opened s before = if names_slot (opened f.0) s then false else before
+busy_after _ opened s before = before
+
+-- whether a start that named the slot is open. A start that names a busy slot is refused, so that one commit ends it.
+abbrev pub is_slot_busy : List Entry → SlotAt → Bool
+is_slot_busy [] s = false
+is_slot_busy (e ∷ past) s = busy_after e.event (open_slot past) s (is_slot_busy past s)
+
+abbrev pub version_after : Event → (ℕ → Option SlotAt) → SlotAt → ℕ → ℕ
+version_after (Did (Ewb f) (Moved page version tag)) opened s before = if names_slot (opened f.0) s then version else before
+version_after (Did (Eld f) answer) opened s before = if names_slot (opened f.0) s then 0 else before
+version_after _ opened s before = before
+
+-- the version in a slot: that of the last page written out into it, 0 where none was, or where it came back since
+abbrev pub version_in : List Entry → SlotAt → ℕ
+version_in [] s = 0
+version_in (e ∷ past) s = version_after e.event (open_slot past) s (version_in past s)
+
+abbrev pub is_draw : Event → Bool
+is_draw (Did (EwbStart f slot) answer) = true
+is_draw _ = false
+
+-- the version that the next EWB draws: the first one, and one more for each EWB that has started
+abbrev pub next_version : ℕ → List Entry → ℕ
+next_version first [] = first
+next_version first (e ∷ past) = if is_draw e.event then next_version first past + 1 else next_version first past
