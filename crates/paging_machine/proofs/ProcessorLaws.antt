@@ -18,7 +18,7 @@ use Rattle.sgx_types.specs.Frames.{Content, Free, IsVa, SecsOf, Holds, IsLoading
 use Rattle.sgx_types.specs.Processors.{Seat, Stay, stay, stay_from, holds_number, with_pair, newest, translations}
 use Rattle.sgx_types.specs.Table.{FrameSight, EnterSight, TcsSight, EnclaveSight, is_busy, is_loading, is_tcs, is_reg, is_made, is_ready, perm_in, allows_update, enter_row, exit_row, fill_row, load_row, first_of_row}
 use Rattle.sgx_types.specs.Flat.{FlatCpu, page_words, flat_content, cpu_answer, flat, accepts, enclave_sight_of, tcs_fields, words_of, flat_enter_row, flat_translation, is_inside_by}
-use Rattle.sgx_types.specs.Sights.{sight_at, enter_row_at, enclave_of_stay, translation_at}
+use Rattle.sgx_types.specs.Sights.{sight_at, enter_sight_at, enclave_of_stay, translation_at}
 use Rattle.cached_translations.specs.declared.cache.Translation.{Translation}
 use Rattle.cached_translations.specs.Translations.{translation_of, with_translation, newest as newest_translations}
 use Rattle.paging_machine.specs.State.{State, sight, seat_of, seat_enclave, perm_of_held, translation, row_of, after_enter, after_exit, after_fill, is_seated_by, word_at}
@@ -194,7 +194,7 @@ enter_upheld s past p enclave tcs tf sf low allowed sound h =
     let ssa_held = reg_there (s.content sf.0) save (not_false _ k.ssa_page) (not_false _ k.ssa_kind) in
     let ssa_flat = stands.words sf.0 save kinds.Reg ssa_held.perm ssa_held.holds in
     let ssa_same : s.content sf.0 ≡ flat_content save (m.pages save) = ssa_held.holds ∙ sym (ap (flat_content save) ssa_flat) in
-    let by_entries : first_of_row (enter_row_at s.frames past p.0 seat) ≡ None =
+    let by_entries : first_of_row (enter_row enclave tcs (enter_sight_at s.frames past p.0 seat)) ≡ None =
     ap (λ x. first_of_row (enter_row enclave tcs x))
     (sym (enter_sight_of _ _ _ _ _ _ _ _ _ _ _ _ (mode_by_entries s past stands p.0) (ap enclave_sight_of (stands.enclaves enclave)) (sight_agrees s past stands tf.0) (stands.is_busy g) same_fields (sight_agrees s past stands sf.0)))
     ∙ allowed in
