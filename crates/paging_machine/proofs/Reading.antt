@@ -19,13 +19,17 @@ use Rattle.paging_machine.proofs.Tools.{none_holds}
 use Rattle.paging_machine.proofs.Carry.{seat_at}
 use Rattle.paging_machine.proofs.ProcessorLaws.{found_there}
 
+-- past the end of the EPC nothing is held
+pub free_past : (d : Parts) (n : ℕ) → length d.epc ≤ n → (state_of d).content n ≡ Free
+free_past d n past = ap (λ (x : EpcFrame). held x.entry) (get_or_past d.epc n free_frame past)
+
 -- a frame that holds a page is in the EPC
 pub filled_within : (d : Parts) (n : ℕ) (c : Content) → (state_of d).content n ≡ c → (Free ≡ c → ⊥) → n < length d.epc
 filled_within d n c is filled = by_place (cases_lt n (length d.epc))
   where
     by_place : (n < length d.epc) ⊎ (length d.epc ≤ n) → n < length d.epc
     by_place (inl low) = low
-    by_place (inr past) = absurd (filled (sym (ap (λ (x : EpcFrame). held x.entry) (get_or_past d.epc n free_frame past)) ∙ is))
+    by_place (inr past) = absurd (filled (sym (free_past d n past) ∙ is))
 
 loads : (s : State) (p off : ℕ) (o : Option Seat) → s.inside p ≡ o → IsSound s → first_of_row (load_row off (is_some o) (translation s p o (off / 4096))) ≡ None
     → (t : Translation) → translation_of (s.cache p) (off / 4096) ≡ Some t → (seat : Seat) × IsTranslation seat.enclave t (s.content t.frame.0) (s.is_sealing t.frame.0)

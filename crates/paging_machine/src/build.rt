@@ -110,22 +110,34 @@ impl Machine {
         ensures step { IsStep (state_of self.old) actor (actions.Add page.enclave page.number frame kind perm init) result (state_of self.new) }
         ensures cpus { length self.new.cpus ≡ length self.old.cpus }
     {
-        let Page { enclave, number } = page;
         let action = Action::Add {
-            enclave,
-            number,
+            enclave: page.enclave,
+            number: page.number,
             frame,
             kind,
             perm,
             init,
         };
-        let Some(secs) = self.secs.get_mut(enclave) else {
-            let is_beyond = frame.0 >= self.epc.frames();
-            let refusal = if is_beyond { Refusal::BadRange } else { Refusal::Absent };
+        let Some(secs) = self.secs.get_mut(page.enclave) else {
+            let is_there = frame.0 < self.epc.frames();
+            let refusal = if is_there {
+                Refusal::Absent
+            } else {
+                Refusal::BadRange
+            };
             return refused(actor, action, refusal);
         };
-        let measure = self.measures[usize::from(enclave)].as_mut().unwrap();
-        match eadd(&mut self.epc, secs, measure, number, frame, kind, perm, init) {
+        let measure = self.measures[usize::from(page.enclave)].as_mut().unwrap();
+        match eadd(
+            &mut self.epc,
+            secs,
+            measure,
+            page.number,
+            frame,
+            kind,
+            perm,
+            init,
+        ) {
             Ok(()) => done(actor, action, Answer::Plain),
             Err(refusal) => refused(actor, action, refusal),
         }

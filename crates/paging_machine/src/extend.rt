@@ -18,6 +18,7 @@ impl Machine {
         ensures cpus { length self.new.cpus ≡ length self.old.cpus }
     {
         let action = Action::Extend { frame, chunk };
+        // Where the frame holds no such page, the row has a case before it comes to the enclave.
         let Some(page) = self.page_in(frame) else {
             let refusal = extend_refusal(&self.epc, false, frame, chunk).unwrap();
             return refused(actor, action, refusal);

@@ -17,7 +17,7 @@ invariant_of-self c =
     let there : c.index_mut.result.now ≡ cpu_at d c.args.cpu.0 = cpu_there d c.args.cpu.0 _ cpu_in (rw c.from.ensures at c.index_mut.ensures.value) in
     let low : c.args.translation.number < 2 ^ 32 = omega arith in
     let small =
-        small_set d c.args.cpu.0 _ cpu_in (All-with_translation (λ t. t.number < 2 ^ 32) (cpu_at d c.args.cpu.0).cache c.args.translation (c.self.invariant.small c.args.cpu.0) low) c.self.invariant.small in
+    small_set d c.args.cpu.0 _ cpu_in (All-with_translation (λ t. t.number < 2 ^ 32) (cpu_at d c.args.cpu.0).cache c.args.translation (c.self.invariant.small c.args.cpu.0) low) c.self.invariant.small in
     rw (c.from.ensures, c.fill.ensures, there)
     (whole (record c.self.inside { cpus = with_item c.self.inside.cpus c.args.cpu.0 (record (cpu_at d c.args.cpu.0) { cache = with_translation (cpu_at d c.args.cpu.0).cache c.args.translation }) }) (after_fill (state_of d) c.args.cpu.0 c.args.translation) (fill_state d c.args.cpu.0 c.args.translation cpu_in)
     (kept_fill (state_of d) c.args.cpu.0 c.args.translation (rw (← c.self.view_is) at c.requires.allowed) (rw (← c.self.view_is) at c.requires.perm) (kept_of c.self.inside c.self.invariant))
