@@ -1,9 +1,9 @@
 -- What stays true of the translations that a processor holds.
-use Rattle.std.proofs.Common.{◌≡◌, ◌≢◌, ℕ, ◌<◌, ◌≤◌, ◌^◌, suc, zero, Bool, true, false, cond, eqb, ltb, List, [], ◌∷◌, ◌++◌, Some, is_some, length, get_or, drop, refl, arith}
+use Rattle.std.proofs.Common.{◌≡◌, ◌≢◌, ℕ, ◌<◌, ◌≤◌, ◌^◌, suc, zero, Bool, true, false, cond, eqb, ltb, List, [], ◌∷◌, ◌++◌, Option, Some, None, is_some, length, get_or, drop, refl, subst, arith}
 use Rattle.std.specs.Prelude.{All, AllPairs}
 use Rattle.std.proofs.lemmas.Bool.{eqb-true, eqb-false, ltb-true, ltb-false}
 use Rattle.std.proofs.lemmas.List.{length_push, length-drop}
-use Rattle.std.proofs.lemmas.List.Elements.{All-nil, All-push, All-drop}
+use Rattle.std.proofs.lemmas.List.Elements.{All-nil, All-head, All-tail, All-push, All-drop}
 use Rattle.std.proofs.lemmas.List.Quantifiers.{all_pairs_push, all_pairs_remove}
 use Rattle.cached_translations.specs.declared.cache.Translation.{Translation}
 use Rattle.cached_translations.specs.Translations.{translation_of, newest, with_translation, FitsCache}
@@ -32,6 +32,25 @@ translation_of-number (x ∷ held) number t found = by_test (eqb x.number number
         → t.number ≡ number
     by_test true is same rest = let e = eqb-true x.number number is in cc
     by_test false is later rest = rest later
+
+-- .. and what is true of each translation is true of it
+pub translation_of-all : (P : Translation → Type 0) (held : List Translation) (number : ℕ) (t : Translation) → translation_of held number ≡ Some t → All P held → P t
+translation_of-all P [] number t found all = cc
+translation_of-all P (x ∷ held) number t found all = by_test (eqb x.number number) found (λ later. translation_of-all P held number t later (All-tail P x held all))
+  where
+    by_test : (b : Bool) → cond b (Some x) (translation_of held number) ≡ Some t → (translation_of held number ≡ Some t → P t) → P t
+    by_test true same rest = let e : x ≡ t = cc in subst P e (All-head P x held all)
+    by_test false later rest = rest later
+
+-- no translation is of a page whose number is past 32 bits
+pub translation_of-past : (held : List Translation) (number : ℕ) → All (λ (t : Translation). t.number < 2 ^ 32) held → 2 ^ 32 ≤ number → translation_of held number ≡ None
+translation_of-past [] number small past = refl
+translation_of-past (x ∷ held) number small past =
+    by_test (eqb x.number number) refl (translation_of-past held number (All-tail (λ (t : Translation). t.number < 2 ^ 32) x held small) past)
+  where
+    by_test : (b : Bool) → eqb x.number number ≡ b → translation_of held number ≡ None → cond b (Some x) (translation_of held number) ≡ None
+    by_test true is rest = absurd (omega (arith, eqb-true x.number number is, All-head (λ (t : Translation). t.number < 2 ^ 32) x held small))
+    by_test false is rest = rest
 
 -- no translation is of a page that is not found
 pub translation_of-none : (held : List Translation) (number : ℕ) → is_some (translation_of held number) ≡ false
