@@ -6,3 +6,5 @@ pub mod enter;
 mod entry;
 pub mod exit;
 mod tcs;
+#[cfg(test)]
+mod tests;
