@@ -1,1 +1,1 @@
-mod Leads
+pub mod AccessLaws

@@ -5,4 +5,6 @@
 pub mod access;
 pub mod fill;
 pub mod outside;
+#[cfg(test)]
+mod tests;
 mod translate;

@@ -1,4 +1,4 @@
-use Rattle.enclave_access.proofs.Leads.{leads_below}
+use Rattle.enclave_access.proofs.AccessLaws.{leads_below}
 use Rattle.enclave_access.proofs.access.load.Goals as goal
 
 pub word-requires-clause-within : goal.word-requires-clause-within

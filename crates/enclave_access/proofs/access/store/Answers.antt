@@ -1,4 +1,4 @@
-use Rattle.enclave_access.proofs.Leads.{leads_below}
+use Rattle.enclave_access.proofs.AccessLaws.{leads_below}
 use Rattle.enclave_access.proofs.access.store.Goals as goal
 
 pub set_word-requires-clause-within : goal.set_word-requires-clause-within

@@ -1,4 +1,4 @@
-use Rattle.enclave_access.proofs.Leads.{leads_below}
+use Rattle.enclave_access.proofs.AccessLaws.{leads_below}
 use Rattle.enclave_access.proofs.access.xadd.Goals as goal
 
 pub word-word-requires-clause-within : goal.word-word-requires-clause-within
