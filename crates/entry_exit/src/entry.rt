@@ -76,17 +76,17 @@ impl Entry {
         if !secs.is_init() {
             return Some(Refusal::NotInit);
         }
-        let entry = epc.entry(tcs_frame);
-        if entry.is_busy() {
+        let tcs_entry = epc.entry(tcs_frame);
+        if tcs_entry.is_busy() {
             return Some(Refusal::Conflict);
         }
-        if !entry.holds(secs.enclave(), u64::from(tcs)) {
+        if !tcs_entry.holds(secs.enclave(), u64::from(tcs)) {
             return Some(Refusal::Absent);
         }
-        if !entry.is_tcs() {
+        if !tcs_entry.is_tcs() {
             return Some(Refusal::BadKind);
         }
-        if entry.is_blocked() {
+        if tcs_entry.is_blocked() {
             return Some(Refusal::Blocked);
         }
         if secs.tcs_busy(tcs) {
