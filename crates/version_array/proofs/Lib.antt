@@ -1,0 +1,3 @@
+mod SlotLaws
+pub mod TableLaws
+pub mod KeeperLaws
