@@ -1,3 +1,3 @@
-mod SlotLaws
+pub mod SlotLaws
 pub mod TableLaws
 pub mod KeeperLaws

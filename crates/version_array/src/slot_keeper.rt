@@ -1,4 +1,4 @@
-ghost use Rattle.std.specs.Prelude.{◌≡◌, ◌≢◌, ◌+◌, ◌<◌, ◌≤◌, ◌++◌, true, false, length, is_some, nat_lt, IfOk, IfSome, IfNone, vec_capacity, vec_len};
+ghost use Rattle.std.specs.Prelude.{◌≡◌, ◌+◌, ◌<◌, ◌≤◌, ◌++◌, true, false, length, is_some, nat_lt, IfOk, IfSome, IfNone, vec_capacity, vec_len};
 ghost use Rattle.version_array.specs.Keeper.{new_keeper, is_added, is_out, count_all, count_out, Adds, Takes, Gives, AllOut};
 ghost use Rattle.version_array.specs.Pages.{first_slots};
 
@@ -14,7 +14,6 @@ pub struct SlotKeeper {
     frames: Vec<Frame>,
     // The slots that are not out, as a stack.
     free: Vec<SlotAt>,
-    room: u32,
 }
 
 impl Model for SlotKeeper {
@@ -38,7 +37,6 @@ impl SlotKeeper {
         Ok(SlotKeeper {
             frames: Vec::with_capacity(alloc, count)?,
             free: Vec::with_capacity(alloc, usize::from(SLOTS) * count)?,
-            room: pages,
         })
     }
 
@@ -79,5 +77,33 @@ fn push_slots(slots: &mut Vec<SlotAt>, frame: Frame)
 {
     for index in 0..SLOTS {
         slots.push_reserved(SlotAt { frame, index });
+    }
+}
+
+#[cfg(test)]
+mod tests {
+    use super::*;
+    use std::test::Fail;
+
+    #[test]
+    fn hands_out_each_slot_once(rt: HostRuntime) -> Result<(), Fail> {
+        let mut keeper = SlotKeeper::new(rt.alloc(), 1)?;
+        assert_eq!(rt; keeper.take(), None);
+        keeper.add(Frame(0));
+        let mut was_taken = [false; 512];
+        let mut last = keeper.take().ok_or("no slot")?;
+        was_taken[usize::from(last.index) % 512] = true;
+        for _ in 1..512 {
+            last = keeper.take().ok_or("too few slots")?;
+            assert_eq!(rt; last.frame, Frame(0));
+            assert!(rt; last.index < 512);
+            assert!(rt; !was_taken[usize::from(last.index)], "{last:?} twice");
+            was_taken[usize::from(last.index)] = true;
+        }
+        assert_eq!(rt; keeper.take(), None);
+        keeper.give(last);
+        assert_eq!(rt; keeper.take(), Some(last));
+        assert_eq!(rt; keeper.take(), None);
+        Ok(())
     }
 }

@@ -130,3 +130,32 @@ fn extend_to(pages: &mut Vec<Option<VaPage>>, len: usize) -> Result<(), AllocErr
     }
     Ok(())
 }
+
+#[cfg(test)]
+mod tests {
+    use super::*;
+    use std::test::Fail;
+
+    fn at(number: u32, index: u16) -> SlotAt {
+        SlotAt {
+            frame: Frame(number),
+            index,
+        }
+    }
+
+    #[test]
+    fn slots_keep_versions_and_marks(rt: HostRuntime) -> Result<(), Fail> {
+        let mut table = VaTable::new();
+        table.epa(rt.alloc(), Frame(3))?;
+        table.write(at(3, 511), 7);
+        table.epa(rt.alloc(), Frame(0))?;
+        assert_eq!(rt; table.slot(at(3, 511)), 7);
+        assert_eq!(rt; table.slot(at(0, 511)), 0);
+        table.set_busy(at(3, 511), true);
+        assert!(rt; table.busy(at(3, 511)));
+        assert!(rt; !table.busy(at(3, 510)));
+        table.clear(at(3, 511));
+        assert_eq!(rt; table.slot(at(3, 511)), 0);
+        Ok(())
+    }
+}

@@ -1,4 +1,4 @@
-use Rattle.std.proofs.Common.{◌≡◌, ◌<◌, ◌∙◌, false, length, ap, sym, arith, refl}
+use Rattle.std.proofs.Common.{◌≡◌, ◌<◌, ◌∙◌, false, length, ap, sym, arith}
 use Rattle.version_array.specs.Keeper.{Keeper, is_added}
 use Rattle.version_array.specs.Stack.{keeper_of}
 use Rattle.version_array.proofs.KeeperLaws.{room_to_add, adds_keeper, adds}
@@ -16,10 +16,9 @@ invariant_of-self c =
     record {
       keeper =
           adds_keeper (keeper_of c.self.inside) _ c.args.f
-          (record { frames = c.push_reserved.ensures.items; free = c.push_slots.ensures.items; room = refl })
+          (record { frames = c.push_reserved.ensures.items; free = c.push_slots.ensures.items; room = c.push_reserved.ensures.capacity })
           c.self.invariant.keeper low fresh;
-      frames_fit = rw c.push_reserved.ensures.capacity c.self.invariant.frames_fit;
-      slots_fit = rw c.push_slots.ensures.capacity c.self.invariant.slots_fit;
+      slots_fit = rw (c.push_reserved.ensures.capacity, c.push_slots.ensures.capacity) c.self.invariant.slots_fit;
     }
 
 pub returns : goal.returns
@@ -27,5 +26,5 @@ returns c =
     let fresh : is_added (keeper_of c.self.inside) c.args.f.0 ≡ false = ap (λ k. is_added k c.args.f.0) c.self.view_is ∙ c.requires.fresh in
     rw (← c.self.view_is)
     (adds (keeper_of c.self.inside) _ c.args.f
-    (record { frames = c.push_reserved.ensures.items; free = c.push_slots.ensures.items; room = refl })
+    (record { frames = c.push_reserved.ensures.items; free = c.push_slots.ensures.items; room = c.push_reserved.ensures.capacity })
     fresh)

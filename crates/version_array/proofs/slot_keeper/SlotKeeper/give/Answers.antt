@@ -17,7 +17,6 @@ invariant_of-self c =
           gives_keeper (keeper_of c.self.inside) _ c.args.at
           (record { free = c.push_reserved.ensures.items; frames = refl; room = refl })
           c.self.invariant.keeper out;
-      frames_fit = c.self.invariant.frames_fit;
       slots_fit = rw c.push_reserved.ensures.capacity c.self.invariant.slots_fit;
     }
 

@@ -5,6 +5,5 @@ use Rattle.version_array.proofs.slot_keeper.SlotKeeper.new.Goals as goal
 pub invariant_of-result : goal.invariant_of-result
 invariant_of-result c = record {
   keeper = new_is_keeper _ _ _ c.in_ok-with_capacity.ensures.items c.in_ok-with_capacity-2.ensures.items;
-  frames_fit = omega (arith, c.in_ok-with_capacity.ensures.capacity);
-  slots_fit = rw c.from.ensures at c.in_ok-with_capacity-2.ensures.capacity;
+  slots_fit = omega (arith, rw c.from.ensures at c.in_ok-with_capacity-2.ensures.capacity, c.in_ok-with_capacity.ensures.exact);
 }

@@ -6,7 +6,6 @@ use Rattle.version_array.proofs.slot_keeper.SlotKeeper.take.Goals as goal
 pub invariant_of-self : goal.invariant_of-self
 invariant_of-self c = record {
   keeper = popped_keeper (keeper_of c.self.inside) _ _ c.self.invariant.keeper c.pop.ensures.items;
-  frames_fit = c.self.invariant.frames_fit;
   slots_fit = rw c.pop.ensures.capacity c.self.invariant.slots_fit;
 }
 
