@@ -112,6 +112,7 @@ takes old new slot one is =
     record {
       ours = ours_same new old slot one slot ∙ s.ours;
       was_in = out_grown new old slot one s.ours s.absent slot ∙ ap (λ b. not b && is_out new slot) (is_same slot);
+      now_out = out_shrunk new old slot one s.ours s.absent slot ∙ ap (λ b. b || is_out old slot) (is_same slot);
       frames = sym one.frames;
       room = sym one.room;
       out = out_shrunk new old slot one s.ours s.absent;

@@ -33,11 +33,14 @@ page_at-with_slot table slot content n h = put_at table slot.frame.0 n (Some (se
 
 pub has_page-with_slot : (table : List (Option (List VaSlot))) (slot : SlotAt) (content : VaSlot) (n : ℕ) → has_page table slot.frame.0 ≡ true → has_page (with_slot table slot content) n ≡ has_page table n
 has_page-with_slot table slot content n h =
-    let written = Some (set (slots_of table slot.frame.0) slot.index content) in
     ap is_some (page_at-with_slot table slot content n h)
     ∙ cond_both (slot.frame.0 == n) (Some (set (slots_of table slot.frame.0) slot.index content)) (page_at table n) (λ v. is_some v ≡ has_page table n)
     (λ e. sym h ∙ ap (has_page table) (eqb-true slot.frame.0 n e))
     (λ _. refl)
+
+-- a slot is one after a change of another too
+pub slot_kept : (table : List (Option (List VaSlot))) (slot other : SlotAt) (content : VaSlot) → IsSlot table slot → IsSlot table other → IsSlot (with_slot table slot content) other
+slot_kept table slot other content at is = record { paged = has_page-with_slot table slot content other.frame.0 at.paged ∙ is.paged; within = is.within }
 
 slots_of-with_slot : (table : List (Option (List VaSlot))) (slot : SlotAt) (content : VaSlot) (n : ℕ) → has_page table slot.frame.0 ≡ true
     → slots_of (with_slot table slot content) n ≡ cond (slot.frame.0 == n) (set (slots_of table slot.frame.0) slot.index content) (slots_of table n)
@@ -132,6 +135,10 @@ has_page-with_page table n m = ap is_some (page_at-with_page table n m) ∙ move
     moved : (b : Bool) → is_some (cond b (Some empty_page) (page_at table m)) ≡ (b || has_page table m)
     moved true = refl
     moved false = refl
+
+-- each slot of a new page is one
+pub slot_of_page : (table : List (Option (List VaSlot))) (n : ℕ) (slot : SlotAt) → slot.frame.0 ≡ n → slot.index < 512 → IsSlot (with_page table n) slot
+slot_of_page table n slot here low = record { paged = has_page-with_page table n slot.frame.0 ∙ ap (λ b. b || has_page table slot.frame.0) (eq-eqb n slot.frame.0 (sym here)); within = low }
 
 -- an empty page has no version and no mark
 empty_at : (i : ℕ) → get_or empty_page i empty_slot ≡ empty_slot

@@ -57,6 +57,7 @@ pub record Adds (old : Keeper) (frame : Frame) (new : Keeper) : Type 0 where
 pub record Takes (old : Keeper) (taken : SlotAt) (new : Keeper) : Type 0 where
   pub ours : is_ours old taken ≡ true
   pub was_in : is_out old taken ≡ false
+  pub now_out : is_out new taken ≡ true
   pub frames : new.frames ≡ old.frames
   pub room : new.room ≡ old.room
   pub out : (slot : SlotAt) → is_out new slot ≡ (same_slot taken slot || is_out old slot)

@@ -83,27 +83,45 @@ fn push_slots(slots: &mut Vec<SlotAt>, frame: Frame)
 #[cfg(test)]
 mod tests {
     use super::*;
+    use std::process::Abort;
     use std::test::Fail;
+
+    // Takes a slot of frame 0 that was not taken yet.
+    fn take_new(
+        rt: &impl Abort,
+        keeper: &mut SlotKeeper,
+        was_taken: &mut [bool; 512],
+    ) -> Result<SlotAt, Fail>
+        ensures { IfOk result (λ slot. is_out keeper.new slot ≡ true) }
+    {
+        let slot = keeper.take().ok_or("too few slots")?;
+        assert_eq!(rt; slot.frame, Frame(0));
+        assert!(rt; slot.index < 512);
+        assert!(rt; !was_taken[usize::from(slot.index)], "{slot:?} twice");
+        was_taken[usize::from(slot.index)] = true;
+        Ok(slot)
+    }
+
+    fn take_none(rt: &impl Abort, keeper: &mut SlotKeeper)
+        ensures { keeper.new ≡ keeper.old }
+    {
+        assert!(rt; keeper.take().is_none());
+    }
 
     #[test]
     fn hands_out_each_slot_once(rt: HostRuntime) -> Result<(), Fail> {
         let mut keeper = SlotKeeper::new(rt.alloc(), 1)?;
-        assert_eq!(rt; keeper.take(), None);
+        take_none(&rt, &mut keeper);
         keeper.add(Frame(0));
         let mut was_taken = [false; 512];
-        let mut last = keeper.take().ok_or("no slot")?;
-        was_taken[usize::from(last.index) % 512] = true;
-        for _ in 1..512 {
-            last = keeper.take().ok_or("too few slots")?;
-            assert_eq!(rt; last.frame, Frame(0));
-            assert!(rt; last.index < 512);
-            assert!(rt; !was_taken[usize::from(last.index)], "{last:?} twice");
-            was_taken[usize::from(last.index)] = true;
+        for _ in 0..511 {
+            let _ = take_new(&rt, &mut keeper, &mut was_taken)?;
         }
-        assert_eq!(rt; keeper.take(), None);
+        let last = take_new(&rt, &mut keeper, &mut was_taken)?;
+        take_none(&rt, &mut keeper);
         keeper.give(last);
         assert_eq!(rt; keeper.take(), Some(last));
-        assert_eq!(rt; keeper.take(), None);
+        take_none(&rt, &mut keeper);
         Ok(())
     }
 }

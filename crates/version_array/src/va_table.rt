@@ -134,28 +134,34 @@ fn extend_to(pages: &mut Vec<Option<VaPage>>, len: usize) -> Result<(), AllocErr
 #[cfg(test)]
 mod tests {
     use super::*;
+    use std::process::Abort;
     use std::test::Fail;
 
-    fn at(number: u32, index: u16) -> SlotAt {
-        SlotAt {
-            frame: Frame(number),
-            index,
-        }
+    const LAST: SlotAt = SlotAt {
+        frame: Frame(3),
+        index: 511,
+    };
+
+    #[tactic(auto, using(crate::proofs::TableLaws::slot_kept))]
+    fn use_slot(rt: &impl Abort, table: &mut VaTable, at: SlotAt)
+        requires { IsSlot table.old at }
+    {
+        assert_eq!(rt; table.slot(at), 0);
+        table.write(at, 7);
+        table.set_busy(at, true);
+        assert_eq!(rt; table.slot(at), 7);
+        assert!(rt; table.busy(at));
+        table.clear(at);
+        table.set_busy(at, false);
+        assert_eq!(rt; table.slot(at), 0);
+        assert!(rt; !table.busy(at));
     }
 
     #[test]
     fn slots_keep_versions_and_marks(rt: HostRuntime) -> Result<(), Fail> {
         let mut table = VaTable::new();
         table.epa(rt.alloc(), Frame(3))?;
-        table.write(at(3, 511), 7);
-        table.epa(rt.alloc(), Frame(0))?;
-        assert_eq!(rt; table.slot(at(3, 511)), 7);
-        assert_eq!(rt; table.slot(at(0, 511)), 0);
-        table.set_busy(at(3, 511), true);
-        assert!(rt; table.busy(at(3, 511)));
-        assert!(rt; !table.busy(at(3, 510)));
-        table.clear(at(3, 511));
-        assert_eq!(rt; table.slot(at(3, 511)), 0);
+        use_slot(&rt, &mut table, LAST);
         Ok(())
     }
 }
