@@ -2,10 +2,9 @@
 use Rattle.std.proofs.Common.{◌≡◌, ℕ, ◌+◌, ◌-◌, ◌*◌, ◌<◌, ◌≤◌, ◌==◌, nat_lt, Bool, true, false, not, ◌&&◌, ◌||◌, List, [], ◌∷◌, ◌++◌, length, Option, Some, None, IfSome, MatchOption, is_some, arith, zero, suc, refl, sym, ap, ◌∙◌, ⊎_elim, append_assoc}
 use Rattle.std.specs.List.{list_any, IsDistinct}
 use Rattle.std.specs.Option.{option_to_list}
-use Rattle.std.proofs.lemmas.Bool.{and_parts, and_from, and_left, or_cases, or_from, or_left, or_right, eqb-true, eq-eqb, cases_Bool, not-true, lt-ltb, le-ltb, false≢true, false_from_ne_true, and_right}
+use Rattle.std.proofs.lemmas.Bool.{and_parts, or_cases, or_from, or_left, or_right, eqb-true, not-true, lt-ltb, le-ltb, false≢true, false_from_ne_true, and_right}
 use Rattle.std.proofs.lemmas.Cmp.{nat_eq_equiv}
 use Rattle.std.proofs.lemmas.List.{length-append, append-nil}
-
 use Rattle.std.proofs.lemmas.List.Folds.{list_any-append}
 use Rattle.std.proofs.lemmas.Map.Keys.{IsDistinct-push}
 use Rattle.std.proofs.lemmas.Map.Made.{length-le_from_is_member}
@@ -92,6 +91,7 @@ out_grown less more slot one ours absent t =
   where
     here : is_among more.free slot ≡ true
     here = among_more less more slot one slot ∙ or_right (is_among less.free slot) (same_slot slot slot || false) (or_left (same_slot slot slot) false (is_same slot))
+
     gone : is_out more slot ≡ false
     gone = ap (λ b. is_ours more slot && not b) here ∙ and_false (is_ours more slot)
       where
@@ -236,8 +236,8 @@ pub adds_keeper : (old new : Keeper) (frame : Frame) → OnePage old new frame �
 adds_keeper old new frame one is low fresh = record {
   few = rw (one.frames, one.room, length-append) (omega arith);
   ours = λ t h.
-    ap (λ b. b && nat_lt t.index 512) (added_more old new frame one t.frame.0)
-    ∙ ours_more (is_added old t.frame.0) (frame.0 == t.frame.0) (nat_lt t.index 512) (is_among old.free t) (is.ours t) (sym (among_page old new frame one t) ∙ h);
+      ap (λ b. b && nat_lt t.index 512) (added_more old new frame one t.frame.0)
+      ∙ ours_more (is_added old t.frame.0) (frame.0 == t.frame.0) (nat_lt t.index 512) (is_among old.free t) (is.ours t) (sym (among_page old new frame one t) ∙ h);
   distinct = rw one.free (distinct_page old frame 512 is fresh);
 }
 
@@ -256,10 +256,10 @@ adds old new frame one fresh = record {
   frames = one.frames;
   room = one.room;
   out = λ t.
-    ap (λ b. (b && nat_lt t.index 512) && not (is_among new.free t)) (added_more old new frame one t.frame.0)
-    ∙ ap (λ b. ((is_added old t.frame.0 || ((frame.0 == t.frame.0) || false)) && nat_lt t.index 512) && not b) (among_page old new frame one t)
-    ∙ out_page (is_added old t.frame.0) (frame.0 == t.frame.0) (nat_lt t.index 512) (is_among old.free t)
-    (λ e. ap (is_added old) (sym (eqb-true frame.0 t.frame.0 e)) ∙ fresh);
+      ap (λ b. (b && nat_lt t.index 512) && not (is_among new.free t)) (added_more old new frame one t.frame.0)
+      ∙ ap (λ b. ((is_added old t.frame.0 || ((frame.0 == t.frame.0) || false)) && nat_lt t.index 512) && not b) (among_page old new frame one t)
+      ∙ out_page (is_added old t.frame.0) (frame.0 == t.frame.0) (nat_lt t.index 512) (is_among old.free t)
+      (λ e. ap (is_added old) (sym (eqb-true frame.0 t.frame.0 e)) ∙ fresh);
   counted =
       let pages : length new.frames ≡ length old.frames + 1 = ap length one.frames ∙ length-append old.frames (frame ∷ []) in
       let slots : length new.free ≡ length old.free + 512 = ap length one.free ∙ length-append old.free (first_slots frame 512) ∙ ap (λ n. length old.free + n) (length-first_slots frame 512) in
@@ -269,4 +269,3 @@ adds old new frame one fresh = record {
 -- there is room for the slots of one page more
 pub room_to_add : (k : Keeper) → IsKeeper k → length k.frames < k.room → length k.free + 512 ≤ 512 * k.room
 room_to_add k is low = omega (arith, fits k is, low)
-

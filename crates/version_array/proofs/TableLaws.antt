@@ -1,10 +1,10 @@
 -- What a table says of every frame and slot after a change of one.
-use Rattle.std.proofs.Common.{◌≡◌, ℕ, ◌+◌, ◌-◌, ◌<◌, ◌≤◌, ◌==◌, Bool, true, false, ◌&&◌, ◌||◌, cond, List, [], ◌∷◌, ◌++◌, length, replicate, set, get_or, Option, Some, None, is_some, arith, zero, suc, refl, sym, ap, ◌∙◌, ⊎_elim, append_assoc, length-set}
+use Rattle.std.proofs.Common.{◌≡◌, ℕ, ◌+◌, ◌-◌, ◌<◌, ◌≤◌, ◌==◌, Bool, true, false, ◌&&◌, ◌||◌, cond, List, [], ◌∷◌, ◌++◌, length, replicate, set, get_or, Option, Some, None, is_some, arith, refl, sym, ap, ◌∙◌, ⊎_elim, length-set}
 use Rattle.std.specs.Global.{Vec}
 use Rattle.std.specs.Option.{unwrap_or}
 use Rattle.std.specs.List.{AppendsResults, FoldsTo}
-use Rattle.std.proofs.lemmas.Bool.{cases_lt, cond_both, eqb-true, eq-eqb, false≢true, true≢false}
-use Rattle.std.proofs.lemmas.List.{get_or-set_same, get_or-set_other, get_or_past, get_or_append_left, get_or-append_right, get_or-replicate, length-replicate, length-append, append-nil, take_all}
+use Rattle.std.proofs.lemmas.Bool.{cases_lt, cond_both, eqb-true, eq-eqb, false≢true}
+use Rattle.std.proofs.lemmas.List.{get_or-set_same, get_or-set_other, get_or_past, get_or_append_left, get_or-append_right, get_or-replicate, length-replicate, length-append}
 use Rattle.sgx_types.specs.declared.names.SlotAt.{SlotAt}
 use Rattle.version_array.specs.declared.va_page.VaSlot.{VaSlot}
 use Rattle.version_array.specs.Slots.{same_slot, empty_slot, empty_page, page_at, has_page, page_slots, slots_of, slot_in, version_in, is_busy_at, IsSlot, IsVaTable, with_slot, with_version, with_busy, up_to, with_page}
@@ -57,8 +57,8 @@ slot_in-with_slot table slot other content is at =
     ap (λ slots. get_or slots other.index empty_slot) (slots_of-with_slot table slot content other.frame.0 at.paged)
     ∙ elim (slot.frame.0 == other.frame.0) as (λ b. (slot.frame.0 == other.frame.0) ≡ b → get_or (cond b (set (slots_of table slot.frame.0) slot.index content) (slots_of table other.frame.0)) other.index empty_slot ≡ cond (b && (slot.index == other.index)) content (slot_in table other)) [
       | true ↦ λ e.
-        put_at (slots_of table slot.frame.0) slot.index other.index content empty_slot (rw (is.sized slot.frame.0 at.paged) at.within)
-        ∙ ap (λ k. cond (slot.index == other.index) content (get_or (slots_of table k) other.index empty_slot)) (eqb-true slot.frame.0 other.frame.0 e)
+          put_at (slots_of table slot.frame.0) slot.index other.index content empty_slot (rw (is.sized slot.frame.0 at.paged) at.within)
+          ∙ ap (λ k. cond (slot.index == other.index) content (get_or (slots_of table k) other.index empty_slot)) (eqb-true slot.frame.0 other.frame.0 e)
       | false ↦ λ e. refl
     ] refl
 
@@ -114,12 +114,12 @@ page_at-up_to frames table n =
     ⊎_elim
     (λ (low : n < length table). get_or_append_left table (replicate (frames - length table) None) None n low)
     (λ (past : length table ≤ n).
-      get_or-append_right table (replicate (frames - length table) None) (length table) n None refl past
-      ∙ ⊎_elim
-      (λ (low : n - length table < frames - length table). get_or-replicate (frames - length table) (n - length table) None None low)
-      (λ (end : frames - length table ≤ n - length table). get_or_past (replicate (frames - length table) None) (n - length table) None (rw length-replicate end))
-      (cases_lt (n - length table) (frames - length table))
-      ∙ sym (get_or_past table n None past))
+    get_or-append_right table (replicate (frames - length table) None) (length table) n None refl past
+    ∙ ⊎_elim
+    (λ (low : n - length table < frames - length table). get_or-replicate (frames - length table) (n - length table) None None low)
+    (λ (end : frames - length table ≤ n - length table). get_or_past (replicate (frames - length table) None) (n - length table) None (rw length-replicate end))
+    (cases_lt (n - length table) (frames - length table))
+    ∙ sym (get_or_past table n None past))
     (cases_lt n (length table))
 
 -- the pages after a new one
@@ -181,19 +181,19 @@ IsVaTable-none = record { sized = λ n h. absurd (false≢true h) }
 pub IsVaTable-with_slot : (table : List (Option (List VaSlot))) (slot : SlotAt) (content : VaSlot) → IsVaTable table → IsSlot table slot → IsVaTable (with_slot table slot content)
 IsVaTable-with_slot table slot content is at = record {
   sized = λ n h.
-    ap length (slots_of-with_slot table slot content n at.paged)
-    ∙ cond_both (slot.frame.0 == n) (set (slots_of table slot.frame.0) slot.index content) (slots_of table n) (λ v. length v ≡ 512)
-    (λ _. length-set (slots_of table slot.frame.0) slot.index content ∙ is.sized slot.frame.0 at.paged)
-    (λ _. is.sized n (sym (has_page-with_slot table slot content n at.paged) ∙ h));
+      ap length (slots_of-with_slot table slot content n at.paged)
+      ∙ cond_both (slot.frame.0 == n) (set (slots_of table slot.frame.0) slot.index content) (slots_of table n) (λ v. length v ≡ 512)
+      (λ _. length-set (slots_of table slot.frame.0) slot.index content ∙ is.sized slot.frame.0 at.paged)
+      (λ _. is.sized n (sym (has_page-with_slot table slot content n at.paged) ∙ h));
 }
 
 pub IsVaTable-with_page : (table : List (Option (List VaSlot))) (n : ℕ) → IsVaTable table → IsVaTable (with_page table n)
 IsVaTable-with_page table n is = record {
   sized = λ m h.
-    ap (λ page. length (page_slots page)) (page_at-with_page table n m)
-    ∙ cond_both (n == m) (Some empty_page) (page_at table m) (λ v. length (page_slots v) ≡ 512)
-    (λ _. length-empty_page)
-    (λ e. is.sized m (sym (has_page-with_page table n m ∙ ap (λ b. b || has_page table m) e) ∙ h));
+      ap (λ page. length (page_slots page)) (page_at-with_page table n m)
+      ∙ cond_both (n == m) (Some empty_page) (page_at table m) (λ v. length (page_slots v) ≡ 512)
+      (λ _. length-empty_page)
+      (λ e. is.sized m (sym (has_page-with_page table n m ∙ ap (λ b. b || has_page table m) e) ∙ h));
 }
 
 -- as many as were asked for, each the same

@@ -1,4 +1,4 @@
-use Rattle.std.proofs.Common.{◌≡◌, ◌<◌, ◌∙◌, false, length, ap, sym, arith}
+use Rattle.std.proofs.Common.{◌≡◌, ◌<◌, ◌∙◌, false, length, ap, arith}
 use Rattle.version_array.specs.Keeper.{Keeper, is_added}
 use Rattle.version_array.specs.Stack.{keeper_of}
 use Rattle.version_array.proofs.KeeperLaws.{room_to_add, adds_keeper, adds}
