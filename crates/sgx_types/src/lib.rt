@@ -4,4 +4,5 @@
 pub mod entries;
 pub mod layouts;
 pub mod names;
+pub mod record;
 pub mod refusals;
