@@ -5,6 +5,7 @@ use Rattle.std.proofs.lemmas.Bool.{cases_lt}
 use Rattle.std.proofs.lemmas.List.{take-take, drop-take, take-append-drop, get_or-take, get_or-drop, get_or_past, length-take, length-drop, append_assoc, drop-drop, take_at, drop_at, take_rest}
 use Rattle.std.proofs.lemmas.Nat.{le_bytes_8, from_le_bytes-to_le_bytes_8}
 use Rattle.sgx_types.specs.Layouts.{long_at}
+use Rattle.sgx_types.proofs.Chunks.{two_pieces}
 use Rattle.sgx_types.specs.Sealed.{Sealed, IsRecord, record_bytes}
 
 -- a record by its parts
@@ -14,14 +15,6 @@ sealed_of enclave address flags cipher tag = record { header = record { enclave 
 -- the record that stands in so many bytes
 abbrev pub record_in : List ℕ → Sealed
 record_in bytes = sealed_of (long_at bytes 0) (long_at bytes 8) (long_at bytes 16) (take 4096 (drop 24 bytes)) (drop 4120 bytes)
-
--- two pieces in a row are one
-two_pieces : (n m : ℕ) (xs : List ℕ) → take n xs ++ take m (drop n xs) ≡ take (n + m) xs
-two_pieces n m xs =
-    let front : take n (take (n + m) xs) ≡ take n xs = take-take n (n + m) xs (omega arith) in
-    let back : drop n (take (n + m) xs) ≡ take m (drop n xs) = drop-take n m xs in
-    let whole : take n (take (n + m) xs) ++ drop n (take (n + m) xs) ≡ take (n + m) xs = take-append-drop n (take (n + m) xs) in
-    cc
 
 -- every element of a piece is below a bound that the list keeps
 piece_below : (n i : ℕ) (xs : List ℕ) → ((k : ℕ) → get_or xs k 0 < 256) → (k : ℕ) → get_or (take n (drop i xs)) k 0 < 256

@@ -1,0 +1,4 @@
+mod Blocks
+mod Enciphered
+mod Tagged
+mod Xor
