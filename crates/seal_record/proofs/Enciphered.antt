@@ -14,7 +14,7 @@ pub enciphered_more : (key : List ℕ) (version index k : ℕ) (plain now block 
     → now ≡ enciphered key version index plain → changed ≡ xor_bytes (take k (drop (32 * index) now)) block → put_mid (32 * index) k now changed ≡ enciphered key version (index + 1) plain
 enciphered_more key version index k plain now block changed is_k fits is_block is_now is_changed =
     let longer : keystream_blocks key version index ++ block ≡ keystream_blocks key version (index + 1)
-        = ap (λ last. keystream_blocks key version index ++ last) is_block ∙ sym (keystream_blocks-more key version index) ∙ ap (keystream_blocks key version) (sym (add-one index)) in
+    = ap (λ last. keystream_blocks key version index ++ last) is_block ∙ sym (keystream_blocks-more key version index) ∙ ap (keystream_blocks key version) (sym (add-one index)) in
     let further : 32 * index + 32 ≡ 32 * (index + 1) = omega arith in
     block_more (32 * index) k plain (keystream_blocks key version index) block now changed is_k (length-keystream_blocks key version index) fits is_now is_changed
     ∙ ap (λ at. xor_bytes (take at plain) (keystream_blocks key version index ++ block) ++ drop at plain) further

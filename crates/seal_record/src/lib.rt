@@ -4,4 +4,6 @@
 pub mod cipher;
 pub mod seal;
 mod tag;
+#[cfg(test)]
+mod tests;
 pub mod unseal;
