@@ -2,6 +2,7 @@
 #![tactic(auto)]
 
 pub mod cipher;
+pub mod records;
 pub mod seal;
 mod tag;
 #[cfg(test)]

@@ -1,5 +1,5 @@
-ghost use Rattle.std.specs.Prelude.{◌≡◌, IfOk, length, replicate};
-ghost use Rattle.seal_record.specs.Cipher.{sealed};
+ghost use Rattle.std.specs.Prelude.{◌≡◌, IfOk, length};
+ghost use Rattle.seal_record.specs.Cipher.{sealed, zeros};
 
 use crate::cipher::encipher;
 use crate::tag::tag_of;
@@ -32,11 +32,12 @@ pub struct SealedWork {
 
 impl SealWork {
     /// A page of zeros under a zero key, version and header.
+    #[tactic(auto, unfolding(crate::specs::Cipher::zeros))]
     pub fn new(alloc: Global) -> Result<SealWork, Memory>
-        ensures key { IfOk result (λ work. work.key ≡ replicate 32 0) }
+        ensures key { IfOk result (λ work. work.key ≡ zeros 32) }
         ensures version { IfOk result (λ work. work.version ≡ 0) }
         ensures header { IfOk result (λ work. work.header ≡ record { enclave = 0; address = 0; flags = 0 }) }
-        ensures plain { IfOk result (λ work. work.plain.items ≡ replicate 4096 0) }
+        ensures plain { IfOk result (λ work. work.plain.items ≡ zeros 4096) }
     {
         let header = Header {
             enclave: 0,
