@@ -17,8 +17,8 @@ pub struct UnsealWork {
     pub ghost space_size: { length space.items ≡ 4096 },
 }
 
-/// An opened record: the 4096 bytes that its cipher gives under this key and version, and the tag that fits them. The
-/// record is the sealed one exactly where `computed` is its tag.
+/// An opened record: the 4096 bytes that its cipher gives under this key and version, and the tag of its header and cipher
+/// under them. The record fits exactly where `computed` is the tag that it carries.
 #[derive(Debug, Drop)]
 pub struct UnsealedWork {
     pub key: [u8; 32],

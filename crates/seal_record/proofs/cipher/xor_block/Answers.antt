@@ -1,5 +1,5 @@
-use Rattle.std.proofs.Common.{◌≡◌, ◌+◌, add-one, arith}
-use Rattle.seal_record.proofs.Xor.{changed_to, changed_more}
+use Rattle.std.proofs.Common.{add-one, arith}
+use Rattle.seal_record.proofs.Xor.{changed_more}
 use Rattle.seal_record.proofs.cipher.xor_block.Goals as goal
 
 pub loop-i-preserved : goal.loop-i-preserved
