@@ -1,8 +1,8 @@
 -- A record and its bytes.
-use Rattle.std.proofs.Common.{◌≡◌, ℕ, ◌+◌, ◌-◌, ◌^◌, ◌<◌, ◌≤◌, List, ◌++◌, length, get_or, take, drop, refl, ap, sym, ◌∙◌, arith, inl, inr, ⊎_elim}
+use Rattle.std.proofs.Common.{◌≡◌, ℕ, ◌+◌, ◌-◌, ◌^◌, ◌<◌, ◌≤◌, List, ◌++◌, length, get_or, take, drop, refl, ap, sym, ◌∙◌, arith, ⊎_elim}
 use Rattle.std.specs.Int.{w64, to_le_bytes, from_le_bytes}
 use Rattle.std.proofs.lemmas.Bool.{cases_lt}
-use Rattle.std.proofs.lemmas.List.{take-take, drop-take, take-append-drop, get_or-take, get_or-drop, get_or_past, length-take, length-drop, append_assoc, drop-drop, take_at, drop_at, take_rest}
+use Rattle.std.proofs.lemmas.List.{take-append-drop, get_or-take, get_or-drop, get_or_past, length-take, length-drop, append_assoc, drop-drop, take_at, drop_at, take_rest}
 use Rattle.std.proofs.lemmas.Nat.{le_bytes_8, from_le_bytes-to_le_bytes_8}
 use Rattle.sgx_types.specs.Layouts.{long_at}
 use Rattle.sgx_types.proofs.Chunks.{two_pieces}
@@ -63,7 +63,7 @@ pieces a b c d e bytes size_a size_b size_c size_d is =
       second = ap (take 8) from_8 ∙ take_at b (c ++ (d ++ e)) 8 size_b;
       third = ap (take 8) from_16 ∙ take_at c (d ++ e) 8 size_c;
       fourth = ap (take 4096) from_24 ∙ take_at d e 4096 size_d;
-      fifth = sym (drop-drop 4096 24 bytes) ∙ ap (drop 4096) from_24 ∙ drop_at d e 4096 size_d
+      fifth = sym (drop-drop 4096 24 bytes) ∙ ap (drop 4096) from_24 ∙ drop_at d e 4096 size_d;
     }
 
 number_back : (n : ℕ) (piece : List ℕ) → n < 2 ^ 64 → piece ≡ to_le_bytes w64 n → from_le_bytes w64 piece ≡ n
