@@ -85,7 +85,8 @@ impl Record {
 
     /// The 4152 bytes of a record, laid out as `from_bytes` reads them.
     pub fn to_bytes(&self, alloc: Global) -> Result<Vec<u8>, Memory>
-        ensures { IfOk result (λ bytes. bytes.items ≡ record_bytes self.now) }
+        ensures bytes { IfOk result (λ bytes. bytes.items ≡ record_bytes self.now) }
+        ensures sizes { OnOk result (IsRecord self.now) }
     {
         let mut bytes = Vec::with_capacity(alloc, 4152)?;
         bytes.extend_from_slice(&self.header.enclave.to_le_bytes())?;
