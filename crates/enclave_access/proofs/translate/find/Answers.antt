@@ -1,4 +1,4 @@
-use Rattle.std.proofs.Common.{sym, ◌≡◌, ◌≤◌, ◌^◌, ◌∙◌, None, arith, rules}
+use Rattle.std.proofs.Common.{sym, ◌≤◌, ◌^◌, ◌∙◌, arith}
 use Rattle.std.proofs.lemmas.Grind.{common_steps}
 use Rattle.cached_translations.proofs.TranslationLaws.{translation_of-past}
 use Rattle.enclave_access.proofs.translate.find.Goals as goal
