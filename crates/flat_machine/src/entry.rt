@@ -47,10 +47,7 @@ impl Flat {
         {
             return FlatReply::Refused(refusal);
         }
-        let acc = self.word(enclave, last, 0);
-        self.set_cssa(enclave, tcs, u64::from(fields.cssa).saturating_sub(1));
-        self.seat(cpu, enclave, tcs, acc);
-        FlatReply::Did(Answer::Value(acc))
+        FlatReply::Did(Answer::Value(self.take_back(cpu, enclave, tcs)))
     }
 
     /// A processor leaves its enclave (EEXIT).
@@ -165,6 +162,21 @@ impl Flat {
         let mode = Mode::Inside { enclave, tcs };
         self.set_cpu(cpu, Processor { mode, acc });
         self.set_busy(enclave, u64::from(tcs), true);
+    }
+
+    // A processor is inside again with the accumulator that was saved last, and one state save frame fewer is in use.
+    fn take_back(&mut self, cpu: Cpu, enclave: u16, tcs: u32) -> u64
+        requires cpu_in { cpu.0 < 16 }
+        requires added { is_some ((memory_of self.old).pages (page_at enclave tcs)) ≡ true }
+        ensures answer { result ≡ resumed_word (memory_of self.old) enclave tcs }
+        ensures done { memory_of self.new ≡ resumed (memory_of self.old) cpu.0 enclave tcs }
+    {
+        let fields = self.tcs_fields(enclave, tcs);
+        let last = (fields.ossa / 4096 + u64::from(fields.cssa)).saturating_sub(1);
+        let acc = self.word(enclave, last, 0);
+        self.set_cssa(enclave, tcs, u64::from(fields.cssa).saturating_sub(1));
+        self.seat(cpu, enclave, tcs, acc);
+        acc
     }
 
     // A processor that is inside by a TCS page leaves.
