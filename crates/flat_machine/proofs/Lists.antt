@@ -1,6 +1,6 @@
 -- Lists by their places.
-use Rattle.std.proofs.Common.{ℕ, zero, suc, ◌≡◌, ◌≤◌, ◌<◌, ◌+◌, ◌==◌, ◌⊎◌, inl, inr, refl, sym, ap, arith, ◌∙◌, cond, ◌&&◌, Bool, true, false, Option, Some, None, List, [], ◌∷◌, ◌++◌, length, replicate, set, get_or}
-use Rattle.std.proofs.lemmas.Bool.{cond_both, cases_lt, eqb-true, eq-eqb, false≢true}
+use Rattle.std.proofs.Common.{ℕ, zero, suc, ◌≡◌, ◌≤◌, ◌<◌, ◌+◌, ◌==◌, ◌⊎◌, inl, inr, refl, sym, ap, arith, ◌∙◌, cond, ◌&&◌, Bool, true, false, Option, Some, None, List, [], ◌∷◌, ◌++◌, length, replicate, set, get_or, ltb}
+use Rattle.std.proofs.lemmas.Bool.{ltb-false, cond_both, cases_lt, eqb-true, eq-eqb, false≢true}
 use Rattle.std.proofs.lemmas.List.{replicate-append-replicate, get_or-replicate, length-replicate, get_or-set_same, get_or-set_other, get_or_past}
 use Rattle.flat_machine.specs.declared.table.PlainPage.{PlainPage}
 use Rattle.flat_machine.specs.Parts.{words_in}
@@ -51,3 +51,7 @@ pub read_at : {X : Type 0} (xs : List X) (i : ℕ) (x d : X) → i < length xs �
 read_at [] i x d low is = absurd (omega (arith, low))
 read_at (y ∷ xs) zero x d low is = is
 read_at (y ∷ xs) (suc i) x d low is = read_at xs i x d (omega (arith, low)) is
+
+-- a word of a page of an enclave without a table
+pub zero_outside : (tables : List (List (Option PlainPage))) (e n i : ℕ) → false ≡ ltb e (length tables) → i < 512 → 0 ≡ get_or (words_in (get_or (get_or tables e []) n None)) i 0
+zero_outside tables e n i outside low = zero_word (get_or tables e []) n i (ap (λ row. get_or row n None) (get_or_past tables e [] (ltb-false e (length tables) (sym outside)))) low

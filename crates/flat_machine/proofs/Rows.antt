@@ -10,7 +10,7 @@ use Rattle.sgx_types.specs.declared.entries.PageInit.TheVariants as inits
 use Rattle.sgx_types.specs.Frames.{same_page, page_at}
 use Rattle.sgx_types.specs.Table as table
 use Rattle.sgx_types.specs.Table.{Case, first_of_row, create_row, add_row, EnclaveSight}
-use Rattle.sgx_types.specs.Flat.{FlatMemory, FlatPage, FlatEnclave, open_frame, enclave_sight_of, marked, initialised, with_enclave, with_page, with_busy, with_cpu, left, is_inside_by, first_words}
+use Rattle.sgx_types.specs.Flat.{FlatMemory, FlatPage, FlatEnclave, open_frame, enclave_sight_of, marked, initialised, with_enclave, with_page, with_busy, with_cpu, with_words, rewritten, left, is_inside_by, first_words}
 use Rattle.flat_machine.specs.declared.table.PlainPage.{PlainPage}
 use Rattle.flat_machine.specs.declared.flat.Enclave.{Enclave}
 use Rattle.flat_machine.specs.declared.flat.Flat.TheInside.{Inside}
@@ -163,3 +163,17 @@ left_by m p e t acc inside is = λ i. record m { cpus = λ q. each q i; is_busy 
 
     busy : (g : Page) → cond (same_page g (page_at e t)) false (m.is_busy g) ≡ cond (is_inside_by (m.cpus p).inside g) false (m.is_busy g)
     busy g = ap (λ o. cond (is_inside_by o g) false (m.is_busy g)) (sym inside)
+
+-- ---- resumption
+
+-- a page is still there when words are written
+pub still_there : (m : FlatMemory) (g q : Page) (change : List ℕ → List ℕ) → is_some ((with_words m g change).pages q) ≡ is_some (m.pages q)
+still_there m g q change = by_test (same_page q g)
+  where
+    changed : (o : Option FlatPage) → is_some (rewritten change o) ≡ is_some o
+    changed None = refl
+    changed (Some x) = refl
+
+    by_test : (b : Bool) → is_some (cond b (rewritten change (m.pages q)) (m.pages q)) ≡ is_some (m.pages q)
+    by_test true = changed (m.pages q)
+    by_test false = refl
