@@ -2,6 +2,7 @@
 use Rattle.std.proofs.Common.{ℕ, zero, suc, ◌≡◌, ◌≤◌, ◌<◌, ◌+◌, ◌==◌, ◌⊎◌, inl, inr, refl, sym, ap, arith, ◌∙◌, cond, ◌&&◌, Bool, true, false, Option, Some, None, List, [], ◌∷◌, ◌++◌, length, replicate, set, get_or, ltb}
 use Rattle.std.proofs.lemmas.Bool.{ltb-false, cond_both, cases_lt, eqb-true, eq-eqb, false≢true}
 use Rattle.std.proofs.lemmas.List.{replicate-append-replicate, get_or-replicate, length-replicate, get_or-set_same, get_or-set_other, get_or_past}
+use Rattle.std.specs.List.{flat_map}
 use Rattle.flat_machine.specs.declared.table.PlainPage.{PlainPage}
 use Rattle.flat_machine.specs.Parts.{words_in}
 
@@ -55,3 +56,12 @@ read_at (y ∷ xs) (suc i) x d low is = read_at xs i x d (omega (arith, low)) is
 -- a word of a page of an enclave without a table
 pub zero_outside : (tables : List (List (Option PlainPage))) (e n i : ℕ) → false ≡ ltb e (length tables) → i < 512 → 0 ≡ get_or (words_in (get_or (get_or tables e []) n None)) i 0
 zero_outside tables e n i outside low = zero_word (get_or tables e []) n i (ap (λ row. get_or row n None) (get_or_past tables e [] (ltb-false e (length tables) (sym outside)))) low
+
+-- pieces joined end to end, each made of a word
+pub joined : (f : ℕ → List ℕ) (pieces : List (List ℕ)) (words : List ℕ) → length pieces ≡ length words → ((k : ℕ) → k < length words → get_or pieces k [] ≡ f (get_or words k 0))
+    → flat_map (λ x. x) pieces ≡ flat_map f words
+joined f [] [] same made = refl
+joined f [] (w ∷ words) same made = absurd (omega (arith, same))
+joined f (p ∷ pieces) [] same made = absurd (omega (arith, same))
+joined f (p ∷ pieces) (w ∷ words) same made =
+    (λ i. made 0 (omega arith) i ++ joined f pieces words (omega (arith, same)) (λ k low. made (suc k) (omega (arith, low))) i)

@@ -2,11 +2,12 @@ ghost use Rattle.std.specs.Prelude.{◌≡◌, ◌<◌, true, replicate, slice_i
 ghost use Rattle.sgx_types.specs.Frames.{page_at};
 ghost use Rattle.sgx_types.specs.Flat.{fresh, flat_content, reg_perm, added_as, words_of, with_cpu, with_words, with_busy};
 ghost use Rattle.flat_machine.specs.Parts.{memory_of, look, added_in, kind_of, content_in, words_in, enclave_of, inside_of, cpu_of, idle, with_slot, with_word, with_busy_mark};
+ghost use Rattle.flat_machine.specs.Bytes.{bytes_in};
 
 use crate::table::{Added, Table};
 use crate::words::Words;
 use job_grammar::jobs::Job;
-use sgx_types::names::{Cpu, Kind, Memory, Perm};
+use sgx_types::names::{Cpu, Kind, Memory, Page, Perm};
 use std::alloc::Global;
 use std::marker::Model;
 
@@ -70,6 +71,17 @@ impl Flat {
             cpus: idle_processors(alloc)?,
             spare: room_for(alloc, job)?,
         })
+    }
+
+    /// Writes the 4096 bytes of a page, each 8-byte word low byte first, and answers true exactly where the page was added.
+    pub fn bytes(&self, page: Page, into: &mut [u8; 4096]) -> bool
+        ensures added { result ≡ is_some ((memory_of self.now).pages page) }
+        ensures bytes { into.new ≡ bytes_in ((memory_of self.now).pages page) into.old }
+    {
+        match self.tables.get(usize::from(page.enclave)) {
+            Some(table) => table.copy_to(u64::from(page.number), into),
+            None => false,
+        }
     }
 
     /// The enclave of a number, None where it was not created.

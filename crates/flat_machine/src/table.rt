@@ -1,6 +1,7 @@
-ghost use Rattle.std.specs.Prelude.{◌≡◌, ◌≤◌, ◌<◌, length, replicate, slice_index, slice_set, slice_index_or, IfOk, None, Some};
+ghost use Rattle.std.specs.Prelude.{◌≡◌, ◌≤◌, ◌<◌, length, replicate, slice_index, slice_set, slice_index_or, is_some, IfOk, None, Some};
 ghost use Rattle.std.specs.Option.{option_copied};
-ghost use Rattle.flat_machine.specs.Parts.{added_in, busy_of, words_in, with_word, with_busy_mark};
+ghost use Rattle.flat_machine.specs.Parts.{added_in, busy_of, page_of, words_in, with_word, with_busy_mark};
+ghost use Rattle.flat_machine.specs.Bytes.{bytes_in};
 
 use crate::words::Words;
 use sgx_types::names::{Kind, Memory, Perm};
@@ -88,6 +89,20 @@ impl Table {
         match self.page(number) {
             Some(page) => page.words.get(index),
             None => 0,
+        }
+    }
+
+    /// Writes the bytes of a page, if it was added, and tells whether it was.
+    pub fn copy_to(&self, number: u64, into: &mut [u8; 4096]) -> bool
+        ensures added { result ≡ is_some (page_of (slice_index_or self.now number None)) }
+        ensures bytes { into.new ≡ bytes_in (page_of (slice_index_or self.now number None)) into.old }
+    {
+        match self.page(number) {
+            Some(page) => {
+                page.words.copy_to(into);
+                true
+            }
+            None => false,
         }
     }
 

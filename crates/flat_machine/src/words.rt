@@ -1,5 +1,6 @@
 ghost use Rattle.std.specs.Prelude.{◌≡◌, ◌<◌, length, replicate, slice_index, slice_set, IfOk};
 ghost use Rattle.sgx_types.specs.Flat.{first_words};
+ghost use Rattle.flat_machine.specs.Bytes.{bytes_of};
 
 use sgx_types::entries::PageInit;
 use sgx_types::names::Memory;
@@ -16,11 +17,13 @@ pub(crate) struct Words {
 }
 
 impl Model for Words {
-    ghost use Rattle.std.specs.Prelude.{ℕ, List};
+    ghost use Rattle.std.specs.Prelude.{◌≡◌, ℕ, List, length};
 
     ghost Value = { List ℕ };
 
     ghost view = { λ w. w.items.value };
+
+    ghost invariant = { λ w. length w.items.value ≡ 512 };
 }
 
 impl Words {
@@ -61,5 +64,16 @@ impl Words {
                 self.items[3] = u64::from(nssa) * (1 << 32);
             }
         }
+    }
+
+    /// Writes the page's bytes, each word low byte first.
+    pub fn copy_to(&self, into: &mut [u8; 4096])
+        ensures { into.new ≡ bytes_of self.now }
+    {
+        let mut page = [[0; 8]; WORDS];
+        for i in 0..WORDS {
+            page[i] = self.items[i].to_le_bytes();
+        }
+        into.copy_from_slice(page.as_flattened());
     }
 }
