@@ -159,7 +159,11 @@ impl Flat {
         ensures { result ≡ word_seen (memory_of self.now) ((memory_of self.now).cpus cpu.0).inside off }
     {
         match self.mode(cpu) {
-            Mode::Inside { enclave, .. } => self.word(enclave, off / 4096, (off % 4096 / 8) as usize),
+            Mode::Inside { enclave, .. } => self.word(
+                enclave,
+                off / 4096,
+                (off % 4096 / 8) as usize,
+            ),
             Mode::Outside => 0,
         }
     }
@@ -197,10 +201,12 @@ fn is_lawful_access(added: Option<Added>, op: AccessOp) -> bool
     ensures { result ≡ is_lawful_access (kind_of added) op }
 {
     match added {
-        Some(Added {
-            kind: Kind::Reg,
-            perm,
-        }) => allows(perm, op),
+        Some(
+            Added {
+                kind: Kind::Reg,
+                perm,
+            },
+        ) => allows(perm, op),
         _ => false,
     }
 }
@@ -210,9 +216,12 @@ fn fault_of(added: Option<Added>) -> PfWhy
 {
     match added {
         None => PfWhy::Absent,
-        Some(Added {
-            kind: Kind::Reg, ..
-        }) => PfWhy::NoPerm,
+        Some(
+            Added {
+                kind: Kind::Reg,
+                ..
+            },
+        ) => PfWhy::NoPerm,
         Some(_) => PfWhy::WrongType,
     }
 }

@@ -15,7 +15,12 @@ impl Flat {
     /// case of its row in this project's instruction table that holds, of those that no frame, translation or block
     /// decides, and a refusal changes nothing. Else it is done: `init` answers no digest. Memory may be refused to
     /// `create` and `add` alone.
-    pub fn apply(&mut self, alloc: Global, actor: Actor, action: &Action) -> Result<FlatReply, Memory>
+    pub fn apply(
+        &mut self,
+        alloc: Global,
+        actor: Actor,
+        action: &Action,
+    ) -> Result<FlatReply, Memory>
         requires visible { is_visible action.now ≡ true }
         requires actor { IsItsActor actor action.now }
         ensures reply { IfOk result (λ reply. reply ≡ reply_of (memory_of self.old) actor action.now) }
@@ -47,7 +52,9 @@ impl Flat {
             (_, Action::Extend { chunk, .. }) => extend(chunk),
             (_, Action::Init { enclave, .. }) => self.init(enclave),
             (Actor::Cpu(cpu), Action::Enter { enclave, tcs, .. }) => self.enter(cpu, enclave, tcs),
-            (Actor::Cpu(cpu), Action::Resume { enclave, tcs, .. }) => self.resume(cpu, enclave, tcs),
+            (Actor::Cpu(cpu), Action::Resume { enclave, tcs, .. }) => self.resume(
+                cpu, enclave, tcs,
+            ),
             (Actor::Cpu(cpu), Action::Exit) => self.exit(cpu),
             (Actor::Cpu(cpu), Action::Aex { .. }) => self.aex(cpu),
             (Actor::Cpu(cpu), Action::Load { off }) => self.load(cpu, off),

@@ -24,9 +24,14 @@ impl Flat {
         let fields = self.tcs_fields(enclave, tcs);
         let lacks = fields.cssa == fields.nssa;
         let next = fields.ossa / 4096 + u64::from(fields.cssa);
-        if let Some(refusal) =
-            self.entry_refusal(cpu, enclave, tcs, lacks, Refusal::NoFrame, next)
-        {
+        if let Some(refusal) = self.entry_refusal(
+            cpu,
+            enclave,
+            tcs,
+            lacks,
+            Refusal::NoFrame,
+            next,
+        ) {
             return FlatReply::Refused(refusal);
         }
         self.seat(cpu, enclave, tcs, u64::from(fields.cssa));
@@ -42,9 +47,14 @@ impl Flat {
         let fields = self.tcs_fields(enclave, tcs);
         let lacks = fields.cssa == 0;
         let last = (fields.ossa / 4096 + u64::from(fields.cssa)).saturating_sub(1);
-        if let Some(refusal) =
-            self.entry_refusal(cpu, enclave, tcs, lacks, Refusal::NoSaved, last)
-        {
+        if let Some(refusal) = self.entry_refusal(
+            cpu,
+            enclave,
+            tcs,
+            lacks,
+            Refusal::NoSaved,
+            last,
+        ) {
             return FlatReply::Refused(refusal);
         }
         FlatReply::Did(Answer::Value(self.take_back(cpu, enclave, tcs)))

@@ -13,6 +13,7 @@ use std::marker::Model;
 
 // One place for each enclave from 1 to 8; place 0 stays empty.
 const PLACES: usize = 9;
+
 const CPUS: usize = 16;
 
 /// What is known of a created enclave: its base and size in bytes, and whether it is initialised.
@@ -105,10 +106,12 @@ impl Flat {
         ensures { result ≡ reg_perm ((memory_of self.now).pages (page_at enclave number)) }
     {
         match added_at(&self.tables, enclave, number) {
-            Some(Added {
-                kind: Kind::Reg,
-                perm,
-            }) => Some(perm),
+            Some(
+                Added {
+                    kind: Kind::Reg,
+                    perm,
+                },
+            ) => Some(perm),
             _ => None,
         }
     }

@@ -8,4 +8,6 @@ mod entry;
 pub mod flat;
 pub mod reply;
 mod table;
+#[cfg(test)]
+mod tests;
 mod words;
