@@ -1,0 +1,67 @@
+-- Lists by their places.
+use Rattle.std.proofs.Common.{ℕ, zero, suc, ◌≡◌, ◌≤◌, ◌<◌, ◌+◌, ◌==◌, ◌⊎◌, inl, inr, refl, sym, ap, arith, ◌∙◌, cond, ◌&&◌, Bool, true, false, Option, Some, None, List, [], ◌∷◌, ◌++◌, length, replicate, set, get_or, ltb}
+use Rattle.std.proofs.lemmas.Bool.{ltb-false, cond_both, cases_lt, eqb-true, eq-eqb, false≢true}
+use Rattle.std.proofs.lemmas.List.{replicate-append-replicate, get_or-replicate, length-replicate, get_or-set_same, get_or-set_other, get_or_past}
+use Rattle.std.specs.List.{flat_map}
+use Rattle.flat_machine.specs.declared.table.PlainPage.{PlainPage}
+use Rattle.flat_machine.specs.Parts.{words_in}
+
+-- one item more
+pub replicate_more : {X : Type 0} (n : ℕ) (x : X) → replicate n x ++ x ∷ [] ≡ replicate (n + 1) x
+replicate_more n x = replicate-append-replicate n 1 x
+
+-- a place of a list of like items, or past it
+pub like : {X : Type 0} (n i : ℕ) (x : X) → get_or (replicate n x) i x ≡ x
+like n i x = by_place (cases_lt i n)
+  where
+    by_place : (i < n) ⊎ (n ≤ i) → get_or (replicate n x) i x ≡ x
+    by_place (inl low) = get_or-replicate n i x x low
+    by_place (inr past) = get_or_past (replicate n x) i x (rw (length-replicate n x) past)
+
+-- a write to a list, read at each place
+pub get_or-set_if : {A : Type 0} (xs : List A) (i n : ℕ) (a d : A) → i < length xs → get_or (set xs i a) n d ≡ cond (i == n) a (get_or xs n d)
+get_or-set_if xs i n a d low =
+    cond_both (i == n) a (get_or xs n d) (λ v. get_or (set xs i a) n d ≡ v)
+    (λ e. rw (← eqb-true i n e) (get_or-set_same xs i a d low))
+    (λ e. get_or-set_other xs i n a d (λ same. false≢true (sym e ∙ eq-eqb i n (sym same))))
+
+-- a word of a page that was not added
+pub zero_word : (pages : List (Option PlainPage)) (n i : ℕ) → get_or pages n None ≡ None → i < 512 → 0 ≡ get_or (words_in (get_or pages n None)) i 0
+zero_word pages n i none low = rw none (sym (like 512 i 0))
+
+apart : (f n : ℕ) → (f ≡ n → ⊥) → (f == n) ≡ false
+apart f n h = by_test (f == n) refl
+  where
+    by_test : (b : Bool) → (f == n) ≡ b → b ≡ false
+    by_test true e = absurd (h (eqb-true f n e))
+    by_test false e = refl
+
+pub eqb-swap : (a b : ℕ) → (a == b) ≡ (b == a)
+eqb-swap a b = by_test (a == b) refl
+  where
+    by_test : (x : Bool) → (a == b) ≡ x → x ≡ (b == a)
+    by_test true e = sym (eq-eqb b a (sym (eqb-true a b e)))
+    by_test false e = sym (apart b a (λ same. false≢true (sym e ∙ eq-eqb a b (sym same))))
+
+pub both_true : (a b : Bool) → (a && b) ≡ true → (a ≡ true) × (b ≡ true)
+both_true true b h = (refl, h)
+both_true false b h = cc
+
+-- an item that was read from its place
+pub read_at : {X : Type 0} (xs : List X) (i : ℕ) (x d : X) → i < length xs → x ≡ get_or xs i x → x ≡ get_or xs i d
+read_at [] i x d low is = absurd (omega (arith, low))
+read_at (y ∷ xs) zero x d low is = is
+read_at (y ∷ xs) (suc i) x d low is = read_at xs i x d (omega (arith, low)) is
+
+-- a word of a page of an enclave without a table
+pub zero_outside : (tables : List (List (Option PlainPage))) (e n i : ℕ) → false ≡ ltb e (length tables) → i < 512 → 0 ≡ get_or (words_in (get_or (get_or tables e []) n None)) i 0
+zero_outside tables e n i outside low = zero_word (get_or tables e []) n i (ap (λ row. get_or row n None) (get_or_past tables e [] (ltb-false e (length tables) (sym outside)))) low
+
+-- pieces joined end to end, each made of a word
+pub joined : (f : ℕ → List ℕ) (pieces : List (List ℕ)) (words : List ℕ) → length pieces ≡ length words → ((k : ℕ) → k < length words → get_or pieces k [] ≡ f (get_or words k 0))
+    → flat_map (λ x. x) pieces ≡ flat_map f words
+joined f [] [] same made = refl
+joined f [] (w ∷ words) same made = absurd (omega (arith, same))
+joined f (p ∷ pieces) [] same made = absurd (omega (arith, same))
+joined f (p ∷ pieces) (w ∷ words) same made =
+    (λ i. made 0 (omega arith) i ++ joined f pieces words (omega (arith, same)) (λ k low. made (suc k) (omega (arith, low))) i)

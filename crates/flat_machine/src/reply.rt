@@ -1,0 +1,9 @@
+use sgx_types::entries::Answer;
+use sgx_types::refusals::Refusal;
+
+/// What flat memory replies to an instruction: it was done, with its answer, or refused.
+#[derive(Clone, Copy, Debug, PartialEq, Eq)]
+pub enum FlatReply {
+    Did(Answer),
+    Refused(Refusal),
+}
