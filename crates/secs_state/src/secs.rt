@@ -1,4 +1,4 @@
-ghost use Rattle.std.specs.Prelude.{◌≡◌, ◌≢◌, ◌+◌, ◌-◌, ◌<◌, ◌^◌, true, false, None, IfOk, IsSome};
+ghost use Rattle.std.specs.Prelude.{◌≡◌, ◌≢◌, ◌+◌, ◌-◌, ◌*◌, ◌<◌, ◌^◌, true, false, None, IfOk, IsSome};
 ghost use Rattle.secs_state.specs.Lawful.{is_lawful};
 ghost use Rattle.secs_state.specs.Secs.{IsSecs, page_count, created, added_at, is_busy_at, with_init, with_page, with_busy, with_children};
 
@@ -83,6 +83,14 @@ impl Secs {
         ensures sound { IsSecs self.now }
     {
         self.size
+    }
+
+    /// The first address of a page of the range.
+    pub fn address(&self, number: u32) -> u64
+        requires { number < page_count self.now.size }
+        ensures { result ≡ self.now.base + 4096 * number }
+    {
+        self.base + PAGE_BYTES * u64::from(number)
     }
 
     /// Whether EINIT was done.
