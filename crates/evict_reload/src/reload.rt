@@ -2,8 +2,10 @@ ghost use Rattle.std.specs.Prelude.{◌≡◌, ◌<◌, true, false, Some, IfOk,
 ghost use Rattle.sgx_types.specs.Table.{refusal_in, first_of_row, eldstart_row, is_loading};
 ghost use Rattle.sgx_types.specs.Sealed.{header_of};
 ghost use Rattle.secs_state.specs.Secs.{page_count};
-ghost use Rattle.epcm_entry.specs.Epc.{entry_at, with_loading, cleared};
+ghost use Rattle.epcm_entry.specs.EntryView.{is_valid};
+ghost use Rattle.epcm_entry.specs.Epc.{entry_at, with_loading, with_page, with_words, cleared};
 ghost use Rattle.epcm_entry.specs.Sights.{sight_in};
+ghost use Rattle.epcm_entry.specs.Words.{words_of};
 ghost use Rattle.version_array.specs.Slots.{IsSlot, version_in, with_busy};
 ghost use Rattle.evict_reload.specs.Sights.{AreVaPages, is_added, added_in, slot_sight};
 ghost use Rattle.evict_reload.specs.Effects.{eld_row, header_in, with_ended, with_reloaded};
@@ -44,9 +46,10 @@ pub fn eld_start(
     if let Some(refusal) = start_refusal(epc, secs, va, frame, page, slot) {
         return Err(refusal);
     }
+    let version = va.slot(slot);
     epc.claim_load(frame)?;
     va.set_busy(slot, true);
-    Ok(va.slot(slot))
+    Ok(version)
 }
 
 // The first case of the row that holds.
@@ -120,11 +123,28 @@ pub fn eld_commit(
         return Err(refusal);
     }
     let (kind, perm) = added(secs, page).unwrap();
-    epc.set(frame, page, kind, perm);
-    epc.set_bytes(frame, work.plain.as_slice().as_array().unwrap());
+    let plain = work.plain.as_slice().as_array().unwrap();
+    put_page(epc, frame, page, kind, perm, plain);
     va.clear(slot);
     va.set_busy(slot, false);
     Ok(())
+}
+
+// The frame holds the page from now on, with its bytes.
+fn put_page(
+    epc: &mut Epc,
+    frame: Frame,
+    page: Page,
+    kind: Kind,
+    perm: Perm,
+    plain: &[u8; 4096],
+)
+    requires within { frame.0 < length epc.old }
+    requires vacant { is_valid (entry_at epc.old frame.0) ≡ false }
+    ensures { epc.new ≡ with_words (with_page epc.old frame.0 page kind perm) frame.0 (words_of plain.now) }
+{
+    epc.set(frame, page, kind, perm);
+    epc.set_bytes(frame, plain);
 }
 
 // The first case of the row of the commit that holds.

@@ -12,6 +12,7 @@ use track_epoch::tracks::Tracks;
 ///
 /// Refused, in this order, as Absent where the enclave was not created; PrevTrk while a processor inside it has an older
 /// epoch, with the number of these; and EpochSpent at the last epoch.
+#[tactic(auto, using(crate::proofs::TrackLaws::kept_on_refusal))]
 pub fn etrack(tracks: &mut Tracks, secs: &SecsTable, enclave: u16) -> Result<u64, Refusal>
     ensures row { refusal_in result ≡ first_of_row (track_row (track_sight secs.now tracks.old enclave)) }
     ensures answer { IfOk result (λ epoch. epoch ≡ epoch_in (track_of tracks.old enclave) + 1) }
