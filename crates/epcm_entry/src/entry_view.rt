@@ -1,6 +1,7 @@
 ghost use Rattle.std.specs.Prelude.{◌≡◌, ◌||◌, is_some};
 ghost use Rattle.sgx_types.specs.Frames.{page_at, is_page};
-ghost use Rattle.sgx_types.specs.Table.{is_loading, is_reg, is_tcs, perm_in};
+ghost use Rattle.sgx_types.specs.Frames.{is_free as holds_nothing};
+ghost use Rattle.sgx_types.specs.Table.{is_loading, is_reg, is_secs, is_tcs, is_va, perm_in};
 ghost use Rattle.sgx_types.specs.Table.{is_valid as holds_something};
 ghost use Rattle.epcm_entry.specs.EntryView.{is_free, is_busy, is_valid, block_of, goes_out, outgoing, with_block};
 ghost use Rattle.epcm_entry.specs.Sights.{held};
@@ -26,7 +27,8 @@ pub enum EntryView {
 impl EntryView {
     /// A free frame holds nothing and is not being loaded.
     pub fn is_free(self) -> bool
-        ensures { result ≡ is_free self }
+        ensures value { result ≡ is_free self }
+        ensures seen { result ≡ holds_nothing (held self) }
     {
         matches!(self, EntryView::Free)
     }
@@ -99,6 +101,24 @@ impl EntryView {
                 ..
             }
         )
+    }
+
+    pub fn is_secs(self) -> bool
+        ensures { result ≡ is_secs (held self) }
+    {
+        matches!(
+            self,
+            EntryView::Valid {
+                kind: Kind::Secs,
+                ..
+            }
+        )
+    }
+
+    pub fn is_va(self) -> bool
+        ensures { result ≡ is_va (held self) }
+    {
+        matches!(self, EntryView::Valid { kind: Kind::Va, .. })
     }
 
     /// The permissions of the TCS or REG page in the frame.

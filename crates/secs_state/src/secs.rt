@@ -1,4 +1,4 @@
-ghost use Rattle.std.specs.Prelude.{◌≡◌, ◌≢◌, ◌+◌, ◌-◌, ◌<◌, ◌^◌, true, false, None, IfOk, IsSome};
+ghost use Rattle.std.specs.Prelude.{◌≡◌, ◌≢◌, ◌+◌, ◌-◌, ◌*◌, ◌<◌, ◌^◌, true, false, None, IfOk, IsSome, OnSome};
 ghost use Rattle.secs_state.specs.Lawful.{is_lawful};
 ghost use Rattle.secs_state.specs.Secs.{IsSecs, page_count, created, added_at, is_busy_at, with_init, with_page, with_busy, with_children};
 
@@ -85,6 +85,14 @@ impl Secs {
         self.size
     }
 
+    /// The first address of a page of the range.
+    pub fn address(&self, number: u32) -> u64
+        requires { number < page_count self.now.size }
+        ensures { result ≡ self.now.base + 4096 * number }
+    {
+        self.base + PAGE_BYTES * u64::from(number)
+    }
+
     /// Whether EINIT was done.
     pub fn is_init(&self) -> bool
         ensures { result ≡ self.now.is_init }
@@ -101,7 +109,8 @@ impl Secs {
 
     /// The kind and the permissions with which a page was added.
     pub fn added(&self, number: u32) -> Option<(Kind, Perm)>
-        ensures { result ≡ added_at self.now number }
+        ensures value { result ≡ added_at self.now number }
+        ensures within { OnSome result (number < page_count self.now.size) }
     {
         self.pages.get(number as usize).copied().flatten()
     }

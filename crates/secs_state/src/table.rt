@@ -1,4 +1,4 @@
-ghost use Rattle.std.specs.Prelude.{◌≡◌, ◌≤◌, length, None};
+ghost use Rattle.std.specs.Prelude.{◌≡◌, ◌≤◌, length, None, OnSome};
 ghost use Rattle.std.specs.Option.{option_copied, option_copied_mut};
 ghost use Rattle.std.specs.Borrow.{sem};
 ghost use Rattle.secs_state.specs.Table.{empty_table, enclave_at, with_enclave};
@@ -41,6 +41,7 @@ impl SecsTable {
     /// The state of an enclave, which is None where it was not created.
     pub fn get(&self, enclave: u16) -> Option<&Secs>
         ensures value { option_copied result ≡ enclave_at self.now enclave }
+        ensures numbered { OnSome result ((1 ≤ enclave) × (enclave ≤ 8)) }
         ensures places { length self.now ≡ 8 }
     {
         match enclave {

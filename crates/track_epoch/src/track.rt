@@ -1,4 +1,4 @@
-ghost use Rattle.std.specs.Prelude.{◌≡◌, ◌+◌, ◌<◌, ◌≤◌, ◌↔◌, if◌then◌else◌, IsTrue, OnOk, OnErr, Contains, length, nat_lt, nat_le};
+ghost use Rattle.std.specs.Prelude.{◌≡◌, ◌==◌, ◌&&◌, ◌+◌, ◌<◌, ◌≤◌, ◌↔◌, if◌then◌else◌, IsTrue, OnOk, OnErr, Contains, length, nat_lt, nat_le};
 ghost use Rattle.track_epoch.specs.Tracking.{starting_at, entered, left, tracked, track_answer, number_older, number_newer, number_up_to, IsDrained, IsTracking};
 
 use sgx_types::refusals::Refusal;
@@ -76,7 +76,8 @@ impl Track {
 
     /// Whether no processor can hold a translation any more of a page that was blocked at an epoch.
     pub fn drained(&self, block: u64) -> bool
-        ensures { IsTrue result ↔ IsDrained self.now block }
+        ensures value { IsTrue result ↔ IsDrained self.now block }
+        ensures counted { result ≡ (nat_lt block self.now.epoch && (number_up_to self.now block == 0)) }
     {
         self.epoch > block && self.at_or_below(block) == 0
     }

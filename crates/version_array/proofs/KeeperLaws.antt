@@ -10,7 +10,7 @@ use Rattle.std.proofs.lemmas.Map.Keys.{IsDistinct-push}
 use Rattle.std.proofs.lemmas.Map.Made.{length-le_from_is_member}
 use Rattle.sgx_types.specs.declared.names.Frame.{Frame}
 use Rattle.sgx_types.specs.declared.names.SlotAt.{SlotAt}
-use Rattle.version_array.specs.Slots.{same_slot}
+use Rattle.sgx_types.specs.Slots.{same_slot}
 use Rattle.version_array.specs.Keeper.{Keeper, is_added, is_ours, is_among, is_out, count_all, count_out, IsKeeper, Adds, Takes, Gives, AllOut}
 use Rattle.version_array.specs.Pages.{slot_of, first_slots, slots_in}
 use Rattle.version_array.proofs.SlotLaws.{slot_laws, same_is, same_back, is_same, among_push, distinct_but_last, first_slots_none, first_slots_more, length-first_slots, among_first, among_slots_in, length-slots_in}

@@ -10,7 +10,7 @@ use Rattle.std.proofs.lemmas.List.Folds.{list_any-append}
 use Rattle.std.proofs.lemmas.List.FromFn.{length-map-range_with_len, map-range_with_len_more}
 use Rattle.sgx_types.specs.declared.names.Frame.{Frame}
 use Rattle.sgx_types.specs.declared.names.SlotAt.{SlotAt}
-use Rattle.version_array.specs.Slots.{same_slot}
+use Rattle.sgx_types.specs.Slots.{same_slot}
 use Rattle.version_array.specs.Keeper.{is_among}
 use Rattle.version_array.specs.Pages.{slot_of, first_slots, slots_in}
 

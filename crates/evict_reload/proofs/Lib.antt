@@ -1,0 +1,3 @@
+mod SlotLaws
+mod StartLaws
+mod TrackLaws

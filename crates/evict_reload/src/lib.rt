@@ -1,0 +1,11 @@
+// The instructions that take pages out of the EPC and back: EBLOCK, ETRACK, EWB and ELDU, each by its row of the
+// instruction table. EWB and ELDU have two steps, a start and a commit; the sealing between them is not done here.
+#![tactic(auto)]
+
+pub mod block;
+pub mod reload;
+mod slot;
+
+
+pub mod track;
+pub mod write_out;

@@ -1,0 +1,31 @@
+ghost use Rattle.std.specs.Prelude.{◌≡◌, ◌<◌, length};
+ghost use Rattle.sgx_types.specs.Table.{is_out_of_range};
+ghost use Rattle.epcm_entry.specs.Sights.{sight_in};
+ghost use Rattle.version_array.specs.Slots.{is_busy_at};
+ghost use Rattle.evict_reload.specs.Sights.{AreVaPages, slot_sight};
+
+use epcm_entry::epc::Epc;
+use sgx_types::names::{Frame, SlotAt};
+use version_array::va_table::VaTable;
+
+// The greatest index of a slot in its page.
+const LAST_SLOT: u16 = 511;
+
+/// Whether a frame, or a slot's frame or index, is past its end.
+pub fn is_out_of_range(epc: &Epc, va: &VaTable, frame: Frame, slot: SlotAt) -> bool
+    ensures { result ≡ is_out_of_range (sight_in epc.now frame.0) (slot_sight epc.now va.now slot) }
+{
+    let frames = epc.frames();
+    frame.0 >= frames || slot.frame.0 >= frames || slot.index > LAST_SLOT
+}
+
+/// Whether a start that has not ended uses a slot. Where the slot's frame holds no version array page, none does.
+#[tactic(auto, using(crate::proofs::SlotLaws::is_slot, crate::proofs::SlotLaws::idle_without_page))]
+pub fn is_slot_busy(epc: &Epc, va: &VaTable, slot: SlotAt) -> bool
+    requires pages { AreVaPages epc.now va.now }
+    requires frame { slot.frame.0 < length epc.now }
+    requires index { slot.index < 512 }
+    ensures { result ≡ is_busy_at va.now slot }
+{
+    epc.entry(slot.frame).is_va() && va.busy(slot)
+}
