@@ -1,6 +1,6 @@
 use Rattle.std.proofs.Common.{◌≡◌, ◌∙◌, sym, ap, inl, Some}
 use Rattle.secs_state.specs.Table.{enclave_at}
-use Rattle.enclave_build.specs.Build.{sight_of}
+use Rattle.secs_state.specs.Sights.{sight_of}
 use Rattle.paging_machine.specs.Whole.{parts_of}
 use Rattle.paging_machine.specs.Parts.{state_of}
 use Rattle.paging_machine.specs.State.{after_init}
