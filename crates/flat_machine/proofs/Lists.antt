@@ -1,5 +1,5 @@
 -- Lists by their places.
-use Rattle.std.proofs.Common.{ℕ, zero, suc, ◌≡◌, ◌≤◌, ◌<◌, ◌+◌, ◌==◌, ◌⊎◌, inl, inr, refl, sym, ap, arith, ◌∙◌, cond, ◌&&◌, Bool, true, false, Option, Some, None, List, [], ◌∷◌, ◌++◌, length, replicate, set, get_or, ltb}
+use Rattle.std.proofs.Common.{ℕ, zero, suc, ◌≡◌, ◌≤◌, ◌<◌, ◌+◌, ◌==◌, ◌⊎◌, inl, inr, refl, sym, ap, arith, ◌∙◌, cond, ◌&&◌, Bool, true, false, Option, None, List, [], ◌∷◌, ◌++◌, length, replicate, set, get_or, ltb}
 use Rattle.std.proofs.lemmas.Bool.{ltb-false, cond_both, cases_lt, eqb-true, eq-eqb, false≢true}
 use Rattle.std.proofs.lemmas.List.{replicate-append-replicate, get_or-replicate, length-replicate, get_or-set_same, get_or-set_other, get_or_past}
 use Rattle.std.specs.List.{flat_map}

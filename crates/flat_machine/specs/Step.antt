@@ -1,5 +1,5 @@
 -- One instruction of flat memory: its reply and the memory after it, exactly by its row.
-use Rattle.std.specs.Prelude.{ℕ, ◌≡◌, ◌<◌, Bool, true, List, Option, Some, None, if◌then◌else◌}
+use Rattle.std.specs.Prelude.{◌≡◌, ◌<◌, Bool, true, List, Option, Some, None, if◌then◌else◌}
 use Rattle.sgx_types.specs.declared.entries.Actor.{Actor}
 use Rattle.sgx_types.specs.declared.entries.Actor.TheVariants.{Cpu}
 use Rattle.sgx_types.specs.declared.entries.Action.{Action}

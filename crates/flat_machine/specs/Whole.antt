@@ -1,8 +1,7 @@
 -- What is true of every flat memory.
-use Rattle.std.specs.Prelude.{ℕ, ◌≡◌, ◌/◌, List, [], Option, Some, None, length, slice_index_or}
+use Rattle.std.specs.Prelude.{ℕ, ◌≡◌, ◌/◌, [], Option, Some, None, length, slice_index_or}
 use Rattle.flat_machine.specs.declared.flat.Enclave.{Enclave}
 use Rattle.flat_machine.specs.declared.flat.Flat.TheInside.{Inside}
-use Rattle.flat_machine.specs.declared.table.PlainPage.{PlainPage}
 use Rattle.flat_machine.specs.Parts.{FlatParts}
 
 abbrev pub parts_of : Inside → FlatParts

@@ -1,9 +1,8 @@
-use Rattle.std.proofs.Common.{ℕ, ◌≡◌, ◌<◌, ◌∙◌, refl, sym, ap, arith, length, get_or, [], Some, None, List, set}
+use Rattle.std.proofs.Common.{◌<◌, ◌∙◌, refl, arith, length, []}
 use Rattle.std.proofs.lemmas.List.{length-set}
-use Rattle.flat_machine.specs.Whole.{parts_of, page_count}
-use Rattle.flat_machine.specs.Parts.{FlatParts}
+use Rattle.flat_machine.specs.Whole.{parts_of}
 use Rattle.flat_machine.proofs.Columns.{slot_lengths}
-use Rattle.flat_machine.proofs.Rows.{Adds, adds, memory_added}
+use Rattle.flat_machine.proofs.Rows.{adds, memory_added}
 use Rattle.flat_machine.proofs.Lists.{read_at}
 use Rattle.flat_machine.proofs.flat.Flat.set_page.Goals as goal
 

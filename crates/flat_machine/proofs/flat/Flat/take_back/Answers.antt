@@ -1,4 +1,4 @@
-use Rattle.std.proofs.Common.{ap, ◌∙◌, ◌≡◌, ◌+◌, ◌-◌, ◌/◌, ℕ, is_some, get_or}
+use Rattle.std.proofs.Common.{ap, ◌∙◌, ◌≡◌, ◌+◌, ◌-◌, ◌/◌, is_some, get_or}
 use Rattle.sgx_types.specs.Flat.{FlatMemory, with_words, with_cssa, fields_in, entered, words_of, resumed_word}
 use Rattle.sgx_types.specs.Frames.{page_at}
 use Rattle.sgx_types.specs.Table.{TcsSight}
