@@ -1,6 +1,8 @@
 pub mod Tools
 pub mod MeasureLaws
 pub mod Carry
+pub mod Contents
+pub mod SoundLaws
 pub mod BuildLaws
 pub mod ProcessorLaws
 pub mod Refused
