@@ -18,6 +18,7 @@ use Rattle.secs_state.specs.Secs.{with_page as with_noted}
 use Rattle.measure_log.specs.declared.measure.Measure.{Measure}
 use Rattle.measure_log.specs.Measure.{HoldsLog}
 use Rattle.measure_log.specs.Blocks.{eextend_block, chunk_of}
+use Rattle.measure_log.specs.Rule.{IsExpected, IsOther}
 use Rattle.enclave_build.specs.declared.build_refusal.BuildRefusal.{BuildRefusal}
 use Rattle.enclave_build.specs.declared.build_refusal.BuildRefusal.TheVariants as ends
 
@@ -78,3 +79,9 @@ measured_row enclave expect made = init_row (Some enclave) ++ (when (not (is_exp
 abbrev pub unless_measured : Option Refusal → Option Refusal
 unless_measured (Some (why.BadMeasure made)) = None
 unless_measured refusal = refusal
+
+-- a measurement that is answered is the expected one, and one that a refusal tells is another
+abbrev pub AgreesWith : Option (List ℕ) → Result (List ℕ) Refusal → Type 0
+AgreesWith expect (Ok made) = IsExpected expect made
+AgreesWith expect (Err (why.BadMeasure made)) = IsOther expect made
+AgreesWith expect (Err refusal) = Unit {0}

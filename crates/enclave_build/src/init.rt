@@ -3,7 +3,7 @@ ghost use Rattle.sgx_types.specs.Table.{refusal_in, first_of_row, init_row};
 ghost use Rattle.secs_state.specs.Secs.{with_init};
 ghost use Rattle.measure_log.specs.Measure.{HoldsLog, measurement_of};
 ghost use Rattle.secs_state.specs.Sights.{sight_of};
-ghost use Rattle.enclave_build.specs.Build.{is_expected, measured_row, unless_measured};
+ghost use Rattle.enclave_build.specs.Build.{AgreesWith, is_expected, measured_row, unless_measured};
 
 use measure_log::measure::Measure;
 use secs_state::secs::Secs;
@@ -18,6 +18,7 @@ pub fn einit(secs: &mut Secs, log: &Measure, expect: Option<[u8; 32]>) -> Result
     // .. and with the measurement as its last case.
     ensures measured { (bytes : List ℕ) → HoldsLog log.now bytes
         → refusal_in result ≡ first_of_row (measured_row (sight_of secs.old) expect (measurement_of bytes)) }
+    ensures expected { AgreesWith expect result }
     ensures done { OnOk result (secs.new ≡ with_init secs.old) }
     ensures answer { (bytes : List ℕ) → HoldsLog log.now bytes → IfOk result (λ digest. digest ≡ measurement_of bytes) }
     ensures refused { OnErr result (secs.new ≡ secs.old) }

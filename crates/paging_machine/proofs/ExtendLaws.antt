@@ -21,60 +21,35 @@ use Rattle.measure_log.specs.Measure.{TakesIn}
 use Rattle.measure_log.specs.Log.{Logged, logged_chunk}
 use Rattle.measure_log.specs.Rule.{page_held, page_in, log}
 use Rattle.measure_log.specs.Rule as rule
-use Rattle.paging_machine.specs.declared.enclaves.Enclave.{Enclave}
+use Rattle.secs_state.specs.Secs.{SecsState}
+use Rattle.secs_state.specs.Table.{enclave_at}
 use Rattle.paging_machine.specs.State.{State, sight, is_closed, row_of, after_extend}
-use Rattle.paging_machine.specs.Parts.{Parts, held, enclave_of, state_of}
+use Rattle.paging_machine.specs.Parts.{Parts, enclave_of, added_in, state_of}
 use Rattle.paging_machine.specs.Stands.{Stands, IsSound, Upholds}
-use Rattle.paging_machine.specs.Steps.{IsExtended}
-use Rattle.paging_machine.specs.Whole.{IsNoted, IsMeasured, IsFramed}
+use Rattle.paging_machine.specs.Whole.{IsFramed}
 use Rattle.paging_machine.proofs.Tools.{none_holds, none_refused, neither, is_none-None}
 use Rattle.paging_machine.proofs.MeasureLaws.{goes_on}
 use Rattle.paging_machine.proofs.Carry.{did_by, stands_done, upholds_more, held_before, once_before}
 use Rattle.paging_machine.proofs.Refused.{extend_agrees}
-use Rattle.paging_machine.proofs.Bridge.{measure_set, there_below}
 
 -- the page in a frame is one of a created enclave
 abbrev pub IsMade : State → Type 0
 IsMade s = (n : ℕ) (g : Page) → page_held (s.content n) ≡ Some g → is_some (s.enclaves g.enclave) ≡ true
 
--- ---- the parts
-
-pub pages_made : (d : Parts) → IsNoted d.enclaves d.pages → IsFramed (state_of d).content d.pages → IsMade (state_of d)
-pages_made d noted framed n g is = by_content ((state_of d).content n) refl is
+-- an added page is one of a created enclave
+pub pages_made : (d : Parts) → IsFramed (state_of d) → IsMade (state_of d)
+pages_made d framed n g is = by_content ((state_of d).content n) refl is
   where
-    by_enclave : (o : Option Enclave) → get_or d.enclaves g.enclave None ≡ o → g.number < length (get_or d.pages g.enclave []) → is_some (enclave_of o) ≡ true
-    by_enclave None none low = let empty = noted.unmade g.enclave none in absurd (let past = rw empty at low in omega (arith, past))
-    by_enclave (Some x) found low = refl
+    by_enclave : (o : Option SecsState) (number : ℕ) → is_some (added_in o number) ≡ true → is_some (enclave_of o) ≡ true
+    by_enclave None number k = cc k
+    by_enclave (Some x) number k = refl
 
-    by_content : (c : Content) → (state_of d).content n ≡ c → page_held c ≡ Some g → is_some (enclave_of (get_or d.enclaves g.enclave None)) ≡ true
-    by_content (Holds page kind perm) e k =
-        let same : page ≡ g = cc in
-        by_enclave (get_or d.enclaves g.enclave None) refl (rw same at (framed n page kind perm e))
+    by_content : (c : Content) → (state_of d).content n ≡ c → page_held c ≡ Some g → is_some (enclave_of (enclave_at d.secs g.enclave)) ≡ true
+    by_content (Holds page kind perm) e k = let same : page ≡ g = cc in by_enclave (enclave_at d.secs g.enclave) g.number (rw same at (framed n page kind perm e))
     by_content Free e k = cc
     by_content IsVa e k = cc
     by_content (SecsOf enclave) e k = cc
     by_content IsLoading e k = cc
-
--- a created enclave has a place for its measurement
-pub measure_place : (d : Parts) (e : ℕ) → IsNoted d.enclaves d.pages → IsMeasured d.enclaves d.measures → is_some ((state_of d).enclaves e) ≡ true → e < length d.measures
-measure_place d e noted measured made = by_enclave (get_or d.enclaves e None) refl made
-  where
-    by_enclave : (o : Option Enclave) → get_or d.enclaves e None ≡ o → is_some (enclave_of o) ≡ true → e < length d.measures
-    by_enclave None none k = cc
-    by_enclave (Some x) found k = let low = there_below d.enclaves e x found in omega (arith, low, noted.enclaves_len, measured.measures_len)
-
-pub page_extended : (d : Parts) (f chunk : ℕ) (g : Page) (before after : Option Measure) → page_held (held (entry_at d.epc f)) ≡ Some g → g.enclave < length d.measures → get_or d.measures g.enclave None ≡ before
-    → IsSomeAnd before (λ x. IsSomeAnd after (λ y. TakesIn x (eextend_block (4096 * g.number + 256 * chunk) (chunk_of (bytes_at d.epc f) chunk)) y))
-    → IsExtended (state_of d) f chunk (state_of (record d { measures = set d.measures g.enclave after }))
-page_extended d f chunk g None after here there is takes = absurd takes
-page_extended d f chunk g (Some x) None here there is takes = absurd takes
-page_extended d f chunk g (Some x) (Some y) here there is takes = record {
-  page = g;
-  held = here;
-  longer = y;
-  log = rw is takes;
-  state = λ i. record (state_of d) { measure = λ e. measure_set d.measures g.enclave e y there i };
-}
 
 -- ---- the entries
 

@@ -1,35 +1,29 @@
 -- A machine that has done nothing yet stands for no entry.
-use Rattle.std.proofs.Common.{ℕ, ◌≡◌, ◌<◌, ◌≤◌, ◌^◌, ◌+◌, refl, sym, ap, subst, ◌∙◌, ◌⊎◌, inl, inr, List, [], ◌∷◌, ◌++◌, Option, Some, None, length, replicate, get_or, is_some}
+use Rattle.std.proofs.Common.{ℕ, ◌≡◌, ◌==◌, ◌-◌, ◌<◌, ◌≤◌, ◌^◌, ◌+◌, refl, sym, ap, subst, ◌∙◌, ◌⊎◌, inl, inr, List, [], ◌∷◌, ◌++◌, Option, Some, None, length, replicate, get_or, is_some}
 use Rattle.std.specs.List.{All}
-use Rattle.std.proofs.lemmas.Bool.{cases_lt}
+use Rattle.std.proofs.lemmas.Bool.{cond_both}
 use Rattle.std.proofs.lemmas.List.{get_or-replicate, get_or_past, length-replicate, replicate-append-replicate}
 use Rattle.std.proofs.lemmas.List.Elements.{All-nil}
 use Rattle.epcm_entry.specs.EntryView.{block_of, goes_out}
 use Rattle.epcm_entry.specs.Epc.{EpcFrame, free_frame}
+use Rattle.epcm_entry.specs.Sights.{held}
 use Rattle.cached_translations.specs.declared.processor.Processor.{Processor}
 use Rattle.measure_log.specs.declared.measure.Measure.{Measure}
-use Rattle.paging_machine.specs.declared.enclaves.PageNote.{PageNote}
-use Rattle.paging_machine.specs.declared.enclaves.Enclave.{Enclave}
+use Rattle.secs_state.specs.Secs.{SecsState}
+use Rattle.secs_state.specs.Table.{empty_table, enclave_at}
 use Rattle.paging_machine.specs.State.{fresh}
 use Rattle.paging_machine.specs.Stands.{IsSound, Upholds}
-use Rattle.paging_machine.specs.Parts.{Parts, made, idle, state_of, held, no_note, kind_of, enclave_of, seat_of_mode, cpu_at}
-use Rattle.paging_machine.specs.Whole.{IsNoted, IsMeasured, IsFramed, IsWhole, parts_of}
+use Rattle.paging_machine.specs.Parts.{Parts, made, idle, state_of, enclave_of, added_in, is_busy_in, seat_of_mode, cpu_at}
+use Rattle.paging_machine.specs.Whole.{IsTable, IsMeasured, IsFramed, IsWhole, parts_of}
 use Rattle.paging_machine.specs.declared.machine.Machine.TheInside.{Inside}
+use Rattle.paging_machine.proofs.Columns.{like}
 
 -- one item more
 pub replicate_more : {X : Type 0} (n : ℕ) (x : X) → replicate n x ++ x ∷ [] ≡ replicate (n + 1) x
 replicate_more n x = replicate-append-replicate n 1 x
 
--- a place of a list of like items, or past it
-pub like : {X : Type 0} (n i : ℕ) (x : X) → get_or (replicate n x) i x ≡ x
-like n i x = by_place (cases_lt i n)
-  where
-    by_place : (i < n) ⊎ (n ≤ i) → get_or (replicate n x) i x ≡ x
-    by_place (inl low) = get_or-replicate n i x x low
-    by_place (inr past) = get_or_past (replicate n x) i x (rw (length-replicate n x) past)
-
-no_notes : (e n : ℕ) → get_or (get_or (replicate 9 []) e []) n no_note ≡ no_note
-no_notes e n = ap (λ (xs : List PageNote). get_or xs n no_note) (like {X = List PageNote} 9 e [])
+no_enclave : (e : ℕ) → enclave_at empty_table e ≡ None
+no_enclave e = cond_both (e == 0) None (get_or empty_table (e - 1) None) (λ (v : Option SecsState). v ≡ None) (λ _. refl) (λ _. like {X = Option SecsState} 8 (e - 1) None)
 
 pub made_state : (frames cpus : ℕ) (key : List ℕ) (epoch version : ℕ) → state_of (made frames cpus key epoch version) ≡ fresh frames
 made_state frames cpus key epoch version = λ i. record {
@@ -38,9 +32,9 @@ made_state frames cpus key epoch version = λ i. record {
   is_blocked = λ n. ap (λ (x : EpcFrame). is_some (block_of x.entry)) (like frames n free_frame) i;
   is_sealing = λ n. ap (λ (x : EpcFrame). goes_out x.entry) (like frames n free_frame) i;
   words = λ n. ap (λ (x : EpcFrame). x.words) (like frames n free_frame) i;
-  enclaves = λ e. ap enclave_of (like 9 e None) i;
-  added = λ g. ap (λ x. kind_of x.added) (no_notes g.enclave g.number) i;
-  is_busy = λ g. ap (λ x. x.is_busy) (no_notes g.enclave g.number) i;
+  enclaves = λ e. ap enclave_of (no_enclave e) i;
+  added = λ g. ap (λ o. added_in o g.number) (no_enclave g.enclave) i;
+  is_busy = λ g. ap (λ o. is_busy_in o g.number) (no_enclave g.enclave) i;
   measure = λ e. like {X = Option Measure} 9 e None i;
   inside = λ p. ap (λ x. seat_of_mode x.mode) (like cpus p idle) i;
   acc = λ p. ap (λ x. x.acc) (like cpus p idle) i;
@@ -79,22 +73,14 @@ pub sound_made : (frames cpus : ℕ) (key : List ℕ) (epoch version : ℕ) → 
 sound_made frames cpus key epoch version = rw (made_state frames cpus key epoch version) (record { seated = λ p. tt })
 
 -- .. and keeps what every machine keeps
-no_enclave : (e : ℕ) (x : Enclave) → get_or (replicate 9 None) e None ≡ Some x → ⊥
-no_enclave e x is = let none : get_or (replicate 9 None) e None ≡ None = like {X = Option Enclave} 9 e None in cc (none, is)
+table_made : IsTable empty_table
+table_made = record { places = refl; own = λ e x is. absurd (let none = no_enclave e in cc (none, is)) }
 
-pub noted_made : IsNoted (replicate 9 None) (replicate 9 [])
-noted_made = record {
-  enclaves_len = refl;
-  pages_len = refl;
-  unmade = λ e is. like {X = List PageNote} 9 e [];
-  made = λ e x is. absurd (no_enclave e x is);
-}
+measured_made : (frames cpus : ℕ) (key : List ℕ) (epoch version : ℕ) → IsMeasured (state_of (made frames cpus key epoch version))
+measured_made frames cpus key epoch version = subst IsMeasured (sym (made_state frames cpus key epoch version)) (λ e is. cc is)
 
-pub measured_made : IsMeasured (replicate 9 None) (replicate 9 None)
-measured_made = record { measures_len = refl; made = λ e x is. absurd (no_enclave e x is) }
-
-pub framed_made : (frames cpus : ℕ) (key : List ℕ) (epoch version : ℕ) (pages : List (List PageNote)) → IsFramed (state_of (made frames cpus key epoch version)).content pages
-framed_made frames cpus key epoch version pages n g kind perm is = let free = ap (λ s. s.content n) (made_state frames cpus key epoch version) in cc (free, is)
+framed_made : (frames cpus : ℕ) (key : List ℕ) (epoch version : ℕ) → IsFramed (state_of (made frames cpus key epoch version))
+framed_made frames cpus key epoch version = subst IsFramed (sym (made_state frames cpus key epoch version)) (λ n g kind perm is. cc is)
 
 pub small_made : (frames cpus : ℕ) (key : List ℕ) (epoch version : ℕ) (p : ℕ) → All (λ t. t.number < 2 ^ 32) (cpu_at (made frames cpus key epoch version) p).cache
 small_made frames cpus key epoch version p = rw (like {X = Processor} cpus p idle) (All-nil (λ t. t.number < 2 ^ 32))
@@ -104,9 +90,10 @@ whole_made m frames cpus key epoch version is few =
     let count : length m.cpus.items ≡ cpus = ap (λ (d : Parts). length d.cpus) is ∙ length-replicate cpus idle in
     record {
       processors = rw count few;
-      noted = subst (λ (d : Parts). IsNoted d.enclaves d.pages) (sym is) noted_made;
-      measured = subst (λ (d : Parts). IsMeasured d.enclaves d.measures) (sym is) measured_made;
-      framed = subst (λ (d : Parts). IsFramed (state_of d).content d.pages) (sym is) (framed_made frames cpus key epoch version (replicate 9 []));
+      places = ap (λ (d : Parts). length d.measures) is;
+      table = subst (λ (d : Parts). IsTable d.secs) (sym is) table_made;
+      measured = subst (λ (d : Parts). IsMeasured (state_of d)) (sym is) (measured_made frames cpus key epoch version);
+      framed = subst (λ (d : Parts). IsFramed (state_of d)) (sym is) (framed_made frames cpus key epoch version);
       small = subst (λ (d : Parts). (p : ℕ) → All (λ t. t.number < 2 ^ 32) (cpu_at d p).cache) (sym is) (small_made frames cpus key epoch version);
       sound = subst (λ (d : Parts). IsSound (state_of d)) (sym is) (sound_made frames cpus key epoch version);
     }

@@ -6,7 +6,13 @@ pub mod SoundLaws
 pub mod BuildLaws
 pub mod ProcessorLaws
 pub mod Refused
-pub mod Bridge
+pub mod Columns
+pub mod Keeping
+pub mod Wholes
+pub mod FreeFrames
+pub mod BuildBridge
+pub mod BuildSteps
+pub mod ProcessorBridge
 pub mod Reading
 pub mod ExtendLaws
 pub mod StepLaws

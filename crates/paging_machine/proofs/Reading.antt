@@ -1,6 +1,7 @@
 -- A load that its row allows finds its translation, in a frame of the EPC.
-use Rattle.std.proofs.Common.{ℕ, ◌≡◌, ◌<◌, ◌≤◌, ◌/◌, true, false, refl, sym, ap, ◌∙◌, inl, inr, ◌⊎◌, Option, Some, None, is_some, length}
-use Rattle.std.proofs.lemmas.Bool.{cases_lt, false≢true}
+use Rattle.std.proofs.Common.{ℕ, ◌≡◌, ◌<◌, ◌≤◌, ◌/◌, ◌==◌, Bool, true, false, cond, refl, sym, ap, ◌∙◌, inl, inr, ◌⊎◌, arith, Option, Some, None, List, [], ◌∷◌, is_some, length}
+use Rattle.std.specs.List.{AllByRecursion}
+use Rattle.std.proofs.lemmas.Bool.{cases_lt, eqb-true, false≢true}
 use Rattle.std.proofs.lemmas.List.{get_or_past}
 use Rattle.std.proofs.lemmas.List.Elements.{recursion_from_All}
 use Rattle.sgx_types.specs.declared.names.Kind.TheVariants as kinds
@@ -8,14 +9,19 @@ use Rattle.sgx_types.specs.Frames.{Content, Free, Holds, page_at}
 use Rattle.sgx_types.specs.Processors.{Seat}
 use Rattle.sgx_types.specs.Table.{load_row, first_of_row}
 use Rattle.epcm_entry.specs.Epc.{EpcFrame, free_frame}
+use Rattle.epcm_entry.specs.Sights.{held}
 use Rattle.cached_translations.specs.declared.cache.Translation.{Translation}
 use Rattle.cached_translations.specs.Translations.{translation_of}
 use Rattle.paging_machine.specs.State.{State, translation, perm_of_held}
 use Rattle.paging_machine.specs.Stands.{IsTranslation, IsSound}
-use Rattle.paging_machine.specs.Parts.{Parts, state_of, held}
+use Rattle.paging_machine.specs.Parts.{Parts, state_of}
 use Rattle.paging_machine.proofs.Tools.{none_holds}
 use Rattle.paging_machine.proofs.Carry.{seat_at}
 use Rattle.paging_machine.proofs.ProcessorLaws.{found_there}
+
+-- past the end of the EPC nothing is held
+pub free_past : (d : Parts) (n : ℕ) → length d.epc ≤ n → (state_of d).content n ≡ Free
+free_past d n past = ap (λ (x : EpcFrame). held x.entry) (get_or_past d.epc n free_frame past)
 
 -- a frame that holds a page is in the EPC
 pub filled_within : (d : Parts) (n : ℕ) (c : Content) → (state_of d).content n ≡ c → (Free ≡ c → ⊥) → n < length d.epc
@@ -23,7 +29,7 @@ filled_within d n c is filled = by_place (cases_lt n (length d.epc))
   where
     by_place : (n < length d.epc) ⊎ (length d.epc ≤ n) → n < length d.epc
     by_place (inl low) = low
-    by_place (inr past) = absurd (filled (sym (ap (λ (x : EpcFrame). held x.entry) (get_or_past d.epc n free_frame past)) ∙ is))
+    by_place (inr past) = absurd (filled (sym (free_past d n past) ∙ is))
 
 loads : (s : State) (p off : ℕ) (o : Option Seat) → s.inside p ≡ o → IsSound s → first_of_row (load_row off (is_some o) (translation s p o (off / 4096))) ≡ None
     → (t : Translation) → translation_of (s.cache p) (off / 4096) ≡ Some t → (seat : Seat) × IsTranslation seat.enclave t (s.content t.frame.0) (s.is_sealing t.frame.0)
@@ -49,3 +55,12 @@ load_found s p off allowed = by_mode (s.inside p) allowed
     by_mode : (o : Option Seat) → first_of_row (load_row off (is_some o) (translation s p o (off / 4096))) ≡ None → is_some (translation_of (s.cache p) (off / 4096)) ≡ true
     by_mode None k = absurd (false≢true (sym (none_holds (load_row off false None) k).0))
     by_mode (Some seat) k = by_held (translation_of (s.cache p) (off / 4096)) k
+
+-- a word that has no translation under a number that no page has
+pub none_past : (xs : List Translation) (n : ℕ) → AllByRecursion (λ t. t.number < n) xs → (m : ℕ) → n ≤ m → translation_of xs m ≡ None
+none_past [] n h m le = refl
+none_past (x ∷ xs) n h m le = by_test (x.number == m) refl (none_past xs n h.1 m le)
+  where
+    by_test : (b : Bool) → (x.number == m) ≡ b → translation_of xs m ≡ None → cond b (Some x) (translation_of xs m) ≡ None
+    by_test true e rest = let same : x.number ≡ m = eqb-true _ _ e in absurd (omega (arith, h.0))
+    by_test false e rest = rest

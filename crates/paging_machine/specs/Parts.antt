@@ -1,7 +1,5 @@
 -- The machine's parts as data, and the state that they make.
-use Rattle.std.specs.Prelude.{ℕ, ◌/◌, ◌&&◌, Bool, false, List, [], map, Option, Some, None, slice_index_or, slice_index, slice_set, length, is_some, replicate}
-use Rattle.std.specs.declared.vec.Vec.{Vec}
-use Rattle.std.specs.declared.alloc.Global.{Global}
+use Rattle.std.specs.Prelude.{ℕ, ◌/◌, ◌&&◌, Bool, false, List, [], Option, Some, None, slice_index_or, slice_index, length, is_some, replicate}
 use Rattle.sgx_types.specs.declared.names.Page.{Page}
 use Rattle.sgx_types.specs.declared.names.Kind.{Kind}
 use Rattle.sgx_types.specs.declared.names.Kind.TheVariants as kinds
@@ -9,69 +7,48 @@ use Rattle.sgx_types.specs.declared.names.Perm.{Perm}
 use Rattle.sgx_types.specs.declared.entries.AccessOp.{AccessOp}
 use Rattle.sgx_types.specs.declared.entries.AccessOp.TheVariants as accesses
 use Rattle.sgx_types.specs.declared.layouts.TcsFields.{TcsFields}
-use Rattle.sgx_types.specs.Frames.{Content, Free, IsVa, SecsOf, Holds, IsLoading}
+use Rattle.sgx_types.specs.Frames.{Content, Holds}
 use Rattle.sgx_types.specs.Processors.{Seat}
 use Rattle.sgx_types.specs.Table.{TcsSight}
 use Rattle.sgx_types.specs.Flat.{FlatEnclave, tcs_fields}
-use Rattle.epcm_entry.specs.declared.entry_view.EntryView.{EntryView}
-use Rattle.epcm_entry.specs.declared.entry_view.EntryView.TheVariants as views
 use Rattle.epcm_entry.specs.EntryView.{block_of, goes_out}
 use Rattle.epcm_entry.specs.Epc.{EpcFrame, free_frames, entry_at, words_at}
+use Rattle.epcm_entry.specs.Sights.{held}
+use Rattle.secs_state.specs.Secs.{SecsState, added_at, is_busy_at}
+use Rattle.secs_state.specs.Table.{empty_table, enclave_at}
 use Rattle.cached_translations.specs.declared.processor.Processor.{Processor}
 use Rattle.cached_translations.specs.declared.processor.Mode.{Mode}
 use Rattle.cached_translations.specs.declared.processor.Mode.TheVariants.{Outside, Inside}
 use Rattle.measure_log.specs.declared.measure.Measure.{Measure}
-use Rattle.paging_machine.specs.declared.enclaves.Enclave.{Enclave}
-use Rattle.paging_machine.specs.declared.enclaves.PageNote.{PageNote}
-use Rattle.paging_machine.specs.declared.enclaves.Added.{Added}
 use Rattle.paging_machine.specs.State.{State}
 
--- the EPC, the enclaves, their pages and their running measurements by the enclave's number, the processors, and the
--- numbers of the making
+-- the EPC, the state of each enclave, their running measurements by the enclave's number, the processors, and the numbers
+-- of the making
 pub record Parts : Type 0 where
   pub epc : List EpcFrame
-  pub enclaves : List (Option Enclave)
-  pub pages : List (List PageNote)
+  pub secs : List (Option SecsState)
   pub measures : List (Option Measure)
   pub cpus : List Processor
   pub key : List ℕ
   pub start_epoch : ℕ
   pub start_version : ℕ
 
--- ---- frames
-
-abbrev pub content_of : Page → Kind → Perm → Content
-content_of page kinds.Secs perm = SecsOf page.enclave
-content_of page kinds.Va perm = IsVa
-content_of page kinds.Tcs perm = Holds page kinds.Tcs perm
-content_of page kinds.Reg perm = Holds page kinds.Reg perm
-
-abbrev pub held : EntryView → Content
-held views.Free = Free
-held views.Loading = IsLoading
-held (views.Valid page kind perm blocked sealing) = content_of page kind perm
-
 -- ---- enclaves
 
-abbrev pub enclave_of : Option Enclave → Option FlatEnclave
+-- what flat memory knows of an enclave
+abbrev pub enclave_of : Option SecsState → Option FlatEnclave
 enclave_of None = None
-enclave_of (Some e) = Some (record { base = e.base; size = e.size; is_init = e.is_init })
+enclave_of (Some x) = Some (record { base = x.base; size = x.size; is_init = x.is_init })
 
-abbrev pub no_note : PageNote
-no_note = record { added = None; is_busy = false }
+-- the kind and the permissions with which a page of an enclave was added
+abbrev pub added_in : Option SecsState → ℕ → Option (Kind × Perm)
+added_in None number = None
+added_in (Some x) number = added_at x number
 
-abbrev pub note_at : Parts → ℕ → ℕ → PageNote
-note_at d enclave number = slice_index_or (slice_index_or d.pages enclave []) number no_note
-
-abbrev pub notes_of : Vec (Vec PageNote Global) Global → List (List PageNote)
-notes_of pages = map (λ notes. notes.items) pages.items
-
-abbrev pub with_note : List (List PageNote) → ℕ → ℕ → PageNote → List (List PageNote)
-with_note pages e n note = slice_set pages e (slice_set (slice_index_or pages e []) n note)
-
-abbrev pub kind_of : Option Added → Option (Kind × Perm)
-kind_of None = None
-kind_of (Some x) = Some (x.kind, x.perm)
+-- a processor is inside an enclave by a page
+abbrev pub is_busy_in : Option SecsState → ℕ → Bool
+is_busy_in None number = false
+is_busy_in (Some x) number = is_busy_at x number
 
 -- ---- processors
 
@@ -91,8 +68,7 @@ seat_of_mode (Inside enclave tcs tf sf epoch) = Some (record { enclave = enclave
 abbrev pub made : ℕ → ℕ → List ℕ → ℕ → ℕ → Parts
 made frames cpus key start_epoch start_version = record {
   epc = free_frames frames;
-  enclaves = replicate 9 None;
-  pages = replicate 9 [];
+  secs = empty_table;
   measures = replicate 9 None;
   cpus = replicate cpus idle;
   key = key;
@@ -109,9 +85,9 @@ state_of d = record {
   is_blocked = λ n. is_some (block_of (entry_at d.epc n));
   is_sealing = λ n. goes_out (entry_at d.epc n);
   words = λ n. words_at d.epc n;
-  enclaves = λ e. enclave_of (slice_index_or d.enclaves e None);
-  added = λ g. kind_of (note_at d g.enclave g.number).added;
-  is_busy = λ g. (note_at d g.enclave g.number).is_busy;
+  enclaves = λ e. enclave_of (enclave_at d.secs e);
+  added = λ g. added_in (enclave_at d.secs g.enclave) g.number;
+  is_busy = λ g. is_busy_in (enclave_at d.secs g.enclave) g.number;
   measure = λ e. slice_index_or d.measures e None;
   inside = λ p. seat_of_mode (cpu_at d p).mode;
   acc = λ p. (cpu_at d p).acc;

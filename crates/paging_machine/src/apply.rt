@@ -10,8 +10,8 @@ ghost use Rattle.paging_machine.specs.Steps.{IsStep, CanApply, MayNeedMemory, di
 use crate::machine::Machine;
 use crate::sights::perm_in;
 use cached_translations::cache::Translation;
-use sgx_types::entries::{Action, Actor, Answer, Entry, Event, PageInit};
-use sgx_types::names::{Cpu, Frame, Kind, Memory, Page, Perm};
+use sgx_types::entries::{Action, Actor, Answer, Entry, Event};
+use sgx_types::names::{Cpu, Frame, Memory, Page};
 use sgx_types::refusals::Refusal;
 use std::alloc::Global;
 
@@ -68,113 +68,6 @@ impl Machine {
             _ => unreachable!(),
         };
         Ok(entry)
-    }
-
-    /// A free frame becomes a version array page (Intel SDM volume 3D, EPA).
-    fn epa(&mut self, actor: Actor, frame: Frame) -> Entry
-        ensures step { IsStep (state_of self.old) actor (actions.Epa frame) result (state_of self.new) }
-        ensures cpus { length self.new.cpus ≡ length self.old.cpus }
-    {
-        let action = Action::Epa { frame };
-        if let Some(refusal) = self.epa_refusal(frame) {
-            return refused(actor, action, refusal);
-        }
-        self.set_va(frame);
-        done(actor, action, Answer::Plain)
-    }
-
-    /// A free frame becomes the SECS of a new enclave (ECREATE).
-    fn create(
-        &mut self,
-        alloc: Global,
-        actor: Actor,
-        enclave: u16,
-        frame: Frame,
-        base: u64,
-        size: u64,
-    ) -> Result<Entry, Memory>
-        ensures step { IfOk result (λ e. IsStep (state_of self.old) actor (actions.Create enclave frame base size) e (state_of self.new)) }
-        ensures refused { OnErr result (self.new ≡ self.old) }
-        ensures cpus { length self.new.cpus ≡ length self.old.cpus }
-    {
-        let action = Action::Create {
-            enclave,
-            frame,
-            base,
-            size,
-        };
-        if let Some(refusal) = self.create_refusal(enclave, frame, base, size) {
-            return Ok(refused(actor, action, refusal));
-        }
-        self.set_secs(alloc, enclave, frame, base, size)?;
-        Ok(done(actor, action, Answer::Plain))
-    }
-
-    /// A free frame becomes a page of an enclave that is not initialised (EADD).
-    fn add(
-        &mut self,
-        actor: Actor,
-        page: Page,
-        frame: Frame,
-        kind: Kind,
-        perm: Perm,
-        init: PageInit,
-    ) -> Entry
-        ensures step { IsStep (state_of self.old) actor (actions.Add page.enclave page.number frame kind perm init) result (state_of self.new) }
-        ensures cpus { length self.new.cpus ≡ length self.old.cpus }
-    {
-        let action = Action::Add {
-            enclave: page.enclave,
-            number: page.number,
-            frame,
-            kind,
-            perm,
-            init,
-        };
-        if let Some(refusal) = self.add_refusal(
-            page.enclave,
-            page.number,
-            frame,
-            kind,
-            perm,
-            init,
-        ) {
-            return refused(actor, action, refusal);
-        }
-        self.set_page(page, frame, kind, perm, init);
-        done(actor, action, Answer::Plain)
-    }
-
-    /// A chunk of 256 bytes of a page is added to the measurement of its enclave, which is not initialised (EEXTEND).
-    fn extend(&mut self, actor: Actor, frame: Frame, chunk: u8) -> Entry
-        ensures step { IsStep (state_of self.old) actor (actions.Extend frame chunk) result (state_of self.new) }
-        ensures cpus { length self.new.cpus ≡ length self.old.cpus }
-    {
-        let action = Action::Extend { frame, chunk };
-        if let Some(refusal) = self.extend_refusal(frame, chunk) {
-            return refused(actor, action, refusal);
-        }
-        self.set_extended(frame, chunk);
-        done(actor, action, Answer::Plain)
-    }
-
-    /// An enclave is initialised, and answers its measurement (EINIT).
-    fn init(&mut self, actor: Actor, enclave: u16, expect: Option<[u8; 32]>) -> Entry
-        ensures step { IsStep (state_of self.old) actor (actions.Init enclave expect) result (state_of self.new) }
-        ensures cpus { length self.new.cpus ≡ length self.old.cpus }
-    {
-        let action = Action::Init { enclave, expect };
-        if let Some(refusal) = self.init_refusal(enclave) {
-            return refused(actor, action, refusal);
-        }
-        let made = self.measurement(enclave);
-        if let Some(wanted) = expect {
-            if wanted != made {
-                return refused(actor, action, Refusal::BadMeasure { made });
-            }
-        }
-        self.set_init(enclave);
-        done(actor, action, Answer::Hash(made))
     }
 
     /// A processor goes into an enclave by a free TCS (EENTER).
@@ -253,7 +146,7 @@ impl Machine {
     }
 }
 
-fn done(actor: Actor, action: Action, answer: Answer) -> Entry
+pub(crate) fn done(actor: Actor, action: Action, answer: Answer) -> Entry
     ensures { result ≡ did_by actor action answer }
 {
     Entry {
@@ -262,7 +155,7 @@ fn done(actor: Actor, action: Action, answer: Answer) -> Entry
     }
 }
 
-fn refused(actor: Actor, action: Action, refusal: Refusal) -> Entry
+pub(crate) fn refused(actor: Actor, action: Action, refusal: Refusal) -> Entry
     ensures { result ≡ refused_by actor action refusal }
 {
     Entry {

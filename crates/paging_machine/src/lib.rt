@@ -3,7 +3,6 @@
 
 mod apply;
 mod build;
-mod enclaves;
 mod extend;
 pub mod machine;
 mod making;

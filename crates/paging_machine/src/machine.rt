@@ -8,13 +8,13 @@ ghost use Rattle.cached_translations.specs.Translations.{translation_of};
 ghost use Rattle.paging_machine.specs.Parts.{state_of, cpu_at, tcs_of, allows, is_lawful_access};
 ghost use Rattle.paging_machine.specs.Stands.{IsSound};
 
-use crate::enclaves::{Enclave, PageNote};
 use crate::sights::is_tcs;
 use cached_translations::cache::Translation;
 use cached_translations::processor::{Mode, Processor};
 use epcm_entry::entry_view::EntryView;
 use epcm_entry::epc::Epc;
 use measure_log::measure::Measure;
+use secs_state::table::SecsTable;
 use sgx_types::entries::AccessOp;
 use sgx_types::layouts::TcsFields;
 use sgx_types::names::{Cpu, Frame, Kind, Page, Perm};
@@ -25,9 +25,8 @@ use std::marker::Model;
 #[derive(Drop)]
 pub struct Machine {
     pub(crate) epc: Epc,
+    pub(crate) secs: SecsTable,
     // By the enclave's number; place 0 stays empty.
-    pub(crate) enclaves: Vec<Option<Enclave>>,
-    pub(crate) pages: Vec<Vec<PageNote>>,
     pub(crate) measures: Vec<Option<Measure>>,
     pub(crate) cpus: Vec<Processor>,
     pub(crate) key: [u8; 32],
@@ -76,8 +75,8 @@ impl Machine {
     pub fn is_init(&self, enclave: u16) -> bool
         ensures { result ≡ is_ready (enclave_sight_of ((state_of self.now).enclaves enclave)) }
     {
-        match self.enclave(enclave) {
-            Some(found) => found.is_init,
+        match self.secs.get(enclave) {
+            Some(secs) => secs.is_init(),
             None => false,
         }
     }
@@ -120,9 +119,12 @@ impl Machine {
     pub fn lawful(&self, page: Page, op: AccessOp) -> bool
         ensures { result ≡ is_lawful_access ((state_of self.now).added page) op }
     {
-        match self.note(page.enclave, page.number).added {
-            Some(added) => matches!(added.kind, Kind::Reg) && allows(added.perm, op),
-            None => false,
+        let Some(secs) = self.secs.get(page.enclave) else {
+            return false;
+        };
+        match secs.added(page.number) {
+            Some((Kind::Reg, perm)) => allows(perm, op),
+            _ => false,
         }
     }
 }

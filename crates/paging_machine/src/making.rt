@@ -1,12 +1,12 @@
 ghost use Rattle.std.specs.Prelude.{◌≡◌, ◌≤◌, [], IfOk, None, replicate};
-ghost use Rattle.paging_machine.specs.Parts.{idle, made, notes_of, state_of};
+ghost use Rattle.paging_machine.specs.Parts.{idle, made, state_of};
 ghost use Rattle.paging_machine.specs.Stands.{Upholds};
 
-use crate::enclaves::{Enclave, PageNote};
 use crate::machine::Machine;
 use cached_translations::processor::Processor;
 use epcm_entry::epc::Epc;
 use measure_log::measure::Measure;
+use secs_state::table::SecsTable;
 use sgx_types::names::Memory;
 use std::alloc::Global;
 
@@ -32,8 +32,7 @@ impl Machine {
     {
         Ok(Machine {
             epc: Epc::new(alloc, frames)?,
-            enclaves: no_enclaves(alloc)?,
-            pages: blank_pages(alloc)?,
+            secs: SecsTable::new(),
             measures: no_measures(alloc)?,
             cpus: idle_processors(alloc, cpus)?,
             key,
@@ -41,28 +40,6 @@ impl Machine {
             start_version,
         })
     }
-}
-
-#[tactic(auto, using(crate::proofs::Fresh::replicate_more))]
-fn no_enclaves(alloc: Global) -> Result<Vec<Option<Enclave>>, Memory>
-    ensures { IfOk result (λ enclaves. enclaves.items ≡ replicate 9 None) }
-{
-    let mut enclaves = Vec::with_capacity(alloc, PLACES)?;
-    for _ in 0..PLACES {
-        enclaves.push(None)?;
-    }
-    Ok(enclaves)
-}
-
-#[tactic(auto, using(crate::proofs::Fresh::replicate_more))]
-fn blank_pages(alloc: Global) -> Result<Vec<Vec<PageNote>>, Memory>
-    ensures { IfOk result (λ pages. notes_of pages ≡ replicate 9 []) }
-{
-    let mut pages = Vec::with_capacity(alloc, PLACES)?;
-    for _ in 0..PLACES {
-        pages.push(Vec::new(alloc))?;
-    }
-    Ok(pages)
 }
 
 #[tactic(auto, using(crate::proofs::Fresh::replicate_more))]

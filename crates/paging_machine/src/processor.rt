@@ -6,8 +6,6 @@ ghost use Rattle.cached_translations.specs.Translations.{translation_of};
 ghost use Rattle.paging_machine.specs.Stands.{IsSound};
 ghost use Rattle.paging_machine.specs.State.{sight, seat_of, seat_enclave, translation, enter_row_of, word_at, after_enter, after_exit, after_fill};
 
-use crate::build::write_note;
-use crate::enclaves::PageNote;
 use crate::machine::{Machine, high_half, low_half};
 use crate::sights::{allows_update, is_blocked, is_busy, is_page, is_reg, is_tcs, perm_in};
 use cached_translations::cache::Translation;
@@ -135,10 +133,10 @@ impl Machine {
         if tcs_frame.0 >= frames || ssa_frame.0 >= frames {
             return Some(Refusal::BadRange);
         }
-        let Some(found) = self.enclave(enclave) else {
+        let Some(secs) = self.secs.get(enclave) else {
             return Some(Refusal::Absent);
         };
-        if !found.is_init {
+        if !secs.is_init() {
             return Some(Refusal::NotInit);
         }
         let entry = self.epc.entry(tcs_frame);
@@ -154,7 +152,7 @@ impl Machine {
         if is_blocked(entry) {
             return Some(Refusal::Blocked);
         }
-        if self.note(enclave, tcs).is_busy {
+        if secs.tcs_busy(tcs) {
             return Some(Refusal::TcsBusy);
         }
         let fields = self.tcs_fields(tcs_frame);
@@ -225,17 +223,7 @@ impl Machine {
         ensures cpus { length self.new.cpus ≡ length self.old.cpus }
     {
         let cssa = self.tcs_fields(tcs_frame).cssa;
-        let added = self.note(enclave, tcs).added;
-        let place = usize::from(enclave);
-        write_note(
-            &mut self.pages,
-            place,
-            tcs as usize,
-            PageNote {
-                added,
-                is_busy: true,
-            },
-        );
+        self.secs.get_mut(enclave).unwrap().take_tcs(tcs);
         let mode = Mode::Inside {
             enclave,
             tcs,
@@ -257,17 +245,7 @@ impl Machine {
         let Mode::Inside { enclave, tcs, .. } = self.mode(cpu) else {
             unreachable!()
         };
-        let added = self.note(enclave, tcs).added;
-        let place = usize::from(enclave);
-        write_note(
-            &mut self.pages,
-            place,
-            tcs as usize,
-            PageNote {
-                added,
-                is_busy: false,
-            },
-        );
+        self.secs.get_mut(enclave).unwrap().free_tcs(tcs);
         unseat(&mut self.cpus[usize::from(cpu.0)]);
     }
 

@@ -2,8 +2,8 @@ ghost use Rattle.std.specs.Prelude.{◌≡◌, ◌||◌, is_some};
 ghost use Rattle.sgx_types.specs.Frames.{page_at, is_page};
 ghost use Rattle.sgx_types.specs.Table.{is_loading, is_valid, is_tcs, is_reg, perm_in, allows_update};
 ghost use Rattle.epcm_entry.specs.EntryView.{block_of, goes_out};
+ghost use Rattle.epcm_entry.specs.Sights.{held};
 ghost use Rattle.measure_log.specs.Rule.{page_held};
-ghost use Rattle.paging_machine.specs.Parts.{held};
 
 use epcm_entry::entry_view::EntryView;
 use sgx_types::names::{Kind, Page, Perm};

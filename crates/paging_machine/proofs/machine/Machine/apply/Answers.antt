@@ -18,7 +18,7 @@ use Rattle.paging_machine.proofs.machine.Machine.apply.Goals as goal
 upheld : (m : Inside) (now : Parts) (t : State) (a : Actor) (action : Action) (e : Entry) → parts_of m ≡ now → IsWhole m → CanApply (length now.cpus) a action
     → IsStep (state_of now) a action e t → (past : List Entry) → Upholds (state_of now) past → Upholds t (e ∷ past)
 upheld m now t a action e is whole can step past h =
-    step_upheld (state_of now) t past (length now.cpus) a action e (rw (← is) whole.processors) can (rw (← is) whole.sound) (rw (← is) (pages_made (parts_of m) whole.noted whole.framed)) step h
+    step_upheld (state_of now) t past (length now.cpus) a action e (rw (← is) whole.processors) can (rw (← is) whole.sound) (rw (← is) (pages_made (parts_of m) whole.framed)) step h
 
 pub returns-in_default-Epa-clause-history : goal.returns-in_default-Epa-clause-history
 returns-in_default-Epa-clause-history c = upheld c.self.inside c.args.self.now _ c.args.actor (actions.Epa _) _ c.self.view_is c.self.invariant tt c.epa-entry.ensures.step

@@ -2,7 +2,7 @@ use Rattle.std.proofs.Common.{sym}
 use Rattle.std.proofs.lemmas.List.Elements.{recursion_from_All}
 use Rattle.paging_machine.specs.Whole.{parts_of}
 use Rattle.paging_machine.specs.Parts.{cpu_at}
-use Rattle.paging_machine.proofs.Bridge.{none_past}
+use Rattle.paging_machine.proofs.Reading.{none_past}
 use Rattle.paging_machine.proofs.machine.Machine.find.Goals as goal
 
 pub returns-then-number : goal.returns-then-number

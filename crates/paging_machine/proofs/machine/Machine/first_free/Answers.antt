@@ -1,4 +1,4 @@
-use Rattle.paging_machine.proofs.Bridge.{first_free_is}
+use Rattle.paging_machine.proofs.FreeFrames.{first_free_is}
 use Rattle.paging_machine.proofs.machine.Machine.first_free.Goals as goal
 
 pub returns : goal.returns

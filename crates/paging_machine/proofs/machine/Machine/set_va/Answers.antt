@@ -1,27 +1,21 @@
 use Rattle.paging_machine.specs.Whole.{parts_of}
+use Rattle.paging_machine.specs.State.{after_epa}
+use Rattle.paging_machine.specs.Parts.{state_of}
 use Rattle.sgx_types.specs.Frames.{IsVa}
-use Rattle.paging_machine.proofs.Bridge.{framed_state, framed_put, takes-epa, sound_put, state_put}
+use Rattle.paging_machine.proofs.BuildBridge.{takes-epa, epa_state}
+use Rattle.paging_machine.proofs.Keeping.{kept_put}
+use Rattle.paging_machine.proofs.Wholes.{kept_of, whole}
 use Rattle.paging_machine.proofs.machine.Machine.set_va.Goals as goal
-
-pub set-requires-clause-within : goal.set-requires-clause-within
-set-requires-clause-within c = (takes-epa (parts_of c.self.inside) c.args.frame.0 (rw (← c.self.view_is) at c.requires)).low
-
-pub set-requires-clause-vacant : goal.set-requires-clause-vacant
-set-requires-clause-vacant c = (takes-epa (parts_of c.self.inside) c.args.frame.0 (rw (← c.self.view_is) at c.requires)).vacant
 
 pub invariant_of-self : goal.invariant_of-self
 invariant_of-self c =
-    let k = takes-epa (parts_of c.self.inside) c.args.frame.0 (rw (← c.self.view_is) at c.requires) in
-    record {
-      processors = c.self.invariant.processors;
-      measured = c.self.invariant.measured;
-      noted = c.self.invariant.noted;
-      framed = rw c.set.ensures (framed_state _ _ _ (state_put (parts_of c.self.inside) c.args.frame.0 _ _ _ k.low k.idle) (framed_put _ _ c.args.frame.0 IsVa (λ g kind perm at. cc) c.self.invariant.framed));
-      small = c.self.invariant.small;
-      sound = rw c.set.ensures (sound_put (parts_of c.self.inside) c.args.frame.0 _ _ _ k c.self.invariant.sound);
-    }
+    let d = parts_of c.self.inside in
+    let f = c.args.frame.0 in
+    let k = takes-epa d f (rw (← c.self.view_is) at c.requires) in
+    whole _ (after_epa (state_of d) f) (rw c.set.ensures (epa_state d f _ _ _ k)) (kept_put (state_of d) f IsVa (λ g kind perm at. cc at) k.free (kept_of c.self.inside c.self.invariant)) c.self.invariant.processors c.self.invariant.places
+    c.self.invariant.table c.self.invariant.small
 
 pub returns-clause-done : goal.returns-clause-done
 returns-clause-done c =
     let k = takes-epa (parts_of c.self.inside) c.args.frame.0 (rw (← c.self.view_is) at c.requires) in
-    rw (c.set.ensures, ← c.self.view_is) (state_put (parts_of c.self.inside) c.args.frame.0 _ _ _ k.low k.idle)
+    rw (c.set.ensures, ← c.self.view_is) (epa_state (parts_of c.self.inside) c.args.frame.0 _ _ _ k)

@@ -1,21 +1,19 @@
-use Rattle.std.proofs.Common.{ℕ, get_or, ◌≡◌, ◌≤◌, List, [], ◌∷◌, length, reverse, ap, sym, ◌∙◌}
-use Rattle.std.proofs.lemmas.List.{get_or_past, reverse-append}
+use Rattle.std.proofs.Common.{ℕ, ◌≡◌, ◌≤◌, List, [], ◌∷◌, length, reverse, ap, sym, ◌∙◌}
+use Rattle.std.proofs.lemmas.List.{reverse-append}
 use Rattle.sgx_types.specs.declared.entries.Entry.{Entry}
 use Rattle.sgx_types.specs.Frames.{Content, Free, content}
-use Rattle.paging_machine.specs.Parts.{Parts, held, state_of}
+use Rattle.paging_machine.specs.Parts.{Parts, state_of}
 use Rattle.paging_machine.specs.Stands.{Upholds}
 use Rattle.paging_machine.specs.Steps.{CanApply}
+use Rattle.paging_machine.proofs.Reading.{free_past}
 use Rattle.sgxpage.proofs.BookLaws.{step_of}
 use Rattle.sgxpage.proofs.CalmLaws.{calm_more}
 use Rattle.sgxpage.proofs.HomeLaws.{homes_more}
 use Rattle.sgxpage.proofs.book.Book.apply.Goals as goal
 
-past_end : {X : Type 0} (xs : List X) (v : X → Content) (n : ℕ) (d : X) → length xs ≤ n → v (get_or xs n d) ≡ v d
-past_end xs v n d le = ap v (get_or_past xs n d le)
-
 -- beyond its last frame the machine holds nothing
 none_beyond : (d : Parts) (past : List Entry) → Upholds (state_of d) past → (n : ℕ) → length d.epc ≤ n → content past n ≡ Free
-none_beyond d past upheld n le = sym (upheld.stands.content n) ∙ past_end d.epc (λ x. held x.entry) n _ le
+none_beyond d past upheld n le = sym (upheld.stands.content n) ∙ free_past d n le
 
 pub returns-clause-done : goal.returns-clause-done
 returns-clause-done c =

@@ -1,0 +1,155 @@
+-- The machine's parts after a row of a processor, and the state that they make.
+use Rattle.std.proofs.Common.{◌≡◌, ℕ, ◌<◌, ◌≤◌, ◌^◌, ◌==◌, Bool, true, false, cond, refl, sym, ap, ◌∙◌, ◌⊎◌, inl, inr, Option, Some, None, List, [], length, get_or, set, is_some, length-set}
+use Rattle.std.specs.List.{All}
+use Rattle.std.proofs.lemmas.Bool.{cond_both, eqb-true}
+use Rattle.sgx_types.specs.declared.names.Frame.{Frame}
+use Rattle.sgx_types.specs.declared.names.Page.{Page}
+use Rattle.sgx_types.specs.declared.names.Kind.{Kind}
+use Rattle.sgx_types.specs.declared.names.Perm.{Perm}
+use Rattle.sgx_types.specs.Frames.{Content, Free, IsVa, SecsOf, Holds, IsLoading, is_page, page_at, same_page}
+use Rattle.sgx_types.specs.Table.{first_of_row, fill_row, perm_in}
+use Rattle.sgx_types.specs.Flat.{tcs_fields}
+use Rattle.epcm_entry.specs.Epc.{words_at}
+use Rattle.secs_state.specs.Secs.{SecsState, added_at, with_busy}
+use Rattle.secs_state.specs.Table.{enclave_at, with_enclave}
+use Rattle.secs_state.proofs.Columns.{added_below, is_busy_at-with_busy}
+use Rattle.cached_translations.specs.declared.cache.Translation.{Translation}
+use Rattle.cached_translations.specs.declared.processor.Processor.{Processor}
+use Rattle.cached_translations.specs.declared.processor.Mode.TheVariants as modes
+use Rattle.cached_translations.specs.Translations.{with_translation}
+use Rattle.paging_machine.specs.State.{State, sight, seat_of, seat_enclave, enter_row_of, is_seated_by, after_enter, after_exit, after_fill}
+use Rattle.paging_machine.specs.Parts.{Parts, added_in, enclave_of, is_busy_in, idle, cpu_at, seat_of_mode, state_of}
+use Rattle.paging_machine.specs.Whole.{IsSecsOf, IsTable, IsFramed}
+use Rattle.paging_machine.specs.Stands.{IsSound}
+use Rattle.paging_machine.proofs.Tools.{not_false}
+use Rattle.paging_machine.proofs.Columns.{get_or-set_if, get_or-default, same_at, numbered, enclave_kept, page_column}
+use Rattle.paging_machine.proofs.Carry.{same_page-true, seat_at}
+use Rattle.paging_machine.proofs.Keeping.{IsKept}
+use Rattle.paging_machine.proofs.ProcessorLaws.{enters, enter_sight, tcs_there, reg_there, usable_there, sound-enter, sound-exit, sound-fill}
+
+-- ---- the TCS page of a row
+
+-- a page that a frame holds was added to its enclave
+page_added : (s : State) → IsFramed s → (n : ℕ) (g : Page) → is_page (s.content n) g ≡ true → is_some (s.added g) ≡ true
+page_added s framed n g is = by_content (s.content n) refl is
+  where
+    by_content : (c : Content) → s.content n ≡ c → is_page c g ≡ true → is_some (s.added g) ≡ true
+    by_content (Holds page kind perm) e k = let same : page ≡ g = same_page-true page g k in rw (← same) (framed n page kind perm e)
+    by_content Free e k = cc
+    by_content IsVa e k = cc
+    by_content (SecsOf enclave) e k = cc
+    by_content IsLoading e k = cc
+
+-- .. whose state is this
+pub added_there : (table : List (Option SecsState)) (e number : ℕ) (x : SecsState) → is_some (added_in (enclave_at table e) number) ≡ true → enclave_at table e ≡ Some x → is_some (added_at x number) ≡ true
+added_there table e number x is found = rw found at is
+
+-- the TCS page that `enter` found
+pub enter_page : (d : Parts) (p enclave tcs tf sf : ℕ) → first_of_row (enter_row_of (state_of d) p (seat_of enclave tcs tf sf)) ≡ None → IsFramed (state_of d) → is_some ((state_of d).added (page_at enclave tcs)) ≡ true
+enter_page d p enclave tcs tf sf allowed framed =
+    let k = enters enclave tcs (enter_sight (state_of d) p (seat_of enclave tcs tf sf)) allowed in
+    page_added (state_of d) framed tf (page_at enclave tcs) (not_false _ k.tcs_page)
+
+-- the TCS page by which a processor is inside
+pub exit_page : (d : Parts) (p enclave tcs : ℕ) (tf sf : Frame) (epoch : ℕ) → (cpu_at d p).mode ≡ modes.Inside enclave tcs tf sf epoch → IsSound (state_of d) → IsFramed (state_of d) → is_some ((state_of d).added (page_at enclave tcs)) ≡ true
+exit_page d p enclave tcs tf sf epoch is sound framed =
+    let seated = seat_at (state_of d) sound p (seat_of enclave tcs tf.0 sf.0) (ap seat_of_mode is) in
+    page_added (state_of d) framed tf.0 (page_at enclave tcs) seated.tcs_page
+
+-- ---- the parts and the state
+
+-- a processor that is written, by what a column shows of it
+cpu_column : {X : Type 0} (col : Processor → X) (d : Parts) (p q : ℕ) (v : Processor) → p < length d.cpus → col (get_or (set d.cpus p v) q idle) ≡ cond (p == q) (col v) (col (cpu_at d q))
+cpu_column col d p q v low =
+    rw (get_or-set_if d.cpus p q v idle low) (elim (p == q) as (λ b. col (cond b v (cpu_at d q)) ≡ cond b (col v) (col (cpu_at d q))) [ true ↦ refl | false ↦ refl ])
+
+some_not_none : {A : Type 0} (o : Option A) → is_some o ≡ true → o ≡ None → ⊥
+some_not_none None is e = cc is
+some_not_none (Some x) is e = cc e
+
+-- a TCS page that is marked busy or free
+module _ (d : Parts) (e n : ℕ) (x : SecsState) (mark : Bool) (table : IsTable d.secs) (found : enclave_at d.secs e ≡ Some x) (is : is_some (added_at x n) ≡ true) where
+  first : (1 ≤ e) × (e ≤ 8)
+  first = numbered d.secs e x table.places found
+
+  marked_enclaves : (k : ℕ) → enclave_of (enclave_at (with_enclave d.secs e (with_busy x n mark)) k) ≡ enclave_of (enclave_at d.secs k)
+  marked_enclaves k = enclave_kept d.secs e (with_busy x n mark) table.places first.0 first.1 enclave_of k (ap enclave_of (sym found))
+
+  marked_added : (q : Page) → added_in (enclave_at (with_enclave d.secs e (with_busy x n mark)) q.enclave) q.number ≡ added_in (enclave_at d.secs q.enclave) q.number
+  marked_added q = enclave_kept d.secs e (with_busy x n mark) table.places first.0 first.1 (λ o. added_in o q.number) q.enclave (ap (λ o. added_in o q.number) (sym found))
+
+  marked_busy : (q : Page) → is_busy_in (enclave_at (with_enclave d.secs e (with_busy x n mark)) q.enclave) q.number ≡ cond (same_page q (page_at e n)) mark (is_busy_in (enclave_at d.secs q.enclave) q.number)
+  marked_busy q =
+      let own = table.own e x found in
+      page_column d.secs e (with_busy x n mark) table.places first.0 first.1 is_busy_in n mark
+      (λ k. is_busy_at-with_busy x n k mark own.sound (added_below x n own.sound (some_not_none (added_at x n) is)) ∙ ap (λ o. cond (n == k) mark (is_busy_in o k)) (sym found)) q
+
+pub marked_own : (e n : ℕ) (x : SecsState) (mark : Bool) → IsSecsOf e x → IsSecsOf e (with_busy x n mark)
+marked_own e n x mark own = record { number = own.number; sound = record { lawful = own.sound.lawful; pages = own.sound.pages; busy = rw length-set own.sound.busy } }
+
+pub enter_state : (d : Parts) (p enclave tcs : ℕ) (tf sf : Frame) (epoch : ℕ) (x : SecsState) → p < length d.cpus → IsTable d.secs → enclave_at d.secs enclave ≡ Some x → is_some (added_at x tcs) ≡ true
+    → state_of (record d { secs = with_enclave d.secs enclave (with_busy x tcs true); cpus = set d.cpus p (record { mode = modes.Inside enclave tcs tf sf epoch; acc = (tcs_fields (words_at d.epc tf.0)).cssa; cache = [] }) })
+    ≡ after_enter (state_of d) p (seat_of enclave tcs tf.0 sf.0)
+enter_state d p enclave tcs tf sf epoch x cpu_in table found added =
+    let v : Processor = record { mode = modes.Inside enclave tcs tf sf epoch; acc = (tcs_fields (words_at d.epc tf.0)).cssa; cache = [] } in
+    λ i. record (after_enter (state_of d) p (seat_of enclave tcs tf.0 sf.0)) {
+      enclaves = λ k. marked_enclaves d enclave tcs x true table found added k i;
+      added = λ q. marked_added d enclave tcs x true table found added q i;
+      is_busy = λ q. marked_busy d enclave tcs x true table found added q i;
+      inside = λ q. cpu_column (λ v. seat_of_mode v.mode) d p q v cpu_in i;
+      acc = λ q. cpu_column (λ v. v.acc) d p q v cpu_in i;
+      cache = λ q. cpu_column (λ v. v.cache) d p q v cpu_in i;
+    }
+
+pub exit_state : (d : Parts) (p enclave tcs : ℕ) (tf sf : Frame) (epoch : ℕ) (x : SecsState) → (cpu_at d p).mode ≡ modes.Inside enclave tcs tf sf epoch → p < length d.cpus → IsTable d.secs → enclave_at d.secs enclave ≡ Some x → is_some (added_at x tcs) ≡ true
+    → state_of (record d { secs = with_enclave d.secs enclave (with_busy x tcs false); cpus = set d.cpus p (record { mode = modes.Outside; acc = (cpu_at d p).acc; cache = [] }) })
+    ≡ after_exit (state_of d) p
+exit_state d p enclave tcs tf sf epoch x is cpu_in table found added =
+    let v : Processor = record { mode = modes.Outside; acc = (cpu_at d p).acc; cache = [] } in
+    λ i. record (after_exit (state_of d) p) {
+      enclaves = λ k. marked_enclaves d enclave tcs x false table found added k i;
+      added = λ q. marked_added d enclave tcs x false table found added q i;
+      is_busy = λ q. (marked_busy d enclave tcs x false table found added q ∙ ap (λ m. cond (is_seated_by (seat_of_mode m) q) false (is_busy_in (enclave_at d.secs q.enclave) q.number)) (sym is)) i;
+      inside = λ q. cpu_column (λ v. seat_of_mode v.mode) d p q v cpu_in i;
+      acc = λ q. (cpu_column (λ v. v.acc) d p q v cpu_in ∙ same_at (λ k. (cpu_at d k).acc) p q) i;
+      cache = λ q. cpu_column (λ v. v.cache) d p q v cpu_in i;
+    }
+
+pub fill_state : (d : Parts) (p : ℕ) (t : Translation) → p < length d.cpus
+    → state_of (record d { cpus = set d.cpus p (record (cpu_at d p) { cache = with_translation (cpu_at d p).cache t }) }) ≡ after_fill (state_of d) p t
+fill_state d p t cpu_in =
+    let v : Processor = record (cpu_at d p) { cache = with_translation (cpu_at d p).cache t } in
+    λ i. record (after_fill (state_of d) p t) {
+      inside = λ q. (cpu_column (λ x. seat_of_mode x.mode) d p q v cpu_in ∙ same_at (λ k. seat_of_mode (cpu_at d k).mode) p q) i;
+      acc = λ q. (cpu_column (λ x. x.acc) d p q v cpu_in ∙ same_at (λ k. (cpu_at d k).acc) p q) i;
+      cache = λ q. (cpu_column (λ x. x.cache) d p q v cpu_in
+          ∙ cond_both (p == q) (with_translation (cpu_at d p).cache t) (cpu_at d q).cache (λ xs. xs ≡ cond (p == q) (with_translation (cpu_at d q).cache t) (cpu_at d q).cache)
+          (λ e. rw e (ap (λ k. with_translation (cpu_at d k).cache t) (eqb-true p q e))) (λ e. rw e refl)) i;
+    }
+
+-- page numbers of translations stay small
+pub small_set : (d : Parts) (p : ℕ) (v : Processor) → p < length d.cpus → All (λ t. t.number < 2 ^ 32) v.cache → ((q : ℕ) → All (λ t. t.number < 2 ^ 32) (cpu_at d q).cache)
+    → (q : ℕ) → All (λ t. t.number < 2 ^ 32) (let x : Processor = get_or (set d.cpus p v) q idle in x).cache
+small_set d p v low here all q =
+    rw (get_or-set_if d.cpus p q v idle low) (cond_both (p == q) v (cpu_at d q) (λ (x : Processor). All (λ t. t.number < 2 ^ 32) x.cache) (λ _. here) (λ _. all q))
+
+-- a processor that was read from its place
+pub cpu_there : (d : Parts) (p : ℕ) (v : Processor) → p < length d.cpus → v ≡ get_or d.cpus p v → v ≡ cpu_at d p
+cpu_there d p v low is = is ∙ get_or-default d.cpus p v idle low
+
+-- ---- what the rows keep
+
+pub kept_enter : (d : Parts) (p enclave tcs tf sf : ℕ) → first_of_row (enter_row_of (state_of d) p (seat_of enclave tcs tf sf)) ≡ None → IsKept (state_of d) → IsKept (after_enter (state_of d) p (seat_of enclave tcs tf sf))
+kept_enter d p enclave tcs tf sf allowed h =
+    let s = state_of d in
+    let seat = seat_of enclave tcs tf sf in
+    let k = enters enclave tcs (enter_sight s p seat) allowed in
+    let tcs_held = tcs_there (s.content tf) (page_at enclave tcs) (not_false _ k.tcs_page) (not_false _ k.tcs_kind) in
+    let ssa_held = reg_there (s.content sf) _ (not_false _ k.ssa_page) (not_false _ k.ssa_kind) in
+    record { measured = h.measured; framed = h.framed; sound = sound-enter s p seat h.sound (not_false _ k.tcs_page) (usable_there tcs_held.holds k.tcs_idle) (usable_there ssa_held.holds k.ssa_idle) }
+
+pub kept_exit : (s : State) (p : ℕ) → IsKept s → IsKept (after_exit s p)
+kept_exit s p h = record { measured = h.measured; framed = h.framed; sound = sound-exit s p h.sound }
+
+pub kept_fill : (s : State) (p : ℕ) (t : Translation) → first_of_row (fill_row t.number (seat_enclave (s.inside p)) (sight s t.frame.0)) ≡ None → perm_in (s.content t.frame.0) ≡ Some t.perm → IsKept s → IsKept (after_fill s p t)
+kept_fill s p t allowed perm h = record { measured = h.measured; framed = h.framed; sound = sound-fill s p t allowed perm h.sound }

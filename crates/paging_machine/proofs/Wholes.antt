@@ -1,0 +1,62 @@
+-- A machine whose parts a row has written is whole again.
+use Rattle.std.proofs.Common.{◌≡◌, ℕ, ◌≤◌, ◌<◌, ◌^◌, Option, Some, None, List, length, get_or, set, sym, ap, subst, ◌∙◌, MatchOption}
+use Rattle.std.specs.List.{All}
+use Rattle.std.proofs.lemmas.List.{set-get_or}
+use Rattle.sgx_types.specs.declared.refusals.Refusal.{Refusal}
+use Rattle.epcm_entry.specs.Epc.{EpcFrame}
+use Rattle.secs_state.specs.Secs.{SecsState}
+use Rattle.secs_state.specs.Table.{enclave_at, with_enclave}
+use Rattle.measure_log.specs.declared.measure.Measure.{Measure}
+use Rattle.paging_machine.specs.declared.machine.Machine.TheInside.{Inside}
+use Rattle.paging_machine.specs.State.{State}
+use Rattle.paging_machine.specs.Parts.{Parts, cpu_at, state_of}
+use Rattle.paging_machine.specs.Stands.{IsSound}
+use Rattle.paging_machine.specs.Whole.{IsTable, IsMeasured, IsFramed, IsWhole, parts_of}
+use Rattle.paging_machine.proofs.Columns.{enclave_same}
+use Rattle.paging_machine.proofs.Keeping.{IsKept, kept_as}
+
+pub kept_of : (m : Inside) → IsWhole m → IsKept (state_of (parts_of m))
+kept_of m h = record { measured = h.measured; framed = h.framed; sound = h.sound }
+
+pub whole : (m : Inside) (s : State) → state_of (parts_of m) ≡ s → IsKept s → length m.cpus.items ≤ 16 → length m.measures.items ≡ 9 → IsTable m.secs → ((p : ℕ) → All (λ t. t.number < 2 ^ 32) (cpu_at (parts_of m) p).cache) → IsWhole m
+whole m s e kept few places table small =
+    let k = kept_as (state_of (parts_of m)) s e kept in
+    record { processors = few; places = places; table = table; small = small; measured = k.measured; framed = k.framed; sound = k.sound }
+
+-- parts that are written as they were
+pub measures_same : (d : Parts) (e : ℕ) (y y' : Measure) → get_or d.measures e None ≡ Some y → y' ≡ y → record d { measures = set d.measures e (Some y') } ≡ d
+measures_same d e y y' there same =
+    let measures : set d.measures e (Some y') ≡ d.measures = ap (λ m. set d.measures e (Some m)) same ∙ ap (set d.measures e) (sym there) ∙ set-get_or d.measures e None in
+    λ i. record d { measures = measures i }
+
+pub secs_same : (d : Parts) (e : ℕ) (x x' : SecsState) → IsTable d.secs → enclave_at d.secs e ≡ Some x → x' ≡ x → record d { secs = with_enclave d.secs e x' } ≡ d
+secs_same d e x x' table found same =
+    let secs : with_enclave d.secs e x' ≡ d.secs = ap (with_enclave d.secs e) same ∙ enclave_same d.secs e x table.places found in
+    λ i. record d { secs = secs i }
+
+pub parts_same : (d : Parts) (epc : List EpcFrame) (e : ℕ) (x x' : SecsState) (y y' : Measure) → IsTable d.secs → enclave_at d.secs e ≡ Some x → get_or d.measures e None ≡ Some y → epc ≡ d.epc → x' ≡ x → y' ≡ y
+    → record d { epc = epc; secs = with_enclave d.secs e x'; measures = set d.measures e (Some y') } ≡ d
+parts_same d epc e x x' y y' table found there same_epc same_secs same_measure =
+    let secs : with_enclave d.secs e x' ≡ d.secs = ap (with_enclave d.secs e) same_secs ∙ enclave_same d.secs e x table.places found in
+    λ i. record (measures_same d e y y' there same_measure i) { epc = same_epc i; secs = secs i }
+
+pub whole_same : (m m' : Inside) → parts_of m' ≡ parts_of m → IsWhole m → IsWhole m'
+whole_same m m' e h = record {
+  processors = subst (λ (d : Parts). length d.cpus ≤ 16) (sym e) h.processors;
+  places = subst (λ (d : Parts). length d.measures ≡ 9) (sym e) h.places;
+  table = subst (λ (d : Parts). IsTable d.secs) (sym e) h.table;
+  small = subst (λ (d : Parts). (p : ℕ) → All (λ t. t.number < 2 ^ 32) (cpu_at d p).cache) (sym e) h.small;
+  measured = subst (λ (d : Parts). IsMeasured (state_of d)) (sym e) h.measured;
+  framed = subst (λ (d : Parts). IsFramed (state_of d)) (sym e) h.framed;
+  sound = subst (λ (d : Parts). IsSound (state_of d)) (sym e) h.sound;
+}
+
+-- ---- an instruction that its row allows, and one that it refuses
+
+pub done_step : (o : Option Refusal) (Done : Type 0) (Refused : Refusal → Type 0) → o ≡ None → Done → MatchOption o Done Refused
+done_step None Done Refused e h = h
+done_step (Some r) Done Refused e h = cc e
+
+pub refused_step : (o : Option Refusal) (Done : Type 0) (Refused : Refusal → Type 0) (r : Refusal) → o ≡ Some r → Refused r → MatchOption o Done Refused
+refused_step None Done Refused r e h = cc e
+refused_step (Some q) Done Refused r e h = let same : q ≡ r = cc e in rw same h

@@ -1,0 +1,60 @@
+use Rattle.std.proofs.Common.{◌≡◌, ◌<◌, ◌∙◌, sym, ap, Some, None, length, get_or, length-set}
+use Rattle.secs_state.specs.Table.{enclave_at}
+use Rattle.paging_machine.specs.Whole.{parts_of}
+use Rattle.paging_machine.specs.Parts.{Parts, state_of}
+use Rattle.paging_machine.specs.State.{after_add}
+use Rattle.paging_machine.proofs.Columns.{numbered, table_written}
+use Rattle.paging_machine.proofs.BuildBridge.{adds, added_own}
+use Rattle.paging_machine.proofs.BuildSteps.{measure_place, measure_there, add_row_at, add_written}
+use Rattle.paging_machine.proofs.Keeping.{kept_add}
+use Rattle.paging_machine.proofs.Wholes.{kept_of, whole, whole_same, parts_same, done_step, refused_step}
+use Rattle.paging_machine.proofs.machine.Machine.add.Goals.{in-Ok, in-Err}
+use Rattle.paging_machine.proofs.machine.Machine.add.Goals as goal
+
+pub invariant_of-self-2 : goal.invariant_of-self-2
+invariant_of-self-2 c =
+    let m = c.self.inside in
+    let d = parts_of m in
+    let g = c.args.page in
+    let x = c.in-Some.secs.now in
+    let y = c.unwrap-measure.result.now in
+    let h = c.self.invariant in
+    let found : enclave_at d.secs g.enclave ≡ Some x = sym c.in-Some.ensures.value in
+    let low = measure_place d g.enclave x h.table found h.places in
+    let read : Some y ≡ c.index_mut.result.now = rw c.unwrap-measure.ensures at c.as_mut.ensures.value in
+    let there = measure_there d.measures g.enclave c.index_mut.result.now y low (rw c.from.ensures at c.index_mut.ensures.value) read in
+    elim c.match-eadd.branch [
+      | in-Ok w ↦
+          (let number = numbered d.secs g.enclave x h.table.places found in
+          let k = adds d.epc c.args.frame.0 g.number c.args.kind c.args.perm c.args.init _ x (sym w.in-Ok.ensures.row) in
+          let written = add_written d g c.args.frame.0 c.args.kind c.args.perm c.args.init x _ c.eadd.new.log _ h.table found h.places w.in-Ok.ensures.row w.in-Ok.ensures.done w.in-Ok.ensures.secs in
+          rw c.from.ensures
+          (whole _ (after_add (state_of d) g c.args.frame.0 c.args.kind c.args.perm c.args.init c.eadd.new.log) written (kept_add (state_of d) g c.args.frame.0 c.args.kind c.args.perm c.args.init c.eadd.new.log k.takes.free (kept_of m h)) h.processors
+          (length-set d.measures _ _ ∙ h.places) (rw w.in-Ok.ensures.secs (table_written d.secs g.enclave _ h.table.places number.0 number.1 h.table (added_own g.enclave g.number c.args.kind c.args.perm x (h.table.own g.enclave x found)))) h.small))
+      | in-Err w ↦
+          (let kept = w.in-Err.ensures.refused in
+          rw c.from.ensures (whole_same m _ (parts_same d c.eadd.new.epc g.enclave x c.eadd.new.secs y c.eadd.new.log h.table found there kept.0 kept.1 kept.2) h))
+    ]
+
+pub returns-clause-step : goal.returns-clause-step
+returns-clause-step c =
+    let d = parts_of c.self.inside in
+    let g = c.args.page in
+    let x = c.in-Some.secs.now in
+    let y = c.unwrap-measure.result.now in
+    let h = c.self.invariant in
+    let found : enclave_at d.secs g.enclave ≡ Some x = sym c.in-Some.ensures.value in
+    let low = measure_place d g.enclave x h.table found h.places in
+    let read : Some y ≡ c.index_mut.result.now = rw c.unwrap-measure.ensures at c.as_mut.ensures.value in
+    let there = measure_there d.measures g.enclave c.index_mut.result.now y low (rw c.from.ensures at c.index_mut.ensures.value) read in
+    let row = add_row_at d c.args.actor g.enclave g.number c.args.frame c.args.kind c.args.perm c.args.init x found in
+    elim c.match-eadd.branch [
+      | in-Ok w ↦
+          rw (c.from.ensures, ← c.self.view_is)
+          (done_step _ _ _ (row ∙ sym w.in-Ok.ensures.row)
+          (w.result-is ∙ w.done.ensures, record { longer = c.eadd.new.log; log = rw there w.in-Ok.ensures.log; state = add_written d g c.args.frame.0 c.args.kind c.args.perm c.args.init x _ c.eadd.new.log _ h.table found h.places w.in-Ok.ensures.row w.in-Ok.ensures.done w.in-Ok.ensures.secs }))
+      | in-Err w ↦
+          (let kept = w.in-Err.ensures.refused in
+          rw (c.from.ensures, ← c.self.view_is)
+          (refused_step _ _ _ _ (row ∙ sym w.in-Err.ensures.row) (w.result-is ∙ w.refused-in-Err.ensures, ap state_of (parts_same d c.eadd.new.epc g.enclave x c.eadd.new.secs y c.eadd.new.log h.table found there kept.0 kept.1 kept.2))))
+    ]
