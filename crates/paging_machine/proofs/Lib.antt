@@ -3,8 +3,13 @@ pub mod MeasureLaws
 pub mod Carry
 pub mod Contents
 pub mod SoundLaws
+pub mod WordLaws
 pub mod BuildLaws
 pub mod ProcessorLaws
+pub mod EntryLaws
+pub mod ExitLaws
+pub mod AccessLaws
+pub mod RegisterLaws
 pub mod Refused
 pub mod Columns
 pub mod Keeping
