@@ -1,2 +1,3 @@
 pub mod Translations
 pub mod Ring
+pub mod Modes

@@ -1,5 +1,6 @@
 ghost use Rattle.std.specs.Prelude.{◌≡◌, [], IfOk};
 ghost use Rattle.cached_translations.specs.declared.processor.Mode.TheVariants.{Outside};
+ghost use Rattle.cached_translations.specs.Modes.{is_inside, enclave_inside};
 
 use crate::cache::Cache;
 use sgx_types::names::{Frame, Memory};
@@ -17,6 +18,24 @@ pub enum Mode {
         ssa_frame: Frame,
         epoch: u64,
     },
+}
+
+impl Mode {
+    pub fn is_inside(self) -> bool
+        ensures { result ≡ is_inside self }
+    {
+        matches!(self, Mode::Inside { .. })
+    }
+
+    /// The enclave that the processor is inside.
+    pub fn enclave(self) -> Option<u16>
+        ensures { result ≡ enclave_inside self }
+    {
+        match self {
+            Mode::Outside => None,
+            Mode::Inside { enclave, .. } => Some(enclave),
+        }
+    }
 }
 
 /// A logical processor: its mode, the accumulator that enclave code works on, and its translations. The translations
@@ -50,6 +69,7 @@ mod tests {
     fn a_processor_starts_outside(rt: HostRuntime) -> Result<(), Fail> {
         let cpu = Processor::new(rt.alloc())?;
         assert_eq!(rt; cpu.mode, Mode::Outside);
+        assert!(rt; !cpu.mode.is_inside());
         assert_eq!(rt; cpu.acc, 0);
         assert!(rt; cpu.cache.is_empty());
         Ok(())

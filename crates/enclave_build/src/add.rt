@@ -10,7 +10,6 @@ ghost use Rattle.measure_log.specs.Blocks.{eadd_block};
 ghost use Rattle.secs_state.specs.Sights.{sight_of};
 ghost use Rattle.enclave_build.specs.Build.{Appends, with_added, with_resident};
 
-use crate::sights::{is_busy, is_valid};
 use epcm_entry::epc::Epc;
 use measure_log::measure::Measure;
 use secs_state::secs::Secs;
@@ -85,10 +84,10 @@ fn add_refusal(
         return Some(Refusal::PageExists);
     }
     let entry = epc.entry(frame);
-    if is_busy(entry) {
+    if entry.is_busy() {
         return Some(Refusal::Conflict);
     }
-    if is_valid(entry) {
+    if entry.is_valid() {
         return Some(Refusal::FrameBusy);
     }
     None

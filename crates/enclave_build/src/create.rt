@@ -7,7 +7,6 @@ ghost use Rattle.measure_log.specs.Measure.{HoldsLog};
 ghost use Rattle.enclave_build.specs.Build.{refusal_in_build, with_secs};
 
 use crate::build_refusal::BuildRefusal;
-use crate::sights::{is_busy, is_valid};
 use epcm_entry::epc::Epc;
 use measure_log::measure::Measure;
 use secs_state::secs::{Secs, is_lawful};
@@ -70,10 +69,10 @@ fn create_refusal(
         return Some(Refusal::PageExists);
     }
     let entry = epc.entry(frame);
-    if is_busy(entry) {
+    if entry.is_busy() {
         return Some(Refusal::Conflict);
     }
-    if is_valid(entry) {
+    if entry.is_valid() {
         return Some(Refusal::FrameBusy);
     }
     None

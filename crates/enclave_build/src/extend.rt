@@ -5,7 +5,6 @@ ghost use Rattle.epcm_entry.specs.Sights.{sight_in, held};
 ghost use Rattle.measure_log.specs.Blocks.{chunk_of};
 ghost use Rattle.enclave_build.specs.Build.{Appends, chunk_block};
 
-use crate::sights::{is_busy, is_tcs_or_reg, is_valid};
 use epcm_entry::entry_view::EntryView;
 use epcm_entry::epc::Epc;
 use measure_log::measure::Measure;
@@ -48,13 +47,13 @@ pub fn extend_refusal(epc: &Epc, is_init: bool, frame: Frame, chunk: u8) -> Opti
         return Some(Refusal::BadRange);
     }
     let entry = epc.entry(frame);
-    if is_busy(entry) {
+    if entry.is_busy() {
         return Some(Refusal::Conflict);
     }
-    if !is_valid(entry) {
+    if !entry.is_valid() {
         return Some(Refusal::PgInvld);
     }
-    if !is_tcs_or_reg(entry) {
+    if !entry.is_tcs() && !entry.is_reg() {
         return Some(Refusal::BadKind);
     }
     if is_init {

@@ -6,6 +6,5 @@ pub mod build_refusal;
 pub mod create;
 pub mod extend;
 pub mod init;
-mod sights;
 #[cfg(test)]
 mod tests;

@@ -1,5 +1,9 @@
-ghost use Rattle.std.specs.Prelude.{◌≡◌};
-ghost use Rattle.epcm_entry.specs.EntryView.{is_free, is_busy, outgoing, with_block};
+ghost use Rattle.std.specs.Prelude.{◌≡◌, ◌||◌, is_some};
+ghost use Rattle.sgx_types.specs.Frames.{page_at, is_page};
+ghost use Rattle.sgx_types.specs.Table.{is_loading, is_reg, is_tcs, perm_in};
+ghost use Rattle.sgx_types.specs.Table.{is_valid as holds_something};
+ghost use Rattle.epcm_entry.specs.EntryView.{is_free, is_busy, is_valid, block_of, goes_out, outgoing, with_block};
+ghost use Rattle.epcm_entry.specs.Sights.{held};
 
 use sgx_types::names::{Kind, Page, Perm};
 
@@ -29,12 +33,86 @@ impl EntryView {
 
     /// A frame is busy while its page is being loaded or written out.
     pub fn is_busy(self) -> bool
-        ensures { result ≡ is_busy self }
+        ensures value { result ≡ is_busy self }
+        ensures seen { result ≡ (goes_out self || is_loading (held self)) }
     {
         matches!(
             self,
             EntryView::Loading | EntryView::Valid { sealing: true, .. }
         )
+    }
+
+    /// A frame is valid where it holds something and is not being loaded.
+    pub fn is_valid(self) -> bool
+        ensures value { result ≡ is_valid self }
+        ensures seen { result ≡ holds_something (held self) }
+    {
+        matches!(self, EntryView::Valid { .. })
+    }
+
+    /// Whether the page was blocked since it came into the frame.
+    pub fn is_blocked(self) -> bool
+        ensures { result ≡ is_some (block_of self) }
+    {
+        matches!(
+            self,
+            EntryView::Valid {
+                blocked: Some(_),
+                ..
+            }
+        )
+    }
+
+    /// Whether the frame holds the TCS or REG page with this number of an enclave. A number past 32 bits is of no page.
+    pub fn holds(self, enclave: u16, number: u64) -> bool
+        ensures { result ≡ is_page (held self) (page_at enclave number) }
+    {
+        match self {
+            EntryView::Valid {
+                page,
+                kind: Kind::Tcs | Kind::Reg,
+                ..
+            } => page.enclave == enclave && u64::from(page.number) == number,
+            _ => false,
+        }
+    }
+
+    pub fn is_tcs(self) -> bool
+        ensures { result ≡ is_tcs (held self) }
+    {
+        matches!(
+            self,
+            EntryView::Valid {
+                kind: Kind::Tcs,
+                ..
+            }
+        )
+    }
+
+    pub fn is_reg(self) -> bool
+        ensures { result ≡ is_reg (held self) }
+    {
+        matches!(
+            self,
+            EntryView::Valid {
+                kind: Kind::Reg,
+                ..
+            }
+        )
+    }
+
+    /// The permissions of the TCS or REG page in the frame.
+    pub fn perm(self) -> Option<Perm>
+        ensures { result ≡ perm_in (held self) }
+    {
+        match self {
+            EntryView::Valid {
+                kind: Kind::Tcs | Kind::Reg,
+                perm,
+                ..
+            } => Some(perm),
+            _ => None,
+        }
     }
 
     // The same page, sealing.

@@ -1,5 +1,5 @@
 -- The machine's parts after a row that builds an enclave, and the state that they make.
-use Rattle.std.proofs.Common.{◌≡◌, ℕ, ◌*◌, ◌+◌, ◌/◌, ◌<◌, ◌≤◌, ◌==◌, ◌%◌, ◌^◌, ◌&&◌, ◌||◌, Bool, true, false, not, cond, leb, refl, sym, ap, ◌∙◌, arith, Option, Some, None, List, length, set, get_or, is_some, replicate, length-set}
+use Rattle.std.proofs.Common.{◌≡◌, ℕ, ◌/◌, ◌<◌, ◌≤◌, ◌==◌, ◌||◌, Bool, true, false, not, cond, leb, refl, sym, ap, ◌∙◌, Option, Some, None, List, length, set, is_some, length-set}
 use Rattle.std.proofs.lemmas.Bool.{eqb-true, leb-false, leb-true, ltb-true}
 use Rattle.std.proofs.lemmas.List.{length-replicate}
 use Rattle.sgx_types.specs.declared.entries.PageInit.{PageInit}
@@ -8,24 +8,24 @@ use Rattle.sgx_types.specs.declared.names.Page.{Page}
 use Rattle.sgx_types.specs.declared.names.Kind.{Kind}
 use Rattle.sgx_types.specs.declared.names.Kind.TheVariants as kinds
 use Rattle.sgx_types.specs.declared.names.Perm.{Perm}
-use Rattle.sgx_types.specs.Frames.{Free, Holds, SecsOf, page_at}
+use Rattle.sgx_types.specs.Frames.{Free, Holds, page_at}
 use Rattle.sgx_types.specs.Table as table
 use Rattle.sgx_types.specs.Table.{EnclaveSight, FrameSight, epa_row, create_row, add_row, first_of_row}
-use Rattle.sgx_types.specs.Flat.{FlatEnclave, marked, first_words}
+use Rattle.sgx_types.specs.Flat.{marked}
 use Rattle.epcm_entry.specs.declared.entry_view.EntryView.{EntryView}
 use Rattle.epcm_entry.specs.declared.entry_view.EntryView.TheVariants as views
 use Rattle.epcm_entry.specs.EntryView.{is_valid, holding, block_of, goes_out}
-use Rattle.epcm_entry.specs.Epc.{EpcFrame, entry_at, words_at, with_page}
+use Rattle.epcm_entry.specs.Epc.{EpcFrame, entry_at, with_page}
 use Rattle.epcm_entry.specs.Sights.{held, content_of, sight_in}
 use Rattle.epcm_entry.proofs.Columns.{length-with_entry, entry_at-with_entry, words_at-with_entry}
 use Rattle.secs_state.specs.Lawful as lawful
-use Rattle.secs_state.specs.Secs.{SecsState, IsSecs, page_count, created, added_at, with_init}
+use Rattle.secs_state.specs.Secs.{SecsState, page_count, created, with_init}
 use Rattle.secs_state.specs.Table.{enclave_at, with_enclave}
 use Rattle.secs_state.proofs.Columns.{added_at-with_page}
 use Rattle.measure_log.specs.declared.measure.Measure.{Measure}
 use Rattle.enclave_build.specs.Build.{sight_of, with_secs, with_added, with_resident}
 use Rattle.enclave_build.proofs.Columns.{length-with_secs, entry_at-with_secs, words_at-with_secs, length-with_added, entry_at-with_added, words_at-with_added}
-use Rattle.paging_machine.specs.State.{State, with_content, after_create, after_add, after_extend, after_init}
+use Rattle.paging_machine.specs.State.{with_content, after_create, after_add, after_extend, after_init}
 use Rattle.paging_machine.specs.Parts.{Parts, enclave_of, added_in, is_busy_in, state_of}
 use Rattle.paging_machine.specs.Whole.{IsSecsOf, IsTable}
 use Rattle.paging_machine.proofs.Tools.{none_holds, neither, not_false, both_true}

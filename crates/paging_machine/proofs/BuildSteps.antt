@@ -1,6 +1,5 @@
 -- What enclave_build's instructions answer, as a step of the machine.
-use Rattle.std.proofs.Common.{◌≡◌, ℕ, ◌+◌, ◌*◌, ◌<◌, ◌≤◌, Bool, true, false, not, cond, refl, sym, ap, ◌∙◌, arith, ◌⊎◌, inl, inr, Option, Some, None, IfSome, List, length, get_or, set, is_some, ⊎_elim}
-use Rattle.std.specs.Option.{IsSomeAnd}
+use Rattle.std.proofs.Common.{◌≡◌, ℕ, ◌+◌, ◌*◌, ◌<◌, Bool, true, false, not, cond, refl, sym, ap, ◌∙◌, arith, ◌⊎◌, inl, inr, Option, Some, None, IfSome, List, length, get_or, set, is_some, ⊎_elim}
 use Rattle.std.proofs.lemmas.Option.{cond_some}
 use Rattle.sgx_types.specs.declared.entries.Entry.{Entry}
 use Rattle.sgx_types.specs.declared.entries.Actor.{Actor}
@@ -15,14 +14,13 @@ use Rattle.sgx_types.specs.declared.refusals.Refusal.TheVariants as why
 use Rattle.sgx_types.specs.Frames.{Content, Free, IsVa, SecsOf, Holds, IsLoading, enclave_in, page_at}
 use Rattle.sgx_types.specs.Table.{EnclaveSight, add_row, extend_row, init_row, first_of_row}
 use Rattle.sgx_types.specs.Flat.{enclave_sight_of}
-use Rattle.sgx_types.specs.Layouts.{flags_of}
 use Rattle.epcm_entry.specs.Epc.{EpcFrame, entry_at, bytes_at}
 use Rattle.epcm_entry.specs.Sights.{held, sight_in}
 use Rattle.secs_state.specs.Secs.{SecsState, added_at}
 use Rattle.secs_state.specs.Table.{enclave_at, with_enclave}
 use Rattle.measure_log.specs.declared.measure.Measure.{Measure}
-use Rattle.measure_log.specs.Blocks.{eadd_block, eextend_block, chunk_of}
-use Rattle.measure_log.specs.Measure.{HoldsLog, FinishesTo, measurement_of}
+use Rattle.measure_log.specs.Blocks.{eextend_block, chunk_of}
+use Rattle.measure_log.specs.Measure.{HoldsLog, measurement_of}
 use Rattle.measure_log.specs.Rule.{page_held, IsOther}
 use Rattle.enclave_build.specs.Build.{Appends, sight_of, with_added, with_resident, block_in, chunk_block, is_expected, measured_row, unless_measured}
 use Rattle.paging_machine.specs.State.{State, row_of, is_closed, after_add}

@@ -1,5 +1,5 @@
 -- The row of `extend`: the measurement of the page's enclave takes in the block that the entries log.
-use Rattle.std.proofs.Common.{◌≡◌, ℕ, ◌+◌, ◌*◌, ◌<◌, leb, ltb, true, false, refl, sym, ap, ◌∙◌, arith, Option, Some, None, List, [], ◌∷◌, length, get_or, set, is_some}
+use Rattle.std.proofs.Common.{◌≡◌, ℕ, ◌+◌, ◌*◌, leb, ltb, true, false, refl, sym, ap, ◌∙◌, Option, Some, None, List, ◌∷◌, is_some}
 use Rattle.std.specs.Int.{w64, to_le_bytes}
 use Rattle.std.specs.List.{flat_map}
 use Rattle.std.specs.Option.{IsSomeAnd}
@@ -14,7 +14,6 @@ use Rattle.sgx_types.specs.Frames.{Content, Free, IsVa, SecsOf, Holds, IsLoading
 use Rattle.sgx_types.specs.Table.{extend_row, first_of_row}
 use Rattle.sgx_types.specs.Flat.{flat, accepts, some_page, page_words}
 use Rattle.epcm_entry.specs.Words.{bytes_of}
-use Rattle.epcm_entry.specs.Epc.{entry_at, bytes_at}
 use Rattle.measure_log.specs.declared.measure.Measure.{Measure}
 use Rattle.measure_log.specs.Blocks.{eextend_block, chunk_of}
 use Rattle.measure_log.specs.Measure.{TakesIn}

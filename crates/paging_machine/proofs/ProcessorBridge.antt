@@ -1,11 +1,9 @@
 -- The machine's parts after a row of a processor, and the state that they make.
-use Rattle.std.proofs.Common.{◌≡◌, ℕ, ◌<◌, ◌≤◌, ◌^◌, ◌==◌, Bool, true, false, cond, refl, sym, ap, ◌∙◌, ◌⊎◌, inl, inr, Option, Some, None, List, [], length, get_or, set, is_some, length-set}
+use Rattle.std.proofs.Common.{◌≡◌, ℕ, ◌<◌, ◌≤◌, ◌^◌, ◌==◌, Bool, true, false, cond, refl, sym, ap, ◌∙◌, Option, Some, None, List, [], length, get_or, set, is_some, length-set}
 use Rattle.std.specs.List.{All}
 use Rattle.std.proofs.lemmas.Bool.{cond_both, eqb-true}
 use Rattle.sgx_types.specs.declared.names.Frame.{Frame}
 use Rattle.sgx_types.specs.declared.names.Page.{Page}
-use Rattle.sgx_types.specs.declared.names.Kind.{Kind}
-use Rattle.sgx_types.specs.declared.names.Perm.{Perm}
 use Rattle.sgx_types.specs.Frames.{Content, Free, IsVa, SecsOf, Holds, IsLoading, is_page, page_at, same_page}
 use Rattle.sgx_types.specs.Table.{first_of_row, fill_row, perm_in}
 use Rattle.sgx_types.specs.Flat.{tcs_fields}

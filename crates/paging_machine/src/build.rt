@@ -1,5 +1,7 @@
-ghost use Rattle.std.specs.Prelude.{◌≡◌, None, IfOk, OnErr, is_some, length};
-ghost use Rattle.sgx_types.specs.Table.{first_of_row, epa_row};
+ghost use Rattle.std.specs.Prelude.{◌≡◌, true, None, Some, IfOk, OnErr, is_some, length};
+ghost use Rattle.sgx_types.specs.Table.{first_of_row, when, ◌otherwise◌, allowed, epa_row};
+ghost use Rattle.sgx_types.specs.declared.refusals.Refusal.TheVariants as why;
+ghost use Rattle.epcm_entry.specs.Sights.{sight_in};
 ghost use Rattle.sgx_types.specs.declared.entries.Action.TheVariants as actions;
 ghost use Rattle.paging_machine.specs.Parts.{state_of};
 ghost use Rattle.paging_machine.specs.Stands.{IsSound};
@@ -13,6 +15,7 @@ use enclave_build::add::eadd;
 use enclave_build::build_refusal::BuildRefusal;
 use enclave_build::create::ecreate;
 use enclave_build::init::einit;
+use epcm_entry::epc::Epc;
 use sgx_types::entries::{Action, Actor, Answer, Entry, PageInit};
 use sgx_types::names::{Frame, Kind, Memory, Page, Perm};
 use sgx_types::refusals::Refusal;
@@ -119,13 +122,7 @@ impl Machine {
             init,
         };
         let Some(secs) = self.secs.get_mut(page.enclave) else {
-            let is_there = frame.0 < self.epc.frames();
-            let refusal = if is_there {
-                Refusal::Absent
-            } else {
-                Refusal::BadRange
-            };
-            return refused(actor, action, refusal);
+            return refused(actor, action, absent(&self.epc, frame));
         };
         let measure = self.measures[usize::from(page.enclave)].as_mut().unwrap();
         match eadd(
@@ -157,6 +154,17 @@ impl Machine {
             Ok(digest) => done(actor, action, Answer::Hash(digest)),
             Err(refusal) => refused(actor, action, refusal),
         }
+    }
+}
+
+// The first case of the row of `add` that holds where the enclave was not created.
+fn absent(epc: &Epc, frame: Frame) -> Refusal
+    ensures { Some result ≡ first_of_row (when (sight_in epc.now frame.0).is_beyond why.BadRange otherwise when true why.Absent otherwise allowed) }
+{
+    if frame.0 < epc.frames() {
+        Refusal::Absent
+    } else {
+        Refusal::BadRange
     }
 }
 

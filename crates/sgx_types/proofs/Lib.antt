@@ -3,3 +3,4 @@ pub mod CountLaws
 pub mod Keystone
 mod Worked
 mod WorkedEviction
+pub mod Records

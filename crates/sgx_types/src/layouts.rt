@@ -2,35 +2,6 @@ ghost use Rattle.std.specs.Prelude.{◌≡◌, ◌+◌, ◌*◌, ◌≤◌, leng
 ghost use Rattle.sgx_types.specs.Layouts.{flags_of, int_at, long_at, number_of, secinfo_in, tcs_in};
 
 use crate::names::{Kind, Perm};
-use std::marker::Model;
-
-/// The header of a sealed record: enclave number, page address in bytes and SECINFO.FLAGS (this project's own
-/// layout).
-#[derive(Clone, Copy, Debug, PartialEq, Eq)]
-pub struct Header {
-    pub enclave: u64,
-    pub address: u64,
-    pub flags: u64,
-}
-
-/// A page outside the EPC: a header, 4096 cipher bytes and a tag. Contracts see it as these three.
-#[derive(Debug, Drop)]
-pub struct Record {
-    pub header: Header,
-    pub cipher: Vec<u8>,
-    pub tag: [u8; 32],
-}
-
-impl Model for Record {
-    ghost use Rattle.std.specs.Prelude.{◌≡◌, length};
-    ghost use Rattle.sgx_types.specs.Sealed.{Sealed};
-
-    ghost Value = { Sealed };
-
-    ghost view = { λ r. record { header = r.header; cipher = r.cipher.items; tag = r.tag } };
-
-    ghost invariant = { λ r. length r.cipher.items ≡ 4096 };
-}
 
 /// The fields of a TCS page that this machine reads (Intel SDM volume 3D, TCS): OSSA as a byte offset in the enclave,
 /// and how many state save frames are in use and there are.
@@ -77,7 +48,7 @@ pub fn read_tcs(bytes: &[u8]) -> Result<TcsFields, BadLength>
 }
 
 // The number that 8 bytes make.
-fn long_at(bytes: &[u8], index: usize) -> u64
+pub(crate) fn long_at(bytes: &[u8], index: usize) -> u64
     requires { 8 * (index + 1) ≤ length bytes.now }
     ensures { result ≡ long_at bytes.now (8 * index) }
 {
@@ -170,28 +141,6 @@ mod tests {
         assert_eq!(rt; read_tcs(&page[1..]), Err(BadLength { got: 4095 }));
         assert_eq!(rt; read_tcs(&[0; 4097]), Err(BadLength { got: 4097 }));
         assert_eq!(rt; read_tcs(&[]), Err(BadLength { got: 0 }));
-    }
-
-    // Page 2 of the first enclave, whose base is 0x10000; it may be read and written.
-    #[test]
-    fn a_record_holds_a_page(rt: HostRuntime) -> Result<(), Fail> {
-        let record = Record {
-            header: Header {
-                enclave: 1,
-                address: 0x12000,
-                flags: flags(Kind::Reg, perm(true, true, false)),
-            },
-            cipher: vec![in rt.alloc(); 0xa5; 4096]?,
-            tag: [7; 32],
-        };
-        let text = format!(in rt.alloc(); "{record:?}")?;
-        assert!(rt;
-            text.starts_with(
-                "Record { header: Header { enclave: 1, address: 73728, flags: 515 }, cipher: [165, 165, "
-            )
-        );
-        assert!(rt; text.ends_with("7, 7] }"));
-        Ok(())
     }
 
     #[test]

@@ -5,4 +5,5 @@ pub mod entries;
 pub mod laws;
 pub mod layouts;
 pub mod names;
+pub mod record;
 pub mod refusals;

@@ -213,6 +213,17 @@ number_up_to-counts t block h = by_tests (leb t.epoch block) refl (leb t.epoch (
     by_tests false now false next =
         count_by-none (λ n. leb n block) t.noted (λ k d low. lt-leb (get_or t.noted k d) block (omega (arith, (h.recent k d low).1, leb-false _ _ next)))
 
+-- no noted epoch is above the present one
+pub all_up_to_now : (t : Tracking) → IsTracking t → number_up_to t t.epoch ≡ length t.noted
+all_up_to_now t h = count_by-all (λ n. leb n t.epoch) t.noted (λ k d low. le-leb (get_or t.noted k d) t.epoch (h.recent k d low).0)
+
+-- where no processor inside has an older epoch, and one is inside, the present one is noted
+pub some_at_now : (t : Tracking) → IsTracking t → number_older t ≡ 0 → 0 < number_up_to t t.epoch → Contains t.noted t.epoch
+some_at_now t h none some =
+    let low : 0 < length t.noted = omega (arith, all_up_to_now t h, some) in
+    let first = ltb-false (get_or t.noted 0 t.epoch) t.epoch (none_by_count (λ n. ltb n t.epoch) t.noted none 0 t.epoch low) in
+    (0, low, omega (arith, (h.recent 0 t.epoch low).0, first))
+
 -- a rising list of epochs that are an epoch or the one before it is its two counts
 counted : (epoch : ℕ) (xs : List ℕ) → IsNonDecreasing xs → All (IsRecent epoch) xs
     → xs ≡ noted_by epoch (count_by (λ n. ltb n epoch) xs) (count_by (λ n. leb epoch n) xs)

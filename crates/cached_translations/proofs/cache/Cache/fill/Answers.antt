@@ -18,7 +18,7 @@ invariant_of-self c =
       room = omega (arith, c.push_reserved.ensures.capacity, c.self.invariant.room);
       fits =
           rw (c.push_reserved.ensures.items, pushed ring.places.items ring.oldest c.args.translation (c.self.invariant.first_until_full few) few none)
-          (FitsCache-with_translation (from_oldest ring) c.args.translation c.self.invariant.fits);
+          (FitsCache-with_translation (from_oldest ring) c.args.translation (omega arith) c.self.invariant.fits);
     }
 
 -- every place was taken
@@ -34,7 +34,7 @@ invariant_of-self-else-len-lt-PLACES c =
       room = c.self.invariant.room;
       fits =
           rw (replaced ring.places.items ring.oldest c.args.translation c.self.invariant.oldest_in full none)
-          (FitsCache-with_translation (from_oldest ring) c.args.translation c.self.invariant.fits);
+          (FitsCache-with_translation (from_oldest ring) c.args.translation (omega arith) c.self.invariant.fits);
     }
 
 pub returns-else-len-lt-PLACES : goal.returns-else-len-lt-PLACES

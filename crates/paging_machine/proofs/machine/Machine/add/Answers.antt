@@ -1,7 +1,7 @@
-use Rattle.std.proofs.Common.{◌≡◌, ◌<◌, ◌∙◌, sym, ap, Some, None, length, get_or, length-set}
+use Rattle.std.proofs.Common.{◌≡◌, ◌∙◌, sym, ap, Some, length-set}
 use Rattle.secs_state.specs.Table.{enclave_at}
 use Rattle.paging_machine.specs.Whole.{parts_of}
-use Rattle.paging_machine.specs.Parts.{Parts, state_of}
+use Rattle.paging_machine.specs.Parts.{state_of}
 use Rattle.paging_machine.specs.State.{after_add}
 use Rattle.paging_machine.proofs.Columns.{numbered, table_written}
 use Rattle.paging_machine.proofs.BuildBridge.{adds, added_own}

@@ -1,10 +1,10 @@
-use Rattle.std.proofs.Common.{◌≡◌, ◌<◌, ◌∙◌, sym, ap, arith, Some, None, is_some, length, get_or, length-set, false}
+use Rattle.std.proofs.Common.{◌≡◌, ◌<◌, ◌∙◌, sym, arith, None, is_some, length, length-set}
 use Rattle.sgx_types.specs.Table.{create_row, first_of_row}
 use Rattle.epcm_entry.specs.Sights.{sight_in}
 use Rattle.secs_state.specs.Secs.{created}
 use Rattle.secs_state.specs.Table.{enclave_at}
 use Rattle.paging_machine.specs.Whole.{parts_of}
-use Rattle.paging_machine.specs.Parts.{Parts, state_of}
+use Rattle.paging_machine.specs.Parts.{state_of}
 use Rattle.paging_machine.specs.State.{after_create}
 use Rattle.paging_machine.proofs.Tools.{none_holds}
 use Rattle.paging_machine.proofs.Columns.{table_written}

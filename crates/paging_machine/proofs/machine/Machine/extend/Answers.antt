@@ -1,10 +1,10 @@
-use Rattle.std.proofs.Common.{◌≡◌, ◌<◌, ◌∙◌, sym, ap, Some, None, length, get_or, set, length-set}
+use Rattle.std.proofs.Common.{◌≡◌, ◌∙◌, sym, ap, Some, length-set}
 use Rattle.epcm_entry.specs.Epc.{entry_at}
 use Rattle.epcm_entry.specs.Sights.{held}
 use Rattle.secs_state.specs.Table.{enclave_at}
 use Rattle.measure_log.specs.Rule.{page_held}
 use Rattle.paging_machine.specs.Whole.{parts_of}
-use Rattle.paging_machine.specs.Parts.{Parts, state_of}
+use Rattle.paging_machine.specs.Parts.{state_of}
 use Rattle.paging_machine.specs.State.{after_extend}
 use Rattle.paging_machine.proofs.BuildBridge.{extend_state}
 use Rattle.paging_machine.proofs.BuildSteps.{owner, measure_place, measure_there, extend_row_at, extend_done}

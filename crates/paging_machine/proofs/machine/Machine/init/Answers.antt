@@ -1,10 +1,8 @@
-use Rattle.std.proofs.Common.{◌≡◌, ◌<◌, ◌∙◌, sym, ap, inl, inr, refl, Some, None, Err, List, ℕ, length, get_or}
-use Rattle.sgx_types.specs.declared.refusals.Refusal.TheVariants as why
+use Rattle.std.proofs.Common.{◌≡◌, ◌∙◌, sym, ap, inl, Some}
 use Rattle.secs_state.specs.Table.{enclave_at}
-use Rattle.measure_log.specs.Rule.{IsOther}
-use Rattle.enclave_build.specs.Build.{AgreesWith, sight_of}
+use Rattle.enclave_build.specs.Build.{sight_of}
 use Rattle.paging_machine.specs.Whole.{parts_of}
-use Rattle.paging_machine.specs.Parts.{Parts, state_of}
+use Rattle.paging_machine.specs.Parts.{state_of}
 use Rattle.paging_machine.specs.State.{after_init}
 use Rattle.paging_machine.specs.Steps.{IsJudged}
 use Rattle.paging_machine.proofs.Columns.{numbered, table_written}

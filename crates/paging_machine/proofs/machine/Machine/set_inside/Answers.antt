@@ -1,4 +1,4 @@
-use Rattle.std.proofs.Common.{ap, ◌≡◌, ◌<◌, ◌∙◌, sym, Some, true, length, is_some, length-set}
+use Rattle.std.proofs.Common.{ap, ◌≡◌, ◌<◌, sym, Some, true, length, is_some, length-set}
 use Rattle.std.proofs.lemmas.List.Elements.{All-nil}
 use Rattle.sgx_types.specs.Table.{TcsSight}
 use Rattle.sgx_types.specs.Flat.{tcs_fields}

@@ -1,0 +1,10 @@
+// The instructions that take a processor into an enclave and out of it: EENTER, ERESUME, EEXIT and the asynchronous exit,
+// each by its row of the instruction table.
+#![tactic(auto)]
+
+pub mod enter;
+mod entry;
+pub mod exit;
+mod tcs;
+#[cfg(test)]
+mod tests;

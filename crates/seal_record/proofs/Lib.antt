@@ -1,0 +1,5 @@
+mod Blocks
+mod Enciphered
+mod RecordLaws
+mod Tagged
+mod Xor
