@@ -112,7 +112,7 @@ sound-fill s p t allowed perm sound = record {
     }
 
 -- the frame of a `fill` that its row allows is one of the EPC's
-fill_within : (s : State) (p number f : ℕ) → first_of_row (fill_row number (seat_enclave (s.inside p)) (sight s f)) ≡ None → f < s.frames
+pub fill_within : (s : State) (p number f : ℕ) → first_of_row (fill_row number (seat_enclave (s.inside p)) (sight s f)) ≡ None → f < s.frames
 fill_within s p number f = by_mode (s.inside p)
   where
     by_mode : (o : Option Seat) → first_of_row (fill_row number (seat_enclave o) (sight s f)) ≡ None → f < s.frames

@@ -167,17 +167,20 @@ finds_pages s past p seat saves saved stands allowed =
     }
 
 -- .. so it may sit, where the state save page that CSSA names afterwards is the one in its frame
-pub seated_there : (s : State) (past : List Entry) (p : ℕ) (seat : Seat) (saves : TcsSight → Case) (saved : TcsSight → ℕ) (words : ℕ → List ℕ) → FindsPages s past p seat saves saved
-    → page_at seat.enclave (saved (tcs_fields (s.words seat.tcs_frame))) ≡ next_save seat.enclave (tcs_fields (words seat.tcs_frame)) → IsSeated s.content s.is_sealing words [] seat
-seated_there s past p seat saves saved words k next = record {
-  tcs = usable_there k.tcs.holds k.needs.tcs_idle;
-  tcs_page = not_false _ k.needs.tcs_page;
-  tcs_kind = not_false _ k.needs.tcs_kind;
-  ssa = usable_there k.ssa.holds k.needs.ssa_idle;
-  ssa_page = rw (← next) (not_false _ k.needs.ssa_page);
-  ssa_kind = not_false _ k.needs.ssa_kind;
-  cache = All-nil _;
-}
+seated_there : (s : State) (p : ℕ) (seat : Seat) (saves : Case) (saved : ℕ) (words : ℕ → List ℕ) → Enters seat.enclave seat.tcs (enter_sight s p seat) saves saved
+    → page_at seat.enclave saved ≡ next_save seat.enclave (tcs_fields (words seat.tcs_frame)) → IsSeated s.content s.is_sealing words [] seat
+seated_there s p seat saves saved words k next =
+    let tcs = tcs_there (s.content seat.tcs_frame) (page_at seat.enclave seat.tcs) (not_false _ k.tcs_page) (not_false _ k.tcs_kind) in
+    let ssa = reg_there (s.content seat.ssa_frame) (page_at seat.enclave saved) (not_false _ k.ssa_page) (not_false _ k.ssa_kind) in
+    record {
+      tcs = usable_there tcs.holds k.tcs_idle;
+      tcs_page = not_false _ k.tcs_page;
+      tcs_kind = not_false _ k.tcs_kind;
+      ssa = usable_there ssa.holds k.ssa_idle;
+      ssa_page = rw (← next) (not_false _ k.ssa_page);
+      ssa_kind = not_false _ k.ssa_kind;
+      cache = All-nil _;
+    }
 
 -- ---- enter
 
@@ -187,9 +190,11 @@ enter_saves f = when (f.cssa == f.nssa) why.NoFrame
 abbrev pub enter_saved : TcsSight → ℕ
 enter_saved f = f.ossa + f.cssa
 
-pub sound-enter : (s : State) (past : List Entry) (p : ℕ) (seat : Seat) → FindsPages s past p seat enter_saves enter_saved → IsSound s → IsSound (after_enter s p seat)
-sound-enter s past p seat k sound =
-    sound-inside s p seat (cssa_in s seat.tcs_frame) s.words sound k.needs.tcs_free (seated_there s past p seat enter_saves enter_saved s.words k refl) (λ n other. refl) sound.sized
+pub sound-enter : (s : State) (p : ℕ) (seat : Seat) → first_of_row (enter_row seat.enclave seat.tcs (enter_sight s p seat)) ≡ None → IsSound s → IsSound (after_enter s p seat)
+sound-enter s p seat allowed sound =
+    let f = tcs_fields (s.words seat.tcs_frame) in
+    let k = enters seat.enclave seat.tcs (enter_sight s p seat) (enter_saves f) (enter_saved f) allowed in
+    sound-inside s p seat (cssa_in s seat.tcs_frame) s.words sound k.tcs_free (seated_there s p seat (enter_saves f) (enter_saved f) s.words k refl) (λ n other. refl) sound.sized
 
 pub enter_upheld : (s : State) (past : List Entry) (p : Cpu) (enclave tcs : ℕ) (tf sf : Frame) → p.0 < 16 → first_of_row (row_of s (actors.Cpu p) (Enter enclave tcs tf sf)) ≡ None → IsSound s
     → Upholds s past
@@ -203,7 +208,7 @@ enter_upheld s past p enclave tcs tf sf low allowed sound h =
     let taken : accepts m (actors.Cpu p) (Enter enclave tcs tf sf) ≡ true = rw (lt-ltb p.0 16 low, k.by_flat) refl in
     upholds_more (after_enter s p.0 seat) past _ h.rules h.measure
     (record {
-      sound = sound-enter s past p.0 seat k sound;
+      sound = sound-enter s p.0 seat allowed sound;
       stands =
           stands_done (after_enter s p.0 seat) past (actors.Cpu p) (Enter enclave tcs tf sf) (Cssa fields.cssa) taken
           (record {
@@ -283,11 +288,13 @@ next_resumed s enclave tf sized left =
     low_number : (c : ℕ) → c < 2 ^ 32 → c % 2 ^ 32 ≡ c
     low_number c low = omega arith
 
-pub sound-resume : (s : State) (past : List Entry) (p : ℕ) (seat : Seat) → FindsPages s past p seat resume_saves resume_saved → IsSound s → IsSound (after_resume s p seat)
-sound-resume s past p seat k sound =
-    sound-inside s p seat (saved_word s seat.ssa_frame) (resumed_words s seat.tcs_frame) sound k.needs.tcs_free
-    (seated_there s past p seat resume_saves resume_saved (resumed_words s seat.tcs_frame) k (next_resumed s seat.enclave seat.tcs_frame (sound.sized seat.tcs_frame) k.needs.frame_left))
-    (λ n other. rw other refl) (sized-rewritten s.words seat.tcs_frame (λ words. with_cssa words (cssa_in s seat.tcs_frame - 1)) sound.sized (λ words. length-with_cssa words _))
+pub sound-resume : (s : State) (p : ℕ) (seat : Seat) → first_of_row (resume_row seat.enclave seat.tcs (enter_sight s p seat)) ≡ None → IsSound s → IsSound (after_resume s p seat)
+sound-resume s p seat allowed sound =
+    let f = tcs_fields (s.words seat.tcs_frame) in
+    let k = enters seat.enclave seat.tcs (enter_sight s p seat) (resume_saves f) (resume_saved f) allowed in
+    sound-inside s p seat (saved_word s seat.ssa_frame) (resumed_words s seat.tcs_frame) sound k.tcs_free
+    (seated_there s p seat (resume_saves f) (resume_saved f) (resumed_words s seat.tcs_frame) k (next_resumed s seat.enclave seat.tcs_frame (sound.sized seat.tcs_frame) k.frame_left)) (λ n other. rw other refl)
+    (sized-rewritten s.words seat.tcs_frame (λ words. with_cssa words (cssa_in s seat.tcs_frame - 1)) sound.sized (λ words. length-with_cssa words _))
 
 pub resume_upheld : (s : State) (past : List Entry) (p : Cpu) (enclave tcs : ℕ) (tf sf : Frame) → p.0 < 16 → first_of_row (row_of s (actors.Cpu p) (Resume enclave tcs tf sf)) ≡ None → IsSound s
     → Upholds s past
@@ -307,7 +314,7 @@ resume_upheld s past p enclave tcs tf sf low allowed sound h =
     let after : memory_after (actors.Cpu p) (Resume enclave tcs tf sf) m ≡ entered changed p.0 enclave tcs (resumed_word m enclave tcs) = ap (λ c. entered (with_words m g c) p.0 enclave tcs (resumed_word m enclave tcs)) same_change in
     upholds_more (after_resume s p.0 seat) past _ h.rules h.measure
     (record {
-      sound = sound-resume s past p.0 seat k sound;
+      sound = sound-resume s p.0 seat allowed sound;
       stands =
           stands_done (after_resume s p.0 seat) past (actors.Cpu p) (Resume enclave tcs tf sf) (Value (saved_word s sf.0)) taken
           (rw after (record {

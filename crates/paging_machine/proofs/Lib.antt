@@ -13,12 +13,14 @@ pub mod RegisterLaws
 pub mod Refused
 pub mod Columns
 pub mod Keeping
+pub mod TrackLaws
 pub mod Wholes
 pub mod FreeFrames
 pub mod BuildBridge
 pub mod BuildSteps
 pub mod ProcessorBridge
-pub mod Reading
 pub mod ExtendLaws
 pub mod StepLaws
+pub mod EntryBridge
+pub mod AccessBridge
 pub mod Fresh
