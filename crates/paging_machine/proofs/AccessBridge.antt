@@ -24,7 +24,7 @@ use Rattle.cached_translations.specs.declared.processor.Mode.TheVariants as mode
 use Rattle.cached_translations.specs.Modes.{is_inside, enclave_inside}
 use Rattle.cached_translations.specs.Translations.{translation_of, with_translation}
 use Rattle.enclave_access.specs.Access.{LeadsBelow, perm_of, perm_at, with_filled, word_through, word_in, with_word_in, with_stored}
-use Rattle.enclave_access.proofs.AccessLaws.{leads_below, translation_below}
+use Rattle.enclave_access.proofs.AccessLaws.{leads_below}
 use Rattle.paging_machine.specs.declared.machine.Machine.TheInside.{Inside}
 use Rattle.paging_machine.specs.State.{State, sight, seat_enclave, translation, perm_of_held, rewritten, frame_in, word_at, with_acc, after_fill, after_store}
 use Rattle.paging_machine.specs.Stands.{IsTranslation, IsSound}
@@ -34,7 +34,7 @@ use Rattle.paging_machine.specs.Whole.{IsWithin, IsWhole, parts_of}
 use Rattle.paging_machine.proofs.Tools.{none_holds}
 use Rattle.paging_machine.proofs.Carry.{seat_at}
 use Rattle.paging_machine.proofs.SoundLaws.{sound-written}
-use Rattle.paging_machine.proofs.AccessLaws.{fill_within, found_there, sound-fill}
+use Rattle.paging_machine.proofs.AccessLaws.{All-with_translation, fill_within, found_there, sound-fill}
 use Rattle.paging_machine.proofs.RegisterLaws.{sound-acc}
 use Rattle.paging_machine.proofs.StepLaws.{fill_perm}
 use Rattle.paging_machine.proofs.Keeping.{IsKept}
@@ -46,7 +46,7 @@ use Rattle.paging_machine.proofs.Wholes.{Leaves, kept_of}
 
 filled : (s : State) (p : ℕ) (t : Translation) → t.frame.0 < s.frames → IsWithin s → IsWithin (after_fill s p t)
 filled s p t low h q =
-    cond_both (p == q) (with_translation (s.cache q) t) (s.cache q) (λ xs. LeadsBelow xs s.frames) (λ _. translation_below (s.cache q) t s.frames (h q) low) (λ _. h q)
+    cond_both (p == q) (with_translation (s.cache q) t) (s.cache q) (λ xs. LeadsBelow xs s.frames) (λ _. All-with_translation (λ (x : Translation). x.frame.0 < s.frames) (s.cache q) t (h q) low) (λ _. h q)
 
 kept_fill : (s : State) (p : ℕ) (t : Translation) → first_of_row (fill_row t.number (seat_enclave (s.inside p)) (sight s t.frame.0)) ≡ None → perm_in (s.content t.frame.0) ≡ Some t.perm → IsKept s → IsKept (after_fill s p t)
 kept_fill s p t allowed perm h = record { measured = h.measured; framed = h.framed; within = filled s p t (fill_within s p t.number t.frame.0 allowed) h.within; sound = sound-fill s p t allowed perm h.sound }

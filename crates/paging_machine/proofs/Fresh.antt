@@ -78,7 +78,7 @@ made_upheld frames cpus key epoch version = rw (made_state frames cpus key epoch
 
 zero_sized : length zero_words ≡ 512
 unfolding zero_words
-zero_sized = length-replicate 512 0
+zero_sized = length-replicate {A = ℕ} 512 0
 
 pub sound_made : (frames cpus : ℕ) (key : List ℕ) (epoch version : ℕ) → IsSound (state_of (made frames cpus key epoch version))
 sound_made frames cpus key epoch version = rw (made_state frames cpus key epoch version) (record { seated = λ p. tt; busy = λ p. tt; apart = λ p q one other is. cc is; sized = λ n. zero_sized })

@@ -74,7 +74,7 @@ frame_added d e n x table found framed = by_content (held (entry_at d.epc n)) (f
     by_content : (c : Content) → ((g : Page) (kind : Kind) (perm : Perm) → c ≡ Holds g kind perm → is_some (added_in (enclave_at d.secs g.enclave) g.number) ≡ true) → IsAdded c x
     by_content (Holds page kind perm) h = λ same.
         (let ours : page.enclave ≡ e = same ∙ (table.own e x found).number in
-        tcs_added d.secs page.enclave page.number x (h page kind perm refl) (ap (enclave_at d.secs) ours ∙ found))
+        added_there d.secs page.enclave page.number x (h page kind perm refl) (ap (enclave_at d.secs) ours ∙ found))
     by_content Free h = tt
     by_content IsVa h = tt
     by_content (SecsOf enclave) h = tt

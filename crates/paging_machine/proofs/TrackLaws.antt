@@ -10,14 +10,18 @@ use Rattle.cached_translations.specs.declared.processor.Mode.TheVariants as mode
 use Rattle.cached_translations.specs.Modes.{is_inside}
 use Rattle.track_epoch.specs.Tracking.{Tracking, entered, left}
 use Rattle.track_epoch.specs.Tracks.{track_of, with_track}
-use Rattle.track_epoch.proofs.TrackingLaws.{count_by-all, count_by-without}
+use Rattle.track_epoch.proofs.TrackingLaws.{count_by-without}
 use Rattle.track_epoch.proofs.TracksLaws.{track_of-with_track}
 use Rattle.paging_machine.specs.Parts.{is_noted, idle}
 use Rattle.paging_machine.specs.Whole.{IsTracked}
 
+-- 1 where a test passes, and else 0
+abbrev one_if : Bool → ℕ
+one_if b = cond b 1 0
+
 -- how many processors pass, where one is written
 count_written : (test : Mode → Bool) (cpus : List Processor) (p : ℕ) (v : Processor) → p < length cpus
-    → count_by (λ (c : Processor). test c.mode) (set cpus p v) + cond (test (let c : Processor = get_or cpus p idle in c).mode) 1 0 ≡ count_by (λ (c : Processor). test c.mode) cpus + cond (test v.mode) 1 0
+    → count_by (λ (c : Processor). test c.mode) (set cpus p v) + one_if (test (let c : Processor = get_or cpus p idle in c).mode) ≡ count_by (λ (c : Processor). test c.mode) cpus + one_if (test v.mode)
 count_written test cpus p v low = sum_by-set (λ (c : Processor). cond (test c.mode) 1 0) cpus p v idle low
 
 -- a processor outside is noted by no track
@@ -29,8 +33,13 @@ outside_unnoted e test (modes.Inside enclave tcs tf sf epoch) is = cc is
 pub tracked_same : (tracks : List Tracking) (cpus : List Processor) (p : ℕ) (v : Processor) → p < length cpus → v.mode ≡ (let c : Processor = get_or cpus p idle in c).mode → IsTracked tracks cpus → IsTracked tracks (set cpus p v)
 tracked_same tracks cpus p v low same h e t at test =
     let k = count_written (is_noted e test) cpus p v low in
-    let passes : cond (is_noted e test v.mode) 1 0 ≡ cond (is_noted e test (let c : Processor = get_or cpus p idle in c).mode) 1 0 = ap (λ m. cond (is_noted e test m) 1 0) same in
+    let passes : one_if (is_noted e test v.mode) ≡ one_if (is_noted e test (let c : Processor = get_or cpus p idle in c).mode) = ap (λ m. one_if (is_noted e test m)) same in
     omega (arith, k, passes, h e t at test)
+
+-- each number counts where the test always passes
+all_counted : (xs : List ℕ) → count_by (λ n. true) xs ≡ length xs
+all_counted [] = refl
+all_counted (x ∷ xs) = omega (arith, sum_by-cons {X = ℕ} (λ n. 1) x xs, all_counted xs)
 
 module _ (tracks : List Tracking) (cpus : List Processor) (p e : ℕ) (t : Tracking) (v : Processor) (eight : length tracks ≡ 8) (first : 1 ≤ e) (last : e ≤ 8) (low : p < length cpus) (found : track_of tracks e ≡ Some t) (h : IsTracked tracks cpus) where
   abbrev old : Mode
@@ -38,7 +47,7 @@ module _ (tracks : List Tracking) (cpus : List Processor) (p e : ℕ) (t : Track
 
   -- the tracks where one is written, and a processor changed with it
   written : (t' : Tracking) → ((test : ℕ → Bool) → count_by test t'.noted ≡ count_by (λ (c : Processor). is_noted e test c.mode) (set cpus p v))
-      → ((k : ℕ) → (e == k) ≡ false → (test : ℕ → Bool) → cond (is_noted k test v.mode) 1 0 ≡ cond (is_noted k test old) 1 0) → IsTracked (with_track tracks e t') (set cpus p v)
+      → ((k : ℕ) → (e == k) ≡ false → (test : ℕ → Bool) → one_if (is_noted k test v.mode) ≡ one_if (is_noted k test old)) → IsTracked (with_track tracks e t') (set cpus p v)
   written t' own others k u at test = by_enclave (e == k) refl (sym (track_of-with_track tracks e k t' first (omega arith)) ∙ at)
     where
       by_enclave : (b : Bool) → (e == k) ≡ b → cond b (Some t') (track_of tracks k) ≡ Some u → count_by test u.noted ≡ count_by (λ (c : Processor). is_noted k test c.mode) (set cpus p v)
@@ -59,7 +68,7 @@ module _ (tracks : List Tracking) (cpus : List Processor) (p e : ℕ) (t : Track
           let push = sum_by_push {X = ℕ} (λ n. cond (test n) 1 0) t.noted t.epoch in
           omega (arith, push, rw (here, outside_unnoted e test old outside) at k, h e t found test)
 
-      others : (k : ℕ) → (e == k) ≡ false → (test : ℕ → Bool) → cond (is_noted k test v.mode) 1 0 ≡ cond (is_noted k test old) 1 0
+      others : (k : ℕ) → (e == k) ≡ false → (test : ℕ → Bool) → one_if (is_noted k test v.mode) ≡ one_if (is_noted k test old)
       others k other test = rw (noted k test, other, outside_unnoted k test old outside) refl
 
   -- the track has room for one more, as there are 16 processors at most and one of them is outside
@@ -70,7 +79,7 @@ module _ (tracks : List Tracking) (cpus : List Processor) (p e : ℕ) (t : Track
       let k = count_written (is_noted e all) cpus p in_it low in
       let passes : is_noted e all in_it.mode ≡ true = ap (λ b. b && true) (eq-eqb e e refl) in
       let most = count_by-le-length (λ (c : Processor). is_noted e all c.mode) (set cpus p in_it) in
-      let count : count_by all t.noted ≡ length t.noted = count_by-all all t.noted (λ i d below. refl) in
+      let count : count_by all t.noted ≡ length t.noted = all_counted t.noted in
       omega (arith, rw (passes, outside_unnoted e all old outside) at k, rw length-set at most, count, h e t found all)
 
   -- a processor inside leaves
@@ -89,18 +98,18 @@ module _ (tracks : List Tracking) (cpus : List Processor) (p e : ℕ) (t : Track
           let k = count_written (is_noted e test) cpus p v low in
           omega (arith, count_by-without test t.noted epoch counted, rw (here, gone e test) at k, h e t found test)
 
-      others : (k : ℕ) → (e == k) ≡ false → (test : ℕ → Bool) → cond (is_noted k test v.mode) 1 0 ≡ cond (is_noted k test old) 1 0
+      others : (k : ℕ) → (e == k) ≡ false → (test : ℕ → Bool) → one_if (is_noted k test v.mode) ≡ one_if (is_noted k test old)
       others k other test = rw (noted k test, other, gone k test) refl
 
 -- a list with a number that passes has it
 contains_counted : (xs : List ℕ) (x : ℕ) → 0 < count_by (λ n. n == x) xs → Contains xs x
 contains_counted [] x some = absurd (omega arith)
-contains_counted (y ∷ ys) x some = by_test (y == x) refl (sum_by-cons {X = ℕ} (λ n. cond (n == x) 1 0) y ys)
+contains_counted (y ∷ ys) x some = by_test (y == x) refl (sum_by-cons {X = ℕ} (λ n. one_if (n == x)) y ys) (contains_counted ys x)
   where
-    by_test : (b : Bool) → (y == x) ≡ b → count_by (λ n. n == x) (y ∷ ys) ≡ cond (y == x) 1 0 + count_by (λ n. n == x) ys → Contains (y ∷ ys) x
-    by_test true same count = (0, omega arith, eqb-true y x same)
-    by_test false other count =
-        let rest = contains_counted ys x (omega (arith, some, rw other at count)) in
+    by_test : (b : Bool) → (y == x) ≡ b → count_by (λ n. n == x) (y ∷ ys) ≡ one_if (y == x) + count_by (λ n. n == x) ys → (0 < count_by (λ n. n == x) ys → Contains ys x) → Contains (y ∷ ys) x
+    by_test true same count more = (0, omega arith, eqb-true y x same)
+    by_test false other count more =
+        let rest = more (omega (arith, some, rw other at count)) in
         (suc rest.0, omega (arith, rest.1), rest.2)
 
 -- a track counts a processor inside, by the epoch that it noted

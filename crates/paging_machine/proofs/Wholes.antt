@@ -36,6 +36,11 @@ whole m s h =
     let k = kept_as (state_of (parts_of m)) s h.state h.kept in
     record { processors = h.processors; places = h.places; table = h.table; track_places = h.track_places; tracked = h.tracked; measured = k.measured; framed = k.framed; within = k.within; sound = k.sound }
 
+-- a row that builds changes no track and no processor
+pub builds : (m : Inside) → IsWhole m → (epc : List EpcFrame) (secs : List (Option SecsState)) (measures : List (Option Measure)) (s : State) → state_of (record (parts_of m) { epc = epc; secs = secs; measures = measures }) ≡ s → IsKept s
+    → length measures ≡ 9 → IsTable secs → Leaves (record (parts_of m) { epc = epc; secs = secs; measures = measures }) s
+builds m h epc secs measures s state kept places table = record { state = state; kept = kept; processors = h.processors; places = places; table = table; track_places = h.track_places; tracked = h.tracked }
+
 -- parts that are written as they were
 pub measures_same : (d : Parts) (e : ℕ) (y y' : Measure) → get_or d.measures e None ≡ Some y → y' ≡ y → record d { measures = set d.measures e (Some y') } ≡ d
 measures_same d e y y' there same =

@@ -1,0 +1,7 @@
+use Rattle.paging_machine.proofs.machine.Machine.set.Goals as goal
+
+pub invariant_of-self : goal.invariant_of-self
+invariant_of-self c = ?
+
+pub returns-clause-step : goal.returns-clause-step
+returns-clause-step c = ?
