@@ -10,7 +10,7 @@ use Rattle.sgx_types.specs.declared.names.Perm.{Perm}
 use Rattle.sgx_types.specs.declared.names.Kind.{Kind}
 use Rattle.sgx_types.specs.Frames.{page_at}
 use Rattle.sgx_types.specs.Processors.{Seat}
-use Rattle.sgx_types.specs.Table.{access_row, fill_row, is_reg, perm_in, first_of_row}
+use Rattle.sgx_types.specs.Table.{access_row, inside_row, fill_row, is_reg, perm_in, first_of_row}
 use Rattle.sgx_types.specs.Flat.{word_index}
 use Rattle.epcm_entry.specs.Epc.{EpcFrame}
 use Rattle.epcm_entry.specs.Epc.{word_at as word_in_epc}
@@ -102,12 +102,9 @@ access_row_at d p off v allows there = rw there (by_mode (cpu_at d p).mode)
 pub fill_row_at : (d : Parts) (p number : ℕ) (f : Frame) (v : Processor) → v ≡ cpu_at d p → first_of_row (fill_row number (seat_enclave ((state_of d).inside p)) (sight (state_of d) f.0)) ≡ first_of_row (fill_row number (enclave_inside v.mode) (sight_in d.epc f.0))
 fill_row_at d p number f v there = rw there (ap (λ o. first_of_row (fill_row number o (sight_in d.epc f.0))) (enclave-mode (cpu_at d p).mode))
 
--- .. and of what a processor does inside alone, or outside alone
-pub inside_seen : (d : Parts) (p : ℕ) (v : Processor) → v ≡ cpu_at d p → is_some ((state_of d).inside p) ≡ is_inside v.mode
-inside_seen d p v there = rw there (is_some-mode (cpu_at d p).mode)
-
-pub leads : (m : Inside) → IsWhole m → (p : ℕ) (v : Processor) → v ≡ cpu_at (parts_of m) p → LeadsBelow v.cache (length m.epc)
-leads m h p v there = rw there (h.within p)
+-- what a processor inside does is allowed
+pub inside_only : (mode : Mode) → is_inside mode ≡ true → first_of_row (inside_row (is_some (seat_of_mode mode))) ≡ None
+inside_only mode is = rw (is_some-mode mode, is) refl
 
 -- the word that is read
 pub word_seen : (d : Parts) (p off : ℕ) (v : Processor) → v ≡ cpu_at d p → Through (state_of d) p off → word_through d.epc v.cache off ≡ word_at (state_of d) p off

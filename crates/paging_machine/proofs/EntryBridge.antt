@@ -8,7 +8,7 @@ use Rattle.sgx_types.specs.declared.names.Frame.{Frame}
 use Rattle.sgx_types.specs.Frames.{Free, page_at}
 use Rattle.sgx_types.specs.Processors.{Seat}
 use Rattle.sgx_types.specs.Sights.{seat_of}
-use Rattle.sgx_types.specs.Table.{EnterSight, TcsSight, enter_row, resume_row, first_of_row}
+use Rattle.sgx_types.specs.Table.{EnterSight, TcsSight, enter_row, resume_row, inside_row, first_of_row}
 use Rattle.sgx_types.specs.Flat.{enclave_sight_of, tcs_fields, with_cssa}
 use Rattle.epcm_entry.specs.Epc.{EpcFrame, free_frame, word_at, with_word}
 use Rattle.epcm_entry.specs.Sights.{held}
@@ -73,6 +73,14 @@ pub record IsInsideAt (mode : Mode) (e : ℕ) : Type 0 where
 pub inside_at : (mode : Mode) (e : ℕ) → Some e ≡ enclave_inside mode → IsInsideAt mode e
 inside_at modes.Outside e is = cc is
 inside_at (modes.Inside enclave tcs tf sf epoch) e is = let same : e ≡ enclave = cc is in record { tcs = tcs; tcs_frame = tf; ssa_frame = sf; epoch = epoch; is = rw same refl }
+
+-- what a processor inside does is allowed
+pub inside_allowed : (mode : Mode) (e : ℕ) → IsInsideAt mode e → first_of_row (inside_row (is_some (seat_of_mode mode))) ≡ None
+inside_allowed mode e k = rw k.is refl
+
+-- the row of what a processor does inside alone
+pub inside_row_at : (d : Parts) (p : ℕ) (v : Processor) → v ≡ cpu_at d p → first_of_row (inside_row (is_some ((state_of d).inside p))) ≡ first_of_row (inside_row (is_inside v.mode))
+inside_row_at d p v there = rw there (ap (λ b. first_of_row (inside_row b)) (is_some-mode (cpu_at d p).mode))
 
 -- past the end of the EPC nothing is held
 used_within : (d : Parts) (e n : ℕ) → IsUsable e ((state_of d).content n) ((state_of d).is_sealing n) → n < length d.epc

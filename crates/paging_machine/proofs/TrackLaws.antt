@@ -109,7 +109,8 @@ contains_counted (y ∷ ys) x some = by_test (y == x) refl (sum_by-cons {X = ℕ
     by_test : (b : Bool) → (y == x) ≡ b → count_by (λ n. n == x) (y ∷ ys) ≡ one_if (y == x) + count_by (λ n. n == x) ys → (0 < count_by (λ n. n == x) ys → Contains ys x) → Contains (y ∷ ys) x
     by_test true same count more = (0, omega arith, eqb-true y x same)
     by_test false other count more =
-        let rest = more (omega (arith, some, rw other at count)) in
+        let none : one_if (y == x) ≡ 0 = ap one_if other in
+        let rest = more (omega (arith, some, none, count)) in
         (suc rest.0, omega (arith, rest.1), rest.2)
 
 -- a track counts a processor inside, by the epoch that it noted

@@ -1,6 +1,9 @@
 -- A machine whose parts a row has written is whole again.
 use Rattle.std.proofs.Common.{◌≡◌, ℕ, ◌≤◌, Option, Some, None, List, length, get_or, set, sym, ap, subst, ◌∙◌, MatchOption}
 use Rattle.std.proofs.lemmas.List.{set-get_or}
+use Rattle.sgx_types.specs.declared.entries.Entry.{Entry}
+use Rattle.sgx_types.specs.declared.entries.Actor.{Actor}
+use Rattle.sgx_types.specs.declared.entries.Action.{Action}
 use Rattle.sgx_types.specs.declared.refusals.Refusal.{Refusal}
 use Rattle.epcm_entry.specs.Epc.{EpcFrame}
 use Rattle.secs_state.specs.Secs.{SecsState}
@@ -14,6 +17,7 @@ use Rattle.track_epoch.specs.Tracks.{track_of, with_track}
 use Rattle.track_epoch.proofs.TracksLaws.{with_track-track_of}
 use Rattle.paging_machine.specs.Parts.{Parts, idle, cpu_at, state_of}
 use Rattle.paging_machine.specs.Stands.{IsSound}
+use Rattle.paging_machine.specs.Steps.{IsStep}
 use Rattle.paging_machine.specs.Whole.{IsTable, IsMeasured, IsFramed, IsWithin, IsTracked, IsWhole, parts_of}
 use Rattle.paging_machine.proofs.Columns.{enclave_same, numbered}
 use Rattle.paging_machine.proofs.Keeping.{IsKept, kept_as}
@@ -95,3 +99,7 @@ done_step (Some r) Done Refused e h = cc e
 pub refused_step : (o : Option Refusal) (Done : Type 0) (Refused : Refusal → Type 0) (r : Refusal) → o ≡ Some r → Refused r → MatchOption o Done Refused
 refused_step None Done Refused r e h = cc e
 refused_step (Some q) Done Refused r e h = let same : q ≡ r = cc e in rw same h
+
+-- a step of the machine's parts is one of what its contracts show
+pub by_view : (m : Inside) (now : Parts) (a : Actor) (action : Action) (e : Entry) (t : State) → parts_of m ≡ now → IsStep (state_of (parts_of m)) a action e t → IsStep (state_of now) a action e t
+by_view m now a action e t is h = subst (λ (d : Parts). IsStep (state_of d) a action e t) is h
