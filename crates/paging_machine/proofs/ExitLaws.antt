@@ -97,14 +97,13 @@ other_frames : (s : State) (p q : ℕ) (mine seat : Seat) → IsSound s → (p =
     → ((mine.ssa_frame == seat.tcs_frame) ≡ false) × ((mine.tcs_frame == seat.tcs_frame) ≡ false)
 other_frames s p q mine seat sound other is_mine is =
     let h = seat_at s sound p mine is_mine in
-    let k = seat_at s sound q seat is in
-    (
+    let k = seat_at s sound q seat is in (
       apart mine.ssa_frame seat.tcs_frame (λ same. tcs_no_reg (s.content seat.tcs_frame) k.tcs_kind (rw same at h.ssa_kind)),
       apart mine.tcs_frame seat.tcs_frame
-      (λ same.
-      let pages = one_page (s.content seat.tcs_frame) _ _ (rw same at h.tcs_page) k.tcs_page in
-      let one = sound.apart p q mine seat is_mine is pages in
-      false≢true (sym other ∙ equal p q one)),
+          (λ same.
+          let pages = one_page (s.content seat.tcs_frame) _ _ (rw same at h.tcs_page) k.tcs_page in
+          let one = sound.apart p q mine seat is_mine is pages in
+          false≢true (sym other ∙ equal p q one)),
     )
 
 pub sound-aex : (s : State) (p : ℕ) (seat : Seat) → s.inside p ≡ Some seat → IsSound s → IsSound (after_aex s p)

@@ -76,7 +76,7 @@ sound-inside s p seat acc words sound idle new kept sized = record {
       elim (p == q) as (λ b. IfSome (cond b (Some seat) (s.inside q)) (λ other. cond (same_page (tcs_of other) (tcs_of seat)) true (s.is_busy (tcs_of other)) ≡ true)) [
         | true ↦ rw (same_page-refl seat.enclave seat.tcs) refl
         | false ↦ each_there s.inside (λ q other. cond (same_page (tcs_of other) (tcs_of seat)) true (s.is_busy (tcs_of other)) ≡ true)
-          (λ q other is. cond_both (same_page (tcs_of other) (tcs_of seat)) true (s.is_busy (tcs_of other)) (λ b. b ≡ true) (λ _. refl) (λ _. busy_at s sound q other is)) q
+            (λ q other is. cond_both (same_page (tcs_of other) (tcs_of seat)) true (s.is_busy (tcs_of other)) (λ b. b ≡ true) (λ _. refl) (λ _. busy_at s sound q other is)) q
       ];
   apart = λ a b one other. alone a b one other (p == a) refl (p == b) refl;
   sized = sized;

@@ -76,9 +76,14 @@ impl Machine {
             (Actor::Cpu(cpu), Action::Plus { value }) => self.plus(cpu, value),
             (Actor::Cpu(cpu), Action::Pf { op, off }) => self.pf(cpu, op, off),
             (Actor::Cpu(cpu), Action::OutLoad { enclave, off }) => self.outload(cpu, enclave, off),
-            (Actor::Cpu(cpu), Action::OutStore { enclave, off, value }) => {
-                self.outstore(cpu, enclave, off, value)
-            }
+            (
+                Actor::Cpu(cpu),
+                Action::OutStore {
+                    enclave,
+                    off,
+                    value,
+                },
+            ) => { self.outstore(cpu, enclave, off, value) }
             _ => unreachable!(),
         };
         Ok(entry)

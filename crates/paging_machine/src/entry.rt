@@ -77,7 +77,15 @@ impl Machine {
         };
         let track = self.tracks.get_mut(enclave);
         let processor = &mut self.cpus[usize::from(cpu.0)];
-        match eresume(&mut self.epc, secs, track, processor, tcs, tcs_frame, ssa_frame) {
+        match eresume(
+            &mut self.epc,
+            secs,
+            track,
+            processor,
+            tcs,
+            tcs_frame,
+            ssa_frame,
+        ) {
             Ok(saved) => done(actor, action, Answer::Value(saved)),
             Err(refusal) => refused(actor, action, refusal),
         }

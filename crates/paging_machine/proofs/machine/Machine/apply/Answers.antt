@@ -1,4 +1,4 @@
-use Rattle.std.proofs.Common.{◌≡◌, List, ◌∷◌, length}
+use Rattle.std.proofs.Common.{◌≡◌, List, ◌∷◌, length, sym, subst}
 use Rattle.sgx_types.specs.declared.entries.Entry.{Entry}
 use Rattle.sgx_types.specs.declared.entries.Actor.{Actor}
 use Rattle.sgx_types.specs.declared.entries.Actor.TheVariants as actors
@@ -19,6 +19,14 @@ upheld : (m : Inside) (now : Parts) (t : State) (a : Actor) (action : Action) (e
     → IsStep (state_of now) a action e t → (past : List Entry) → Upholds (state_of now) past → Upholds t (e ∷ past)
 upheld m now t a action e is whole can step past h =
     step_upheld (state_of now) t past (length now.cpus) a action e (rw (← is) whole.processors) can (rw (← is) whole.sound) (rw (← is) (pages_made (parts_of m) whole.framed)) step h
+
+-- the same step, by other names of its actor and instruction
+by_names : (s t : State) (a a' : Actor) (x x' : Action) (e : Entry) → a ≡ a' → x ≡ x' → IsStep s a' x' e t → IsStep s a x e t
+by_names s t a a' x x' e p q h = subst (λ (y : Actor). IsStep s y x e t) (sym p) (subst (λ (y : Action). IsStep s a' y e t) (sym q) h)
+
+pub returns-in-Cpu-Pf-clause-step : goal.returns-in-Cpu-Pf-clause-step
+returns-in-Cpu-Pf-clause-step c =
+    by_names (state_of c.args.self.now) (state_of c.args.self.now) c.args.actor (actors.Cpu c.in-Cpu-Pf.cpu) c.args.action (actions.Pf c.in-Cpu-Pf.op c.in-Cpu-Pf.off) c.pf-entry.result c.in-Cpu-Pf.is-0 c.in-Cpu-Pf.is-1 c.pf-entry.ensures
 
 pub returns-in_default-Epa-clause-history : goal.returns-in_default-Epa-clause-history
 returns-in_default-Epa-clause-history c = upheld c.self.inside c.args.self.now _ c.args.actor (actions.Epa _) _ c.self.view_is c.self.invariant tt c.epa-entry.ensures.step
