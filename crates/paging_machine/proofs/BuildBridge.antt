@@ -21,9 +21,9 @@ use Rattle.epcm_entry.proofs.Columns.{length-with_entry, entry_at-with_entry, wo
 use Rattle.secs_state.specs.Lawful as lawful
 use Rattle.secs_state.specs.Secs.{SecsState, page_count, created, with_init}
 use Rattle.secs_state.specs.Table.{enclave_at, with_enclave}
+use Rattle.secs_state.specs.Sights.{sight_of}
 use Rattle.secs_state.proofs.Columns.{added_at-with_page}
 use Rattle.measure_log.specs.declared.measure.Measure.{Measure}
-use Rattle.secs_state.specs.Sights.{sight_of}
 use Rattle.enclave_build.specs.Build.{with_secs, with_added, with_resident}
 use Rattle.enclave_build.proofs.Columns.{length-with_secs, entry_at-with_secs, words_at-with_secs, length-with_added, entry_at-with_added, words_at-with_added}
 use Rattle.paging_machine.specs.State.{with_content, after_create, after_add, after_extend, after_init}

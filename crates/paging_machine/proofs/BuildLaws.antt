@@ -1,5 +1,5 @@
 -- The rows that build an enclave: each leaves a state that stands for one entry more, and keeps the rules.
-use Rattle.std.proofs.Common.{◌≡◌, ℕ, ◌*◌, ◌==◌, ◌&&◌, ◌||◌, not, Bool, true, false, cond, leb, refl, sym, ap, ◌∙◌, Option, Some, None, IfSome, List, [], ◌∷◌, is_some}
+use Rattle.std.proofs.Common.{◌≡◌, ℕ, ◌*◌, ◌==◌, ◌&&◌, ◌||◌, not, Bool, true, false, cond, leb, refl, sym, ap, ◌∙◌, Option, Some, None, IfSome, List, [], ◌∷◌, is_some, length}
 use Rattle.std.specs.Option.{IsSomeAnd}
 use Rattle.std.proofs.lemmas.Bool.{cond_both, false≢true, eqb-true, leb-false}
 use Rattle.std.proofs.lemmas.List.Elements.{All-weaker}
@@ -15,7 +15,7 @@ use Rattle.sgx_types.specs.declared.names.Perm.{Perm}
 use Rattle.sgx_types.specs.Frames.{Content, Free, IsVa, SecsOf, Holds, IsLoading, content, is_blocked, is_page, page_at, same_page}
 use Rattle.sgx_types.specs.Processors.{Seat, Stay, stay}
 use Rattle.sgx_types.specs.Table.{FrameSight, is_busy, is_valid, is_loading, is_enclave, is_lawful, epa_row, create_row, add_row, init_row, EnclaveSight, first_of_row}
-use Rattle.sgx_types.specs.Flat.{FlatEnclave, FlatPage, FlatMemory, flat, open_frame, accepts, enclave_sight_of, first_words, with_page}
+use Rattle.sgx_types.specs.Flat.{FlatEnclave, FlatPage, FlatMemory, added_as, flat, open_frame, accepts, enclave_sight_of, first_words, with_page}
 use Rattle.sgx_types.specs.Sights.{sight_at}
 use Rattle.sgx_types.specs.Rules.{NoPageTwice}
 use Rattle.cached_translations.specs.declared.cache.Translation.{Translation}
@@ -25,9 +25,11 @@ use Rattle.measure_log.specs.Blocks.{ecreate_block, eadd_block}
 use Rattle.measure_log.specs.Measure.{HoldsLog, TakesIn}
 use Rattle.measure_log.specs.Rule.{log, MeasureRule}
 use Rattle.paging_machine.specs.State.{State, sight, row_of, with_content, after_epa, after_create, after_add, after_init}
-use Rattle.paging_machine.specs.Stands.{StandsBy, Stands, added_as, IsUsable, IsTranslation, IsSeated, IsSound, Upholds}
+use Rattle.paging_machine.specs.Stands.{StandsBy, Stands, IsUsable, IsSound, Upholds}
 use Rattle.paging_machine.proofs.Tools.{none_holds, none_refused, neither, both_false, is_none-None, none_there, apart, each_there}
 use Rattle.paging_machine.proofs.MeasureLaws.{begins, goes_on, stays}
+use Rattle.paging_machine.proofs.SoundLaws.{sound-put}
+use Rattle.paging_machine.proofs.WordLaws.{length-first_words}
 use Rattle.paging_machine.proofs.Carry.{did_by, seat_at, stands_done, same_page-true, same_page-refl, IsHeld, upholds_more, held_before, once_before}
 
 -- what a row sees of a frame in the state, and by the entries
@@ -43,35 +45,7 @@ is_free_frame (Holds page kind perm) sealing idle none = cc
 is_free_frame IsLoading true idle none = cc
 is_free_frame IsLoading false idle none = cc
 
--- ---- a free frame that is put: no processor uses it
-
-pub sound-put : (s : State) (f : ℕ) (c : Content) → IsSound s → s.content f ≡ Free → IsSound (with_content s f c)
-sound-put s f c sound free = record { seated = each_there s.inside (λ p. IsSeated (with_content s f c).content s.is_sealing (s.cache p)) (λ p seat is. seated p seat (seat_at s sound p seat is)) }
-  where
-    usable : (enclave n : ℕ) → IsUsable enclave (s.content n) (s.is_sealing n) → IsUsable enclave (cond (f == n) c (s.content n)) (s.is_sealing n)
-    usable enclave n u =
-        cond_both (f == n) c (s.content n) (λ v. IsUsable enclave v (s.is_sealing n))
-        (λ e. let same : f ≡ n = eqb-true f n e in absurd (cc (u.ours, free, same))) (λ _. u)
-
-    kept : (enclave : ℕ) (t : Translation) → IsTranslation enclave t (s.content t.frame.0) (s.is_sealing t.frame.0)
-        → IsTranslation enclave t (cond (f == t.frame.0) c (s.content t.frame.0)) (s.is_sealing t.frame.0)
-    kept enclave t i =
-        cond_both (f == t.frame.0) c (s.content t.frame.0) (λ v. IsTranslation enclave t v (s.is_sealing t.frame.0))
-        (λ e. let same : f ≡ t.frame.0 = eqb-true f t.frame.0 e in absurd (cc (i.page, free, same))) (λ _. i)
-
-    seated : (p : ℕ) (seat : Seat) → IsSeated s.content s.is_sealing (s.cache p) seat → IsSeated (with_content s f c).content s.is_sealing (s.cache p) seat
-    seated p seat h = record {
-      tcs = usable seat.enclave seat.tcs_frame h.tcs;
-      tcs_page =
-          cond_both (f == seat.tcs_frame) c (s.content seat.tcs_frame) (λ v. is_page v (page_at seat.enclave seat.tcs) ≡ true)
-          (λ e. let same : f ≡ seat.tcs_frame = eqb-true f seat.tcs_frame e in absurd (cc (h.tcs.ours, free, same))) (λ _. h.tcs_page);
-      ssa = usable seat.enclave seat.ssa_frame h.ssa;
-      cache =
-          All-weaker
-          (λ t. IsTranslation seat.enclave t (s.content t.frame.0) (s.is_sealing t.frame.0))
-          (λ t. IsTranslation seat.enclave t (cond (f == t.frame.0) c (s.content t.frame.0)) (s.is_sealing t.frame.0))
-          (λ t i. kept seat.enclave t i) (s.cache p) h.cache;
-    }
+-- ---- a free frame that is put
 
 -- the frames that processors use hold what they held
 pub held-put : (s : State) (past : List Entry) → IsSound s → Stands s past → IsHeld past → (f : ℕ) (c : Content) → s.content f ≡ Free
@@ -112,7 +86,7 @@ epa_upheld s past a f allowed sound h =
     let stands = h.stands in
     upholds_more (after_epa s f.0) past _ h.rules h.measure
     (record {
-      sound = sound-put s f.0 IsVa sound free;
+      sound = sound-put s f.0 IsVa s.words sound free (λ n other. refl) sound.sized;
       stands = record {
         content = λ n. rw (stands.content n) refl;
         is_blocked = blocked-put s past stands f.0;
@@ -166,7 +140,8 @@ create_upheld s past a enclave f base size begun allowed holds sound h =
     let taken : accepts (flat past) a (Create enclave f base size) ≡ true = is_none-None _ by_flat in
     upholds_more (after_create s enclave f.0 base size begun) past _ h.rules h.measure
     (record {
-      sound = record { seated = (sound-put s f.0 (SecsOf enclave) sound free).seated };
+      sound =
+          (let k = sound-put s f.0 (SecsOf enclave) s.words sound free (λ n other. refl) sound.sized in record { seated = k.seated; busy = k.busy; apart = k.apart; sized = k.sized });
       stands =
           stands_done (after_create s enclave f.0 base size begun) past a (Create enclave f base size) Plain taken
           (record {
@@ -285,6 +260,13 @@ words-add s past m f g kind perm init longer stands new n q k p =
     elsewhere at true same = absurd (let there = stands.words n q k p at in let is : q ≡ g = same_page-true q g same in cc (there, new, is))
     elsewhere at false other = stands.words n q k p at
 
+-- a page in a free frame, with its first words
+pub sound_add : (s : State) (g : Page) (f : ℕ) (kind : Kind) (perm : Perm) (init : PageInit) (longer : Measure) → IsSound s → s.content f ≡ Free → IsSound (after_add s g f kind perm init longer)
+sound_add s g f kind perm init longer sound free =
+    let k = sound-put s f (Holds g kind perm) (λ n. cond (f == n) (first_words init) (s.words n)) sound free (λ n other. rw other refl)
+    (λ n. cond_both (f == n) (first_words init) (s.words n) (λ ws. length ws ≡ 512) (λ _. length-first_words init) (λ _. sound.sized n)) in
+    record { seated = k.seated; busy = k.busy; apart = k.apart; sized = k.sized }
+
 pub add_upheld : (s : State) (past : List Entry) (a : Actor) (enclave number : ℕ) (f : Frame) (kind : Kind) (perm : Perm) (init : PageInit) (longer : Measure)
     → first_of_row (row_of s a (Add enclave number f kind perm init)) ≡ None → IsSomeAnd (s.measure enclave) (λ m. TakesIn m (eadd_block (4096 * number) (flags_of kind perm)) longer) → IsSound s
     → Upholds s past → Upholds (after_add s (page_at enclave number) f.0 kind perm init longer) (did_by a (Add enclave number f kind perm init) Plain ∷ past)
@@ -301,7 +283,7 @@ add_upheld s past a enclave number f kind perm init longer allowed takes sound h
     is_none-None _ (add_open number kind perm init (enclave_sight_of ((flat past).enclaves enclave)) (is_some ((flat past).pages g)) (sight_at s.frames past f.0) by_entries) in
     upholds_more (after_add s g f.0 kind perm init longer) past _ h.rules h.measure
     (record {
-      sound = record { seated = (sound-put s f.0 (Holds g kind perm) sound free).seated };
+      sound = sound_add s g f.0 kind perm init longer sound free;
       stands =
           stands_done (after_add s g f.0 kind perm init longer) past a (Add enclave number f kind perm init) Plain taken
           (record {
@@ -344,7 +326,7 @@ init_upheld s past a enclave expect digest allowed measured sound h =
     let taken : accepts (flat past) a (Init enclave expect) ≡ true = is_none-None _ by_entries in
     upholds_more (after_init s enclave) past _ h.rules h.measure
     (record {
-      sound = record { seated = sound.seated };
+      sound = record { seated = sound.seated; busy = sound.busy; apart = sound.apart; sized = sound.sized };
       stands =
           stands_done (after_init s enclave) past a (Init enclave expect) (Hash digest) taken
           (record {

@@ -18,11 +18,11 @@ use Rattle.epcm_entry.specs.Epc.{EpcFrame, entry_at, bytes_at}
 use Rattle.epcm_entry.specs.Sights.{held, sight_in}
 use Rattle.secs_state.specs.Secs.{SecsState, added_at}
 use Rattle.secs_state.specs.Table.{enclave_at, with_enclave}
+use Rattle.secs_state.specs.Sights.{sight_of}
 use Rattle.measure_log.specs.declared.measure.Measure.{Measure}
 use Rattle.measure_log.specs.Blocks.{eextend_block, chunk_of}
 use Rattle.measure_log.specs.Measure.{HoldsLog, measurement_of}
 use Rattle.measure_log.specs.Rule.{page_held, IsOther}
-use Rattle.secs_state.specs.Sights.{sight_of}
 use Rattle.enclave_build.specs.Build.{Appends, with_added, with_resident, block_in, chunk_block, is_expected, measured_row, unless_measured}
 use Rattle.paging_machine.specs.State.{State, row_of, is_closed, after_add}
 use Rattle.paging_machine.specs.Parts.{Parts, enclave_of, added_in, state_of}

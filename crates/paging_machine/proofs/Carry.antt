@@ -23,7 +23,7 @@ use Rattle.paging_machine.proofs.Tools.{both_true, last_place}
 abbrev pub did_by : Actor → Action → Answer → Entry
 did_by actor action answer = record { actor = actor; event = Did action answer }
 
-pub seat_at : (s : State) → IsSound s → (p : ℕ) (seat : Seat) → s.inside p ≡ Some seat → IsSeated s.content s.is_sealing (s.cache p) seat
+pub seat_at : (s : State) → IsSound s → (p : ℕ) (seat : Seat) → s.inside p ≡ Some seat → IsSeated s.content s.is_sealing s.words (s.cache p) seat
 seat_at s sound p seat is = rw is at (sound.seated p)
 
 -- what a processor's two frames held at its entry they hold still

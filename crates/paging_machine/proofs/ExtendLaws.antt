@@ -81,7 +81,7 @@ extend_upheld s past a f chunk g longer allowed here takes made sound h =
     let taken : accepts (flat past) a (Extend f chunk) ≡ true = is_none-None _ (none_refused (extend_row chunk false some_page) (range.1, (refl, (refl, (refl, (refl, tt)))))) in
     upholds_more (after_extend s g.enclave longer) past _ h.rules h.measure
     (record {
-      sound = record { seated = sound.seated };
+      sound = record { seated = sound.seated; busy = sound.busy; apart = sound.apart; sized = sound.sized };
       stands =
           stands_done (after_extend s g.enclave longer) past a (Extend f chunk) Plain taken
           (record {

@@ -1,20 +1,27 @@
 -- A machine that has done nothing yet stands for no entry.
-use Rattle.std.proofs.Common.{ℕ, ◌≡◌, ◌==◌, ◌-◌, ◌<◌, ◌≤◌, ◌^◌, ◌+◌, refl, sym, ap, subst, ◌∙◌, List, [], ◌∷◌, ◌++◌, Option, None, length, replicate, get_or, is_some}
-use Rattle.std.specs.List.{All}
+use Rattle.std.proofs.Common.{ℕ, zero, suc, ◌≡◌, ◌==◌, ◌-◌, ◌≤◌, ◌+◌, refl, sym, ap, subst, ◌∙◌, true, false, cond, mul-zero, ◌<◌, List, [], ◌∷◌, ◌++◌, Option, Some, None, length, replicate, get_or, is_some}
+use Rattle.std.specs.Prelude.{Bool, count_by}
 use Rattle.std.proofs.lemmas.Bool.{cond_both}
 use Rattle.std.proofs.lemmas.List.{length-replicate, replicate-append-replicate}
 use Rattle.std.proofs.lemmas.List.Elements.{All-nil}
+use Rattle.std.proofs.lemmas.List.Folds.{sum_by-replicate}
+use Rattle.std.specs.Prelude.{slice_get}
 use Rattle.epcm_entry.specs.EntryView.{block_of, goes_out}
 use Rattle.epcm_entry.specs.Epc.{EpcFrame, free_frame}
 use Rattle.epcm_entry.specs.Sights.{held}
+use Rattle.cached_translations.specs.declared.cache.Translation.{Translation}
 use Rattle.cached_translations.specs.declared.processor.Processor.{Processor}
+use Rattle.epcm_entry.specs.Words.{zero_words}
+use Rattle.track_epoch.specs.Tracking.{Tracking, starting_at}
+use Rattle.track_epoch.specs.Tracks.{track_of}
+use Rattle.enclave_access.specs.Access.{LeadsBelow}
 use Rattle.measure_log.specs.declared.measure.Measure.{Measure}
 use Rattle.secs_state.specs.Secs.{SecsState}
 use Rattle.secs_state.specs.Table.{empty_table, enclave_at}
 use Rattle.paging_machine.specs.State.{fresh}
 use Rattle.paging_machine.specs.Stands.{IsSound, Upholds}
-use Rattle.paging_machine.specs.Parts.{Parts, made, idle, state_of, enclave_of, added_in, is_busy_in, seat_of_mode, cpu_at}
-use Rattle.paging_machine.specs.Whole.{IsTable, IsMeasured, IsFramed, IsWhole, parts_of}
+use Rattle.paging_machine.specs.Parts.{Parts, made, idle, is_noted, state_of, enclave_of, added_in, is_busy_in, seat_of_mode}
+use Rattle.paging_machine.specs.Whole.{IsTable, IsMeasured, IsFramed, IsWithin, IsTracked, IsWhole, parts_of}
 use Rattle.paging_machine.specs.declared.machine.Machine.TheInside.{Inside}
 use Rattle.paging_machine.proofs.Columns.{like}
 
@@ -69,8 +76,12 @@ fresh_upheld frames = record {
 pub made_upheld : (frames cpus : ℕ) (key : List ℕ) (epoch version : ℕ) → Upholds (state_of (made frames cpus key epoch version)) []
 made_upheld frames cpus key epoch version = rw (made_state frames cpus key epoch version) (fresh_upheld frames)
 
+zero_sized : length zero_words ≡ 512
+unfolding zero_words
+zero_sized = length-replicate {A = ℕ} 512 0
+
 pub sound_made : (frames cpus : ℕ) (key : List ℕ) (epoch version : ℕ) → IsSound (state_of (made frames cpus key epoch version))
-sound_made frames cpus key epoch version = rw (made_state frames cpus key epoch version) (record { seated = λ p. tt })
+sound_made frames cpus key epoch version = rw (made_state frames cpus key epoch version) (record { seated = λ p. tt; busy = λ p. tt; apart = λ p q one other is. cc is; sized = λ n. zero_sized })
 
 -- .. and keeps what every machine keeps
 table_made : IsTable empty_table
@@ -82,8 +93,25 @@ measured_made frames cpus key epoch version = subst IsMeasured (sym (made_state 
 framed_made : (frames cpus : ℕ) (key : List ℕ) (epoch version : ℕ) → IsFramed (state_of (made frames cpus key epoch version))
 framed_made frames cpus key epoch version = subst IsFramed (sym (made_state frames cpus key epoch version)) (λ n g kind perm is. cc is)
 
-pub small_made : (frames cpus : ℕ) (key : List ℕ) (epoch version : ℕ) (p : ℕ) → All (λ t. t.number < 2 ^ 32) (cpu_at (made frames cpus key epoch version) p).cache
-small_made frames cpus key epoch version p = rw (like {X = Processor} cpus p idle) (All-nil (λ t. t.number < 2 ^ 32))
+within_made : (frames cpus : ℕ) (key : List ℕ) (epoch version : ℕ) → IsWithin (state_of (made frames cpus key epoch version))
+within_made frames cpus key epoch version = subst IsWithin (sym (made_state frames cpus key epoch version)) (λ p. All-nil (λ (t : Translation). t.frame.0 < frames))
+
+-- no processor is inside, by the tracks and by the processors
+idle_unnoted : (n e : ℕ) (test : ℕ → Bool) → count_by (λ (c : Processor). is_noted e test c.mode) (replicate n idle) ≡ 0
+idle_unnoted n e test = sum_by-replicate (λ (c : Processor). cond (is_noted e test c.mode) 1 0) n idle ∙ mul-zero n
+
+starting : (n k epoch : ℕ) (t : Tracking) → slice_get (replicate n (starting_at epoch)) k ≡ Some t → t.noted ≡ []
+starting zero k epoch t is = cc is
+starting (suc n) zero epoch t is = let same : starting_at epoch ≡ t = cc is in ap (λ (x : Tracking). x.noted) (sym same)
+starting (suc n) (suc k) epoch t is = starting n k epoch t is
+
+tracked_made : (cpus epoch : ℕ) → IsTracked (replicate 8 (starting_at epoch)) (replicate cpus idle)
+tracked_made cpus epoch e t at test =
+    by_number (e == 0) at
+  where
+    by_number : (b : Bool) → cond b None (slice_get (replicate 8 (starting_at epoch)) (e - 1)) ≡ Some t → count_by test t.noted ≡ count_by (λ (c : Processor). is_noted e test c.mode) (replicate cpus idle)
+    by_number true is = cc is
+    by_number false is = ap (count_by test) (starting 8 (e - 1) epoch t is) ∙ sym (idle_unnoted cpus e test)
 
 pub whole_made : (m : Inside) (frames cpus : ℕ) (key : List ℕ) (epoch version : ℕ) → parts_of m ≡ made frames cpus key epoch version → cpus ≤ 16 → IsWhole m
 whole_made m frames cpus key epoch version is few =
@@ -94,6 +122,8 @@ whole_made m frames cpus key epoch version is few =
       table = subst (λ (d : Parts). IsTable d.secs) (sym is) table_made;
       measured = subst (λ (d : Parts). IsMeasured (state_of d)) (sym is) (measured_made frames cpus key epoch version);
       framed = subst (λ (d : Parts). IsFramed (state_of d)) (sym is) (framed_made frames cpus key epoch version);
-      small = subst (λ (d : Parts). (p : ℕ) → All (λ t. t.number < 2 ^ 32) (cpu_at d p).cache) (sym is) (small_made frames cpus key epoch version);
+      within = subst (λ (d : Parts). IsWithin (state_of d)) (sym is) (within_made frames cpus key epoch version);
+      track_places = ap (λ (d : Parts). length d.tracks) is ∙ length-replicate 8 (starting_at epoch);
+      tracked = subst (λ (d : Parts). IsTracked d.tracks d.cpus) (sym is) (tracked_made cpus epoch);
       sound = subst (λ (d : Parts). IsSound (state_of d)) (sym is) (sound_made frames cpus key epoch version);
     }

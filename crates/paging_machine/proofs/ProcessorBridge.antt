@@ -1,34 +1,51 @@
 -- The machine's parts after a row of a processor, and the state that they make.
-use Rattle.std.proofs.Common.{◌≡◌, ℕ, ◌<◌, ◌≤◌, ◌^◌, ◌==◌, Bool, true, false, cond, refl, sym, ap, ◌∙◌, Option, Some, None, List, [], length, get_or, set, is_some, length-set}
-use Rattle.std.specs.List.{All}
+use Rattle.std.proofs.Common.{◌≡◌, ℕ, ◌<◌, ◌≤◌, ◌==◌, ◌/◌, Bool, true, false, cond, refl, sym, ap, ◌∙◌, Option, Some, None, List, [], length, get_or, set, is_some, length-set}
 use Rattle.std.proofs.lemmas.Bool.{cond_both, eqb-true}
 use Rattle.sgx_types.specs.declared.names.Frame.{Frame}
 use Rattle.sgx_types.specs.declared.names.Page.{Page}
+use Rattle.sgx_types.specs.declared.names.Kind.{Kind}
+use Rattle.sgx_types.specs.declared.names.Perm.{Perm}
 use Rattle.sgx_types.specs.Frames.{Content, Free, IsVa, SecsOf, Holds, IsLoading, is_page, page_at, same_page}
-use Rattle.sgx_types.specs.Table.{first_of_row, fill_row, perm_in}
-use Rattle.sgx_types.specs.Flat.{tcs_fields}
-use Rattle.epcm_entry.specs.Epc.{words_at}
+use Rattle.sgx_types.specs.Sights.{seat_of}
+use Rattle.epcm_entry.specs.EntryView.{block_of, goes_out}
+use Rattle.epcm_entry.specs.Epc.{entry_at, words_at, with_words}
+use Rattle.epcm_entry.specs.Sights.{held}
+use Rattle.epcm_entry.proofs.Columns.{length-with_words, entry_at-with_words, words_at-with_words}
 use Rattle.secs_state.specs.Secs.{SecsState, added_at, with_busy}
 use Rattle.secs_state.specs.Table.{enclave_at, with_enclave}
 use Rattle.secs_state.proofs.Columns.{added_below, is_busy_at-with_busy}
 use Rattle.cached_translations.specs.declared.cache.Translation.{Translation}
 use Rattle.cached_translations.specs.declared.processor.Processor.{Processor}
+use Rattle.cached_translations.specs.declared.processor.Mode.{Mode}
 use Rattle.cached_translations.specs.declared.processor.Mode.TheVariants as modes
+use Rattle.cached_translations.specs.Modes.{is_inside, enclave_inside}
 use Rattle.cached_translations.specs.Translations.{with_translation}
-use Rattle.paging_machine.specs.State.{State, sight, seat_of, seat_enclave, enter_row_of, is_seated_by, after_enter, after_exit, after_fill}
+use Rattle.entry_exit.specs.Entry.{IsAdded}
+use Rattle.paging_machine.specs.State.{State, seat_enclave, is_seated_by, rewritten, with_inside, with_acc, after_exit, after_fill}
 use Rattle.paging_machine.specs.Parts.{Parts, added_in, enclave_of, is_busy_in, idle, cpu_at, seat_of_mode, state_of}
 use Rattle.paging_machine.specs.Whole.{IsSecsOf, IsTable, IsFramed}
 use Rattle.paging_machine.specs.Stands.{IsSound}
-use Rattle.paging_machine.proofs.Tools.{not_false}
 use Rattle.paging_machine.proofs.Columns.{get_or-set_if, get_or-default, same_at, numbered, enclave_kept, page_column}
 use Rattle.paging_machine.proofs.Carry.{same_page-true, seat_at}
-use Rattle.paging_machine.proofs.Keeping.{IsKept}
-use Rattle.paging_machine.proofs.ProcessorLaws.{enters, enter_sight, tcs_there, reg_there, usable_there, sound-enter, sound-exit, sound-fill}
 
--- ---- the TCS page of a row
+-- ---- how a processor stands
+
+pub is_some-mode : (mode : Mode) → is_some (seat_of_mode mode) ≡ is_inside mode
+is_some-mode modes.Outside = refl
+is_some-mode (modes.Inside enclave tcs tf sf epoch) = refl
+
+pub enclave-mode : (mode : Mode) → seat_enclave (seat_of_mode mode) ≡ enclave_inside mode
+enclave-mode modes.Outside = refl
+enclave-mode (modes.Inside enclave tcs tf sf epoch) = refl
+
+-- a processor that was read from its place
+pub cpu_there : (d : Parts) (p : ℕ) (v : Processor) → p < length d.cpus → v ≡ get_or d.cpus p v → v ≡ cpu_at d p
+cpu_there d p v low is = is ∙ get_or-default d.cpus p v idle low
+
+-- ---- the pages in frames
 
 -- a page that a frame holds was added to its enclave
-page_added : (s : State) → IsFramed s → (n : ℕ) (g : Page) → is_page (s.content n) g ≡ true → is_some (s.added g) ≡ true
+pub page_added : (s : State) → IsFramed s → (n : ℕ) (g : Page) → is_page (s.content n) g ≡ true → is_some (s.added g) ≡ true
 page_added s framed n g is = by_content (s.content n) refl is
   where
     by_content : (c : Content) → s.content n ≡ c → is_page c g ≡ true → is_some (s.added g) ≡ true
@@ -38,19 +55,34 @@ page_added s framed n g is = by_content (s.content n) refl is
     by_content (SecsOf enclave) e k = cc
     by_content IsLoading e k = cc
 
+-- the enclave of such a page was created
+pub owner_there : (table : List (Option SecsState)) (e number : ℕ) → is_some (added_in (enclave_at table e) number) ≡ true → (x : SecsState) × (enclave_at table e ≡ Some x)
+owner_there table e number is = by_value (enclave_at table e) is
+  where
+    by_value : (o : Option SecsState) → is_some (added_in o number) ≡ true → (x : SecsState) × (o ≡ Some x)
+    by_value None k = cc
+    by_value (Some x) k = (x, refl)
+
 -- .. whose state is this
 pub added_there : (table : List (Option SecsState)) (e number : ℕ) (x : SecsState) → is_some (added_in (enclave_at table e) number) ≡ true → enclave_at table e ≡ Some x → is_some (added_at x number) ≡ true
 added_there table e number x is found = rw found at is
 
--- the TCS page that `enter` found
-pub enter_page : (d : Parts) (p enclave tcs tf sf : ℕ) → first_of_row (enter_row_of (state_of d) p (seat_of enclave tcs tf sf)) ≡ None → IsFramed (state_of d) → is_some ((state_of d).added (page_at enclave tcs)) ≡ true
-enter_page d p enclave tcs tf sf allowed framed =
-    let k = enters enclave tcs (enter_sight (state_of d) p (seat_of enclave tcs tf sf)) allowed in
-    page_added (state_of d) framed tf (page_at enclave tcs) (not_false _ k.tcs_page)
+-- a page of an enclave that a frame holds is one of its added pages
+pub frame_added : (d : Parts) (e n : ℕ) (x : SecsState) → IsTable d.secs → enclave_at d.secs e ≡ Some x → IsFramed (state_of d) → IsAdded (held (entry_at d.epc n)) x
+frame_added d e n x table found framed = by_content (held (entry_at d.epc n)) (framed n)
+  where
+    by_content : (c : Content) → ((g : Page) (kind : Kind) (perm : Perm) → c ≡ Holds g kind perm → is_some (added_in (enclave_at d.secs g.enclave) g.number) ≡ true) → IsAdded c x
+    by_content (Holds page kind perm) h = λ same.
+        (let ours : page.enclave ≡ e = same ∙ (table.own e x found).number in
+        added_there d.secs page.enclave page.number x (h page kind perm refl) (ap (enclave_at d.secs) ours ∙ found))
+    by_content Free h = tt
+    by_content IsVa h = tt
+    by_content (SecsOf enclave) h = tt
+    by_content IsLoading h = tt
 
--- the TCS page by which a processor is inside
-pub exit_page : (d : Parts) (p enclave tcs : ℕ) (tf sf : Frame) (epoch : ℕ) → (cpu_at d p).mode ≡ modes.Inside enclave tcs tf sf epoch → IsSound (state_of d) → IsFramed (state_of d) → is_some ((state_of d).added (page_at enclave tcs)) ≡ true
-exit_page d p enclave tcs tf sf epoch is sound framed =
+-- the TCS page by which a processor is inside was added
+pub seat_added : (d : Parts) (p enclave tcs : ℕ) (tf sf : Frame) (epoch : ℕ) → (cpu_at d p).mode ≡ modes.Inside enclave tcs tf sf epoch → IsSound (state_of d) → IsFramed (state_of d) → is_some ((state_of d).added (page_at enclave tcs)) ≡ true
+seat_added d p enclave tcs tf sf epoch is sound framed =
     let seated = seat_at (state_of d) sound p (seat_of enclave tcs tf.0 sf.0) (ap seat_of_mode is) in
     page_added (state_of d) framed tf.0 (page_at enclave tcs) seated.tcs_page
 
@@ -85,12 +117,29 @@ module _ (d : Parts) (e n : ℕ) (x : SecsState) (mark : Bool) (table : IsTable 
 pub marked_own : (e n : ℕ) (x : SecsState) (mark : Bool) → IsSecsOf e x → IsSecsOf e (with_busy x n mark)
 marked_own e n x mark own = record { number = own.number; sound = record { lawful = own.sound.lawful; pages = own.sound.pages; busy = rw length-set own.sound.busy } }
 
-pub enter_state : (d : Parts) (p enclave tcs : ℕ) (tf sf : Frame) (epoch : ℕ) (x : SecsState) → p < length d.cpus → IsTable d.secs → enclave_at d.secs enclave ≡ Some x → is_some (added_at x tcs) ≡ true
-    → state_of (record d { secs = with_enclave d.secs enclave (with_busy x tcs true); cpus = set d.cpus p (record { mode = modes.Inside enclave tcs tf sf epoch; acc = (tcs_fields (words_at d.epc tf.0)).cssa; cache = [] }) })
-    ≡ after_enter (state_of d) p (seat_of enclave tcs tf.0 sf.0)
-enter_state d p enclave tcs tf sf epoch x cpu_in table found added =
-    let v : Processor = record { mode = modes.Inside enclave tcs tf sf epoch; acc = (tcs_fields (words_at d.epc tf.0)).cssa; cache = [] } in
-    λ i. record (after_enter (state_of d) p (seat_of enclave tcs tf.0 sf.0)) {
+-- a frame whose words are changed
+pub words_state : (d : Parts) (f : ℕ) (change : List ℕ → List ℕ) → f < length d.epc
+    → state_of (record d { epc = with_words d.epc f (change (words_at d.epc f)) }) ≡ record (state_of d) { words = rewritten (state_of d).words f change }
+words_state d f change low =
+    let ws = change (words_at d.epc f) in
+    λ i. record (state_of d) {
+      frames = length-with_words d.epc f ws i;
+      content = λ n. ap held (entry_at-with_words d.epc f n ws) i;
+      is_blocked = λ n. ap (λ v. is_some (block_of v)) (entry_at-with_words d.epc f n ws) i;
+      is_sealing = λ n. ap goes_out (entry_at-with_words d.epc f n ws) i;
+      words = λ n. (words_at-with_words d.epc f n ws low ∙ by_frame n) i;
+    }
+  where
+    by_frame : (n : ℕ) → cond (f == n) (change (words_at d.epc f)) (words_at d.epc n) ≡ rewritten (state_of d).words f change n
+    by_frame n = cond_both (f == n) (change (words_at d.epc f)) (words_at d.epc n) (λ ws. ws ≡ cond (f == n) (change (words_at d.epc n)) (words_at d.epc n)) (λ e. rw e (ap (λ m. change (words_at d.epc m)) (eqb-true f n e))) (λ e. rw e refl)
+
+-- a processor that comes inside
+pub inside_state : (d : Parts) (p enclave tcs : ℕ) (tf sf : Frame) (epoch acc : ℕ) (x : SecsState) → p < length d.cpus → IsTable d.secs → enclave_at d.secs enclave ≡ Some x → is_some (added_at x tcs) ≡ true
+    → state_of (record d { secs = with_enclave d.secs enclave (with_busy x tcs true); cpus = set d.cpus p (record { mode = modes.Inside enclave tcs tf sf epoch; acc = acc; cache = [] }) })
+    ≡ with_inside (state_of d) p (seat_of enclave tcs tf.0 sf.0) acc
+inside_state d p enclave tcs tf sf epoch acc x cpu_in table found added =
+    let v : Processor = record { mode = modes.Inside enclave tcs tf sf epoch; acc = acc; cache = [] } in
+    λ i. record (with_inside (state_of d) p (seat_of enclave tcs tf.0 sf.0) acc) {
       enclaves = λ k. marked_enclaves d enclave tcs x true table found added k i;
       added = λ q. marked_added d enclave tcs x true table found added q i;
       is_busy = λ q. marked_busy d enclave tcs x true table found added q i;
@@ -99,6 +148,7 @@ enter_state d p enclave tcs tf sf epoch x cpu_in table found added =
       cache = λ q. cpu_column (λ v. v.cache) d p q v cpu_in i;
     }
 
+-- a processor that leaves
 pub exit_state : (d : Parts) (p enclave tcs : ℕ) (tf sf : Frame) (epoch : ℕ) (x : SecsState) → (cpu_at d p).mode ≡ modes.Inside enclave tcs tf sf epoch → p < length d.cpus → IsTable d.secs → enclave_at d.secs enclave ≡ Some x → is_some (added_at x tcs) ≡ true
     → state_of (record d { secs = with_enclave d.secs enclave (with_busy x tcs false); cpus = set d.cpus p (record { mode = modes.Outside; acc = (cpu_at d p).acc; cache = [] }) })
     ≡ after_exit (state_of d) p
@@ -125,29 +175,11 @@ fill_state d p t cpu_in =
           (λ e. rw e (ap (λ k. with_translation (cpu_at d k).cache t) (eqb-true p q e))) (λ e. rw e refl)) i;
     }
 
--- page numbers of translations stay small
-pub small_set : (d : Parts) (p : ℕ) (v : Processor) → p < length d.cpus → All (λ t. t.number < 2 ^ 32) v.cache → ((q : ℕ) → All (λ t. t.number < 2 ^ 32) (cpu_at d q).cache)
-    → (q : ℕ) → All (λ t. t.number < 2 ^ 32) (let x : Processor = get_or (set d.cpus p v) q idle in x).cache
-small_set d p v low here all q =
-    rw (get_or-set_if d.cpus p q v idle low) (cond_both (p == q) v (cpu_at d q) (λ (x : Processor). All (λ t. t.number < 2 ^ 32) x.cache) (λ _. here) (λ _. all q))
-
--- a processor that was read from its place
-pub cpu_there : (d : Parts) (p : ℕ) (v : Processor) → p < length d.cpus → v ≡ get_or d.cpus p v → v ≡ cpu_at d p
-cpu_there d p v low is = is ∙ get_or-default d.cpus p v idle low
-
--- ---- what the rows keep
-
-pub kept_enter : (d : Parts) (p enclave tcs tf sf : ℕ) → first_of_row (enter_row_of (state_of d) p (seat_of enclave tcs tf sf)) ≡ None → IsKept (state_of d) → IsKept (after_enter (state_of d) p (seat_of enclave tcs tf sf))
-kept_enter d p enclave tcs tf sf allowed h =
-    let s = state_of d in
-    let seat = seat_of enclave tcs tf sf in
-    let k = enters enclave tcs (enter_sight s p seat) allowed in
-    let tcs_held = tcs_there (s.content tf) (page_at enclave tcs) (not_false _ k.tcs_page) (not_false _ k.tcs_kind) in
-    let ssa_held = reg_there (s.content sf) _ (not_false _ k.ssa_page) (not_false _ k.ssa_kind) in
-    record { measured = h.measured; framed = h.framed; sound = sound-enter s p seat h.sound (not_false _ k.tcs_page) (usable_there tcs_held.holds k.tcs_idle) (usable_there ssa_held.holds k.ssa_idle) }
-
-pub kept_exit : (s : State) (p : ℕ) → IsKept s → IsKept (after_exit s p)
-kept_exit s p h = record { measured = h.measured; framed = h.framed; sound = sound-exit s p h.sound }
-
-pub kept_fill : (s : State) (p : ℕ) (t : Translation) → first_of_row (fill_row t.number (seat_enclave (s.inside p)) (sight s t.frame.0)) ≡ None → perm_in (s.content t.frame.0) ≡ Some t.perm → IsKept s → IsKept (after_fill s p t)
-kept_fill s p t allowed perm h = record { measured = h.measured; framed = h.framed; sound = sound-fill s p t allowed perm h.sound }
+pub acc_state : (d : Parts) (p acc : ℕ) → p < length d.cpus → state_of (record d { cpus = set d.cpus p (record (cpu_at d p) { acc = acc }) }) ≡ with_acc (state_of d) p acc
+acc_state d p acc cpu_in =
+    let v : Processor = record (cpu_at d p) { acc = acc } in
+    λ i. record (with_acc (state_of d) p acc) {
+      inside = λ q. (cpu_column (λ x. seat_of_mode x.mode) d p q v cpu_in ∙ same_at (λ k. seat_of_mode (cpu_at d k).mode) p q) i;
+      acc = λ q. cpu_column (λ x. x.acc) d p q v cpu_in i;
+      cache = λ q. (cpu_column (λ x. x.cache) d p q v cpu_in ∙ same_at (λ k. (cpu_at d k).cache) p q) i;
+    }

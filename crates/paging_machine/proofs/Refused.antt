@@ -1,10 +1,10 @@
 -- A refused instruction changes nothing, and is refused by the first case that holds by the entries too.
-use Rattle.std.proofs.Common.{◌≡◌, ℕ, Bool, true, false, refl, sym, ap, ◌∙◌, ◌⊎◌, inl, inr, Option, Some, None, List, ◌∷◌, is_some}
+use Rattle.std.proofs.Common.{◌≡◌, ℕ, ◌/◌, Bool, true, false, refl, sym, ap, ◌∙◌, ◌⊎◌, inl, inr, Option, Some, None, List, ◌∷◌, is_some}
 use Rattle.sgx_types.specs.declared.entries.Entry.{Entry}
 use Rattle.sgx_types.specs.declared.entries.Actor.{Actor}
 use Rattle.sgx_types.specs.declared.entries.Actor.TheVariants as actors
 use Rattle.sgx_types.specs.declared.entries.Action.{Action}
-use Rattle.sgx_types.specs.declared.entries.Action.TheVariants.{Epa, Create, Add, Extend, Init, Enter, Exit, Fill, Load}
+use Rattle.sgx_types.specs.declared.entries.Action.TheVariants.{Epa, Create, Add, Extend, Init, Enter, Resume, Exit, Aex, Fill, Load, Store, Xadd, Set, Plus, Pf, OutLoad, OutStore}
 use Rattle.sgx_types.specs.declared.entries.PageInit.{PageInit}
 use Rattle.sgx_types.specs.declared.entries.Event.TheVariants.{Refused}
 use Rattle.sgx_types.specs.declared.refusals.Refusal.{Refusal}
@@ -16,18 +16,25 @@ use Rattle.sgx_types.specs.declared.names.Kind.TheVariants as kinds
 use Rattle.sgx_types.specs.declared.names.Perm.{Perm}
 use Rattle.sgx_types.specs.Frames.{content, enclave_in, is_blocked, is_sealing, is_page, page_at}
 use Rattle.sgx_types.specs.Processors.{stay, translations}
-use Rattle.sgx_types.specs.Table.{FrameSight, EnterSight, TcsSight, is_tcs, is_ready, epa_row, create_row, add_row, extend_row, init_row, enter_row, exit_row, fill_row, load_row, first_of_row}
+use Rattle.sgx_types.specs.Table.{Case, FrameSight, EnterSight, TcsSight, is_tcs, is_ready, epa_row, create_row, add_row, extend_row, init_row, inside_row, outside_row, fill_row, access_row, allows_read, allows_write, allows_update, pf_row, first_of_row}
 use Rattle.sgx_types.specs.Flat.{FlatEnclave, flat, enclave_sight_of, tcs_fields, words_of, page_words}
-use Rattle.sgx_types.specs.Sights.{row_at}
+use Rattle.sgx_types.specs.Sights.{row_at, seat_of}
 use Rattle.sgx_types.specs.Sights as sights
+use Rattle.sgx_types.specs.Sights.{enter_sight_at}
 use Rattle.sgx_types.specs.Rules.{NoPageTwice, case_of}
 use Rattle.measure_log.specs.Rule.{log, MeasureRule}
-use Rattle.paging_machine.specs.State.{State, seat_of, seat_enclave, is_closed, row_of}
+use Rattle.sgx_types.specs.declared.entries.AccessOp.{AccessOp}
+use Rattle.sgx_types.specs.declared.entries.Cause.{Cause}
+use Rattle.paging_machine.specs.State.{State, enter_sight, seat_enclave, is_closed, row_of}
 use Rattle.paging_machine.specs.Stands.{Stands, IsSound, Upholds, seat_of_stay}
 use Rattle.paging_machine.proofs.Tools.{tested}
 use Rattle.paging_machine.proofs.Carry.{IsHeld, upholds_more, held_before, once_before}
 use Rattle.paging_machine.proofs.BuildLaws.{sight_agrees, is_some-added_as}
-use Rattle.paging_machine.proofs.ProcessorLaws.{mode_by_entries, enclave_by_entries, enter_sight, enter_sight_of, tcs_there, found_translation}
+use Rattle.paging_machine.proofs.Contents.{tcs_there}
+use Rattle.paging_machine.proofs.ProcessorLaws.{mode_by_entries, enclave_by_entries}
+use Rattle.paging_machine.proofs.EntryLaws.{by_fields, enter_saves, enter_saved, resume_saves, resume_saved, enter_sight_of}
+use Rattle.paging_machine.proofs.AccessLaws.{found_translation}
+use Rattle.paging_machine.proofs.RegisterLaws.{added_by_entries}
 
 abbrev pub refused_by : Actor → Action → Refusal → Entry
 refused_by actor action refusal = record { actor = actor; event = Refused action refusal }
@@ -77,9 +84,6 @@ pub init_agrees : (s : State) (past : List Entry) (a : Actor) (enclave : ℕ) (e
     → first_of_row (row_of s a (Init enclave expect)) ≡ first_of_row (row_at s.frames past a (Init enclave expect))
 init_agrees s past a enclave expect stands = ap (λ o. first_of_row (init_row (enclave_sight_of o))) (stands.enclaves enclave)
 
-pub exit_agrees : (s : State) (past : List Entry) (p : Cpu) → Stands s past → first_of_row (row_of s (actors.Cpu p) Exit) ≡ first_of_row (row_at s.frames past (actors.Cpu p) Exit)
-exit_agrees s past p stands = ap (λ b. first_of_row (exit_row b)) (mode_by_entries s past stands p.0)
-
 fill_row_same : (number : ℕ) (o o' : Option ℕ) (v v' : FrameSight) → o ≡ o' → v ≡ v' → first_of_row (fill_row number o v) ≡ first_of_row (fill_row number o' v')
 fill_row_same number o o' v v' e e' = rw (e, e') refl
 
@@ -88,43 +92,72 @@ pub fill_agrees : (s : State) (past : List Entry) (p : Cpu) (number : ℕ) (f : 
 fill_agrees s past p number f stands =
     fill_row_same number _ _ _ _ (ap seat_enclave (stands.inside p.0) ∙ enclave_by_entries (stay past p.0)) (sight_agrees s past stands f.0)
 
-load_row_same : (off : ℕ) (b b' : Bool) (o o' : Option Perm) → b ≡ b' → o ≡ o' → first_of_row (load_row off b o) ≡ first_of_row (load_row off b' o')
-load_row_same off b b' o o' e e' = rw (e, e') refl
+access_row_same : (off : ℕ) (allows : Option Perm → Bool) (b b' : Bool) (o o' : Option Perm) → b ≡ b' → o ≡ o' → first_of_row (access_row off b o (allows o)) ≡ first_of_row (access_row off b' o' (allows o'))
+access_row_same off allows b b' o o' e e' = rw (e, e') refl
 
 pub load_agrees : (s : State) (past : List Entry) (p : Cpu) (off : ℕ) → IsSound s → Stands s past → first_of_row (row_of s (actors.Cpu p) (Load off)) ≡ first_of_row (row_at s.frames past (actors.Cpu p) (Load off))
-load_agrees s past p off sound stands = load_row_same off _ _ _ _ (mode_by_entries s past stands p.0) (found_translation s past p.0 off sound stands)
+load_agrees s past p off sound stands = access_row_same off allows_read _ _ _ _ (mode_by_entries s past stands p.0) (found_translation s past p.0 off sound stands)
+
+pub store_agrees : (s : State) (past : List Entry) (p : Cpu) (off value : ℕ) → IsSound s → Stands s past → first_of_row (row_of s (actors.Cpu p) (Store off value)) ≡ first_of_row (row_at s.frames past (actors.Cpu p) (Store off value))
+store_agrees s past p off value sound stands = access_row_same off allows_write _ _ _ _ (mode_by_entries s past stands p.0) (found_translation s past p.0 off sound stands)
+
+pub xadd_agrees : (s : State) (past : List Entry) (p : Cpu) (off value : ℕ) → IsSound s → Stands s past → first_of_row (row_of s (actors.Cpu p) (Xadd off value)) ≡ first_of_row (row_at s.frames past (actors.Cpu p) (Xadd off value))
+xadd_agrees s past p off value sound stands = access_row_same off allows_update _ _ _ _ (mode_by_entries s past stands p.0) (found_translation s past p.0 off sound stands)
+
+pf_row_same : (op : AccessOp) (off : ℕ) (b b' : Bool) (o o' : Option (Kind × Perm)) → b ≡ b' → o ≡ o' → first_of_row (pf_row op off b o) ≡ first_of_row (pf_row op off b' o')
+pf_row_same op off b b' o o' e e' = rw (e, e') refl
+
+pub pf_agrees : (s : State) (past : List Entry) (p : Cpu) (op : AccessOp) (off : ℕ) → Stands s past → first_of_row (row_of s (actors.Cpu p) (Pf op off)) ≡ first_of_row (row_at s.frames past (actors.Cpu p) (Pf op off))
+pf_agrees s past p op off stands = pf_row_same op off _ _ _ _ (mode_by_entries s past stands p.0) (added_by_entries s past p.0 (off / 4096) stands)
+
+pub inside_agrees : (s : State) (past : List Entry) (p : Cpu) → Stands s past → first_of_row (inside_row (is_some (s.inside p.0))) ≡ first_of_row (inside_row (is_some (stay past p.0)))
+inside_agrees s past p stands = ap (λ b. first_of_row (inside_row b)) (mode_by_entries s past stands p.0)
+
+pub outside_agrees : (s : State) (past : List Entry) (p : Cpu) → Stands s past → first_of_row (outside_row (is_some (s.inside p.0))) ≡ first_of_row (outside_row (is_some (stay past p.0)))
+outside_agrees s past p stands = ap (λ b. first_of_row (outside_row b)) (mode_by_entries s past stands p.0)
 
 -- where the TCS page is not in its frame, the row does not come to its fields
-enter_elsewhere : (enclave tcs : ℕ) (v : EnterSight) (fields : TcsSight) → is_page v.tcs.content (page_at enclave tcs) ≡ false → first_of_row (enter_row enclave tcs v) ≡ first_of_row (enter_row enclave tcs (record v { fields = fields }))
-enter_elsewhere enclave tcs v fields other = rw other refl
+entry_elsewhere : (saves : TcsSight → Case) (saved : TcsSight → ℕ) (enclave tcs : ℕ) (v : EnterSight) (fields : TcsSight) → is_page v.tcs.content (page_at enclave tcs) ≡ false
+    → first_of_row (by_fields saves saved enclave tcs v) ≡ first_of_row (by_fields saves saved enclave tcs (record v { fields = fields }))
+entry_elsewhere saves saved enclave tcs v fields other = rw other refl
 
-enter_otherwise : (enclave tcs : ℕ) (v : EnterSight) (fields : TcsSight) → is_tcs v.tcs.content ≡ false → first_of_row (enter_row enclave tcs v) ≡ first_of_row (enter_row enclave tcs (record v { fields = fields }))
-enter_otherwise enclave tcs v fields other = rw other refl
+entry_otherwise : (saves : TcsSight → Case) (saved : TcsSight → ℕ) (enclave tcs : ℕ) (v : EnterSight) (fields : TcsSight) → is_tcs v.tcs.content ≡ false
+    → first_of_row (by_fields saves saved enclave tcs v) ≡ first_of_row (by_fields saves saved enclave tcs (record v { fields = fields }))
+entry_otherwise saves saved enclave tcs v fields other = rw other refl
 
-pub enter_agrees : (s : State) (past : List Entry) (p : Cpu) (enclave tcs : ℕ) (tf sf : Frame) → Stands s past
-    → first_of_row (row_of s (actors.Cpu p) (Enter enclave tcs tf sf)) ≡ first_of_row (row_at s.frames past (actors.Cpu p) (Enter enclave tcs tf sf))
-enter_agrees s past p enclave tcs tf sf stands =
+-- a row by a TCS page, in the state and by the entries
+entry_agrees : (saves : TcsSight → Case) (saved : TcsSight → ℕ) (s : State) (past : List Entry) (p enclave tcs tf sf : ℕ) → Stands s past
+    → first_of_row (by_fields saves saved enclave tcs (enter_sight s p (seat_of enclave tcs tf sf))) ≡ first_of_row (by_fields saves saved enclave tcs (enter_sight_at s.frames past p (seat_of enclave tcs tf sf)))
+entry_agrees saves saved s past p enclave tcs tf sf stands =
     by_page (tested (is_page v.tcs.content g)) (tested (is_tcs v.tcs.content))
-    ∙ ap (λ x. first_of_row (enter_row enclave tcs x))
-    (enter_sight_of _ _ _ _ _ _ _ _ _ _ _ _ (mode_by_entries s past stands p.0) (ap enclave_sight_of (stands.enclaves enclave)) (sight_agrees s past stands tf.0) (stands.is_busy g) refl (sight_agrees s past stands sf.0))
+    ∙ ap (λ x. first_of_row (by_fields saves saved enclave tcs x))
+    (enter_sight_of _ _ _ _ _ _ _ _ _ _ _ _ (mode_by_entries s past stands p) (ap enclave_sight_of (stands.enclaves enclave)) (sight_agrees s past stands tf) (stands.is_busy g) refl (sight_agrees s past stands sf))
   where
     g : Page
     g = page_at enclave tcs
 
     v : EnterSight
-    v = enter_sight s p.0 (seat_of enclave tcs tf.0 sf.0)
+    v = enter_sight s p (seat_of enclave tcs tf sf)
 
     fields : TcsSight
     fields = tcs_fields (words_of (flat past) g)
 
     by_page : (is_page v.tcs.content g ≡ true) ⊎ (is_page v.tcs.content g ≡ false) → (is_tcs v.tcs.content ≡ true) ⊎ (is_tcs v.tcs.content ≡ false)
-        → first_of_row (enter_row enclave tcs v) ≡ first_of_row (enter_row enclave tcs (record v { fields = fields }))
-    by_page (inr other) is = enter_elsewhere enclave tcs v fields other
-    by_page (inl here) (inr other) = enter_otherwise enclave tcs v fields other
+        → first_of_row (by_fields saves saved enclave tcs v) ≡ first_of_row (by_fields saves saved enclave tcs (record v { fields = fields }))
+    by_page (inr other) is = entry_elsewhere saves saved enclave tcs v fields other
+    by_page (inl here) (inr other) = entry_otherwise saves saved enclave tcs v fields other
     by_page (inl here) (inl is) =
-        let k = tcs_there (s.content tf.0) g here is in
-        let there = stands.words tf.0 g kinds.Tcs k.perm k.holds in
-        ap (λ x. first_of_row (enter_row enclave tcs (record v { fields = tcs_fields (page_words x) }))) (sym there)
+        let k = tcs_there (s.content tf) g here is in
+        let there = stands.words tf g kinds.Tcs k.perm k.holds in
+        ap (λ x. first_of_row (by_fields saves saved enclave tcs (record v { fields = tcs_fields (page_words x) }))) (sym there)
+
+pub enter_agrees : (s : State) (past : List Entry) (p : Cpu) (enclave tcs : ℕ) (tf sf : Frame) → Stands s past
+    → first_of_row (row_of s (actors.Cpu p) (Enter enclave tcs tf sf)) ≡ first_of_row (row_at s.frames past (actors.Cpu p) (Enter enclave tcs tf sf))
+enter_agrees s past p enclave tcs tf sf stands = entry_agrees enter_saves enter_saved s past p.0 enclave tcs tf.0 sf.0 stands
+
+pub resume_agrees : (s : State) (past : List Entry) (p : Cpu) (enclave tcs : ℕ) (tf sf : Frame) → Stands s past
+    → first_of_row (row_of s (actors.Cpu p) (Resume enclave tcs tf sf)) ≡ first_of_row (row_at s.frames past (actors.Cpu p) (Resume enclave tcs tf sf))
+resume_agrees s past p enclave tcs tf sf stands = entry_agrees resume_saves resume_saved s past p.0 enclave tcs tf.0 sf.0 stands
 
 -- ---- refused entries
 
@@ -184,11 +217,23 @@ enter_refused s past p enclave tcs tf sf refusal refused sound h =
     refused_upheld s past (actors.Cpu p) (Enter enclave tcs tf sf) refusal (stands_same s past _ (λ n. refl) (λ n. refl) (λ n. refl) (λ q. refl) (λ q. refl) (λ n. refl) refl h.stands) (once_before s.frames past h.rules)
     (held_before s.frames past h.rules) (sym (enter_agrees s past p enclave tcs tf sf h.stands) ∙ refused) tt sound h
 
+pub resume_refused : (s : State) (past : List Entry) (p : Cpu) (enclave tcs : ℕ) (tf sf : Frame) (refusal : Refusal) → first_of_row (row_of s (actors.Cpu p) (Resume enclave tcs tf sf)) ≡ case_of (Resume enclave tcs tf sf) refusal → IsSound s
+    → Upholds s past → Upholds s (refused_by (actors.Cpu p) (Resume enclave tcs tf sf) refusal ∷ past)
+resume_refused s past p enclave tcs tf sf refusal refused sound h =
+    refused_upheld s past (actors.Cpu p) (Resume enclave tcs tf sf) refusal (stands_same s past _ (λ n. refl) (λ n. refl) (λ n. refl) (λ q. refl) (λ q. refl) (λ n. refl) refl h.stands) (once_before s.frames past h.rules)
+    (held_before s.frames past h.rules) (sym (resume_agrees s past p enclave tcs tf sf h.stands) ∙ refused) tt sound h
+
 pub exit_refused : (s : State) (past : List Entry) (p : Cpu) (refusal : Refusal) → first_of_row (row_of s (actors.Cpu p) Exit) ≡ case_of Exit refusal → IsSound s
     → Upholds s past → Upholds s (refused_by (actors.Cpu p) Exit refusal ∷ past)
 exit_refused s past p refusal refused sound h =
     refused_upheld s past (actors.Cpu p) Exit refusal (stands_same s past _ (λ n. refl) (λ n. refl) (λ n. refl) (λ q. refl) (λ q. refl) (λ n. refl) refl h.stands) (once_before s.frames past h.rules)
-    (held_before s.frames past h.rules) (sym (exit_agrees s past p h.stands) ∙ refused) tt sound h
+    (held_before s.frames past h.rules) (sym (inside_agrees s past p h.stands) ∙ refused) tt sound h
+
+pub aex_refused : (s : State) (past : List Entry) (p : Cpu) (cause : Cause) (refusal : Refusal) → first_of_row (row_of s (actors.Cpu p) (Aex cause)) ≡ case_of (Aex cause) refusal → IsSound s
+    → Upholds s past → Upholds s (refused_by (actors.Cpu p) (Aex cause) refusal ∷ past)
+aex_refused s past p cause refusal refused sound h =
+    refused_upheld s past (actors.Cpu p) (Aex cause) refusal (stands_same s past _ (λ n. refl) (λ n. refl) (λ n. refl) (λ q. refl) (λ q. refl) (λ n. refl) refl h.stands) (once_before s.frames past h.rules)
+    (held_before s.frames past h.rules) (sym (inside_agrees s past p h.stands) ∙ refused) tt sound h
 
 pub fill_refused : (s : State) (past : List Entry) (p : Cpu) (number : ℕ) (f : Frame) (refusal : Refusal) → first_of_row (row_of s (actors.Cpu p) (Fill number f)) ≡ case_of (Fill number f) refusal → IsSound s
     → Upholds s past → Upholds s (refused_by (actors.Cpu p) (Fill number f) refusal ∷ past)
@@ -201,3 +246,45 @@ pub load_refused : (s : State) (past : List Entry) (p : Cpu) (off : ℕ) (refusa
 load_refused s past p off refusal refused sound h =
     refused_upheld s past (actors.Cpu p) (Load off) refusal (stands_same s past _ (λ n. refl) (λ n. refl) (λ n. refl) (λ q. refl) (λ q. refl) (λ n. refl) refl h.stands) (once_before s.frames past h.rules)
     (held_before s.frames past h.rules) (sym (load_agrees s past p off sound h.stands) ∙ refused) tt sound h
+
+pub store_refused : (s : State) (past : List Entry) (p : Cpu) (off value : ℕ) (refusal : Refusal) → first_of_row (row_of s (actors.Cpu p) (Store off value)) ≡ case_of (Store off value) refusal → IsSound s
+    → Upholds s past → Upholds s (refused_by (actors.Cpu p) (Store off value) refusal ∷ past)
+store_refused s past p off value refusal refused sound h =
+    refused_upheld s past (actors.Cpu p) (Store off value) refusal (stands_same s past _ (λ n. refl) (λ n. refl) (λ n. refl) (λ q. refl) (λ q. refl) (λ n. refl) refl h.stands) (once_before s.frames past h.rules)
+    (held_before s.frames past h.rules) (sym (store_agrees s past p off value sound h.stands) ∙ refused) tt sound h
+
+pub xadd_refused : (s : State) (past : List Entry) (p : Cpu) (off value : ℕ) (refusal : Refusal) → first_of_row (row_of s (actors.Cpu p) (Xadd off value)) ≡ case_of (Xadd off value) refusal → IsSound s
+    → Upholds s past → Upholds s (refused_by (actors.Cpu p) (Xadd off value) refusal ∷ past)
+xadd_refused s past p off value refusal refused sound h =
+    refused_upheld s past (actors.Cpu p) (Xadd off value) refusal (stands_same s past _ (λ n. refl) (λ n. refl) (λ n. refl) (λ q. refl) (λ q. refl) (λ n. refl) refl h.stands) (once_before s.frames past h.rules)
+    (held_before s.frames past h.rules) (sym (xadd_agrees s past p off value sound h.stands) ∙ refused) tt sound h
+
+pub set_refused : (s : State) (past : List Entry) (p : Cpu) (value : ℕ) (refusal : Refusal) → first_of_row (row_of s (actors.Cpu p) (Set value)) ≡ case_of (Set value) refusal → IsSound s
+    → Upholds s past → Upholds s (refused_by (actors.Cpu p) (Set value) refusal ∷ past)
+set_refused s past p value refusal refused sound h =
+    refused_upheld s past (actors.Cpu p) (Set value) refusal (stands_same s past _ (λ n. refl) (λ n. refl) (λ n. refl) (λ q. refl) (λ q. refl) (λ n. refl) refl h.stands) (once_before s.frames past h.rules)
+    (held_before s.frames past h.rules) (sym (inside_agrees s past p h.stands) ∙ refused) tt sound h
+
+pub plus_refused : (s : State) (past : List Entry) (p : Cpu) (value : ℕ) (refusal : Refusal) → first_of_row (row_of s (actors.Cpu p) (Plus value)) ≡ case_of (Plus value) refusal → IsSound s
+    → Upholds s past → Upholds s (refused_by (actors.Cpu p) (Plus value) refusal ∷ past)
+plus_refused s past p value refusal refused sound h =
+    refused_upheld s past (actors.Cpu p) (Plus value) refusal (stands_same s past _ (λ n. refl) (λ n. refl) (λ n. refl) (λ q. refl) (λ q. refl) (λ n. refl) refl h.stands) (once_before s.frames past h.rules)
+    (held_before s.frames past h.rules) (sym (inside_agrees s past p h.stands) ∙ refused) tt sound h
+
+pub pf_refused : (s : State) (past : List Entry) (p : Cpu) (op : AccessOp) (off : ℕ) (refusal : Refusal) → first_of_row (row_of s (actors.Cpu p) (Pf op off)) ≡ case_of (Pf op off) refusal → IsSound s
+    → Upholds s past → Upholds s (refused_by (actors.Cpu p) (Pf op off) refusal ∷ past)
+pf_refused s past p op off refusal refused sound h =
+    refused_upheld s past (actors.Cpu p) (Pf op off) refusal (stands_same s past _ (λ n. refl) (λ n. refl) (λ n. refl) (λ q. refl) (λ q. refl) (λ n. refl) refl h.stands) (once_before s.frames past h.rules)
+    (held_before s.frames past h.rules) (sym (pf_agrees s past p op off h.stands) ∙ refused) tt sound h
+
+pub outload_refused : (s : State) (past : List Entry) (p : Cpu) (enclave off : ℕ) (refusal : Refusal) → first_of_row (row_of s (actors.Cpu p) (OutLoad enclave off)) ≡ case_of (OutLoad enclave off) refusal → IsSound s
+    → Upholds s past → Upholds s (refused_by (actors.Cpu p) (OutLoad enclave off) refusal ∷ past)
+outload_refused s past p enclave off refusal refused sound h =
+    refused_upheld s past (actors.Cpu p) (OutLoad enclave off) refusal (stands_same s past _ (λ n. refl) (λ n. refl) (λ n. refl) (λ q. refl) (λ q. refl) (λ n. refl) refl h.stands) (once_before s.frames past h.rules)
+    (held_before s.frames past h.rules) (sym (outside_agrees s past p h.stands) ∙ refused) tt sound h
+
+pub outstore_refused : (s : State) (past : List Entry) (p : Cpu) (enclave off value : ℕ) (refusal : Refusal) → first_of_row (row_of s (actors.Cpu p) (OutStore enclave off value)) ≡ case_of (OutStore enclave off value) refusal → IsSound s
+    → Upholds s past → Upholds s (refused_by (actors.Cpu p) (OutStore enclave off value) refusal ∷ past)
+outstore_refused s past p enclave off value refusal refused sound h =
+    refused_upheld s past (actors.Cpu p) (OutStore enclave off value) refusal (stands_same s past _ (λ n. refl) (λ n. refl) (λ n. refl) (λ q. refl) (λ q. refl) (λ n. refl) refl h.stands) (once_before s.frames past h.rules)
+    (held_before s.frames past h.rules) (sym (outside_agrees s past p h.stands) ∙ refused) tt sound h

@@ -4,7 +4,7 @@ use Rattle.sgx_types.specs.declared.entries.Entry.{Entry}
 use Rattle.sgx_types.specs.declared.entries.Actor.{Actor}
 use Rattle.sgx_types.specs.declared.entries.Actor.TheVariants as actors
 use Rattle.sgx_types.specs.declared.entries.Action.{Action}
-use Rattle.sgx_types.specs.declared.entries.Action.TheVariants.{Epa, Create, Add, Extend, Init, Enter, Exit, Fill, Load}
+use Rattle.sgx_types.specs.declared.entries.Action.TheVariants.{Epa, Create, Add, Extend, Init, Enter, Resume, Exit, Aex, Fill, Load, Store, Xadd, Set, Plus, Pf, OutLoad, OutStore}
 use Rattle.sgx_types.specs.declared.entries.Answer.TheVariants as answers
 use Rattle.sgx_types.specs.declared.names.Perm.{Perm}
 use Rattle.sgx_types.specs.declared.refusals.Refusal.{Refusal}
@@ -21,9 +21,12 @@ use Rattle.paging_machine.specs.Steps.{CanApply, IsStep, IsJudged, did_by, refus
 use Rattle.paging_machine.proofs.MeasureLaws.{finished_as, quiet}
 use Rattle.paging_machine.proofs.BuildLaws.{epa_upheld, create_upheld, add_upheld, init_upheld, is_some-sight}
 use Rattle.paging_machine.proofs.Tools.{not_false}
-use Rattle.paging_machine.proofs.ProcessorLaws.{fills, outside_refused, enter_upheld, exit_upheld, fill_upheld, load_upheld}
+use Rattle.paging_machine.proofs.EntryLaws.{enter_upheld, resume_upheld}
+use Rattle.paging_machine.proofs.ExitLaws.{exit_upheld, aex_upheld}
+use Rattle.paging_machine.proofs.AccessLaws.{fills, outside_refused, fill_upheld, load_upheld, store_upheld, xadd_upheld}
+use Rattle.paging_machine.proofs.RegisterLaws.{set_upheld, plus_upheld, pf_upheld, outload_upheld, outstore_upheld}
 use Rattle.paging_machine.proofs.ExtendLaws.{IsMade, extend_upheld}
-use Rattle.paging_machine.proofs.Refused.{epa_refused, create_refused, add_refused, extend_refused, init_refused, enter_refused, exit_refused, fill_refused, load_refused}
+use Rattle.paging_machine.proofs.Refused.{epa_refused, create_refused, add_refused, extend_refused, init_refused, enter_refused, resume_refused, exit_refused, aex_refused, fill_refused, load_refused, store_refused, xadd_refused, set_refused, plus_refused, pf_refused, outload_refused, outstore_refused}
 
 -- a row allows an instruction, or refuses it
 step_cases : (o : Option Refusal) (Done : Type 0) (made : Refusal → Entry) (e : Entry) (s t : State) (past : List Entry)
@@ -103,14 +106,31 @@ step_upheld s t past cpus a (Init enclave expect) e few can sound made k h =
 step_upheld s t past cpus (actors.Cpu p) (Enter enclave tcs tf sf) e few can sound made k h =
     step_cases _ _ _ e s t past (λ allowed done. rw (done.0, done.1) (enter_upheld s past p enclave tcs tf sf (omega arith) allowed sound h))
     (λ r refused. enter_refused s past p enclave tcs tf sf r refused sound h) k
+step_upheld s t past cpus (actors.Cpu p) (Resume enclave tcs tf sf) e few can sound made k h =
+    step_cases _ _ _ e s t past (λ allowed done. rw (done.0, done.1) (resume_upheld s past p enclave tcs tf sf (omega arith) allowed sound h)) (λ r refused. resume_refused s past p enclave tcs tf sf r refused sound h) k
 step_upheld s t past cpus (actors.Cpu p) Exit e few can sound made k h =
     step_cases _ _ _ e s t past (λ allowed done. rw (done.0, done.1) (exit_upheld s past p (omega arith) allowed sound h)) (λ r refused. exit_refused s past p r refused sound h) k
+step_upheld s t past cpus (actors.Cpu p) (Aex cause) e few can sound made k h =
+    step_cases _ _ _ e s t past (λ allowed done. rw (done.0, done.1) (aex_upheld s past p cause (omega arith) allowed sound h)) (λ r refused. aex_refused s past p cause r refused sound h) k
 step_upheld s t past cpus (actors.Cpu p) (Fill number f) e few can sound made k h =
     step_cases _ _ _ e s t past
     (λ allowed done. rw (done.0, done.1)
     (fill_upheld s past p (record { number = number; frame = f; perm = unwrap_or (perm_in (s.content f.0)) no_perm }) (omega arith) allowed (fill_perm s p.0 number f.0 allowed) sound h))
     (λ r refused. fill_refused s past p number f r refused sound h) k
 step_upheld s t past cpus (actors.Cpu p) (Load off) e few can sound made k h =
-    step_cases _ _ _ e s t past (λ allowed done. rw (done.0, done.1) (load_upheld s past p off (omega arith) allowed sound h))
-    (λ r refused. load_refused s past p off r refused sound h) k
+    step_cases _ _ _ e s t past (λ allowed done. rw (done.0, done.1) (load_upheld s past p off (omega arith) allowed sound h)) (λ r refused. load_refused s past p off r refused sound h) k
+step_upheld s t past cpus (actors.Cpu p) (Store off value) e few can sound made k h =
+    step_cases _ _ _ e s t past (λ allowed done. rw (done.0, done.1) (store_upheld s past p off value (omega arith) allowed sound h)) (λ r refused. store_refused s past p off value r refused sound h) k
+step_upheld s t past cpus (actors.Cpu p) (Xadd off value) e few can sound made k h =
+    step_cases _ _ _ e s t past (λ allowed done. rw (done.0, done.1) (xadd_upheld s past p off value (omega arith) allowed sound h)) (λ r refused. xadd_refused s past p off value r refused sound h) k
+step_upheld s t past cpus (actors.Cpu p) (Set value) e few can sound made k h =
+    step_cases _ _ _ e s t past (λ allowed done. rw (done.0, done.1) (set_upheld s past p value (omega arith) allowed sound h)) (λ r refused. set_refused s past p value r refused sound h) k
+step_upheld s t past cpus (actors.Cpu p) (Plus value) e few can sound made k h =
+    step_cases _ _ _ e s t past (λ allowed done. rw (done.0, done.1) (plus_upheld s past p value (omega arith) allowed sound h)) (λ r refused. plus_refused s past p value r refused sound h) k
+step_upheld s t past cpus (actors.Cpu p) (Pf op off) e few can sound made k h =
+    step_cases _ _ _ e s t past (λ allowed done. rw (done.0, done.1) (pf_upheld s past p op off (omega arith) allowed sound h)) (λ r refused. pf_refused s past p op off r refused sound h) k
+step_upheld s t past cpus (actors.Cpu p) (OutLoad enclave off) e few can sound made k h =
+    step_cases _ _ _ e s t past (λ allowed done. rw (done.0, done.1) (outload_upheld s past p enclave off (omega arith) allowed sound h)) (λ r refused. outload_refused s past p enclave off r refused sound h) k
+step_upheld s t past cpus (actors.Cpu p) (OutStore enclave off value) e few can sound made k h =
+    step_cases _ _ _ e s t past (λ allowed done. rw (done.0, done.1) (outstore_upheld s past p enclave off value (omega arith) allowed sound h)) (λ r refused. outstore_refused s past p enclave off value r refused sound h) k
 step_upheld s t past cpus a action e few can sound made k h = absurd can

@@ -2,6 +2,8 @@
 use Rattle.std.proofs.Common.{◌≡◌, ℕ, ◌==◌, ◌&&◌, ◌||◌, not, Bool, true, false, cond, refl, sym, ◌∙◌, Option, Some, None, IfSome, is_some, is_none, List, [], ◌∷◌, ◌⊎◌, inl, inr}
 use Rattle.std.proofs.lemmas.Bool.{eqb-true, eq-eqb, false≢true}
 use Rattle.sgx_types.specs.declared.entries.Entry.{Entry}
+use Rattle.sgx_types.specs.declared.names.Page.{Page}
+use Rattle.sgx_types.specs.Frames.{same_page}
 use Rattle.sgx_types.specs.Table.{Case, first_of_row}
 use Rattle.sgx_types.specs.Rules.{AtEachPlace}
 
@@ -74,3 +76,14 @@ none_there (Some x) h = cc
 
 pub both_false : (a b : Bool) → a ≡ false → b ≡ false → (a || b) ≡ false
 both_false a b h k = rw (h, k) refl
+
+-- what holds of a value where it is there
+pub each_there_at : {X : Type 0} (o : Option X) (P : X → Type 0) → ((t : X) → o ≡ Some t → P t) → IfSome o P
+each_there_at None P h = tt
+each_there_at (Some t) P h = h t refl
+
+pub equal : (a b : ℕ) → a ≡ b → (a == b) ≡ true
+equal a b e = eq-eqb a b e
+
+pub same_pages : (a b : Page) → same_page a b ≡ true → a ≡ b
+same_pages a b h = let k = both_true (a.enclave == b.enclave) (a.number == b.number) h in λ i. record { enclave = eqb-true a.enclave b.enclave k.0 i; number = eqb-true a.number b.number k.1 i }

@@ -1,10 +1,8 @@
 -- The machine's parts as data, and the state that they make.
-use Rattle.std.specs.Prelude.{ℕ, ◌/◌, ◌&&◌, Bool, false, List, [], Option, Some, None, slice_index_or, slice_index, length, is_some, replicate}
+use Rattle.std.specs.Prelude.{ℕ, ◌/◌, ◌==◌, ◌&&◌, Bool, false, List, [], Option, Some, None, slice_index_or, slice_index, length, is_some, replicate}
 use Rattle.sgx_types.specs.declared.names.Kind.{Kind}
 use Rattle.sgx_types.specs.declared.names.Kind.TheVariants as kinds
 use Rattle.sgx_types.specs.declared.names.Perm.{Perm}
-use Rattle.sgx_types.specs.declared.entries.AccessOp.{AccessOp}
-use Rattle.sgx_types.specs.declared.entries.AccessOp.TheVariants as accesses
 use Rattle.sgx_types.specs.declared.layouts.TcsFields.{TcsFields}
 use Rattle.sgx_types.specs.Frames.{Content, Holds}
 use Rattle.sgx_types.specs.Processors.{Seat}
@@ -19,14 +17,16 @@ use Rattle.cached_translations.specs.declared.processor.Processor.{Processor}
 use Rattle.cached_translations.specs.declared.processor.Mode.{Mode}
 use Rattle.cached_translations.specs.declared.processor.Mode.TheVariants.{Outside, Inside}
 use Rattle.measure_log.specs.declared.measure.Measure.{Measure}
+use Rattle.track_epoch.specs.Tracking.{Tracking, starting_at}
 use Rattle.paging_machine.specs.State.{State}
 
--- the EPC, the state of each enclave, their running measurements by the enclave's number, the processors, and the numbers
--- of the making
+-- the EPC, the state of each enclave, their running measurements by the enclave's number, their tracks, the processors, and
+-- the numbers of the making
 pub record Parts : Type 0 where
   pub epc : List EpcFrame
   pub secs : List (Option SecsState)
   pub measures : List (Option Measure)
+  pub tracks : List Tracking
   pub cpus : List Processor
   pub key : List ℕ
   pub start_epoch : ℕ
@@ -61,6 +61,11 @@ abbrev pub seat_of_mode : Mode → Option Seat
 seat_of_mode Outside = None
 seat_of_mode (Inside enclave tcs tf sf epoch) = Some (record { enclave = enclave; tcs = tcs; tcs_frame = tf.0; ssa_frame = sf.0 })
 
+-- a processor inside an enclave, which noted an epoch that passes a test
+abbrev pub is_noted : ℕ → (ℕ → Bool) → Mode → Bool
+is_noted e test Outside = false
+is_noted e test (Inside enclave tcs tf sf epoch) = (enclave == e) && test epoch
+
 -- ---- the making
 
 -- a machine of so many frames and processors that has done nothing yet
@@ -69,6 +74,7 @@ made frames cpus key start_epoch start_version = record {
   epc = free_frames frames;
   secs = empty_table;
   measures = replicate 9 None;
+  tracks = replicate 8 (starting_at start_epoch);
   cpus = replicate cpus idle;
   key = key;
   start_epoch = start_epoch;
@@ -102,17 +108,3 @@ fields_of f = record { ossa = f.ossa / 4096; cssa = f.cssa; nssa = f.nssa }
 abbrev pub tcs_of : Content → List ℕ → Option TcsFields
 tcs_of (Holds page kinds.Tcs perm) words = Some (record { ossa = slice_index words 2; cssa = (tcs_fields words).cssa; nssa = (tcs_fields words).nssa })
 tcs_of _ words = None
-
-abbrev pub allows : Perm → AccessOp → Bool
-allows perm accesses.Load = perm.r
-allows perm accesses.Store = perm.w
-allows perm accesses.Xadd = perm.r && perm.w
-
--- an access can succeed: its page was added as a REG page, with the permission
-abbrev pub is_lawful_access : Option (Kind × Perm) → AccessOp → Bool
-is_lawful_access None op = false
-is_lawful_access (Some x) op = by_kind x.0
-  where
-    by_kind : Kind → Bool
-    by_kind kinds.Reg = allows x.1 op
-    by_kind _ = false

@@ -1,6 +1,6 @@
 -- The machine's state is what the entries make it, column by column and without a bound: beyond the last frame, enclave
 -- or processor there is nothing on either side.
-use Rattle.std.specs.Prelude.{ℕ, ◌≡◌, Bool, true, false, List, [], Option, Some, None, IfSome, map}
+use Rattle.std.specs.Prelude.{ℕ, ◌≡◌, ◌+◌, Bool, true, false, List, [], Option, Some, None, IfSome, length, map}
 use Rattle.std.specs.List.{All}
 use Rattle.std.specs.Option.{IsSomeAnd}
 use Rattle.sgx_types.specs.declared.entries.Entry.{Entry}
@@ -10,7 +10,8 @@ use Rattle.sgx_types.specs.declared.names.Kind.TheVariants as kinds
 use Rattle.sgx_types.specs.declared.names.Perm.{Perm}
 use Rattle.sgx_types.specs.Frames.{Content, Holds, content, is_blocked, is_sealing, enclave_in, is_page, page_at}
 use Rattle.sgx_types.specs.Processors.{Seat, Stay, stay, Pair, translations}
-use Rattle.sgx_types.specs.Flat.{FlatEnclave, FlatMemory, FlatPage, Inside, flat}
+use Rattle.sgx_types.specs.Table.{TcsSight, is_reg, is_tcs}
+use Rattle.sgx_types.specs.Flat.{FlatEnclave, FlatMemory, Inside, added_as, flat, tcs_fields}
 use Rattle.sgx_types.specs.Rules.{Along, KeepsRules}
 use Rattle.measure_log.specs.declared.measure.Measure.{Measure}
 use Rattle.measure_log.specs.Measure.{HoldsLog}
@@ -28,10 +29,6 @@ inside_of_stay (Some t) = Some (record { enclave = t.seat.enclave; tcs = t.seat.
 
 abbrev pub pair_of : Translation → Pair
 pair_of t = record { number = t.number; frame = t.frame.0 }
-
-abbrev pub added_as : Option FlatPage → Option (Kind × Perm)
-added_as None = None
-added_as (Some x) = Some (x.kind, x.perm)
 
 -- a created enclave's measurement has taken in its log, and one that was not created has no log
 abbrev pub IsMeasuring : Option FlatEnclave → Option Measure → List ℕ → Type 0
@@ -71,15 +68,32 @@ pub record IsTranslation (enclave : ℕ) (t : Translation) (held : Content) (sea
   pub page : held ≡ Holds (page_at enclave t.number) kinds.Reg t.perm
   pub settled : sealing ≡ false
 
--- a stay inside, by what the frames hold and which are on their way out
-pub record IsSeated (content : ℕ → Content) (is_sealing : ℕ → Bool) (held : List Translation) (seat : Seat) : Type 0 where
+-- the state save page into which an asynchronous exit saves, by the fields of the TCS page
+abbrev pub next_save : ℕ → TcsSight → Page
+next_save enclave fields = page_at enclave (fields.ossa + fields.cssa)
+
+-- a stay inside, by what the frames hold, which are on their way out, and the words in the TCS frame: the one frame holds
+-- the TCS page, the other the state save page that CSSA names
+pub record IsSeated (content : ℕ → Content) (is_sealing : ℕ → Bool) (words : ℕ → List ℕ) (held : List Translation) (seat : Seat) : Type 0 where
   pub tcs : IsUsable seat.enclave (content seat.tcs_frame) (is_sealing seat.tcs_frame)
   pub tcs_page : is_page (content seat.tcs_frame) (page_at seat.enclave seat.tcs) ≡ true
+  pub tcs_kind : is_tcs (content seat.tcs_frame) ≡ true
   pub ssa : IsUsable seat.enclave (content seat.ssa_frame) (is_sealing seat.ssa_frame)
+  pub ssa_page : is_page (content seat.ssa_frame) (next_save seat.enclave (tcs_fields (words seat.tcs_frame))) ≡ true
+  pub ssa_kind : is_reg (content seat.ssa_frame) ≡ true
   pub cache : All (λ t. IsTranslation seat.enclave t (content t.frame.0) (is_sealing t.frame.0)) held
 
+-- two seats by one TCS page
+abbrev pub AreByOneTcs : Seat → Seat → Type 0
+AreByOneTcs one other = (one.enclave ≡ other.enclave) × (one.tcs ≡ other.tcs)
+
 pub record IsSound (s : State) : Type 0 where
-  pub seated : (p : ℕ) → IfSome (s.inside p) (IsSeated s.content s.is_sealing (s.cache p))
+  pub seated : (p : ℕ) → IfSome (s.inside p) (IsSeated s.content s.is_sealing s.words (s.cache p))
+  -- a TCS page by which a processor is inside is busy, and only one processor is inside by it
+  pub busy : (p : ℕ) → IfSome (s.inside p) (λ seat. s.is_busy (page_at seat.enclave seat.tcs) ≡ true)
+  pub apart : (p q : ℕ) (one other : Seat) → s.inside p ≡ Some one → s.inside q ≡ Some other → AreByOneTcs one other → p ≡ q
+  -- each frame has 512 words
+  pub sized : (n : ℕ) → length (s.words n) ≡ 512
 
 -- a state that stands for entries which keep the rules
 pub record Upholds (s : State) (past : List Entry) : Type 0 where

@@ -1,22 +1,23 @@
 -- The machine's state as functions of a frame, an enclave, a page and a processor, what an instruction sees of it, and
 -- what each instruction does to it.
-use Rattle.std.specs.Prelude.{ℕ, ◌==◌, ◌/◌, Bool, true, false, if◌then◌else◌, List, [], Option, Some, None, nat_le, is_some, slice_index}
+use Rattle.std.specs.Prelude.{ℕ, ◌==◌, ◌+◌, ◌-◌, ◌/◌, Bool, true, false, if◌then◌else◌, List, [], Option, Some, None, nat_le, is_some, slice_index, slice_set}
 use Rattle.sgx_types.specs.declared.entries.Actor.{Actor}
 use Rattle.sgx_types.specs.declared.entries.Actor.TheVariants as actors
 use Rattle.sgx_types.specs.declared.entries.Action.{Action}
-use Rattle.sgx_types.specs.declared.entries.Action.TheVariants.{Epa, Create, Add, Extend, Init, Enter, Exit, Fill, Load}
+use Rattle.sgx_types.specs.declared.entries.Action.TheVariants.{Epa, Create, Add, Extend, Init, Enter, Resume, Exit, Aex, Fill, Load, Store, Xadd, Set, Plus, Pf, OutLoad, OutStore}
 use Rattle.sgx_types.specs.declared.entries.PageInit.{PageInit}
 use Rattle.sgx_types.specs.declared.names.Kind.{Kind}
 use Rattle.sgx_types.specs.declared.names.Page.{Page}
 use Rattle.sgx_types.specs.declared.names.Perm.{Perm}
 use Rattle.sgx_types.specs.Frames.{Content, Free, IsVa, SecsOf, Holds, enclave_in, same_page, page_at}
 use Rattle.sgx_types.specs.Processors.{Seat}
-use Rattle.sgx_types.specs.Table.{Case, allowed, FrameSight, is_ready, epa_row, create_row, add_row, extend_row, init_row, enter_row, exit_row, fill_row, load_row}
+use Rattle.sgx_types.specs.Table.{Case, allowed, FrameSight, EnterSight, is_ready, epa_row, create_row, add_row, extend_row, init_row, enter_row, resume_row, exit_row, aex_row, fill_row, load_row, store_row, xadd_row, set_row, plus_row, pf_row, outload_row, outstore_row}
 use Rattle.epcm_entry.specs.Words.{zero_words}
 use Rattle.cached_translations.specs.declared.cache.Translation.{Translation}
 use Rattle.cached_translations.specs.Translations.{translation_of, with_translation}
 use Rattle.measure_log.specs.declared.measure.Measure.{Measure}
-use Rattle.sgx_types.specs.Flat.{FlatEnclave, enclave_sight_of, marked, tcs_fields, first_words, word_index}
+use Rattle.sgx_types.specs.Flat.{FlatEnclave, enclave_sight_of, marked, tcs_fields, with_cssa, first_words, word_index, sum_of}
+use Rattle.sgx_types.specs.Sights.{seat_of}
 
 pub record State : Type 0 where
   pub frames : ℕ
@@ -67,26 +68,36 @@ abbrev pub translation : State → ℕ → Option Seat → ℕ → Option Perm
 translation s p None number = None
 translation s p (Some seat) number = perm_of_held (translation_of (s.cache p) number)
 
-abbrev pub enter_row_of : State → ℕ → Seat → List Case
-enter_row_of s p seat =
-    let fields = tcs_fields (s.words seat.tcs_frame) in
-    enter_row seat.enclave seat.tcs (record {
-      is_inside = is_some (s.inside p);
-      enclave = enclave_sight_of (s.enclaves seat.enclave);
-      tcs = sight s seat.tcs_frame;
-      tcs_busy = s.is_busy (page_at seat.enclave seat.tcs);
-      fields = fields;
-      ssa = sight s seat.ssa_frame;
-    })
+-- what `enter` and `resume` see
+abbrev pub enter_sight : State → ℕ → Seat → EnterSight
+enter_sight s p seat = record {
+  is_inside = is_some (s.inside p);
+  enclave = enclave_sight_of (s.enclaves seat.enclave);
+  tcs = sight s seat.tcs_frame;
+  tcs_busy = s.is_busy (page_at seat.enclave seat.tcs);
+  fields = tcs_fields (s.words seat.tcs_frame);
+  ssa = sight s seat.ssa_frame;
+}
 
-abbrev pub seat_of : ℕ → ℕ → ℕ → ℕ → Seat
-seat_of enclave tcs tf sf = record { enclave = enclave; tcs = tcs; tcs_frame = tf; ssa_frame = sf }
+-- what the page of this number in the enclave that a processor is inside was added as
+abbrev pub added_inside : State → Option Seat → ℕ → Option (Kind × Perm)
+added_inside s None number = None
+added_inside s (Some seat) number = s.added (page_at seat.enclave number)
 
 abbrev pub cpu_row_of : State → ℕ → Action → List Case
-cpu_row_of s p (Enter enclave tcs tf sf) = enter_row_of s p (seat_of enclave tcs tf.0 sf.0)
+cpu_row_of s p (Enter enclave tcs tf sf) = enter_row enclave tcs (enter_sight s p (seat_of enclave tcs tf.0 sf.0))
+cpu_row_of s p (Resume enclave tcs tf sf) = resume_row enclave tcs (enter_sight s p (seat_of enclave tcs tf.0 sf.0))
 cpu_row_of s p Exit = exit_row (is_some (s.inside p))
+cpu_row_of s p (Aex cause) = aex_row (is_some (s.inside p))
 cpu_row_of s p (Fill number f) = fill_row number (seat_enclave (s.inside p)) (sight s f.0)
 cpu_row_of s p (Load off) = load_row off (is_some (s.inside p)) (translation s p (s.inside p) (off / 4096))
+cpu_row_of s p (Store off value) = store_row off (is_some (s.inside p)) (translation s p (s.inside p) (off / 4096))
+cpu_row_of s p (Xadd off value) = xadd_row off (is_some (s.inside p)) (translation s p (s.inside p) (off / 4096))
+cpu_row_of s p (Set value) = set_row (is_some (s.inside p))
+cpu_row_of s p (Plus value) = plus_row (is_some (s.inside p))
+cpu_row_of s p (Pf op off) = pf_row op off (is_some (s.inside p)) (added_inside s (s.inside p) (off / 4096))
+cpu_row_of s p (OutLoad enclave off) = outload_row (is_some (s.inside p))
+cpu_row_of s p (OutStore enclave off value) = outstore_row (is_some (s.inside p))
 cpu_row_of s p _ = allowed
 
 -- whether the enclave of the page in a frame is initialised
@@ -135,12 +146,34 @@ after_extend s enclave longer = record s { measure = λ e. if e == enclave then 
 abbrev pub after_init : State → ℕ → State
 after_init s enclave = record s { enclaves = λ e. if e == enclave then marked (s.enclaves e) else s.enclaves e }
 
-abbrev pub after_enter : State → ℕ → Seat → State
-after_enter s p seat = record s {
+-- the words of one frame are changed
+abbrev pub rewritten : (ℕ → List ℕ) → ℕ → (List ℕ → List ℕ) → ℕ → List ℕ
+rewritten words f change n = if f == n then change (words n) else words n
+
+-- how many state save frames of the TCS page in a frame are in use
+abbrev pub cssa_in : State → ℕ → ℕ
+cssa_in s n = (tcs_fields (s.words n)).cssa
+
+-- a processor comes inside with this accumulator
+abbrev pub with_inside : State → ℕ → Seat → ℕ → State
+with_inside s p seat acc = record s {
   inside = λ q. if p == q then Some seat else s.inside q;
   cache = λ q. if p == q then [] else s.cache q;
-  acc = λ q. if p == q then (tcs_fields (s.words seat.tcs_frame)).cssa else s.acc q;
+  acc = λ q. if p == q then acc else s.acc q;
   is_busy = λ q. if same_page q (page_at seat.enclave seat.tcs) then true else s.is_busy q;
+}
+
+abbrev pub after_enter : State → ℕ → Seat → State
+after_enter s p seat = with_inside s p seat (cssa_in s seat.tcs_frame)
+
+-- the first word in a frame, which is what an asynchronous exit saved
+abbrev pub saved_word : State → ℕ → ℕ
+saved_word s n = slice_index (s.words n) 0
+
+-- .. with what was saved, and one state save frame fewer is in use
+abbrev pub after_resume : State → ℕ → Seat → State
+after_resume s p seat = record (with_inside s p seat (saved_word s seat.ssa_frame)) {
+  words = rewritten s.words seat.tcs_frame (λ words. with_cssa words (cssa_in s seat.tcs_frame - 1));
 }
 
 -- seated by this TCS page
@@ -155,6 +188,19 @@ after_exit s p = record s {
   is_busy = λ g. if is_seated_by (s.inside p) g then false else s.is_busy g;
 }
 
+-- the accumulator goes into the first word of the state save frame, and one more is in use
+abbrev pub with_saved : State → ℕ → Option Seat → State
+with_saved s acc None = s
+with_saved s acc (Some seat) = record s {
+  words = rewritten (rewritten s.words seat.ssa_frame (λ words. slice_set words 0 acc)) seat.tcs_frame (λ words. with_cssa words (cssa_in s seat.tcs_frame + 1));
+}
+
+abbrev pub after_aex : State → ℕ → State
+after_aex s p = after_exit (with_saved s (s.acc p) (s.inside p)) p
+
+abbrev pub with_acc : State → ℕ → ℕ → State
+with_acc s p acc = record s { acc = λ q. if p == q then acc else s.acc q }
+
 abbrev pub after_fill : State → ℕ → Translation → State
 after_fill s p t = record s { cache = λ q. if p == q then with_translation (s.cache q) t else s.cache q }
 
@@ -166,3 +212,12 @@ frame_in (Some t) = t.frame.0
 -- the word at an offset, by the translation of its page
 abbrev pub word_at : State → ℕ → ℕ → ℕ
 word_at s p off = slice_index (s.words (frame_in (translation_of (s.cache p) (off / 4096)))) (word_index off)
+
+-- the word at an offset becomes this one, by the translation of its page
+abbrev pub after_store : State → ℕ → ℕ → ℕ → State
+after_store s p off value = record s {
+  words = rewritten s.words (frame_in (translation_of (s.cache p) (off / 4096))) (λ words. slice_set words (word_index off) value);
+}
+
+abbrev pub after_xadd : State → ℕ → ℕ → ℕ → State
+after_xadd s p off value = after_store s p off (sum_of (word_at s p off) value)

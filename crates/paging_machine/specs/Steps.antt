@@ -1,12 +1,12 @@
 -- One instruction of the machine: its entry and the state after it, exactly by its row.
-use Rattle.std.specs.Prelude.{ℕ, ◌≡◌, ◌<◌, ◌+◌, ◌*◌, ◌⊎◌, false, List, Option, Some, MatchOption, unwrap_or}
+use Rattle.std.specs.Prelude.{ℕ, ◌≡◌, ◌<◌, ◌+◌, ◌*◌, ◌/◌, ◌⊎◌, false, List, Option, Some, MatchOption, unwrap_or}
 use Rattle.std.specs.Option.{IsSomeAnd}
 use Rattle.sgx_types.specs.declared.entries.Entry.{Entry}
 use Rattle.sgx_types.specs.declared.entries.Event.TheVariants.{Did, Refused}
 use Rattle.sgx_types.specs.declared.entries.Actor.{Actor}
 use Rattle.sgx_types.specs.declared.entries.Actor.TheVariants as actors
 use Rattle.sgx_types.specs.declared.entries.Action.{Action}
-use Rattle.sgx_types.specs.declared.entries.Action.TheVariants.{Epa, Create, Add, Extend, Init, Enter, Exit, Fill, Load}
+use Rattle.sgx_types.specs.declared.entries.Action.TheVariants.{Epa, Create, Add, Extend, Init, Enter, Resume, Exit, Aex, Fill, Load, Store, Xadd, Set, Plus, Pf, OutLoad, OutStore}
 use Rattle.sgx_types.specs.declared.entries.Answer.{Answer}
 use Rattle.sgx_types.specs.declared.entries.Answer.TheVariants as answers
 use Rattle.sgx_types.specs.declared.refusals.Refusal.{Refusal}
@@ -16,15 +16,16 @@ use Rattle.sgx_types.specs.declared.names.Kind.{Kind}
 use Rattle.sgx_types.specs.declared.names.Page.{Page}
 use Rattle.sgx_types.specs.declared.names.Perm.{Perm}
 use Rattle.sgx_types.specs.Frames.{page_at}
-use Rattle.sgx_types.specs.Table.{first_of_row, perm_in}
-use Rattle.sgx_types.specs.Flat.{tcs_fields}
+use Rattle.sgx_types.specs.Table.{first_of_row, perm_in, fault_of}
+use Rattle.sgx_types.specs.Flat.{all_ones, sum_of}
+use Rattle.sgx_types.specs.Sights.{seat_of}
 use Rattle.sgx_types.specs.Layouts.{flags_of}
 use Rattle.epcm_entry.specs.Words.{bytes_of}
 use Rattle.measure_log.specs.declared.measure.Measure.{Measure}
 use Rattle.measure_log.specs.Blocks.{ecreate_block, eadd_block, eextend_block, chunk_of}
 use Rattle.measure_log.specs.Measure.{HoldsLog, TakesIn, FinishesTo}
 use Rattle.measure_log.specs.Rule.{page_held, IsExpected, IsOther}
-use Rattle.paging_machine.specs.State.{State, row_of, seat_of, word_at, after_epa, after_create, after_add, after_extend, after_init, after_enter, after_exit, after_fill}
+use Rattle.paging_machine.specs.State.{State, row_of, added_inside, cssa_in, saved_word, word_at, with_acc, after_epa, after_create, after_add, after_extend, after_init, after_enter, after_resume, after_exit, after_aex, after_fill, after_store, after_xadd}
 
 abbrev pub did_by : Actor → Action → Answer → Entry
 did_by actor action answer = record { actor = actor; event = Did action answer }
@@ -40,9 +41,18 @@ CanApply cpus actor (Add enclave number f kind perm init) = Unit {0}
 CanApply cpus actor (Extend f chunk) = Unit {0}
 CanApply cpus actor (Init enclave expect) = Unit {0}
 CanApply cpus (actors.Cpu p) (Enter enclave tcs tf sf) = p.0 < cpus
+CanApply cpus (actors.Cpu p) (Resume enclave tcs tf sf) = p.0 < cpus
 CanApply cpus (actors.Cpu p) Exit = p.0 < cpus
+CanApply cpus (actors.Cpu p) (Aex cause) = p.0 < cpus
 CanApply cpus (actors.Cpu p) (Fill number f) = p.0 < cpus
 CanApply cpus (actors.Cpu p) (Load off) = p.0 < cpus
+CanApply cpus (actors.Cpu p) (Store off value) = p.0 < cpus
+CanApply cpus (actors.Cpu p) (Xadd off value) = p.0 < cpus
+CanApply cpus (actors.Cpu p) (Set value) = p.0 < cpus
+CanApply cpus (actors.Cpu p) (Plus value) = p.0 < cpus
+CanApply cpus (actors.Cpu p) (Pf op off) = p.0 < cpus
+CanApply cpus (actors.Cpu p) (OutLoad enclave off) = p.0 < cpus
+CanApply cpus (actors.Cpu p) (OutStore enclave off value) = p.0 < cpus
 CanApply cpus _ _ = ⊥
 
 -- the instructions that may need memory
@@ -56,16 +66,27 @@ no_perm = record { r = false; w = false; x = false }
 
 -- what an instruction that its row allows answers, but for `init`
 abbrev pub answer_of : State → Actor → Action → Answer
-answer_of s actor (Enter enclave tcs tf sf) = answers.Cssa (tcs_fields (s.words tf.0)).cssa
+answer_of s actor (Enter enclave tcs tf sf) = answers.Cssa (cssa_in s tf.0)
+answer_of s actor (Resume enclave tcs tf sf) = answers.Value (saved_word s sf.0)
 answer_of s (actors.Cpu p) (Load off) = answers.Value (word_at s p.0 off)
+answer_of s (actors.Cpu p) (Xadd off value) = answers.Value (word_at s p.0 off)
+answer_of s (actors.Cpu p) (Plus value) = answers.Value (sum_of (s.acc p.0) value)
+answer_of s (actors.Cpu p) (Pf op off) = answers.Pf (fault_of (added_inside s (s.inside p.0) (off / 4096)))
+answer_of s (actors.Cpu p) (OutLoad enclave off) = answers.Value all_ones
 answer_of s actor action = answers.Plain
 
 -- the state after an instruction that its row allows, but for those that measure
 abbrev pub after_of : State → Actor → Action → State
 after_of s actor (Epa f) = after_epa s f.0
 after_of s (actors.Cpu p) (Enter enclave tcs tf sf) = after_enter s p.0 (seat_of enclave tcs tf.0 sf.0)
+after_of s (actors.Cpu p) (Resume enclave tcs tf sf) = after_resume s p.0 (seat_of enclave tcs tf.0 sf.0)
 after_of s (actors.Cpu p) Exit = after_exit s p.0
+after_of s (actors.Cpu p) (Aex cause) = after_aex s p.0
 after_of s (actors.Cpu p) (Fill number f) = after_fill s p.0 (record { number = number; frame = f; perm = unwrap_or (perm_in (s.content f.0)) no_perm })
+after_of s (actors.Cpu p) (Store off value) = after_store s p.0 off value
+after_of s (actors.Cpu p) (Xadd off value) = after_xadd s p.0 off value
+after_of s (actors.Cpu p) (Set value) = with_acc s p.0 value
+after_of s (actors.Cpu p) (Plus value) = with_acc s p.0 (sum_of (s.acc p.0) value)
 after_of s actor action = s
 
 -- a new enclave's measurement has taken in the block of ECREATE

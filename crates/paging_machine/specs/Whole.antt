@@ -1,13 +1,17 @@
 -- What is true of every machine.
-use Rattle.std.specs.Prelude.{ℕ, ◌≡◌, ◌<◌, ◌≤◌, ◌^◌, true, All, List, Option, Some, is_some, length}
+use Rattle.std.specs.Prelude.{ℕ, ◌≡◌, ◌≤◌, Bool, true, List, Option, Some, is_some, length, count_by}
 use Rattle.sgx_types.specs.declared.names.Page.{Page}
 use Rattle.sgx_types.specs.declared.names.Kind.{Kind}
 use Rattle.sgx_types.specs.declared.names.Perm.{Perm}
 use Rattle.sgx_types.specs.Frames.{Holds}
 use Rattle.secs_state.specs.Secs.{SecsState, IsSecs}
 use Rattle.secs_state.specs.Table.{enclave_at}
+use Rattle.track_epoch.specs.Tracking.{Tracking}
+use Rattle.track_epoch.specs.Tracks.{track_of}
+use Rattle.cached_translations.specs.declared.processor.Processor.{Processor}
+use Rattle.enclave_access.specs.Access.{LeadsBelow}
 use Rattle.paging_machine.specs.declared.machine.Machine.TheInside.{Inside}
-use Rattle.paging_machine.specs.Parts.{Parts, cpu_at, state_of}
+use Rattle.paging_machine.specs.Parts.{Parts, is_noted, state_of}
 use Rattle.paging_machine.specs.State.{State}
 use Rattle.paging_machine.specs.Stands.{IsSound}
 
@@ -16,6 +20,7 @@ parts_of m = record {
   epc = m.epc;
   secs = m.secs;
   measures = m.measures.items;
+  tracks = m.tracks;
   cpus = m.cpus.items;
   key = m.key;
   start_epoch = m.start_epoch;
@@ -40,11 +45,21 @@ IsMeasured s = (e : ℕ) → is_some (s.enclaves e) ≡ true → is_some (s.meas
 abbrev pub IsFramed : State → Type 0
 IsFramed s = (n : ℕ) (g : Page) (kind : Kind) (perm : Perm) → s.content n ≡ Holds g kind perm → is_some (s.added g) ≡ true
 
+-- each translation leads to a frame of the EPC
+abbrev pub IsWithin : State → Type 0
+IsWithin s = (p : ℕ) → LeadsBelow (s.cache p) s.frames
+
+-- the track of an enclave notes the epochs of the processors inside it: whatever the test, as many pass on either side
+abbrev pub IsTracked : List Tracking → List Processor → Type 0
+IsTracked tracks cpus = (e : ℕ) (t : Tracking) → track_of tracks e ≡ Some t → (test : ℕ → Bool) → count_by test t.noted ≡ count_by (λ (c : Processor). is_noted e test c.mode) cpus
+
 pub record IsWhole (m : Inside) : Type 0 where
   pub processors : length m.cpus.items ≤ 16
   pub places : length m.measures.items ≡ 9
   pub table : IsTable m.secs
-  pub small : (p : ℕ) → All (λ t. t.number < 2 ^ 32) (cpu_at (parts_of m) p).cache
+  pub track_places : length m.tracks ≡ 8
+  pub tracked : IsTracked m.tracks m.cpus.items
   pub measured : IsMeasured (state_of (parts_of m))
   pub framed : IsFramed (state_of (parts_of m))
+  pub within : IsWithin (state_of (parts_of m))
   pub sound : IsSound (state_of (parts_of m))

@@ -1,17 +1,12 @@
-ghost use Rattle.std.specs.Prelude.{◌≡◌, ◌<◌, IfOk, OnErr, length, List, ◌∷◌, Some};
+ghost use Rattle.std.specs.Prelude.{◌≡◌, IfOk, OnErr, length, List, ◌∷◌};
 ghost use Rattle.sgx_types.specs.declared.entries.Entry.{Entry};
-ghost use Rattle.sgx_types.specs.declared.entries.Actor.TheVariants as actors;
-ghost use Rattle.sgx_types.specs.declared.entries.Action.TheVariants as actions;
-ghost use Rattle.sgx_types.specs.declared.entries.Answer.TheVariants as answers;
 ghost use Rattle.paging_machine.specs.Parts.{state_of};
 ghost use Rattle.paging_machine.specs.Stands.{Upholds};
 ghost use Rattle.paging_machine.specs.Steps.{IsStep, CanApply, MayNeedMemory, did_by, refused_by};
 
 use crate::machine::Machine;
-use crate::sights::perm_in;
-use cached_translations::cache::Translation;
 use sgx_types::entries::{Action, Actor, Answer, Entry, Event};
-use sgx_types::names::{Cpu, Frame, Memory, Page};
+use sgx_types::names::{Memory, Page};
 use sgx_types::refusals::Refusal;
 use std::alloc::Global;
 
@@ -62,87 +57,36 @@ impl Machine {
                     ssa_frame,
                 },
             ) => { self.enter(cpu, enclave, tcs, tcs_frame, ssa_frame) }
+            (
+                Actor::Cpu(cpu),
+                Action::Resume {
+                    enclave,
+                    tcs,
+                    tcs_frame,
+                    ssa_frame,
+                },
+            ) => { self.resume(cpu, enclave, tcs, tcs_frame, ssa_frame) }
             (Actor::Cpu(cpu), Action::Exit) => self.exit(cpu),
+            (Actor::Cpu(cpu), Action::Aex { cause }) => self.aex(cpu, cause),
             (Actor::Cpu(cpu), Action::Fill { number, frame }) => self.fill(cpu, number, frame),
             (Actor::Cpu(cpu), Action::Load { off }) => self.load(cpu, off),
+            (Actor::Cpu(cpu), Action::Store { off, value }) => self.store(cpu, off, value),
+            (Actor::Cpu(cpu), Action::Xadd { off, value }) => self.xadd(cpu, off, value),
+            (Actor::Cpu(cpu), Action::Set { value }) => self.set(cpu, value),
+            (Actor::Cpu(cpu), Action::Plus { value }) => self.plus(cpu, value),
+            (Actor::Cpu(cpu), Action::Pf { op, off }) => self.pf(cpu, op, off),
+            (Actor::Cpu(cpu), Action::OutLoad { enclave, off }) => self.outload(cpu, enclave, off),
+            (
+                Actor::Cpu(cpu),
+                Action::OutStore {
+                    enclave,
+                    off,
+                    value,
+                },
+            ) => { self.outstore(cpu, enclave, off, value) }
             _ => unreachable!(),
         };
         Ok(entry)
-    }
-
-    /// A processor goes into an enclave by a free TCS (EENTER).
-    fn enter(
-        &mut self,
-        cpu: Cpu,
-        enclave: u16,
-        tcs: u32,
-        tcs_frame: Frame,
-        ssa_frame: Frame,
-    ) -> Entry
-        requires { cpu.0 < length self.old.cpus }
-        ensures step { IsStep (state_of self.old) (actors.Cpu cpu) (actions.Enter enclave tcs tcs_frame ssa_frame) result (state_of self.new) }
-        ensures cpus { length self.new.cpus ≡ length self.old.cpus }
-    {
-        let action = Action::Enter {
-            enclave,
-            tcs,
-            tcs_frame,
-            ssa_frame,
-        };
-        if let Some(refusal) = self.enter_refusal(cpu, enclave, tcs, tcs_frame, ssa_frame) {
-            return refused(Actor::Cpu(cpu), action, refusal);
-        }
-        let cssa = self.set_inside(cpu, enclave, tcs, tcs_frame, ssa_frame);
-        done(Actor::Cpu(cpu), action, Answer::Cssa(cssa))
-    }
-
-    /// A processor leaves its enclave, and drops its translations (EEXIT).
-    fn exit(&mut self, cpu: Cpu) -> Entry
-        requires { cpu.0 < length self.old.cpus }
-        ensures step { IsStep (state_of self.old) (actors.Cpu cpu) actions.Exit result (state_of self.new) }
-        ensures cpus { length self.new.cpus ≡ length self.old.cpus }
-    {
-        if let Some(refusal) = self.exit_refusal(cpu) {
-            return refused(Actor::Cpu(cpu), Action::Exit, refusal);
-        }
-        self.set_outside(cpu);
-        done(Actor::Cpu(cpu), Action::Exit, Answer::Plain)
-    }
-
-    /// A processor takes a page's translation, with the permissions of the page.
-    fn fill(&mut self, cpu: Cpu, number: u32, frame: Frame) -> Entry
-        requires { cpu.0 < length self.old.cpus }
-        ensures step { IsStep (state_of self.old) (actors.Cpu cpu) (actions.Fill number frame) result (state_of self.new) }
-        ensures cpus { length self.new.cpus ≡ length self.old.cpus }
-    {
-        let action = Action::Fill { number, frame };
-        if let Some(refusal) = self.fill_refusal(cpu, number, frame) {
-            return refused(Actor::Cpu(cpu), action, refusal);
-        }
-        let perm = perm_in(self.epc.entry(frame)).unwrap();
-        self.set_translation(
-            cpu,
-            Translation {
-                number,
-                frame,
-                perm,
-            },
-        );
-        done(Actor::Cpu(cpu), action, Answer::Plain)
-    }
-
-    /// A processor reads a word of its enclave through a translation that it holds.
-    fn load(&mut self, cpu: Cpu, off: u64) -> Entry
-        requires { cpu.0 < length self.old.cpus }
-        ensures step { IsStep (state_of self.old) (actors.Cpu cpu) (actions.Load off) result (state_of self.new) }
-        ensures cpus { length self.new.cpus ≡ length self.old.cpus }
-    {
-        let action = Action::Load { off };
-        if let Some(refusal) = self.load_refusal(cpu, off) {
-            return refused(Actor::Cpu(cpu), action, refusal);
-        }
-        let word = self.word(cpu, off);
-        done(Actor::Cpu(cpu), action, Answer::Value(word))
     }
 }
 

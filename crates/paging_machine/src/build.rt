@@ -10,7 +10,6 @@ ghost use Rattle.paging_machine.specs.Steps.{IsStep};
 
 use crate::apply::{done, refused};
 use crate::machine::Machine;
-use crate::sights::{is_busy, is_valid};
 use enclave_build::add::eadd;
 use enclave_build::build_refusal::BuildRefusal;
 use enclave_build::create::ecreate;
@@ -44,10 +43,10 @@ impl Machine {
             return Some(Refusal::BadRange);
         }
         let entry = self.epc.entry(frame);
-        if is_busy(entry) {
+        if entry.is_busy() {
             return Some(Refusal::Conflict);
         }
-        if is_valid(entry) {
+        if entry.is_valid() {
             return Some(Refusal::FrameBusy);
         }
         None

@@ -1,15 +1,16 @@
 ghost use Rattle.std.specs.Prelude.{◌≡◌, length};
 ghost use Rattle.sgx_types.specs.declared.entries.Action.TheVariants as actions;
+ghost use Rattle.epcm_entry.specs.Sights.{held};
 ghost use Rattle.measure_log.specs.Rule.{page_held};
 ghost use Rattle.paging_machine.specs.Parts.{state_of};
 ghost use Rattle.paging_machine.specs.Steps.{IsStep};
 
 use crate::apply::{done, refused};
 use crate::machine::Machine;
-use crate::sights::page_in;
 use enclave_build::extend::{eextend, extend_refusal};
+use epcm_entry::entry_view::EntryView;
 use sgx_types::entries::{Action, Actor, Answer, Entry};
-use sgx_types::names::{Frame, Page};
+use sgx_types::names::{Frame, Kind, Page};
 
 impl Machine {
     /// A chunk of 256 bytes of a page is added to the measurement of its enclave, which is not initialised (EEXTEND).
@@ -39,5 +40,19 @@ impl Machine {
             return None;
         }
         page_in(self.epc.entry(frame))
+    }
+}
+
+// The TCS or REG page that an entry names.
+fn page_in(entry: EntryView) -> Option<Page>
+    ensures { result ≡ page_held (held entry) }
+{
+    match entry {
+        EntryView::Valid {
+            page,
+            kind: Kind::Tcs | Kind::Reg,
+            ..
+        } => Some(page),
+        _ => None,
     }
 }

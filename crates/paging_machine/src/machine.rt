@@ -1,17 +1,14 @@
 ghost use Rattle.std.specs.Prelude.{◌≡◌, ◌<◌, ◌^◌, ◌%◌, ◌/◌, count_by, length, is_some};
 ghost use Rattle.std.specs.Option.{option_map};
-ghost use Rattle.sgx_types.specs.Frames.{least_free};
-ghost use Rattle.sgx_types.specs.Table.{is_ready};
+ghost use Rattle.sgx_types.specs.Frames.{least_free, page_at};
+ghost use Rattle.sgx_types.specs.Table.{allows, is_lawful_access, is_ready};
 ghost use Rattle.sgx_types.specs.Flat.{enclave_sight_of};
 ghost use Rattle.epcm_entry.specs.Epc.{is_free_frame};
 ghost use Rattle.cached_translations.specs.Translations.{translation_of};
-ghost use Rattle.paging_machine.specs.Parts.{state_of, cpu_at, tcs_of, allows, is_lawful_access};
+ghost use Rattle.paging_machine.specs.Parts.{state_of, cpu_at, tcs_of};
 ghost use Rattle.paging_machine.specs.Stands.{IsSound};
 
-use crate::sights::is_tcs;
-use cached_translations::cache::Translation;
 use cached_translations::processor::{Mode, Processor};
-use epcm_entry::entry_view::EntryView;
 use epcm_entry::epc::Epc;
 use measure_log::measure::Measure;
 use secs_state::table::SecsTable;
@@ -20,6 +17,7 @@ use sgx_types::layouts::TcsFields;
 use sgx_types::names::{Cpu, Frame, Kind, Page, Perm};
 use std::alloc::Global;
 use std::marker::Model;
+use track_epoch::tracks::Tracks;
 
 /// SGX1's instructions over one EPC, with up to 16 processors and enclaves from 1 to 8.
 #[derive(Drop)]
@@ -28,6 +26,7 @@ pub struct Machine {
     pub(crate) secs: SecsTable,
     // By the enclave's number; place 0 stays empty.
     pub(crate) measures: Vec<Option<Measure>>,
+    pub(crate) tracks: Tracks,
     pub(crate) cpus: Vec<Processor>,
     pub(crate) key: [u8; 32],
     pub(crate) start_epoch: u64,
@@ -102,7 +101,7 @@ impl Machine {
         if frame.0 >= self.frames() {
             return None;
         }
-        if !is_tcs(self.epc.entry(frame)) {
+        if !self.epc.entry(frame).is_tcs() {
             return None;
         }
         let ossa = self.epc.word(frame, 2);
@@ -119,13 +118,27 @@ impl Machine {
     pub fn lawful(&self, page: Page, op: AccessOp) -> bool
         ensures { result ≡ is_lawful_access ((state_of self.now).added page) op }
     {
-        let Some(secs) = self.secs.get(page.enclave) else {
-            return false;
-        };
-        match secs.added(page.number) {
-            Some((Kind::Reg, perm)) => allows(perm, op),
-            _ => false,
-        }
+        is_lawful_access(self.added(page.enclave, u64::from(page.number)), op)
+    }
+
+    /// The kind and the permissions with which a page was added. A number past 32 bits is of no page.
+    pub(crate) fn added(&self, enclave: u16, number: u64) -> Option<(Kind, Perm)>
+        ensures { result ≡ (state_of self.now).added (page_at enclave number) }
+    {
+        let secs = self.secs.get(enclave)?;
+        let _pages = secs.size();
+        let number = u32::try_from(number).ok()?;
+        secs.added(number)
+    }
+}
+
+/// Whether an access can succeed, by what its page was added as.
+pub(crate) fn is_lawful_access(added: Option<(Kind, Perm)>, op: AccessOp) -> bool
+    ensures { result ≡ is_lawful_access added op }
+{
+    match added {
+        Some((Kind::Reg, perm)) => allows(perm, op),
+        _ => false,
     }
 }
 
@@ -139,13 +152,13 @@ fn allows(perm: Perm, op: AccessOp) -> bool
     }
 }
 
-pub(crate) fn low_half(word: u64) -> u32
+fn low_half(word: u64) -> u32
     ensures { result ≡ word % 2 ^ 32 }
 {
     (word % (1 << 32)) as u32
 }
 
-pub(crate) fn high_half(word: u64) -> u32
+fn high_half(word: u64) -> u32
     ensures { result ≡ word / 2 ^ 32 }
 {
     (word >> 32) as u32

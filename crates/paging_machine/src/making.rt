@@ -1,6 +1,7 @@
 ghost use Rattle.std.specs.Prelude.{◌≡◌, ◌≤◌, [], IfOk, None, replicate};
 ghost use Rattle.paging_machine.specs.Parts.{idle, made, state_of};
 ghost use Rattle.paging_machine.specs.Stands.{Upholds};
+ghost use Rattle.track_epoch.specs.declared.track.TheConstants.{LAST_EPOCH};
 
 use crate::machine::Machine;
 use cached_translations::processor::Processor;
@@ -9,13 +10,14 @@ use measure_log::measure::Measure;
 use secs_state::table::SecsTable;
 use sgx_types::names::Memory;
 use std::alloc::Global;
+use track_epoch::tracks::Tracks;
 
 // One place for each enclave from 1 to 8; place 0 stays empty.
 const PLACES: usize = 9;
 
 impl Machine {
     /// A machine with at most 4096 free frames and at most 16 processors outside. It seals with a key, and counts
-    /// tracking epochs and versions from the given numbers on.
+    /// tracking epochs, of which 2^40 - 1 is the last, and versions from the given numbers on.
     #[tactic(auto, using(crate::proofs::Fresh::made_upheld))]
     pub fn new(
         alloc: Global,
@@ -27,6 +29,8 @@ impl Machine {
     ) -> Result<Machine, Memory>
         requires frames { frames ≤ 4096 }
         requires cpus { cpus ≤ 16 }
+        requires first_epoch { 1 ≤ start_epoch }
+        requires last_epoch { start_epoch ≤ LAST_EPOCH }
         ensures value { IfOk result (λ m. m ≡ made frames cpus key start_epoch start_version) }
         ensures history { IfOk result (λ m. Upholds (state_of m) []) }
     {
@@ -34,6 +38,7 @@ impl Machine {
             epc: Epc::new(alloc, frames)?,
             secs: SecsTable::new(),
             measures: no_measures(alloc)?,
+            tracks: Tracks::new(start_epoch),
             cpus: idle_processors(alloc, cpus)?,
             key,
             start_epoch,

@@ -2,6 +2,7 @@ ghost use Rattle.std.specs.Prelude.{IsTrue};
 ghost use Rattle.paging_machine.specs.Steps.{CanApply};
 
 mod building;
+mod running;
 
 use crate::machine::Machine;
 use cached_translations::processor::Mode;
@@ -136,7 +137,19 @@ fn can_apply(actor: Actor, action: Action) -> bool
         ) => true,
         (
             Actor::Cpu(cpu),
-            Action::Enter { .. } | Action::Exit | Action::Fill { .. } | Action::Load { .. },
+            Action::Enter { .. }
+            | Action::Resume { .. }
+            | Action::Exit
+            | Action::Aex { .. }
+            | Action::Fill { .. }
+            | Action::Load { .. }
+            | Action::Store { .. }
+            | Action::Xadd { .. }
+            | Action::Set { .. }
+            | Action::Plus { .. }
+            | Action::Pf { .. }
+            | Action::OutLoad { .. }
+            | Action::OutStore { .. },
         ) => cpu.0 < CPUS,
         _ => false,
     }

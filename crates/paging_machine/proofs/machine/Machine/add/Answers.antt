@@ -7,7 +7,7 @@ use Rattle.paging_machine.proofs.Columns.{numbered, table_written}
 use Rattle.paging_machine.proofs.BuildBridge.{adds, added_own}
 use Rattle.paging_machine.proofs.BuildSteps.{measure_place, measure_there, add_row_at, add_written}
 use Rattle.paging_machine.proofs.Keeping.{kept_add}
-use Rattle.paging_machine.proofs.Wholes.{kept_of, whole, whole_same, parts_same, done_step, refused_step}
+use Rattle.paging_machine.proofs.Wholes.{kept_of, whole, builds, whole_same, parts_same, done_step, refused_step}
 use Rattle.paging_machine.proofs.machine.Machine.add.Goals.{in-Ok, in-Err}
 use Rattle.paging_machine.proofs.machine.Machine.add.Goals as goal
 
@@ -29,8 +29,8 @@ invariant_of-self-2 c =
           let k = adds d.epc c.args.frame.0 g.number c.args.kind c.args.perm c.args.init _ x (sym w.in-Ok.ensures.row) in
           let written = add_written d g c.args.frame.0 c.args.kind c.args.perm c.args.init x _ c.eadd.new.log _ h.table found h.places w.in-Ok.ensures.row w.in-Ok.ensures.done w.in-Ok.ensures.secs in
           rw c.from.ensures
-          (whole _ (after_add (state_of d) g c.args.frame.0 c.args.kind c.args.perm c.args.init c.eadd.new.log) written (kept_add (state_of d) g c.args.frame.0 c.args.kind c.args.perm c.args.init c.eadd.new.log k.takes.free (kept_of m h)) h.processors
-          (length-set d.measures _ _ ∙ h.places) (rw w.in-Ok.ensures.secs (table_written d.secs g.enclave _ h.table.places number.0 number.1 h.table (added_own g.enclave g.number c.args.kind c.args.perm x (h.table.own g.enclave x found)))) h.small))
+          (whole _ (after_add (state_of d) g c.args.frame.0 c.args.kind c.args.perm c.args.init c.eadd.new.log) (builds m h _ _ _ _ written (kept_add (state_of d) g c.args.frame.0 c.args.kind c.args.perm c.args.init c.eadd.new.log k.takes.free (kept_of m h))
+          (length-set d.measures _ _ ∙ h.places) (rw w.in-Ok.ensures.secs (table_written d.secs g.enclave _ h.table.places number.0 number.1 h.table (added_own g.enclave g.number c.args.kind c.args.perm x (h.table.own g.enclave x found)))))))
       | in-Err w ↦
           (let kept = w.in-Err.ensures.refused in
           rw c.from.ensures (whole_same m _ (parts_same d c.eadd.new.epc g.enclave x c.eadd.new.secs y c.eadd.new.log h.table found there kept.0 kept.1 kept.2) h))

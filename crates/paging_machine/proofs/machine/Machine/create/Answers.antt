@@ -10,7 +10,7 @@ use Rattle.paging_machine.proofs.Tools.{none_holds}
 use Rattle.paging_machine.proofs.Columns.{table_written}
 use Rattle.paging_machine.proofs.BuildBridge.{creates, created_own, no_enclave, create_state}
 use Rattle.paging_machine.proofs.Keeping.{kept_create}
-use Rattle.paging_machine.proofs.Wholes.{kept_of, whole, done_step}
+use Rattle.paging_machine.proofs.Wholes.{kept_of, whole, builds, done_step}
 use Rattle.paging_machine.proofs.machine.Machine.create.Goals as goal
 
 pub invariant_of-self : goal.invariant_of-self
@@ -24,9 +24,9 @@ invariant_of-self c =
     let new = no_enclave (enclave_at d.secs e) (none_holds (create_row e c.args.base c.args.size (is_some ((state_of d).enclaves e)) (sight_in d.epc c.args.frame.0)) allowed).1.0 in
     let there : e < length d.measures = omega (arith, k.last, h.places) in
     rw (c.insert.ensures, c.in-Ok.ensures.secs, c.in-Ok.ensures.done, c.from.ensures)
-    (whole _ (after_create (state_of d) e c.args.frame.0 c.args.base c.args.size c.in-Ok.measure) (create_state d e c.args.frame.0 c.args.base c.args.size c.in-Ok.measure k new h.table there)
-    (kept_create (state_of d) e c.args.frame.0 c.args.base c.args.size c.in-Ok.measure k.takes.free (kept_of m h)) h.processors (length-set d.measures _ _ ∙ h.places)
-    (table_written d.secs e (created e c.args.base c.args.size) h.table.places k.first k.last h.table (created_own e c.args.base c.args.size k.lawful)) h.small)
+    (whole _ (after_create (state_of d) e c.args.frame.0 c.args.base c.args.size c.in-Ok.measure) (builds m h _ _ _ _ (create_state d e c.args.frame.0 c.args.base c.args.size c.in-Ok.measure k new h.table there)
+    (kept_create (state_of d) e c.args.frame.0 c.args.base c.args.size c.in-Ok.measure k.takes.free (kept_of m h)) (length-set d.measures _ _ ∙ h.places)
+    (table_written d.secs e (created e c.args.base c.args.size) h.table.places k.first k.last h.table (created_own e c.args.base c.args.size k.lawful))))
 
 pub invariant_of-self-in-Err-Refused : goal.invariant_of-self-in-Err-Refused
 invariant_of-self-in-Err-Refused c = rw c.in-Err-Refused.ensures.refused c.self.invariant

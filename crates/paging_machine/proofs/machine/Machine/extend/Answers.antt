@@ -9,7 +9,7 @@ use Rattle.paging_machine.specs.State.{after_extend}
 use Rattle.paging_machine.proofs.BuildBridge.{extend_state}
 use Rattle.paging_machine.proofs.BuildSteps.{owner, measure_place, measure_there, extend_row_at, extend_done}
 use Rattle.paging_machine.proofs.Keeping.{kept_extend}
-use Rattle.paging_machine.proofs.Wholes.{kept_of, whole, whole_same, measures_same, done_step, refused_step}
+use Rattle.paging_machine.proofs.Wholes.{kept_of, whole, builds, whole_same, measures_same, done_step, refused_step}
 use Rattle.paging_machine.proofs.machine.Machine.extend.Goals.{in-Ok, in-Err}
 use Rattle.paging_machine.proofs.machine.Machine.extend.Goals as goal
 
@@ -37,7 +37,7 @@ invariant_of-self c =
     elim c.match-eextend.branch [
       | in-Ok w ↦
           rw c.from.ensures
-          (whole _ (after_extend (state_of d) g.enclave c.eextend.new.log) (extend_state d g.enclave c.eextend.new.log low) (kept_extend (state_of d) g.enclave c.eextend.new.log (kept_of m h)) h.processors (length-set d.measures _ _ ∙ h.places) h.table h.small)
+          (whole _ (after_extend (state_of d) g.enclave c.eextend.new.log) (builds m h _ _ _ _ (extend_state d g.enclave c.eextend.new.log low) (kept_extend (state_of d) g.enclave c.eextend.new.log (kept_of m h)) (length-set d.measures _ _ ∙ h.places) h.table))
       | in-Err w ↦ rw c.from.ensures (whole_same m _ (measures_same d g.enclave y c.eextend.new.log there w.in-Err.ensures.refused) h)
     ]
 

@@ -9,7 +9,7 @@ use Rattle.paging_machine.proofs.Columns.{numbered, table_written}
 use Rattle.paging_machine.proofs.BuildBridge.{init_state, initialised_own}
 use Rattle.paging_machine.proofs.BuildSteps.{measure_place, measure_there, init_row_at, init_refused}
 use Rattle.paging_machine.proofs.Keeping.{kept_init}
-use Rattle.paging_machine.proofs.Wholes.{kept_of, whole, whole_same, secs_same, done_step}
+use Rattle.paging_machine.proofs.Wholes.{kept_of, whole, builds, whole_same, secs_same, done_step}
 use Rattle.paging_machine.proofs.machine.Machine.init.Goals.{in-Ok, in-Err}
 use Rattle.paging_machine.proofs.machine.Machine.init.Goals as goal
 
@@ -25,8 +25,8 @@ invariant_of-self-2 c =
       | in-Ok w ↦
           (let number = numbered d.secs e x h.table.places found in
           rw w.in-Ok.ensures.done
-          (whole _ (after_init (state_of d) e) (init_state d e x found h.table) (kept_init (state_of d) e (kept_of m h)) h.processors h.places
-          (table_written d.secs e _ h.table.places number.0 number.1 h.table (initialised_own e x (h.table.own e x found))) h.small))
+          (whole _ (after_init (state_of d) e) (builds m h _ _ _ _ (init_state d e x found h.table) (kept_init (state_of d) e (kept_of m h)) h.places
+          (table_written d.secs e _ h.table.places number.0 number.1 h.table (initialised_own e x (h.table.own e x found))))))
       | in-Err w ↦ whole_same m _ (secs_same d e x c.einit.new.secs h.table found w.in-Err.ensures.refused) h
     ]
 
