@@ -1,5 +1,5 @@
 -- The machine's parts after a row of a processor, and the state that they make.
-use Rattle.std.proofs.Common.{◌≡◌, ℕ, ◌<◌, ◌≤◌, ◌==◌, ◌/◌, Bool, true, false, cond, refl, sym, ap, ◌∙◌, Option, Some, None, List, [], length, get_or, set, is_some, length-set}
+use Rattle.std.proofs.Common.{◌≡◌, ℕ, ◌<◌, ◌≤◌, ◌==◌, Bool, true, false, cond, refl, sym, ap, ◌∙◌, Option, Some, None, List, [], length, get_or, set, is_some, length-set}
 use Rattle.std.proofs.lemmas.Bool.{cond_both, eqb-true}
 use Rattle.sgx_types.specs.declared.names.Frame.{Frame}
 use Rattle.sgx_types.specs.declared.names.Page.{Page}
@@ -54,14 +54,6 @@ page_added s framed n g is = by_content (s.content n) refl is
     by_content IsVa e k = cc
     by_content (SecsOf enclave) e k = cc
     by_content IsLoading e k = cc
-
--- the enclave of such a page was created
-pub owner_there : (table : List (Option SecsState)) (e number : ℕ) → is_some (added_in (enclave_at table e) number) ≡ true → (x : SecsState) × (enclave_at table e ≡ Some x)
-owner_there table e number is = by_value (enclave_at table e) is
-  where
-    by_value : (o : Option SecsState) → is_some (added_in o number) ≡ true → (x : SecsState) × (o ≡ Some x)
-    by_value None k = cc
-    by_value (Some x) k = (x, refl)
 
 -- .. whose state is this
 pub added_there : (table : List (Option SecsState)) (e number : ℕ) (x : SecsState) → is_some (added_in (enclave_at table e) number) ≡ true → enclave_at table e ≡ Some x → is_some (added_at x number) ≡ true

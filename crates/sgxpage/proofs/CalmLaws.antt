@@ -18,10 +18,10 @@ use Rattle.sgx_types.specs.Table.{create_row, first_of_row, init_row, is_ready, 
 use Rattle.sgx_types.specs.Flat.{FlatEnclave, FlatMemory, accepts, enclave_sight_of, flat, initialised, marked, memory_after, open_frame, with_enclave}
 use Rattle.sgx_types.specs.Rules.{KeepsRules}
 use Rattle.job_grammar.specs.Script.{action_of, is_init_of, is_initialised, saved}
-use Rattle.paging_machine.specs.Steps.{CanApply, did_by, refused_by}
+use Rattle.paging_machine.specs.Steps.{did_by, refused_by}
 use Rattle.paging_machine.proofs.Tools.{eqb-swap, neither, none_holds, none_there, not_false}
 use Rattle.paging_machine.proofs.Carry.{flat_done}
-use Rattle.sgxpage.specs.Books.{IsCalm, IsLawful}
+use Rattle.sgxpage.specs.Books.{CanAsk, IsCalm, IsLawful}
 
 pub taken_none : {X : Type 0} (o : Option X) → is_none o ≡ true → o ≡ None
 taken_none None h = refl
@@ -112,7 +112,7 @@ init_calm past a enclave expect ans taken h =
 
 -- ---- any instruction
 
-calm_did : (cpus frames : ℕ) (a : Actor) (action : Action) (ans : Answer) (past : List Entry) → CanApply cpus a action → KeepsRules frames (did_by a action ans ∷ past)
+calm_did : (cpus frames : ℕ) (a : Actor) (action : Action) (ans : Answer) (past : List Entry) → CanAsk cpus a action → KeepsRules frames (did_by a action ans ∷ past)
     → IsCalm past → IsCalm (did_by a action ans ∷ past)
 calm_did cpus frames a (Epa f) ans past can rules h =
     calm_left past (did_by a (Epa f) ans) (record { settled = λ n. refl; unblocked = λ n. refl; unsaved = λ g. refl; no_init = λ x. refl; enclaves = left_did past a (Epa f) ans (λ x. refl) }) h
@@ -139,7 +139,7 @@ calm_refused a action why past h =
 some_same : {X : Type 0} (x y : X) → Some x ≡ Some y → x ≡ y
 some_same x y h = cc
 
-pub calm_more : (cpus frames : ℕ) (a : Actor) (action : Action) (event : Event) (past : List Entry) → CanApply cpus a action → action_of event ≡ Some action
+pub calm_more : (cpus frames : ℕ) (a : Actor) (action : Action) (event : Event) (past : List Entry) → CanAsk cpus a action → action_of event ≡ Some action
     → KeepsRules frames ((let e : Entry = record { actor = a; event = event } in e) ∷ past) → IsCalm past → IsCalm ((let e : Entry = record { actor = a; event = event } in e) ∷ past)
 calm_more cpus frames a action (events.Did act ans) past can is rules h = calm_did cpus frames a act ans past (rw (some_same act action is) can) rules h
 calm_more cpus frames a action (events.Refused act why) past can is rules h = calm_refused a act why past h

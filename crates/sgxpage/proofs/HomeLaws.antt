@@ -22,9 +22,9 @@ use Rattle.sgx_types.specs.Table.{FrameSight, add_row, first_of_row, is_lawful, 
 use Rattle.sgx_types.specs.Flat.{FlatEnclave, enclave_sight_of, flat}
 use Rattle.sgx_types.specs.Rules.{KeepsRules}
 use Rattle.job_grammar.specs.Script.{action_of, frame_at}
-use Rattle.paging_machine.specs.Steps.{CanApply, did_by}
+use Rattle.paging_machine.specs.Steps.{did_by}
 use Rattle.paging_machine.proofs.Tools.{both_true, none_holds, not_false}
-use Rattle.sgxpage.specs.Books.{IsCalm, IsLawful}
+use Rattle.sgxpage.specs.Books.{CanAsk, IsCalm, IsLawful}
 use Rattle.sgxpage.specs.Homes.{has_home, home_at, home_by, home_in, place_of}
 
 abbrev pub AreHomes : (Page → Option Frame) → List Entry → Type 0
@@ -70,7 +70,7 @@ added_has_home enclave number kind perm init is_added s (Some x) lawful allowed 
     let sizes = lawful_sizes enclave x.base x.size (record { number = lawful.number; range = lawful.range }) in
     rw (le-leb enclave 8 sizes.0, lt-ltb number 4096 (omega (arith, within, sizes.1))) refl
 
-homes_did : (cpus frames : ℕ) (a : Actor) (act : Action) (ans : Answer) (past : List Entry) (home home' : Page → Option Frame) → CanApply cpus a act
+homes_did : (cpus frames : ℕ) (a : Actor) (act : Action) (ans : Answer) (past : List Entry) (home home' : Page → Option Frame) → CanAsk cpus a act
     → KeepsRules frames (did_by a act ans ∷ past) → IsCalm past → AreHomes home past → ((g : Page) → home' g ≡ home_by (events.Did act ans) g (home g)) → AreHomes home' (did_by a act ans ∷ past)
 homes_did cpus frames a (Epa f) ans past home home' can rules calm h more g = more g ∙ h g
 homes_did cpus frames a (Create enclave f base size) ans past home home' can rules calm h more g = more g ∙ h g
@@ -92,7 +92,7 @@ homes_did cpus frames a action ans past home home' can rules calm h more g = abs
 some_same : {X : Type 0} (x y : X) → Some x ≡ Some y → x ≡ y
 some_same x y h = cc
 
-pub homes_more : (cpus frames : ℕ) (a : Actor) (action : Action) (event : Event) (past : List Entry) (home home' : Page → Option Frame) → CanApply cpus a action
+pub homes_more : (cpus frames : ℕ) (a : Actor) (action : Action) (event : Event) (past : List Entry) (home home' : Page → Option Frame) → CanAsk cpus a action
     → action_of event ≡ Some action → KeepsRules frames ((let e : Entry = record { actor = a; event = event } in e) ∷ past) → IsCalm past → AreHomes home past
     → ((g : Page) → home' g ≡ home_by event g (home g)) → AreHomes home' ((let e : Entry = record { actor = a; event = event } in e) ∷ past)
 homes_more cpus frames a action (events.Did act ans) past home home' can is rules calm h more = homes_did cpus frames a act ans past home home' (rw (some_same act action is) can) rules calm h more

@@ -1,8 +1,10 @@
 -- The book: the machine with the entries of its trace, and where the pages are.
-use Rattle.std.specs.Prelude.{ℕ, ◌≡◌, ◌≤◌, true, false, List, [], ◌∷◌, Option, Some, IfSome, length, reverse}
+use Rattle.std.specs.Prelude.{ℕ, ◌≡◌, ◌≤◌, ◌<◌, true, false, List, [], ◌∷◌, Option, Some, IfSome, length, reverse}
 use Rattle.std.specs.Option.{option_map}
 use Rattle.sgx_types.specs.declared.entries.Actor.{Actor}
+use Rattle.sgx_types.specs.declared.entries.Actor.TheVariants as actors
 use Rattle.sgx_types.specs.declared.entries.Action.{Action}
+use Rattle.sgx_types.specs.declared.entries.Action.TheVariants.{Epa, Create, Add, Extend, Init, Enter, Exit, Fill, Load}
 use Rattle.sgx_types.specs.declared.entries.Event.{Event}
 use Rattle.sgx_types.specs.declared.entries.Entry.{Entry}
 use Rattle.sgx_types.specs.declared.entries.PageInit.{PageInit}
@@ -52,6 +54,19 @@ pub record IsKept (b : Inside) : Type 0 where
   pub homes : (g : Page) → home_in b.homes g ≡ option_map frame_at (frame_of (reverse b.entries.items) g)
 
 -- ---- what is asked of a book
+
+-- the instructions that the builder and the scripts of today's jobs ask for, and whose actor each is
+abbrev pub CanAsk : ℕ → Actor → Action → Type 0
+CanAsk cpus actor (Epa f) = Unit {0}
+CanAsk cpus actor (Create enclave f base size) = Unit {0}
+CanAsk cpus actor (Add enclave number f kind perm init) = Unit {0}
+CanAsk cpus actor (Extend f chunk) = Unit {0}
+CanAsk cpus actor (Init enclave expect) = Unit {0}
+CanAsk cpus (actors.Cpu p) (Enter enclave tcs tf sf) = p.0 < cpus
+CanAsk cpus (actors.Cpu p) Exit = p.0 < cpus
+CanAsk cpus (actors.Cpu p) (Fill number f) = p.0 < cpus
+CanAsk cpus (actors.Cpu p) (Load off) = p.0 < cpus
+CanAsk cpus _ _ = ⊥
 
 -- the words of the page that a frame holds
 abbrev pub words_held : List Entry → Content → List ℕ

@@ -9,8 +9,7 @@ ghost use Rattle.measure_log.specs.Rule.{MeasureRule};
 ghost use Rattle.job_grammar.specs.Script.{frame_at};
 ghost use Rattle.paging_machine.specs.Parts.{seat_of_mode, state_of};
 ghost use Rattle.paging_machine.specs.Stands.{Upholds, seat_of_stay};
-ghost use Rattle.paging_machine.specs.Steps.{CanApply};
-ghost use Rattle.sgxpage.specs.Books.{BookView, IsCalm, IsNext, tcs_at};
+ghost use Rattle.sgxpage.specs.Books.{BookView, CanAsk, IsCalm, IsNext, tcs_at};
 ghost use Rattle.sgxpage.specs.Homes.{home_in, home_by};
 
 use crate::homes::Homes;
@@ -57,9 +56,9 @@ impl Book {
         })
     }
 
-    /// One instruction, and its entry.
+    /// One instruction, and its entry. The instruction is one of those that today's jobs need.
     pub fn apply(&mut self, alloc: Global, actor: Actor, action: Action) -> Result<(), Memory>
-        requires { CanApply self.old.cpus actor action }
+        requires { CanAsk self.old.cpus actor action }
         ensures done { OnOk result (IsNext actor action self.old self.new) }
         ensures refused { OnErr result (self.new ≡ self.old) }
     {

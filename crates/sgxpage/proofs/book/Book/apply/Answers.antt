@@ -4,8 +4,8 @@ use Rattle.sgx_types.specs.declared.entries.Entry.{Entry}
 use Rattle.sgx_types.specs.Frames.{Content, Free, content}
 use Rattle.paging_machine.specs.Parts.{Parts, state_of}
 use Rattle.paging_machine.specs.Stands.{Upholds}
-use Rattle.paging_machine.specs.Steps.{CanApply}
-use Rattle.paging_machine.proofs.Reading.{free_past}
+use Rattle.sgxpage.specs.Books.{CanAsk}
+use Rattle.paging_machine.proofs.FreeFrames.{free_past}
 use Rattle.sgxpage.proofs.BookLaws.{step_of}
 use Rattle.sgxpage.proofs.CalmLaws.{calm_more}
 use Rattle.sgxpage.proofs.HomeLaws.{homes_more}
@@ -21,7 +21,7 @@ returns-clause-done c =
     let past : reverse c.push_reserved.new.self.items ≡ c.in_ok-entry.entry ∷ reverse c.self.inside.entries.items =
     rw (c.push_reserved.ensures.items, c.reserve.ensures.items) (reverse-append c.self.inside.entries.items (c.in_ok-entry.entry ∷ [])) in
     let upheld = c.in_ok-entry.ensures.history (reverse c.self.inside.entries.items) c.self.invariant.upheld in
-    let can : CanApply c.args.self.now.cpus c.in_ok-entry.entry.actor c.args.action = rw step.actor_is c.requires in
+    let can : CanAsk c.args.self.now.cpus c.in_ok-entry.entry.actor c.args.action = rw step.actor_is c.requires in
     record {
       frames = rw (← c.self.view_is) step.frames_same;
       cpus = rw (← c.self.view_is) c.apply.ensures.cpus;
@@ -39,7 +39,7 @@ invariant_of-self-2 c =
     let past : reverse c.push_reserved.new.self.items ≡ c.in_ok-entry.entry ∷ reverse c.self.inside.entries.items =
     rw (c.push_reserved.ensures.items, c.reserve.ensures.items) (reverse-append c.self.inside.entries.items (c.in_ok-entry.entry ∷ [])) in
     let upheld = c.in_ok-entry.ensures.history (reverse c.self.inside.entries.items) c.self.invariant.upheld in
-    let can : CanApply c.args.self.now.cpus c.in_ok-entry.entry.actor c.args.action = rw step.actor_is c.requires in
+    let can : CanAsk c.args.self.now.cpus c.in_ok-entry.entry.actor c.args.action = rw step.actor_is c.requires in
     record {
       upheld = rw past upheld;
       calm = rw past (calm_more c.args.self.now.cpus _ c.in_ok-entry.entry.actor c.args.action c.in_ok-entry.entry.event (reverse c.self.inside.entries.items) can step.action_is upheld.rules c.self.invariant.calm);
