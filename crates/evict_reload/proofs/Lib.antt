@@ -1,3 +1,4 @@
 mod SlotLaws
 mod StartLaws
 mod TrackLaws
+pub mod PageLaws

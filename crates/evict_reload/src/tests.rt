@@ -1,6 +1,8 @@
-ghost use Rattle.std.specs.Prelude.{◌≡◌, IsTrue, OnOk};
+ghost use Rattle.std.specs.Prelude.{◌≡◌, ◌≢◌, true, IsTrue, IfSome};
+ghost use Rattle.sgx_types.specs.declared.names.Kind.TheVariants as kinds;
 ghost use Rattle.epcm_entry.specs.Sights.{sight_in};
-ghost use Rattle.evict_reload.specs.Sights.{IsNumbered};
+ghost use Rattle.version_array.specs.Slots.{IsSlot};
+ghost use Rattle.evict_reload.specs.Sights.{AreVaPages, IsNumbered, added_in, is_added};
 
 use crate::block::eblock;
 use crate::reload::{eld_commit, eld_start};
@@ -239,7 +241,8 @@ fn is_numbered(epc: &Epc, frame: Frame) -> bool
 
 // The page was added as a REG page.
 fn is_reg(secs: &SecsTable, page: Page) -> bool
-    ensures { IsTrue result → IsRegIn secs.now page }
+    ensures added { IsTrue result → is_added secs.now page ≡ true }
+    ensures kind { IsTrue result → IfSome (added_in secs.now page) (λ x. x.0 ≡ kinds.Reg) }
 {
     secs.get(page.enclave)
         .and_then(|enclave| enclave.added(page.number))
