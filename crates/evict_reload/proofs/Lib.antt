@@ -2,3 +2,4 @@ mod SlotLaws
 mod StartLaws
 mod TrackLaws
 pub mod PageLaws
+pub mod CallLaws
