@@ -4,5 +4,5 @@ use Rattle.evict_reload.proofs.tests.World.put_va.Goals as goal
 
 pub invariant_of-self-2 : goal.invariant_of-self-2
 invariant_of-self-2 g c = record {
-  pages = rw (c.set.ensures, c.epa.ensures.done) (pages-with_va c.args.self.now.epc c.args.self.now.va c.args.frame _ _ c.args.self.now.pages (search rules));
+  pages = rw (c.set.ensures, c.in_ok-epa.ensures.done) (pages-with_va c.args.self.now.epc c.args.self.now.va c.args.frame _ _ c.args.self.now.pages (search rules));
 }
