@@ -1,4 +1,4 @@
-ghost use Rattle.std.specs.Prelude.{◌≡◌, ◌≢◌, true, IsTrue, IfSome};
+ghost use Rattle.std.specs.Prelude.{◌≡◌, true, IsTrue, IfSome};
 ghost use Rattle.sgx_types.specs.declared.names.Kind.TheVariants as kinds;
 ghost use Rattle.epcm_entry.specs.Sights.{sight_in};
 ghost use Rattle.version_array.specs.Slots.{IsSlot};
@@ -280,7 +280,10 @@ fn a_page_goes_out_and_comes_back(rt: HostRuntime) -> Result<(), Fail> {
     world.fill(&rt, 1, 0x0807_0605_0403_0201);
     let before = *world.bytes(&rt, 1);
 
-    assert_eq!(rt; world.start_out(&rt, 1, slot(0)), Err(Refusal::PageNotBlocked));
+    assert_eq!(rt;
+        world.start_out(&rt, 1, slot(0)),
+        Err(Refusal::PageNotBlocked)
+    );
     assert_eq!(rt; world.block(&rt, 1), Ok(()));
     assert_eq!(rt; world.block(&rt, 1), Err(Refusal::BlkState));
     let early = Refusal::NotTracked { epoch: 1, older: 0 };
@@ -366,7 +369,11 @@ fn a_track_tells_why_not(rt: HostRuntime) -> Result<(), Fail> {
     let mut world = World::new(&rt, rt.alloc(), 3)?;
     world.tracks = Tracks::new(1_099_511_627_774);
     for enclave in [0, 2, 9] {
-        assert_eq!(rt; world.track(enclave), Err(Refusal::Absent), "enclave {enclave}");
+        assert_eq!(rt;
+            world.track(enclave),
+            Err(Refusal::Absent),
+            "enclave {enclave}"
+        );
     }
     world.tracks.get_mut(1).enter();
     assert_eq!(rt; world.track(1), Ok(1_099_511_627_775));
@@ -399,12 +406,22 @@ fn a_start_of_a_write_out_tells_why_not(rt: HostRuntime) -> Result<(), Fail> {
             frame: Frame(in_frame),
             index,
         };
-        assert_eq!(rt; world.start_out(&rt, frame, at), Err(refusal), "frame {frame}");
+        assert_eq!(rt;
+            world.start_out(&rt, frame, at),
+            Err(refusal),
+            "frame {frame}"
+        );
     }
     world.versions = Versions::new(u64::MAX);
     assert_eq!(rt; world.versions.draw(), Ok(u64::MAX));
-    assert_eq!(rt; world.start_out(&rt, 3, slot(0)), Err(Refusal::VersionSpent));
-    assert_eq!(rt; world.start_out(&rt, 3, slot(4)), Err(Refusal::SlotOccupied { version: 3 }));
+    assert_eq!(rt;
+        world.start_out(&rt, 3, slot(0)),
+        Err(Refusal::VersionSpent)
+    );
+    assert_eq!(rt;
+        world.start_out(&rt, 3, slot(4)),
+        Err(Refusal::SlotOccupied { version: 3 })
+    );
     Ok(())
 }
 
@@ -430,7 +447,11 @@ fn a_start_of_a_reload_tells_why_not(rt: HostRuntime) -> Result<(), Fail> {
             frame: Frame(in_frame),
             index,
         };
-        assert_eq!(rt; world.start_in(frame, page(number), at), Err(refusal), "frame {frame}");
+        assert_eq!(rt;
+            world.start_in(frame, page(number), at),
+            Err(refusal),
+            "frame {frame}"
+        );
     }
     let other = Page {
         enclave: 2,
@@ -464,7 +485,10 @@ fn a_commit_of_a_reload_tells_why_not(rt: HostRuntime) -> Result<(), Fail> {
         address: 0x1_7000,
         flags: 0x203,
     };
-    assert_eq!(rt; world.commit_in(&rt, 6, page(8), slot(4), &work), Err(header));
+    assert_eq!(rt;
+        world.commit_in(&rt, 6, page(8), slot(4), &work),
+        Err(header)
+    );
     assert_eq!(rt; world.entry(&rt, 6), EntryView::Free);
     assert_eq!(rt; world.version(&rt, slot(4)), 3);
     assert!(rt; !world.is_slot_busy(&rt, slot(4)));
