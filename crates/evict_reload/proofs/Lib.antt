@@ -1,3 +1,5 @@
 mod SlotLaws
 mod StartLaws
 mod TrackLaws
+pub mod PageLaws
+pub mod CallLaws

@@ -1,7 +1,5 @@
 ghost use Rattle.std.specs.Prelude.{◌≡◌, ◌<◌, true, false, Some, IfOk, OnOk, OnErr, length};
 ghost use Rattle.sgx_types.specs.Table.{refusal_in, first_of_row, eldstart_row, is_loading};
-ghost use Rattle.sgx_types.specs.Sealed.{header_of};
-ghost use Rattle.secs_state.specs.Secs.{page_count};
 ghost use Rattle.epcm_entry.specs.EntryView.{is_valid};
 ghost use Rattle.epcm_entry.specs.Epc.{entry_at, with_loading, with_page, with_words, cleared};
 ghost use Rattle.epcm_entry.specs.Sights.{sight_in};
@@ -131,14 +129,7 @@ pub fn eld_commit(
 }
 
 // The frame holds the page from now on, with its bytes.
-fn put_page(
-    epc: &mut Epc,
-    frame: Frame,
-    page: Page,
-    kind: Kind,
-    perm: Perm,
-    plain: &[u8; 4096],
-)
+fn put_page(epc: &mut Epc, frame: Frame, page: Page, kind: Kind, perm: Perm, plain: &[u8; 4096])
     requires within { frame.0 < length epc.old }
     requires vacant { is_valid (entry_at epc.old frame.0) ≡ false }
     ensures { epc.new ≡ with_words (with_page epc.old frame.0 page kind perm) frame.0 (words_of plain.now) }

@@ -1,6 +1,5 @@
-ghost use Rattle.std.specs.Prelude.{◌≡◌, ◌+◌, ◌<◌, true, Some, IfOk, OnOk, OnErr, length};
+ghost use Rattle.std.specs.Prelude.{◌≡◌, ◌+◌, ◌<◌, true, Some, IfOk, OnOk, OnErr};
 ghost use Rattle.sgx_types.specs.Table.{refusal_in, first_of_row, ewbstart_row};
-ghost use Rattle.epcm_entry.specs.EntryView.{goes_out};
 ghost use Rattle.epcm_entry.specs.Epc.{entry_at, with_sealing, cleared};
 ghost use Rattle.epcm_entry.specs.Sights.{sight_in};
 ghost use Rattle.version_array.specs.Slots.{IsSlot, with_busy};
@@ -81,7 +80,12 @@ fn start_refusal(
     if entry.is_secs() || entry.is_va() || !epc.entry(slot.frame).is_va() {
         return Some(Refusal::BadKind);
     }
-    let EntryView::Valid { page, blocked: Some(block), .. } = entry else {
+    let EntryView::Valid {
+        page,
+        blocked: Some(block),
+        ..
+    } = entry
+    else {
         return Some(Refusal::PageNotBlocked);
     };
     let track = tracks.get(page.enclave);
