@@ -128,6 +128,10 @@ impl World {
         etrack(&mut self.tracks, &self.secs, enclave)
     }
 
+    fn enter(&mut self, rt: &impl Abort) {
+        enter(rt, &mut self.tracks);
+    }
+
     fn start_out(&mut self, rt: &impl Abort, frame: u32, slot: SlotAt) -> Result<u64, Refusal> {
         assert!(rt; is_numbered(&self.epc, Frame(frame)));
         let World {
@@ -403,7 +407,7 @@ fn a_track_tells_why_not(rt: HostRuntime) -> Result<(), Fail> {
 #[test]
 fn a_start_of_a_write_out_tells_why_not(rt: HostRuntime) -> Result<(), Fail> {
     let (mut world, _) = troubled(&rt, rt.alloc())?;
-    enter(&rt, &mut world.tracks);
+    world.enter(&rt);
     let rows = [
         (8, 0, 0, Refusal::BadRange),
         (1, 8, 0, Refusal::BadRange),
