@@ -112,3 +112,8 @@ after_commit_in epc epc' va va' f slot page added plain (Err refusal) loads ends
     rw (same.0, same.1) (pages-with_slot (cleared epc f) va slot _ (pages-cleared epc va f pages low (loading_is_not_va (sight_in epc f).content loading)) at)
 after_commit_in epc epc' va va' f slot page added plain (Ok done) loads ends same pages at low loading reg =
     rw (loads, ends) (ended (with_plain epc f page added plain) va slot 0 (reloaded epc va f page added plain pages low loading reg) at)
+
+-- the commit of EWB, of a frame that holds no version array page
+pub after_commit_out : (epc : List EpcFrame) (va : List (Option (List VaSlot))) (f : ℕ) (slot : SlotAt) (version : ℕ) → AreVaPages epc va → IsSlot va slot → f < length epc
+    → is_va (sight_in epc f).content ≡ false → AreVaPages (cleared epc f) (with_ended va slot version)
+after_commit_out epc va f slot version pages at low other = ended (cleared epc f) va slot version (pages-cleared epc va f pages low other) at

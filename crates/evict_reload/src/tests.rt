@@ -1,4 +1,4 @@
-ghost use Rattle.std.specs.Prelude.{◌≡◌, true, IsTrue, IfSome};
+ghost use Rattle.std.specs.Prelude.{◌≡◌, ◌<◌, true, IsTrue, IfSome, length};
 ghost use Rattle.sgx_types.specs.declared.names.Kind.TheVariants as kinds;
 ghost use Rattle.epcm_entry.specs.Sights.{sight_in};
 ghost use Rattle.version_array.specs.Slots.{IsSlot};
@@ -20,6 +20,7 @@ use sgx_types::refusals::Refusal;
 use std::alloc::Global;
 use std::process::Abort;
 use std::test::Fail;
+use track_epoch::track::{PROCESSORS, Track};
 use track_epoch::tracks::Tracks;
 use version_array::va_table::VaTable;
 use version_array::versions::Versions;
@@ -127,6 +128,10 @@ impl World {
         etrack(&mut self.tracks, &self.secs, enclave)
     }
 
+    fn enter(&mut self, rt: &impl Abort) {
+        enter(rt, &mut self.tracks);
+    }
+
     fn start_out(&mut self, rt: &impl Abort, frame: u32, slot: SlotAt) -> Result<u64, Refusal> {
         assert!(rt; is_numbered(&self.epc, Frame(frame)));
         let World {
@@ -224,6 +229,21 @@ impl World {
         assert_eq!(rt; self.commit_out(rt, frame, slot, &work), page);
         Ok(record_of(work))
     }
+}
+
+// A processor enters enclave 1.
+fn enter(rt: &impl Abort, tracks: &mut Tracks) {
+    let track = tracks.get_mut(1);
+    assert!(rt; has_room(track));
+    track.enter();
+}
+
+// A processor more may enter.
+#[tactic(auto, using(track_epoch::proofs::TrackingLaws::all_up_to_now))]
+fn has_room(track: &Track) -> bool
+    ensures { IsTrue result → length track.now.noted < PROCESSORS }
+{
+    track.at_or_below(track.epoch()) < PROCESSORS
 }
 
 // A TCS or REG page in the frame is of an enclave from 1 to 8.
@@ -366,27 +386,28 @@ fn a_block_tells_why_not(rt: HostRuntime) -> Result<(), Fail> {
 
 #[test]
 fn a_track_tells_why_not(rt: HostRuntime) -> Result<(), Fail> {
-    let mut world = World::new(&rt, rt.alloc(), 3)?;
-    world.tracks = Tracks::new(1_099_511_627_774);
+    let secs = enclave(&rt, rt.alloc())?;
+    let mut tracks = Tracks::new(1_099_511_627_774);
     for enclave in [0, 2, 9] {
         assert_eq!(rt;
-            world.track(enclave),
+            etrack(&mut tracks, &secs, enclave),
             Err(Refusal::Absent),
             "enclave {enclave}"
         );
     }
-    world.tracks.get_mut(1).enter();
-    assert_eq!(rt; world.track(1), Ok(1_099_511_627_775));
-    assert_eq!(rt; world.track(1), Err(Refusal::PrevTrk { older: 1 }));
-    world.tracks = Tracks::new(1_099_511_627_775);
-    assert_eq!(rt; world.track(1), Err(Refusal::EpochSpent));
+    enter(&rt, &mut tracks);
+    assert_eq!(rt; etrack(&mut tracks, &secs, 1), Ok(1_099_511_627_775));
+    let older = Refusal::PrevTrk { older: 1 };
+    assert_eq!(rt; etrack(&mut tracks, &secs, 1), Err(older));
+    let mut last = Tracks::new(1_099_511_627_775);
+    assert_eq!(rt; etrack(&mut last, &secs, 1), Err(Refusal::EpochSpent));
     Ok(())
 }
 
 #[test]
 fn a_start_of_a_write_out_tells_why_not(rt: HostRuntime) -> Result<(), Fail> {
     let (mut world, _) = troubled(&rt, rt.alloc())?;
-    world.tracks.get_mut(1).enter();
+    world.enter(&rt);
     let rows = [
         (8, 0, 0, Refusal::BadRange),
         (1, 8, 0, Refusal::BadRange),
