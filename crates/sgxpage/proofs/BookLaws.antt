@@ -11,7 +11,8 @@ use Rattle.sgx_types.specs.declared.refusals.Refusal.TheVariants as why
 use Rattle.sgx_types.specs.Table.{first_of_row}
 use Rattle.job_grammar.specs.Script.{action_of}
 use Rattle.measure_log.specs.Rule.{IsExpected, IsOther}
-use Rattle.paging_machine.specs.State.{State, row_of, after_init}
+use Rattle.sgx_types.specs.Processors.{Seat}
+use Rattle.paging_machine.specs.State.{State, row_of, after_init, with_saved}
 use Rattle.paging_machine.specs.Steps.{IsDone, IsStep, after_of, did_by, refused_by}
 
 -- an entry of this actor and instruction, which keeps the number of frames
@@ -20,10 +21,20 @@ pub record IsOf (actor : Actor) (action : Action) (e : Entry) (frames frames' : 
   pub action_is : action_of e.event ≡ Some action
   pub frames_same : frames' ≡ frames
 
+saved_frames : (s : State) (acc : ℕ) (o : Option Seat) → (with_saved s acc o).frames ≡ s.frames
+saved_frames s acc None = refl
+saved_frames s acc (Some seat) = refl
+
 same_frames : (s : State) (a : Actor) (action : Action) → (after_of s a action).frames ≡ s.frames
 same_frames s a (actions.Epa f) = refl
 same_frames s (actors.Cpu p) (actions.Enter enclave tcs tf sf) = refl
+same_frames s (actors.Cpu p) (actions.Resume enclave tcs tf sf) = refl
 same_frames s (actors.Cpu p) actions.Exit = refl
+same_frames s (actors.Cpu p) (actions.Aex cause) = saved_frames s (s.acc p.0) (s.inside p.0)
+same_frames s (actors.Cpu p) (actions.Store off value) = refl
+same_frames s (actors.Cpu p) (actions.Xadd off value) = refl
+same_frames s (actors.Cpu p) (actions.Set value) = refl
+same_frames s (actors.Cpu p) (actions.Plus value) = refl
 same_frames s (actors.Cpu p) (actions.Fill number f) = refl
 same_frames s a action = refl
 

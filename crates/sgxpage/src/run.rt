@@ -24,6 +24,7 @@ pub fn run(alloc: Global, job: &Job) -> Result<Book, Memory>
 }
 
 fn opened(alloc: Global, job: &Job) -> Result<Book, Memory>
+    requires form { IsFirstForm job.now }
     ensures frames { IfOk result (λ book. book.frames ≡ job.now.epc) }
     ensures cpus { IfOk result (λ book. book.cpus ≡ length job.now.scripts) }
     ensures past { IfOk result (λ book. book.past ≡ []) }
