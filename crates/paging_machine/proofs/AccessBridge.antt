@@ -1,29 +1,22 @@
 -- What the rows of translations, accesses and the accumulator leave of the machine.
-use Rattle.std.proofs.Common.{◌≡◌, ℕ, ◌/◌, ◌<◌, ◌≤◌, ◌^◌, ◌==◌, not, true, false, cond, refl, sym, ap, ◌∙◌, arith, ◌⊎◌, inl, inr, Bool, Option, Some, None, List, length, get_or, set, is_some, length-set, unwrap_or}
+use Rattle.std.proofs.Common.{◌≡◌, ℕ, ◌/◌, ◌<◌, ◌==◌, true, false, refl, sym, ap, ◌∙◌, Bool, Option, Some, None, List, length, set, is_some, length-set, unwrap_or}
 use Rattle.std.specs.Prelude.{slice_set}
-use Rattle.std.specs.List.{All}
-use Rattle.std.proofs.lemmas.Bool.{cond_both, cases_lt, false≢true, leb-false}
-use Rattle.std.proofs.lemmas.List.{get_or_past}
+use Rattle.std.proofs.lemmas.Bool.{cond_both, false≢true}
 use Rattle.std.proofs.lemmas.List.Elements.{recursion_from_All}
 use Rattle.sgx_types.specs.declared.names.Frame.{Frame}
 use Rattle.sgx_types.specs.declared.names.Perm.{Perm}
-use Rattle.sgx_types.specs.declared.names.Kind.{Kind}
-use Rattle.sgx_types.specs.Frames.{page_at}
 use Rattle.sgx_types.specs.Processors.{Seat}
 use Rattle.sgx_types.specs.Table.{access_row, inside_row, fill_row, is_reg, perm_in, first_of_row}
 use Rattle.sgx_types.specs.Flat.{word_index}
 use Rattle.epcm_entry.specs.Epc.{EpcFrame}
-use Rattle.epcm_entry.specs.Epc.{word_at as word_in_epc}
 use Rattle.epcm_entry.specs.Sights.{sight_in}
-use Rattle.secs_state.specs.Secs.{SecsState, IsSecs, added_at, page_count}
-use Rattle.secs_state.specs.Table.{enclave_at}
 use Rattle.cached_translations.specs.declared.cache.Translation.{Translation}
 use Rattle.cached_translations.specs.declared.processor.Processor.{Processor}
 use Rattle.cached_translations.specs.declared.processor.Mode.{Mode}
 use Rattle.cached_translations.specs.declared.processor.Mode.TheVariants as modes
 use Rattle.cached_translations.specs.Modes.{is_inside, enclave_inside}
 use Rattle.cached_translations.specs.Translations.{translation_of, with_translation}
-use Rattle.enclave_access.specs.Access.{LeadsBelow, perm_of, perm_at, with_filled, word_through, word_in, with_word_in, with_stored}
+use Rattle.enclave_access.specs.Access.{LeadsBelow, perm_of, perm_at, with_filled, word_through, with_word_in, with_stored}
 use Rattle.enclave_access.proofs.AccessLaws.{leads_below}
 use Rattle.paging_machine.specs.declared.machine.Machine.TheInside.{Inside}
 use Rattle.paging_machine.specs.State.{State, sight, seat_enclave, translation, perm_of_held, rewritten, frame_in, word_at, with_acc, after_fill, after_store}

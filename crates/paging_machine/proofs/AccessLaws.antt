@@ -1,5 +1,5 @@
 -- The rows of translations and accesses: each leaves a state that stands for one entry more, and keeps the rules.
-use Rattle.std.proofs.Common.{◌≡◌, ℕ, ◌+◌, ◌/◌, ◌<◌, ◌==◌, ◌||◌, not, Bool, true, false, cond, ltb, refl, sym, ap, subst, ◌∙◌, Option, Some, None, IfSome, List, [], ◌∷◌, ◌++◌, map, is_some, length, drop, set}
+use Rattle.std.proofs.Common.{◌≡◌, ℕ, ◌/◌, ◌<◌, ◌==◌, ◌||◌, not, Bool, true, false, cond, ltb, refl, sym, ap, subst, ◌∙◌, Option, Some, None, List, [], ◌∷◌, ◌++◌, map, is_some, length, drop, set}
 use Rattle.std.specs.List.{All, AllByRecursion}
 use Rattle.std.proofs.lemmas.Bool.{cond_both, false≢true, eqb-true, leb-false, lt-ltb}
 use Rattle.std.proofs.lemmas.List.{length-map, length-set, map-append}
@@ -12,7 +12,7 @@ use Rattle.sgx_types.specs.declared.names.Cpu.{Cpu}
 use Rattle.sgx_types.specs.declared.names.Page.{Page}
 use Rattle.sgx_types.specs.declared.names.Kind.TheVariants as kinds
 use Rattle.sgx_types.specs.declared.names.Perm.{Perm}
-use Rattle.sgx_types.specs.Frames.{Content, Holds, content, is_page, page_at}
+use Rattle.sgx_types.specs.Frames.{Content, Holds, is_page, page_at}
 use Rattle.sgx_types.specs.Processors.{Seat, Stay, stay, holds_number, with_pair, newest, translations}
 use Rattle.sgx_types.specs.Table.{FrameSight, is_busy, is_loading, is_reg, perm_in, allows_read, allows_write, allows_update, access_row, fill_row, first_of_row}
 use Rattle.sgx_types.specs.Flat.{FlatMemory, flat, accepts, added_as, flat_translation, memory_after, stored, sum_of, with_words, word_index, word_seen}

@@ -2,7 +2,6 @@
 use Rattle.std.proofs.Common.{◌≡◌, ℕ, ◌*◌, ◌==◌, ◌&&◌, ◌||◌, not, Bool, true, false, cond, leb, refl, sym, ap, ◌∙◌, Option, Some, None, IfSome, List, [], ◌∷◌, is_some, length}
 use Rattle.std.specs.Option.{IsSomeAnd}
 use Rattle.std.proofs.lemmas.Bool.{cond_both, false≢true, eqb-true, leb-false}
-use Rattle.std.proofs.lemmas.List.Elements.{All-weaker}
 use Rattle.sgx_types.specs.declared.entries.Entry.{Entry}
 use Rattle.sgx_types.specs.declared.entries.Actor.{Actor}
 use Rattle.sgx_types.specs.declared.entries.Action.TheVariants.{Epa, Create, Add, Init}
@@ -13,20 +12,19 @@ use Rattle.sgx_types.specs.declared.names.Page.{Page}
 use Rattle.sgx_types.specs.declared.names.Kind.{Kind}
 use Rattle.sgx_types.specs.declared.names.Perm.{Perm}
 use Rattle.sgx_types.specs.Frames.{Content, Free, IsVa, SecsOf, Holds, IsLoading, content, is_blocked, is_page, page_at, same_page}
-use Rattle.sgx_types.specs.Processors.{Seat, Stay, stay}
+use Rattle.sgx_types.specs.Processors.{Stay, stay}
 use Rattle.sgx_types.specs.Table.{FrameSight, is_busy, is_valid, is_loading, is_enclave, is_lawful, epa_row, create_row, add_row, init_row, EnclaveSight, first_of_row}
 use Rattle.sgx_types.specs.Flat.{FlatEnclave, FlatPage, FlatMemory, added_as, flat, open_frame, accepts, enclave_sight_of, first_words, with_page}
 use Rattle.sgx_types.specs.Sights.{sight_at}
 use Rattle.sgx_types.specs.Rules.{NoPageTwice}
-use Rattle.cached_translations.specs.declared.cache.Translation.{Translation}
 use Rattle.sgx_types.specs.Layouts.{flags_of}
 use Rattle.measure_log.specs.declared.measure.Measure.{Measure}
 use Rattle.measure_log.specs.Blocks.{ecreate_block, eadd_block}
 use Rattle.measure_log.specs.Measure.{HoldsLog, TakesIn}
 use Rattle.measure_log.specs.Rule.{log, MeasureRule}
-use Rattle.paging_machine.specs.State.{State, sight, row_of, with_content, after_epa, after_create, after_add, after_init}
+use Rattle.paging_machine.specs.State.{State, sight, row_of, after_epa, after_create, after_add, after_init}
 use Rattle.paging_machine.specs.Stands.{StandsBy, Stands, IsUsable, IsSound, Upholds}
-use Rattle.paging_machine.proofs.Tools.{none_holds, none_refused, neither, both_false, is_none-None, none_there, apart, each_there}
+use Rattle.paging_machine.proofs.Tools.{none_holds, none_refused, neither, both_false, is_none-None, none_there, apart}
 use Rattle.paging_machine.proofs.MeasureLaws.{begins, goes_on, stays}
 use Rattle.paging_machine.proofs.SoundLaws.{sound-put}
 use Rattle.paging_machine.proofs.WordLaws.{length-first_words}

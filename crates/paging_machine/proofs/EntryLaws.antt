@@ -1,8 +1,7 @@
 -- The rows that enter and resume an enclave: each leaves a state that stands for one entry more, and keeps the rules.
-use Rattle.std.proofs.Common.{◌≡◌, ℕ, ◌+◌, ◌-◌, ◌%◌, ◌^◌, ◌<◌, ◌≤◌, ◌==◌, ◌||◌, ◌⊎◌, inl, inr, not, Bool, true, false, cond, refl, sym, ap, ◌∙◌, arith, Option, Some, None, IfSome, List, [], ◌∷◌, map, is_some, length}
+use Rattle.std.proofs.Common.{◌≡◌, ℕ, ◌+◌, ◌-◌, ◌%◌, ◌^◌, ◌<◌, ◌≤◌, ◌==◌, ◌||◌, ◌⊎◌, inl, inr, not, Bool, true, false, cond, refl, sym, ap, ◌∙◌, arith, Option, Some, None, IfSome, List, [], ◌∷◌, map, length}
 use Rattle.std.specs.Prelude.{slice_index}
-use Rattle.std.specs.List.{All}
-use Rattle.std.proofs.lemmas.Bool.{cases_lt, eqb-true, leb-false, lt-ltb, false≢true}
+use Rattle.std.proofs.lemmas.Bool.{cases_lt, leb-false, lt-ltb, false≢true}
 use Rattle.std.proofs.lemmas.List.Elements.{All-nil}
 use Rattle.sgx_types.specs.declared.entries.Entry.{Entry}
 use Rattle.sgx_types.specs.declared.entries.Actor.TheVariants as actors
@@ -10,18 +9,17 @@ use Rattle.sgx_types.specs.declared.entries.Action.TheVariants.{Enter, Resume}
 use Rattle.sgx_types.specs.declared.entries.Answer.TheVariants.{Cssa, Value}
 use Rattle.sgx_types.specs.declared.names.Cpu.{Cpu}
 use Rattle.sgx_types.specs.declared.names.Frame.{Frame}
-use Rattle.sgx_types.specs.declared.names.Page.{Page}
 use Rattle.sgx_types.specs.declared.names.Kind.{Kind}
 use Rattle.sgx_types.specs.declared.names.Kind.TheVariants as kinds
 use Rattle.sgx_types.specs.declared.names.Perm.{Perm}
 use Rattle.sgx_types.specs.declared.refusals.Refusal.TheVariants as why
-use Rattle.sgx_types.specs.Frames.{Content, Holds, content, is_page, page_at, same_page}
-use Rattle.sgx_types.specs.Processors.{Seat, Stay, stay, stay_from, translations}
+use Rattle.sgx_types.specs.Frames.{Content, Holds, content, is_page, page_at}
+use Rattle.sgx_types.specs.Processors.{Seat, stay, stay_from, translations}
 use Rattle.sgx_types.specs.Table.{Case, when, FrameSight, EnterSight, TcsSight, EnclaveSight, is_busy, is_loading, is_tcs, is_reg, is_made, is_ready, perm_in, allows_update, entry_row, enter_row, resume_row, first_of_row}
-use Rattle.sgx_types.specs.Flat.{FlatCpu, FlatMemory, FlatPage, page_words, flat_content, flat, accepts, added_as, enclave_sight_of, tcs_fields, fields_in, with_cssa, with_words, words_of, flat_enter_row, flat_enter_sight, flat_resume_row, resumed_word, entered, memory_after}
-use Rattle.sgx_types.specs.Sights.{sight_at, enter_sight_at, seat_of}
-use Rattle.paging_machine.specs.State.{State, enter_sight, row_of, cssa_in, saved_word, rewritten, with_inside, after_enter, after_resume}
-use Rattle.paging_machine.specs.Stands.{StandsBy, Stands, IsUsable, IsSeated, IsSound, Upholds, pair_of, seat_of_stay, inside_of_stay, next_save}
+use Rattle.sgx_types.specs.Flat.{FlatCpu, page_words, flat_content, flat, accepts, enclave_sight_of, tcs_fields, fields_in, with_cssa, with_words, words_of, flat_enter_sight, resumed_word, entered, memory_after}
+use Rattle.sgx_types.specs.Sights.{enter_sight_at, seat_of}
+use Rattle.paging_machine.specs.State.{State, enter_sight, row_of, cssa_in, saved_word, rewritten, after_enter, after_resume}
+use Rattle.paging_machine.specs.Stands.{Stands, IsUsable, IsSeated, IsSound, Upholds, pair_of, seat_of_stay, inside_of_stay, next_save}
 use Rattle.paging_machine.proofs.Tools.{none_holds, none_refused, neither, both_false, not_false, equal}
 use Rattle.paging_machine.proofs.Carry.{did_by, stands_done, upholds_more, held_before, once_before}
 use Rattle.paging_machine.proofs.Contents.{IsKindOf, tcs_there, reg_there}

@@ -1,6 +1,6 @@
 -- The rows by which a processor leaves an enclave: each leaves a state that stands for one entry more, and keeps the rules.
-use Rattle.std.proofs.Common.{◌≡◌, ℕ, ◌+◌, ◌<◌, ◌==◌, Bool, true, false, cond, refl, sym, ap, subst, ◌∙◌, Option, Some, None, IfSome, List, [], ◌∷◌, map, is_some, length, set}
-use Rattle.std.proofs.lemmas.Bool.{cond_both, false≢true, lt-ltb}
+use Rattle.std.proofs.Common.{◌≡◌, ℕ, ◌+◌, ◌<◌, ◌==◌, Bool, true, false, cond, refl, sym, ap, ◌∙◌, Option, Some, None, IfSome, List, [], ◌∷◌, map, is_some, set}
+use Rattle.std.proofs.lemmas.Bool.{false≢true, lt-ltb}
 use Rattle.std.proofs.lemmas.List.{length-set}
 use Rattle.sgx_types.specs.declared.entries.Entry.{Entry}
 use Rattle.sgx_types.specs.declared.entries.Actor.TheVariants as actors
@@ -8,19 +8,18 @@ use Rattle.sgx_types.specs.declared.entries.Action.TheVariants.{Exit, Aex}
 use Rattle.sgx_types.specs.declared.entries.Answer.TheVariants.{Plain}
 use Rattle.sgx_types.specs.declared.entries.Cause.{Cause}
 use Rattle.sgx_types.specs.declared.names.Cpu.{Cpu}
-use Rattle.sgx_types.specs.declared.names.Page.{Page}
 use Rattle.sgx_types.specs.declared.names.Kind.TheVariants as kinds
-use Rattle.sgx_types.specs.Frames.{content, is_page, page_at}
+use Rattle.sgx_types.specs.Frames.{content, page_at}
 use Rattle.sgx_types.specs.Processors.{Seat, Stay, stay, translations}
-use Rattle.sgx_types.specs.Table.{TcsSight, inside_row, first_of_row, is_reg, is_tcs}
-use Rattle.sgx_types.specs.Flat.{FlatCpu, FlatMemory, Inside, flat, accepts, fields_in, left, saved, tcs_fields, with_cssa, with_words, page_words, memory_after}
+use Rattle.sgx_types.specs.Table.{TcsSight, inside_row, first_of_row}
+use Rattle.sgx_types.specs.Flat.{FlatCpu, Inside, flat, accepts, fields_in, left, saved, tcs_fields, with_cssa, with_words, page_words, memory_after}
 use Rattle.paging_machine.specs.State.{State, row_of, cssa_in, rewritten, with_saved, after_exit, after_aex}
-use Rattle.paging_machine.specs.Stands.{StandsBy, Stands, IsSeated, IsSound, Upholds, pair_of, seat_of_stay, inside_of_stay, next_save}
+use Rattle.paging_machine.specs.Stands.{IsSound, Upholds, pair_of, seat_of_stay, inside_of_stay, next_save}
 use Rattle.paging_machine.proofs.Tools.{apart, equal}
 use Rattle.paging_machine.proofs.Carry.{did_by, seat_at, stands_done, upholds_more, held_before, once_before}
 use Rattle.paging_machine.proofs.Contents.{one_page, tcs_there, tcs_no_reg}
 use Rattle.paging_machine.proofs.SoundLaws.{sound-left, sized-rewritten}
-use Rattle.paging_machine.proofs.WordLaws.{HoldsWords, once_in_state, words_changed, added-changed, length-with_cssa}
+use Rattle.paging_machine.proofs.WordLaws.{once_in_state, words_changed, added-changed, length-with_cssa}
 use Rattle.paging_machine.proofs.ProcessorLaws.{mode_by_entries, mode_in_flat, seated_in_flat}
 
 -- a row for those inside alone

@@ -13,8 +13,6 @@ use Rattle.cached_translations.specs.declared.cache.Translation.{Translation}
 use Rattle.cached_translations.specs.declared.processor.Processor.{Processor}
 use Rattle.epcm_entry.specs.Words.{zero_words}
 use Rattle.track_epoch.specs.Tracking.{Tracking, starting_at}
-use Rattle.track_epoch.specs.Tracks.{track_of}
-use Rattle.enclave_access.specs.Access.{LeadsBelow}
 use Rattle.measure_log.specs.declared.measure.Measure.{Measure}
 use Rattle.secs_state.specs.Secs.{SecsState}
 use Rattle.secs_state.specs.Table.{empty_table, enclave_at}

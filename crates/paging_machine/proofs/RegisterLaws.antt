@@ -1,5 +1,5 @@
 -- The rows that change no page: each leaves a state that stands for one entry more, and keeps the rules.
-use Rattle.std.proofs.Common.{◌≡◌, ℕ, ◌/◌, ◌<◌, ◌==◌, Bool, true, false, cond, refl, sym, ap, ◌∙◌, Option, Some, None, List, ◌∷◌, is_some}
+use Rattle.std.proofs.Common.{◌≡◌, ℕ, ◌/◌, ◌<◌, ◌==◌, Bool, true, false, cond, refl, sym, ap, ◌∙◌, Option, Some, None, List, ◌∷◌}
 use Rattle.std.proofs.lemmas.Bool.{eqb-true, lt-ltb}
 use Rattle.sgx_types.specs.declared.entries.Entry.{Entry}
 use Rattle.sgx_types.specs.declared.entries.Actor.TheVariants as actors
@@ -11,8 +11,8 @@ use Rattle.sgx_types.specs.declared.names.Kind.{Kind}
 use Rattle.sgx_types.specs.declared.names.Perm.{Perm}
 use Rattle.sgx_types.specs.Frames.{page_at}
 use Rattle.sgx_types.specs.Processors.{Stay, stay}
-use Rattle.sgx_types.specs.Table.{inside_row, outside_row, pf_row, fault_of, first_of_row}
-use Rattle.sgx_types.specs.Flat.{FlatCpu, FlatMemory, Inside, flat, accepts, added_as, added_at_offset, all_ones, sum_of, with_acc, memory_after}
+use Rattle.sgx_types.specs.Table.{outside_row, pf_row, fault_of, first_of_row}
+use Rattle.sgx_types.specs.Flat.{FlatCpu, FlatMemory, flat, accepts, added_at_offset, all_ones, sum_of, with_acc, memory_after}
 use Rattle.sgx_types.specs.Sights.{added_at}
 use Rattle.paging_machine.specs.State.{State, row_of, added_inside}
 use Rattle.paging_machine.specs.State.{with_acc as acc_set}

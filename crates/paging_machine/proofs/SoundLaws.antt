@@ -1,12 +1,11 @@
 -- What each row leaves of a sound state is sound.
 use Rattle.std.proofs.Common.{◌≡◌, ℕ, ◌==◌, Bool, true, false, cond, refl, sym, ap, ◌∙◌, Option, Some, None, IfSome, List, [], length}
-use Rattle.std.specs.List.{All}
 use Rattle.std.proofs.lemmas.Bool.{cond_both, false≢true, eqb-true}
 use Rattle.std.proofs.lemmas.List.Elements.{All-weaker}
 use Rattle.sgx_types.specs.declared.names.Page.{Page}
-use Rattle.sgx_types.specs.Frames.{Content, Free, page_at, same_page, is_page}
+use Rattle.sgx_types.specs.Frames.{Content, Free, page_at, same_page}
 use Rattle.sgx_types.specs.Processors.{Seat}
-use Rattle.sgx_types.specs.Table.{is_reg, is_tcs}
+use Rattle.sgx_types.specs.Table.{is_reg}
 use Rattle.cached_translations.specs.declared.cache.Translation.{Translation}
 use Rattle.paging_machine.specs.State.{State, with_content, with_inside, rewritten, after_exit, is_seated_by}
 use Rattle.paging_machine.specs.Stands.{IsUsable, IsTranslation, IsSeated, AreByOneTcs, IsSound}

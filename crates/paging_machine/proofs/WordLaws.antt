@@ -1,5 +1,5 @@
 -- The words of frames and of the pages in them, where a page's words are changed in both.
-use Rattle.std.proofs.Common.{◌≡◌, ◌≢◌, ℕ, ◌+◌, ◌-◌, ◌*◌, ◌/◌, ◌%◌, ◌^◌, ◌<◌, ◌≤◌, ◌==◌, Bool, true, false, cond, refl, sym, ap, ◌∙◌, arith, Option, Some, None, List, length, get_or, set, replicate}
+use Rattle.std.proofs.Common.{◌≡◌, ℕ, ◌+◌, ◌*◌, ◌/◌, ◌%◌, ◌^◌, ◌<◌, ◌==◌, Bool, true, false, cond, refl, sym, ap, ◌∙◌, arith, Option, Some, None, List, length, get_or, set, replicate}
 use Rattle.std.proofs.lemmas.Bool.{false≢true, eqb-true}
 use Rattle.std.proofs.lemmas.List.{get_or-set_same, get_or-set_other, length-set, length-replicate}
 use Rattle.sgx_types.specs.declared.entries.PageInit.{PageInit}
@@ -8,7 +8,6 @@ use Rattle.sgx_types.specs.declared.names.Page.{Page}
 use Rattle.sgx_types.specs.declared.names.Kind.{Kind}
 use Rattle.sgx_types.specs.declared.names.Perm.{Perm}
 use Rattle.sgx_types.specs.Frames.{Content, Holds, is_page, same_page}
-use Rattle.sgx_types.specs.Table.{TcsSight}
 use Rattle.sgx_types.specs.Flat.{FlatMemory, FlatPage, added_as, first_words, tcs_fields, with_cssa, with_words}
 use Rattle.sgx_types.specs.Flat.{rewritten as rewritten_page}
 use Rattle.sgx_types.specs.declared.entries.Entry.{Entry}

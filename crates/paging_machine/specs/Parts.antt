@@ -1,12 +1,11 @@
 -- The machine's parts as data, and the state that they make.
-use Rattle.std.specs.Prelude.{ℕ, ◌/◌, ◌==◌, ◌&&◌, Bool, false, List, [], Option, Some, None, slice_index_or, slice_index, length, is_some, replicate}
+use Rattle.std.specs.Prelude.{ℕ, ◌==◌, ◌&&◌, Bool, false, List, [], Option, Some, None, slice_index_or, slice_index, length, is_some, replicate}
 use Rattle.sgx_types.specs.declared.names.Kind.{Kind}
 use Rattle.sgx_types.specs.declared.names.Kind.TheVariants as kinds
 use Rattle.sgx_types.specs.declared.names.Perm.{Perm}
 use Rattle.sgx_types.specs.declared.layouts.TcsFields.{TcsFields}
 use Rattle.sgx_types.specs.Frames.{Content, Holds}
 use Rattle.sgx_types.specs.Processors.{Seat}
-use Rattle.sgx_types.specs.Table.{TcsSight}
 use Rattle.sgx_types.specs.Flat.{FlatEnclave, tcs_fields}
 use Rattle.epcm_entry.specs.EntryView.{block_of, goes_out}
 use Rattle.epcm_entry.specs.Epc.{EpcFrame, free_frames, entry_at, words_at}
@@ -100,10 +99,6 @@ state_of d = record {
 }
 
 -- ---- what readers answer
-
--- the fields as the rows see them, with OSSA in pages
-abbrev pub fields_of : TcsFields → TcsSight
-fields_of f = record { ossa = f.ossa / 4096; cssa = f.cssa; nssa = f.nssa }
 
 abbrev pub tcs_of : Content → List ℕ → Option TcsFields
 tcs_of (Holds page kinds.Tcs perm) words = Some (record { ossa = slice_index words 2; cssa = (tcs_fields words).cssa; nssa = (tcs_fields words).nssa })

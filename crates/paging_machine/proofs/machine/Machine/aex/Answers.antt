@@ -1,4 +1,4 @@
-use Rattle.std.proofs.Common.{◌≡◌, ◌<◌, ◌∙◌, None, sym, ap, Some, length}
+use Rattle.std.proofs.Common.{◌≡◌, ◌<◌, None, sym, Some, length}
 use Rattle.secs_state.specs.Table.{enclave_at}
 use Rattle.cached_translations.specs.Modes.{enclave_inside}
 use Rattle.track_epoch.specs.Tracks.{track_of}

@@ -1,4 +1,4 @@
-use Rattle.std.proofs.Common.{◌≡◌, ◌<◌, ◌∙◌, true, refl, sym, ap, length}
+use Rattle.std.proofs.Common.{◌≡◌, ◌<◌, true, refl, sym, length}
 use Rattle.paging_machine.specs.Whole.{parts_of}
 use Rattle.paging_machine.specs.Parts.{state_of, cpu_at}
 use Rattle.paging_machine.specs.State.{with_acc}
