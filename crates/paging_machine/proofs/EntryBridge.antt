@@ -2,16 +2,14 @@
 use Rattle.std.proofs.Common.{◌≡◌, ℕ, ◌+◌, ◌-◌, ◌<◌, ◌≤◌, ◌==◌, true, false, cond, refl, sym, ap, ◌∙◌, ◌⊎◌, inl, inr, Some, None, List, [], length, set, is_some, length-set}
 use Rattle.std.specs.Prelude.{slice_set}
 use Rattle.std.proofs.lemmas.Bool.{cond_both, cases_lt, leb-false}
-use Rattle.std.proofs.lemmas.List.{get_or_past}
 use Rattle.std.proofs.lemmas.List.Elements.{All-nil}
 use Rattle.sgx_types.specs.declared.names.Frame.{Frame}
-use Rattle.sgx_types.specs.Frames.{Free, page_at}
+use Rattle.sgx_types.specs.Frames.{page_at}
 use Rattle.sgx_types.specs.Processors.{Seat}
 use Rattle.sgx_types.specs.Sights.{seat_of}
 use Rattle.sgx_types.specs.Table.{TcsSight, enter_row, resume_row, inside_row, first_of_row}
 use Rattle.sgx_types.specs.Flat.{enclave_sight_of, with_cssa}
-use Rattle.epcm_entry.specs.Epc.{EpcFrame, free_frame, word_at, with_word}
-use Rattle.epcm_entry.specs.Sights.{held}
+use Rattle.epcm_entry.specs.Epc.{EpcFrame, word_at, with_word}
 use Rattle.epcm_entry.proofs.Columns.{length-with_words}
 use Rattle.secs_state.specs.Secs.{SecsState, added_at, with_busy}
 use Rattle.secs_state.specs.Table.{enclave_at, with_enclave}
@@ -38,7 +36,7 @@ use Rattle.paging_machine.proofs.Columns.{numbered, table_written}
 use Rattle.paging_machine.proofs.EntryLaws.{enters, enter_saves, enter_saved, resume_saves, resume_saved, sound-enter, sound-resume}
 use Rattle.paging_machine.proofs.ExitLaws.{sound-exit, sound-aex}
 use Rattle.paging_machine.proofs.Keeping.{IsKept}
-use Rattle.paging_machine.proofs.ProcessorBridge.{is_some-mode, page_added, added_there, seat_added, words_state, inside_state, exit_state, marked_own}
+use Rattle.paging_machine.proofs.ProcessorBridge.{is_some-mode, free_past, page_added, added_there, seat_added, words_state, inside_state, exit_state, marked_own}
 use Rattle.paging_machine.proofs.TrackLaws.{tracked_entered, tracked_left, counted}
 use Rattle.paging_machine.proofs.Wholes.{Leaves, kept_of}
 
@@ -82,13 +80,13 @@ inside_allowed mode e k = rw k.is refl
 pub inside_row_at : (d : Parts) (p : ℕ) (v : Processor) → v ≡ cpu_at d p → first_of_row (inside_row (is_some ((state_of d).inside p))) ≡ first_of_row (inside_row (is_inside v.mode))
 inside_row_at d p v there = rw there (ap (λ b. first_of_row (inside_row b)) (is_some-mode (cpu_at d p).mode))
 
--- past the end of the EPC nothing is held
+-- a frame that is in use is one of the EPC's
 used_within : (d : Parts) (e n : ℕ) → IsUsable e ((state_of d).content n) ((state_of d).is_sealing n) → n < length d.epc
 used_within d e n used = by_place (cases_lt n (length d.epc))
   where
     by_place : (n < length d.epc) ⊎ (length d.epc ≤ n) → n < length d.epc
     by_place (inl low) = low
-    by_place (inr past) = absurd (let free : (state_of d).content n ≡ Free = ap (λ (x : EpcFrame). held x.entry) (get_or_past d.epc n free_frame past) in cc (used.ours, free))
+    by_place (inr past) = absurd (let free = free_past d n past in cc (used.ours, free))
 
 -- the TCS page by which a processor is inside is one of its enclave's
 pub seat_tcs : (m : Inside) → IsWhole m → (p e : ℕ) (x : SecsState) → (k : IsInsideAt (cpu_at (parts_of m) p).mode e) → enclave_at m.secs e ≡ Some x → is_some (added_at x k.tcs) ≡ true

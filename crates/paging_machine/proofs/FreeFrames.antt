@@ -1,19 +1,17 @@
 -- The first free frame of the EPC is the least one of the state.
-use Rattle.std.proofs.Common.{◌≡◌, ℕ, suc, ◌+◌, ◌<◌, ◌≤◌, cond, refl, sym, ap, ◌∙◌, arith, Option, Some, None, List, [], ◌∷◌, length, get_or, add-zero}
+use Rattle.std.proofs.Common.{◌≡◌, ℕ, suc, ◌+◌, ◌<◌, cond, refl, sym, ap, ◌∙◌, arith, Option, Some, None, List, [], ◌∷◌, length, get_or, add-zero}
 use Rattle.std.specs.List.{position, position_from}
 use Rattle.std.specs.Option.{option_map}
 use Rattle.std.proofs.lemmas.Iterator.Adapters.{position_from-zero}
-use Rattle.std.proofs.lemmas.List.{get_or_past}
 use Rattle.sgx_types.specs.declared.names.Frame.{Frame}
 use Rattle.sgx_types.specs.declared.names.Kind.TheVariants as kinds
-use Rattle.sgx_types.specs.Frames.{Content, Free, free_from, least_free}
+use Rattle.sgx_types.specs.Frames.{Content, free_from, least_free}
 use Rattle.sgx_types.specs.Frames as frames
 use Rattle.epcm_entry.specs.declared.entry_view.EntryView.{EntryView}
 use Rattle.epcm_entry.specs.declared.entry_view.EntryView.TheVariants as views
 use Rattle.epcm_entry.specs.EntryView.{is_free}
 use Rattle.epcm_entry.specs.Epc.{EpcFrame, free_frame, entry_at, is_free_frame, first_free_of}
 use Rattle.epcm_entry.specs.Sights.{held}
-use Rattle.paging_machine.specs.Parts.{Parts, state_of}
 use Rattle.paging_machine.proofs.Columns.{get_or-default}
 
 free_held : (v : EntryView) → frames.is_free (held v) ≡ is_free v
@@ -41,7 +39,3 @@ pub first_free_is : (epc : List EpcFrame) → option_map (λ (f : Frame). f.0) (
 first_free_is epc =
     frame_number (position is_free_frame epc) ∙ position_from-zero is_free_frame epc
     ∙ sym (free_from-position epc (λ n. held (entry_at epc n)) 0 (λ i d low. let e : 0 + i ≡ i = omega arith in rw e (ap (λ (x : EpcFrame). held x.entry) (get_or-default epc i free_frame d low))))
-
--- beyond its last frame a machine holds nothing
-pub free_past : (d : Parts) (n : ℕ) → length d.epc ≤ n → (state_of d).content n ≡ Free
-free_past d n past = ap (λ (x : EpcFrame). held x.entry) (get_or_past d.epc n free_frame past)

@@ -1,6 +1,7 @@
 -- The machine's parts after a row of a processor, and the state that they make.
 use Rattle.std.proofs.Common.{◌≡◌, ℕ, ◌<◌, ◌≤◌, ◌==◌, Bool, true, false, cond, refl, sym, ap, ◌∙◌, Option, Some, None, List, [], length, get_or, set, is_some, length-set}
 use Rattle.std.proofs.lemmas.Bool.{cond_both, eqb-true}
+use Rattle.std.proofs.lemmas.List.{get_or_past}
 use Rattle.sgx_types.specs.declared.names.Frame.{Frame}
 use Rattle.sgx_types.specs.declared.names.Page.{Page}
 use Rattle.sgx_types.specs.declared.names.Kind.{Kind}
@@ -8,7 +9,7 @@ use Rattle.sgx_types.specs.declared.names.Perm.{Perm}
 use Rattle.sgx_types.specs.Frames.{Content, Free, IsVa, SecsOf, Holds, IsLoading, is_page, page_at, same_page}
 use Rattle.sgx_types.specs.Sights.{seat_of}
 use Rattle.epcm_entry.specs.EntryView.{block_of, goes_out}
-use Rattle.epcm_entry.specs.Epc.{entry_at, words_at, with_words}
+use Rattle.epcm_entry.specs.Epc.{EpcFrame, free_frame, entry_at, words_at, with_words}
 use Rattle.epcm_entry.specs.Sights.{held}
 use Rattle.epcm_entry.proofs.Columns.{length-with_words, entry_at-with_words, words_at-with_words}
 use Rattle.secs_state.specs.Secs.{SecsState, added_at, with_busy}
@@ -44,6 +45,10 @@ cpu_there d p v low is = is ∙ get_or-default d.cpus p v idle low
 
 -- ---- the pages in frames
 
+-- past the end of the EPC nothing is held
+pub free_past : (d : Parts) (n : ℕ) → length d.epc ≤ n → (state_of d).content n ≡ Free
+free_past d n past = ap (λ (x : EpcFrame). held x.entry) (get_or_past d.epc n free_frame past)
+
 -- a page that a frame holds was added to its enclave
 pub page_added : (s : State) → IsFramed s → (n : ℕ) (g : Page) → is_page (s.content n) g ≡ true → is_some (s.added g) ≡ true
 page_added s framed n g is = by_content (s.content n) refl is
@@ -55,7 +60,7 @@ page_added s framed n g is = by_content (s.content n) refl is
     by_content (SecsOf enclave) e k = cc
     by_content IsLoading e k = cc
 
--- .. whose state is this
+-- a page that was added, by its enclave's state
 pub added_there : (table : List (Option SecsState)) (e number : ℕ) (x : SecsState) → is_some (added_in (enclave_at table e) number) ≡ true → enclave_at table e ≡ Some x → is_some (added_at x number) ≡ true
 added_there table e number x is found = rw found at is
 

@@ -66,7 +66,7 @@ impl Machine {
         let action = Action::Xadd { off, value };
         let processor = &self.cpus[usize::from(cpu.0)];
         match xadd(&mut self.epc, processor, off, value) {
-            Ok(word) => done(actor, action, Answer::Value(word)),
+            Ok(old) => done(actor, action, Answer::Value(old)),
             Err(refusal) => refused(actor, action, refusal),
         }
     }

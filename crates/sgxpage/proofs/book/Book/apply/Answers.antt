@@ -4,7 +4,7 @@ use Rattle.sgx_types.specs.declared.entries.Entry.{Entry}
 use Rattle.sgx_types.specs.Frames.{Content, Free, content}
 use Rattle.paging_machine.specs.Parts.{Parts, state_of}
 use Rattle.paging_machine.specs.Stands.{Upholds}
-use Rattle.paging_machine.proofs.FreeFrames.{free_past}
+use Rattle.paging_machine.proofs.ProcessorBridge.{free_past}
 use Rattle.sgxpage.specs.Books.{CanAsk}
 use Rattle.sgxpage.proofs.BookLaws.{step_of}
 use Rattle.sgxpage.proofs.CalmLaws.{calm_more}
