@@ -225,7 +225,6 @@ last_track_is (e ∷ past) enclave = by_cases (is_track e.event enclave) refl (l
       passed = λ m le. rw is (omega (arith, h.passed m le));
     }
 
-
 -- the older ones are inside since before the last track
 pub older_by_places : (first : ℕ) (past : List Entry) (enclave : ℕ) → older_at past enclave ≡ number_noting first past enclave (λ m. ltb m (epoch first past enclave))
 older_by_places first past enclave = by_track (last_track past enclave) (last_track_is past enclave)
