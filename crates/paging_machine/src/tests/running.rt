@@ -147,9 +147,9 @@ fn states_are_saved_in_a_stack(rt: HostRuntime) -> Result<(), Fail> {
     Ok(())
 }
 
-#[test]
-fn accesses_go_by_their_translations(rt: HostRuntime) -> Result<(), Fail> {
-    let mut machine = Machine::new(rt.alloc(), 8, CPUS, [0; 32], 1, 1)?;
+// An enclave of four pages: page 2 can be read and written and has words 7, page 3 can be read and has words 5.
+fn four_pages(rt: &impl Abort, alloc: Global) -> Result<Machine, Memory> {
+    let mut machine = Machine::new(alloc, 8, CPUS, [0; 32], 1, 1)?;
     let pages = [
         create(0),
         add_tcs(1),
@@ -157,10 +157,13 @@ fn accesses_go_by_their_translations(rt: HostRuntime) -> Result<(), Fail> {
         add_reg(2, 3, 7),
         add(3, 4, Kind::Reg, READ, PageInit::Words(5)),
     ];
-    build(&rt, rt.alloc(), &mut machine, &pages, FOUR_PAGES)?;
-    let absent = Answer::Pf(PfWhy::Absent);
-    let wrong_type = Answer::Pf(PfWhy::WrongType);
-    let no_perm = Answer::Pf(PfWhy::NoPerm);
+    build(rt, alloc, &mut machine, &pages, FOUR_PAGES)?;
+    Ok(machine)
+}
+
+#[test]
+fn accesses_go_by_their_translations(rt: HostRuntime) -> Result<(), Fail> {
+    let mut machine = four_pages(&rt, rt.alloc())?;
     let rows = [
         (FIRST, load(0x2000), Err(Refusal::WrongMode)),
         (FIRST, enter(1, 2), Ok(Answer::Cssa(0))),
@@ -168,32 +171,59 @@ fn accesses_go_by_their_translations(rt: HostRuntime) -> Result<(), Fail> {
         (FIRST, fill(3, 4), Ok(Answer::Plain)),
         (FIRST, store(0x3000, 1), Err(Refusal::NoPerm)),
         (FIRST, xadd(0x3000, 1), Err(Refusal::NoPerm)),
-        (FIRST, pf(AccessOp::Store, 0x3000), Ok(no_perm)),
         (FIRST, load(0x3000), Ok(Answer::Value(5))),
         (FIRST, load(0x4000), Err(Refusal::Miss)),
+    ];
+    run(&rt, rt.alloc(), &mut machine, &rows)?;
+    let rows = [
+        (FIRST, fill(2, 3), Ok(Answer::Plain)),
+        (FIRST, load(0x2000), Ok(Answer::Value(7))),
+        (FIRST, store(0x2008, 9), Ok(Answer::Plain)),
+        (FIRST, xadd(0x2008, u64::MAX), Ok(Answer::Value(9))),
+        (FIRST, load(0x2008), Ok(Answer::Value(8))),
+    ];
+    run(&rt, rt.alloc(), &mut machine, &rows)?;
+    Ok(())
+}
+
+#[test]
+fn faults_have_their_cause(rt: HostRuntime) -> Result<(), Fail> {
+    let mut machine = four_pages(&rt, rt.alloc())?;
+    let absent = Answer::Pf(PfWhy::Absent);
+    let wrong_type = Answer::Pf(PfWhy::WrongType);
+    let no_perm = Answer::Pf(PfWhy::NoPerm);
+    let rows = [
+        (FIRST, pf(AccessOp::Load, 0x4000), Err(Refusal::WrongMode)),
+        (FIRST, enter(1, 2), Ok(Answer::Cssa(0))),
+        (FIRST, pf(AccessOp::Store, 0x3000), Ok(no_perm)),
         (FIRST, pf(AccessOp::Load, 0x4000), Ok(absent)),
         (FIRST, pf(AccessOp::Load, 0x0), Ok(wrong_type)),
         (FIRST, pf(AccessOp::Load, 0x2004), Err(Refusal::BadRange)),
         (FIRST, pf(AccessOp::Load, 0x2000), Err(Refusal::NoFault)),
         // Page 2^32 + 2.
         (FIRST, pf(AccessOp::Load, 0x1000_0000_2000), Ok(absent)),
-        (FIRST, fill(2, 3), Ok(Answer::Plain)),
-        (FIRST, load(0x2000), Ok(Answer::Value(7))),
-        (FIRST, store(0x2008, 9), Ok(Answer::Plain)),
-        (FIRST, xadd(0x2008, u64::MAX), Ok(Answer::Value(9))),
-        (FIRST, load(0x2008), Ok(Answer::Value(8))),
-        (FIRST, outload(0x2000), Err(Refusal::WrongMode)),
-        (FIRST, outstore(0x2000, 5), Err(Refusal::WrongMode)),
-        (FIRST, Action::Exit, Ok(Answer::Plain)),
-        (FIRST, outload(0x2000), Ok(Answer::Value(u64::MAX))),
-        (FIRST, outstore(0x2000, 5), Ok(Answer::Plain)),
+    ];
+    run(&rt, rt.alloc(), &mut machine, &rows)?;
+    Ok(())
+}
+
+#[test]
+fn outside_there_is_no_access_to_the_enclave(rt: HostRuntime) -> Result<(), Fail> {
+    let mut machine = four_pages(&rt, rt.alloc())?;
+    let rows = [
         (FIRST, store(0x2000, 1), Err(Refusal::WrongMode)),
         (FIRST, xadd(0x2000, 1), Err(Refusal::WrongMode)),
         (FIRST, set(1), Err(Refusal::WrongMode)),
         (FIRST, plus(1), Err(Refusal::WrongMode)),
-        (FIRST, pf(AccessOp::Load, 0x4000), Err(Refusal::WrongMode)),
         (FIRST, TIMER, Err(Refusal::WrongMode)),
+        (FIRST, outload(0x2000), Ok(Answer::Value(u64::MAX))),
+        (FIRST, outstore(0x2000, 5), Ok(Answer::Plain)),
+    ];
+    run(&rt, rt.alloc(), &mut machine, &rows)?;
+    let rows = [
         (FIRST, enter(1, 2), Ok(Answer::Cssa(0))),
+        (FIRST, outload(0x2000), Err(Refusal::WrongMode)),
+        (FIRST, outstore(0x2000, 5), Err(Refusal::WrongMode)),
         (FIRST, fill(2, 3), Ok(Answer::Plain)),
         (FIRST, load(0x2000), Ok(Answer::Value(7))),
     ];
@@ -237,11 +267,17 @@ fn two_processors_are_inside_one_enclave(rt: HostRuntime) -> Result<(), Fail> {
         (FIRST, set(3), Ok(Answer::Plain)),
         (FIRST, plus(1), Ok(Answer::Value(4))),
         (SECOND, plus(1), Ok(Answer::Value(6))),
+    ];
+    run(&rt, rt.alloc(), &mut machine, &rows)?;
+    let rows = [
         (FIRST, fill(1, 2), Ok(Answer::Plain)),
         (SECOND, load(0x1000), Err(Refusal::Miss)),
         (SECOND, fill(3, 4), Ok(Answer::Plain)),
         (FIRST, load(0x1000), Ok(Answer::Value(7))),
         (SECOND, load(0x3000), Ok(Answer::Value(8))),
+    ];
+    run(&rt, rt.alloc(), &mut machine, &rows)?;
+    let rows = [
         (SECOND, fault, Ok(Answer::Plain)),
         (FIRST, load(0x1000), Ok(Answer::Value(7))),
         (FIRST, Action::Exit, Ok(Answer::Plain)),
@@ -266,43 +302,31 @@ fn touch(rt: &impl Abort, alloc: Global, machine: &mut Machine, number: u32) -> 
     run(rt, alloc, machine, &rows)
 }
 
-#[test]
-fn the_sixty_fifth_translation_drops_the_oldest(rt: HostRuntime) -> Result<(), Fail> {
-    let mut machine = Machine::new(rt.alloc(), 96, CPUS, [0; 32], 1, 1)?;
+// An enclave with a TCS page and the REG pages 1 to 66 of words 3, page n in frame n + 1.
+fn many_pages(rt: &impl Abort, alloc: Global) -> Result<Machine, Memory> {
+    let mut machine = Machine::new(alloc, 96, CPUS, [0; 32], 1, 1)?;
     let whole = Action::Create {
         enclave: 1,
         frame: Frame(0),
         base: 0x8_0000,
         size: 0x8_0000,
     };
-    for action in [whole, add_tcs(1)] {
-        step(
-            &rt,
-            rt.alloc(),
-            &mut machine,
-            Actor::Builder,
-            action,
-            Ok(Answer::Plain),
-        )?;
-    }
+    let done = Ok(Answer::Plain);
+    step(rt, alloc, &mut machine, Actor::Builder, whole, done)?;
+    step(rt, alloc, &mut machine, Actor::Builder, add_tcs(1), done)?;
     for number in 1..67 {
         let action = add_reg(number, number + 1, 3);
-        step(
-            &rt,
-            rt.alloc(),
-            &mut machine,
-            Actor::Builder,
-            action,
-            Ok(Answer::Plain),
-        )?;
+        step(rt, alloc, &mut machine, Actor::Builder, action, done)?;
     }
-    build(&rt, rt.alloc(), &mut machine, &[], MANY_PAGES)?;
-    run(
-        &rt,
-        rt.alloc(),
-        &mut machine,
-        &[(FIRST, enter(1, 2), Ok(Answer::Cssa(0)))],
-    )?;
+    build(rt, alloc, &mut machine, &[], MANY_PAGES)?;
+    Ok(machine)
+}
+
+#[test]
+fn the_sixty_fifth_translation_drops_the_oldest(rt: HostRuntime) -> Result<(), Fail> {
+    let mut machine = many_pages(&rt, rt.alloc())?;
+    let entered = [(FIRST, enter(1, 2), Ok(Answer::Cssa(0)))];
+    run(&rt, rt.alloc(), &mut machine, &entered)?;
     for number in 2..67 {
         touch(&rt, rt.alloc(), &mut machine, number)?;
     }
@@ -310,11 +334,7 @@ fn the_sixty_fifth_translation_drops_the_oldest(rt: HostRuntime) -> Result<(), F
     assert!(rt; holds(&rt, &machine, 0, 3));
     touch(&rt, rt.alloc(), &mut machine, 2)?;
     assert!(rt; !holds(&rt, &machine, 0, 3));
-    run(
-        &rt,
-        rt.alloc(),
-        &mut machine,
-        &[(FIRST, load(0x4_2000), Ok(Answer::Value(3)))],
-    )?;
+    let last = [(FIRST, load(0x4_2000), Ok(Answer::Value(3)))];
+    run(&rt, rt.alloc(), &mut machine, &last)?;
     Ok(())
 }
