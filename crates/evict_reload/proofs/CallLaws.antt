@@ -1,6 +1,6 @@
 -- After each call that may move a page, done or refused, the frames that hold version array pages are those at which the
 -- table has one, where they were before.
-use Rattle.std.proofs.Common.{◌≡◌, ◌≢◌, ℕ, ◌<◌, ◌||◌, Bool, true, false, not, cond, List, Option, Some, None, Result, Ok, Err, OnOk, OnErr, IfSome, IsSome, length, length-set, refl, sym, ap, ◌∙◌, arith}
+use Rattle.std.proofs.Common.{◌≡◌, ℕ, ◌<◌, ◌||◌, Bool, true, false, not, cond, List, Option, Some, None, Result, Ok, Err, OnOk, OnErr, IfSome, length, refl, sym, ap, ◌∙◌, arith}
 use Rattle.std.proofs.lemmas.Bool.{leb-false, ltb-false, not-false}
 use Rattle.sgx_types.specs.declared.names.Kind.{Kind}
 use Rattle.sgx_types.specs.declared.names.Kind.TheVariants as kinds
@@ -10,14 +10,14 @@ use Rattle.sgx_types.specs.declared.names.SlotAt.{SlotAt}
 use Rattle.sgx_types.specs.declared.refusals.Refusal.{Refusal}
 use Rattle.sgx_types.specs.declared.refusals.Refusal.TheVariants as why
 use Rattle.sgx_types.specs.Frames.{Content, Free, IsVa, SecsOf, Holds, IsLoading}
-use Rattle.sgx_types.specs.Table.{Case, FrameSight, SlotSight, DrainSight, refusal_in, first_of_row, is_va, is_valid, is_loading, is_out_of_range, ewbstart_row, eldstart_row}
+use Rattle.sgx_types.specs.Table.{DrainSight, refusal_in, first_of_row, is_va, is_valid, is_loading, is_out_of_range, ewbstart_row, eldstart_row}
 use Rattle.epcm_entry.specs.declared.entry_view.EntryView.TheVariants as views
 use Rattle.epcm_entry.specs.EntryView.{holding, outgoing}
-use Rattle.epcm_entry.specs.Epc.{EpcFrame, entry_at, with_entry, with_page, with_sealing, with_loading, with_words, cleared}
+use Rattle.epcm_entry.specs.Epc.{EpcFrame, entry_at, with_page, with_sealing, with_loading, cleared}
 use Rattle.epcm_entry.specs.Sights.{held, sight_in}
 use Rattle.epcm_entry.specs.Words.{words_of}
 use Rattle.version_array.specs.declared.va_page.VaSlot.{VaSlot}
-use Rattle.version_array.specs.Slots.{IsSlot, with_slot, with_busy, with_version, is_busy_at}
+use Rattle.version_array.specs.Slots.{IsSlot, with_busy, with_version, is_busy_at}
 use Rattle.version_array.specs.Versions.{is_spent_at}
 use Rattle.version_array.proofs.TableLaws.{slot_kept}
 use Rattle.evict_reload.specs.Sights.{AreVaPages, slot_sight}

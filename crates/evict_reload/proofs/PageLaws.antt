@@ -1,5 +1,5 @@
 -- The frames that hold version array pages go on to be those at which the table has one.
-use Rattle.std.proofs.Common.{◌≡◌, ℕ, ◌<◌, ◌==◌, ◌||◌, Bool, true, false, cond, List, [], Option, Some, None, length, replicate, refl, sym, ap, ◌∙◌, ⊎_elim}
+use Rattle.std.proofs.Common.{◌≡◌, ℕ, ◌<◌, ◌==◌, ◌||◌, Bool, true, false, cond, List, [], Option, length, replicate, refl, sym, ap, ◌∙◌, ⊎_elim}
 use Rattle.std.specs.Prelude.{slice_index_or}
 use Rattle.std.proofs.lemmas.Bool.{cases_lt, cond_both, eqb-true}
 use Rattle.std.proofs.lemmas.List.{get_or-replicate, get_or_past, length-replicate}
@@ -15,7 +15,7 @@ use Rattle.epcm_entry.specs.Epc.{EpcFrame, entry_at, with_entry, with_page, with
 use Rattle.epcm_entry.specs.Sights.{held, sight_in}
 use Rattle.epcm_entry.proofs.Columns.{entry_at-with_entry, entry_at-with_words, entry_at-cleared}
 use Rattle.version_array.specs.declared.va_page.VaSlot.{VaSlot}
-use Rattle.version_array.specs.Slots.{IsSlot, has_page, with_slot}
+use Rattle.version_array.specs.Slots.{IsSlot, with_slot}
 use Rattle.version_array.specs.Slots.{with_page as with_va_page}
 use Rattle.version_array.proofs.TableLaws.{has_page-with_slot, has_page-with_page}
 use Rattle.evict_reload.specs.Sights.{AreVaPages}

@@ -1,12 +1,12 @@
 -- The slots of the frames that hold version array pages.
-use Rattle.std.proofs.Common.{◌≡◌, ℕ, ◌<◌, Bool, true, false, List, Option, Some, None, refl, sym, ap, ◌∙◌}
+use Rattle.std.proofs.Common.{◌≡◌, ℕ, ◌<◌, true, false, List, Option, Some, None, refl, sym, ◌∙◌}
 use Rattle.std.proofs.lemmas.Bool.{false≢true}
 use Rattle.sgx_types.specs.declared.names.SlotAt.{SlotAt}
 use Rattle.sgx_types.specs.Table.{is_va}
 use Rattle.epcm_entry.specs.Epc.{EpcFrame}
 use Rattle.epcm_entry.specs.Sights.{sight_in}
 use Rattle.version_array.specs.declared.va_page.VaSlot.{VaSlot}
-use Rattle.version_array.specs.Slots.{IsSlot, page_at, page_slots, has_page, is_busy_at, empty_slot}
+use Rattle.version_array.specs.Slots.{IsSlot, page_at, page_slots, is_busy_at, empty_slot}
 use Rattle.std.specs.Prelude.{is_some, slice_index_or}
 use Rattle.evict_reload.specs.Sights.{AreVaPages}
 

@@ -1,9 +1,8 @@
 -- What is true of a frame that a start was not refused.
-use Rattle.std.proofs.Common.{◌≡◌, ℕ, Bool, true, false, not, ◌||◌, cond, List, Option, Some, None, Ok, refl, ap, ◌∙◌}
-use Rattle.std.proofs.lemmas.Bool.{false≢true}
+use Rattle.std.proofs.Common.{◌≡◌, ℕ, Bool, true, false, not, ◌||◌, cond, List, Option, Some, None, Ok, refl}
 use Rattle.sgx_types.specs.declared.refusals.Refusal.{Refusal}
 use Rattle.sgx_types.specs.declared.refusals.Refusal.TheVariants as why
-use Rattle.sgx_types.specs.Table.{SlotSight, FrameSight, is_busy, is_loading, is_out_of_range, first_of_row, eldstart_row}
+use Rattle.sgx_types.specs.Table.{SlotSight, is_busy, is_loading, is_out_of_range, first_of_row, eldstart_row}
 use Rattle.epcm_entry.specs.declared.entry_view.EntryView.{EntryView}
 use Rattle.epcm_entry.specs.declared.entry_view.EntryView.TheVariants as views
 use Rattle.epcm_entry.specs.EntryView.{claim_answer, goes_out}

@@ -1,5 +1,5 @@
 -- A refused track leaves the tracks.
-use Rattle.std.proofs.Common.{◌≡◌, ℕ, ◌≤◌, List, Option, Some, Result, Ok, Err, OnErr, sym, ap, ◌∙◌}
+use Rattle.std.proofs.Common.{◌≡◌, ℕ, ◌≤◌, List, Some, Result, Ok, Err, OnErr, ap, ◌∙◌}
 use Rattle.sgx_types.specs.declared.refusals.Refusal.{Refusal}
 use Rattle.track_epoch.specs.Tracking.{Tracking}
 use Rattle.track_epoch.specs.Tracks.{track_of, with_track}

@@ -1,5 +1,5 @@
 -- What block, track, write-out and reload leave, and the row of the commit of a reload.
-use Rattle.std.specs.Prelude.{ℕ, ◌==◌, ◌&&◌, not, Bool, true, false, List, Option, Some, None}
+use Rattle.std.specs.Prelude.{ℕ, ◌==◌, ◌&&◌, not, Bool, false, List, Option, Some, None}
 use Rattle.std.specs.Str.{bytes_eq}
 use Rattle.sgx_types.specs.declared.names.Kind.{Kind}
 use Rattle.sgx_types.specs.declared.names.Page.{Page}
@@ -16,7 +16,7 @@ use Rattle.epcm_entry.specs.Epc.{EpcFrame, with_page, with_words}
 use Rattle.epcm_entry.specs.Epc.{with_blocked as with_block_at}
 use Rattle.epcm_entry.specs.Sights.{sight_in}
 use Rattle.epcm_entry.specs.Words.{words_of}
-use Rattle.secs_state.specs.Secs.{SecsState, added_at}
+use Rattle.secs_state.specs.Secs.{SecsState}
 use Rattle.secs_state.specs.Table.{enclave_at}
 use Rattle.track_epoch.specs.Tracking.{Tracking, tracked}
 use Rattle.track_epoch.specs.Tracks.{track_of, with_track}

@@ -1,6 +1,6 @@
 -- What the rows of block, track, write-out and reload see of the EPC, the tracks, the version arrays and the enclaves.
-use Rattle.std.specs.Prelude.{◌≡◌, ℕ, ◌≤◌, ◌==◌, ◌&&◌, nat_lt, Bool, true, false, List, Option, Some, None, IfSome, is_some}
-use Rattle.std.specs.Option.{option_map, option_and_then}
+use Rattle.std.specs.Prelude.{◌≡◌, ℕ, ◌≤◌, ◌==◌, ◌&&◌, nat_lt, Bool, false, List, Option, Some, None, IfSome, is_some}
+use Rattle.std.specs.Option.{option_and_then}
 use Rattle.sgx_types.specs.declared.names.Kind.{Kind}
 use Rattle.sgx_types.specs.declared.names.Page.{Page}
 use Rattle.sgx_types.specs.declared.names.Perm.{Perm}
