@@ -23,4 +23,5 @@ pub mod ExtendLaws
 pub mod StepLaws
 pub mod EntryBridge
 pub mod AccessBridge
+pub mod GuardLaws
 pub mod Fresh
