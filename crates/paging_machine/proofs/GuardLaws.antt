@@ -12,10 +12,10 @@ use Rattle.sgx_types.specs.declared.names.SlotAt.{SlotAt}
 use Rattle.sgx_types.specs.Counts.{count_below}
 use Rattle.sgx_types.specs.Epochs.{epoch_of}
 use Rattle.sgx_types.specs.Flat.{FlatEnclave, tcs_fields}
-use Rattle.sgx_types.specs.Frames.{Content, Free, IsVa, SecsOf, Holds, IsLoading, enclave_in, page_at, same_page}
+use Rattle.sgx_types.specs.Frames.{Content, Free, IsVa, SecsOf, Holds, IsLoading, enclave_in, is_free, page_at, same_page}
 use Rattle.sgx_types.specs.Processors.{Seat}
 use Rattle.sgx_types.specs.Starts.{Start}
-use Rattle.sgx_types.specs.Table.{FrameSight, is_loading, enter_row, resume_row, fill_row, block_row, track_row, ewbstart_row, eldstart_row, first_of_row}
+use Rattle.sgx_types.specs.Table.{FrameSight, is_loading, is_secs, is_va, enter_row, resume_row, fill_row, block_row, track_row, ewbstart_row, eldstart_row, first_of_row}
 use Rattle.measure_log.specs.declared.measure.Measure.{Measure}
 use Rattle.cached_translations.specs.declared.cache.Translation.{Translation}
 use Rattle.cached_translations.specs.Translations.{with_translation}
@@ -292,7 +292,7 @@ fill_open : (number : ℕ) (enclave : Option ℕ) (v : FrameSight) → first_of_
 fill_open number None v allowed = absurd (outside_refused number v allowed)
 fill_open number (Some enclave) v allowed = (none_holds (fill_row number (Some enclave) v) allowed).1.1.1.0
 
-noted_at : (s : State) → IsGuarded s → (p : ℕ) (seat : Seat) → s.inside p ≡ Some seat → HasNoted s.epoch s.blocked (s.noted p) (s.cache p) seat
+pub noted_at : (s : State) → IsGuarded s → (p : ℕ) (seat : Seat) → s.inside p ≡ Some seat → HasNoted s.epoch s.blocked (s.noted p) (s.cache p) seat
 noted_at s h p seat is = rw is at (h.noted p)
 
 pub guarded_fill : (s : State) (p : ℕ) (t : Translation) → first_of_row (fill_row t.number (seat_enclave (s.inside p)) (sight s t.frame.0)) ≡ None → IsGuarded s → IsGuarded (after_fill s p t)
@@ -324,7 +324,7 @@ guarded_fill s p t allowed h = record {
 
 -- ---- block and track
 
-all_both : (P Q R : Translation → Type 0) → ((t : Translation) → P t → Q t → R t) → (xs : List Translation) → All P xs → All Q xs → All R xs
+pub all_both : (P Q R : Translation → Type 0) → ((t : Translation) → P t → Q t → R t) → (xs : List Translation) → All P xs → All Q xs → All R xs
 all_both P Q R both xs h k i d low = both _ (h i d low) (k i d low)
 
 pub guarded_block : (s : State) (f : ℕ) → first_of_row (block_row (sight s f)) ≡ None → IsSound s → IsGuarded s → IsGuarded (after_block s f)
@@ -419,17 +419,147 @@ guarded_track s enclave allowed h = record {
 
 -- ---- write-out and reload
 
+-- what the start of EWB shows
+pub record StartsOut (s : State) (f : ℕ) (slot : SlotAt) : Type 0 where
+  pub idle : s.is_sealing f ≡ false
+  pub ours : is_some (enclave_in (s.content f)) ≡ true
+  pub paged : s.content slot.frame.0 ≡ IsVa
+  pub within : slot.index < 512
+  pub blocked : is_some (s.blocked f) ≡ true
+  pub drained : has_passed s (enclave_in (s.content f)) (s.blocked f) ≡ true
+
+va_there : (c : Content) → is_va c ≡ true → c ≡ IsVa
+va_there IsVa h = refl
+va_there Free h = cc h
+va_there (SecsOf enclave) h = cc h
+va_there (Holds page kind perm) h = cc h
+va_there IsLoading h = cc h
+
+page_there : (c : Content) → is_loading c ≡ false → is_free c ≡ false → is_secs c ≡ false → is_va c ≡ false → is_some (enclave_in c) ≡ true
+page_there (Holds page kind perm) waits free secs va = refl
+page_there Free waits free secs va = cc free
+page_there IsVa waits free secs va = cc va
+page_there (SecsOf enclave) waits free secs va = cc secs
+page_there IsLoading waits free secs va = cc waits
+
+pub starts_out : (s : State) (f : ℕ) (slot : SlotAt) → first_of_row (ewbstart_row (sight s f) (slot_sight s slot) (drain_sight s f) (is_version_spent s)) ≡ None → StartsOut s f slot
+starts_out s f slot allowed =
+    let none = none_holds (ewbstart_row (sight s f) (slot_sight s slot) (drain_sight s f) (is_version_spent s)) allowed in
+    let idle = neither (s.is_sealing f) (is_loading (s.content f)) (neither _ (s.is_slot_busy slot) none.1.0).0 in
+    let kinds = neither _ (not (is_va (s.content slot.frame.0))) none.1.1.1.0 in
+    let own = neither (is_secs (s.content f)) (is_va (s.content f)) kinds.0 in
+    record {
+      idle = idle.0;
+      ours = page_there (s.content f) idle.1 none.1.1.0 own.0 own.1;
+      paged = va_there (s.content slot.frame.0) (not_false _ kinds.1);
+      within = let low = ltb-false 511 slot.index (neither _ (ltb 511 slot.index) none.0).1 in omega (arith, low);
+      blocked = not_false _ none.1.1.1.1.0;
+      drained = not_false _ none.1.1.1.1.1.0;
+    }
+
+-- what the start of ELDU shows
+pub record StartsIn (s : State) (f : ℕ) (page : Page) (slot : SlotAt) : Type 0 where
+  pub free : s.content f ≡ Free
+  pub added : is_some (s.added page) ≡ true
+  pub paged : s.content slot.frame.0 ≡ IsVa
+  pub within : slot.index < 512
+
+pub starts_in : (s : State) (f : ℕ) (page : Page) (slot : SlotAt) → first_of_row (eldstart_row (sight s f) (is_some (s.added page)) (slot_sight s slot)) ≡ None → StartsIn s f page slot
+starts_in s f page slot allowed =
+    let none = none_holds (eldstart_row (sight s f) (is_some (s.added page)) (slot_sight s slot)) allowed in
+    record {
+      free = is_free_frame (s.content f) (s.is_sealing f) (neither _ (s.is_slot_busy slot) none.1.1.0).0 none.1.1.1.0;
+      added = not_false _ none.1.0;
+      paged = va_there (s.content slot.frame.0) (not_false _ none.1.1.1.1.0);
+      within = let low = ltb-false 511 slot.index (neither _ (ltb 511 slot.index) none.0).1 in omega (arith, low);
+    }
+
+-- a frame whose enclave was tracked behind its block, with nobody left from before, is drained
+pub tracked_drained : (s : State) (f b : ℕ) → IsGuarded s → s.blocked f ≡ Some b → has_passed s (enclave_in (s.content f)) (s.blocked f) ≡ true → IsDrainedAt s.inside s.noted (enclave_in (s.content f)) (epoch_in s f) b
+tracked_drained s f b h is passed = by_enclave (enclave_in (s.content f)) (rw is at passed)
+  where
+    by_enclave : (c : Option ℕ) → has_passed s c (Some b) ≡ true → IsDrainedAt s.inside s.noted c (epoch_of s.epoch c) b
+    by_enclave None k = cc k
+    by_enclave (Some enclave) k =
+        let both = both_true (ltb b (s.epoch enclave)) (number_noting s enclave (λ m. leb m b) == 0) k in
+        record {
+          tracked = ltb-true _ _ both.0;
+          left =
+              each_there s.inside (λ p seat. Some enclave ≡ Some seat.enclave → b < s.noted p)
+              (λ p seat at same.
+              let here : seat.enclave ≡ enclave = cc in
+              leb-false _ _ (none_inside s h enclave (λ m. leb m b) (eqb-true _ _ both.1) p seat at here));
+        }
+
 pub guarded_ewbstart : (s : State) (f : ℕ) (slot : SlotAt) → first_of_row (ewbstart_row (sight s f) (slot_sight s slot) (drain_sight s f) (is_version_spent s)) ≡ None → IsGuarded s → IsGuarded (after_ewbstart s f slot)
-guarded_ewbstart s f slot allowed h = ?
+guarded_ewbstart s f slot allowed h =
+    let t = after_ewbstart s f slot in
+    let k = starts_out s f slot allowed in
+    let here : (f == f) ≡ true = equal f f refl in
+    record {
+      few = h.few;
+      noted = h.noted;
+      blocks = h.blocks;
+      sealing =
+          each_frame f (λ n. t.is_sealing n ≡ true → IfSome (s.blocked n) (IsDrainedAt s.inside s.noted (enclave_in (s.content n)) (epoch_in s n)))
+          (λ _. each_there_at (s.blocked f) (IsDrainedAt s.inside s.noted (enclave_in (s.content f)) (epoch_in s f)) (λ b is. tracked_drained s f b h is k.drained)) (λ n e. rw e (h.sealing n));
+      taken = λ g busy. let k = h.taken g busy in record { cpu = k.cpu; by = k.by };
+      opened = each_frame f (λ n. IfSome (t.start n) (IsOpen s.content s.added)) (rw here (record { paged = k.paged; within = k.within; loads = tt })) (λ n e. rw e (h.opened n));
+      written = each_frame f (λ n. t.is_sealing n ≡ true → IsSomeAnd (t.start n) WritesOut) (λ _. rw here refl) (λ n e. rw e (h.written n));
+      loaded = each_frame f (λ n. s.content n ≡ IsLoading → IsSomeAnd (t.start n) Loads) (λ waits. absurd (false≢true (rw waits at k.ours))) (λ n e. rw e (h.loaded n));
+      kinds = h.kinds;
+      goes_out = each_frame f (λ n. t.is_sealing n ≡ true → is_some (enclave_in (s.content n)) ≡ true) (λ _. k.ours) (λ n e. rw e (h.goes_out n));
+    }
 
 pub guarded_eldstart : (s : State) (f : ℕ) (page : Page) (slot : SlotAt) → first_of_row (eldstart_row (sight s f) (is_some (s.added page)) (slot_sight s slot)) ≡ None → IsGuarded s → IsGuarded (after_eldstart s f page slot)
-guarded_eldstart s f page slot allowed h = ?
+guarded_eldstart s f page slot allowed h =
+    let t = after_eldstart s f page slot in
+    let k = starts_in s f page slot allowed in
+    let here : (f == f) ≡ true = equal f f refl in
+    guarded_beside (record s { content = t.content; blocked = t.blocked; start = t.start }) s.words s.enclaves s.measure s.acc s.version_in t.is_slot_busy s.next_version
+    (guarded_frame s f t.content t.blocked s.is_sealing t.start h (record {
+      same = λ n e. record { held = rw e refl; blocked_at = rw e refl; sealing = refl; start_of = rw e refl };
+      unpaged = λ va. let free = k.free in cc (free, va);
+      unblocked = rw here refl;
+      settled = stays_in s f h (rw k.free refl);
+      opened = rw here (record { paged = k.paged; within = k.within; loads = k.added });
+      loaded = λ _. rw here refl;
+    }))
+
+-- a frame whose start has ended
+ended : (s : State) (f : ℕ) (content : ℕ → Content) (blocked : ℕ → Option ℕ) (is_sealing : ℕ → Bool) → IsGuarded s → ((n : ℕ) → (f == n) ≡ false → (content n ≡ s.content n) × (blocked n ≡ s.blocked n) × (is_sealing n ≡ s.is_sealing n))
+    → (s.content f ≡ IsVa → ⊥) → blocked f ≡ None → is_sealing f ≡ false → (content f ≡ IsLoading → ⊥)
+    → IsGuarded (record s { content = content; blocked = blocked; is_sealing = is_sealing; start = λ n. cond (f == n) None (s.start n) })
+ended s f content blocked is_sealing h same unpaged unblocked settled done =
+    guarded_frame s f content blocked is_sealing (λ n. cond (f == n) None (s.start n)) h
+    (record {
+      same = λ n e. let k = same n e in record { held = k.0; blocked_at = k.1; sealing = k.2; start_of = rw e refl };
+      unpaged = unpaged;
+      unblocked = unblocked;
+      settled = settled;
+      opened = rw (equal f f refl) tt;
+      loaded = λ waits. absurd (done waits);
+    })
+
+-- .. which is free then
+freed : (s : State) (f : ℕ) (start : Start) → (s.content f ≡ IsVa → ⊥) → IsGuarded s → IsGuarded (after_failed_eld s f start)
+freed s f start unpaged h =
+    let t = after_failed_eld s f start in
+    let here : (f == f) ≡ true = equal f f refl in
+    guarded_beside (record s { content = t.content; blocked = t.blocked; is_sealing = t.is_sealing; start = t.start }) t.words s.enclaves s.measure s.acc s.version_in t.is_slot_busy s.next_version
+    (ended s f t.content t.blocked t.is_sealing h (λ n e. (rw e refl, rw e refl, rw e refl)) unpaged (rw here refl) (rw here refl) (λ waits. let free : Free ≡ IsLoading = rw here at waits in cc free))
 
 pub guarded_ewb : (s : State) (f : ℕ) (start : Start) → s.is_sealing f ≡ true → IsGuarded s → IsGuarded (after_ewb s f start)
-guarded_ewb s f start leaving h = ?
-
-pub guarded_eld : (s : State) (f : ℕ) (start : Start) (page : Page) (kind : Kind) (perm : Perm) (words : List ℕ) → s.content f ≡ IsLoading → IsGuarded s → IsGuarded (after_eld s f start page kind perm words)
-guarded_eld s f start page kind perm words waits h = ?
+guarded_ewb s f start leaving h =
+    let t = after_failed_eld s f start in
+    guarded_beside t t.words t.enclaves t.measure t.acc (after_ewb s f start).version_in t.is_slot_busy t.next_version (freed s f start (λ va. false≢true (rw va at (h.goes_out f leaving))) h)
 
 pub guarded_failed_eld : (s : State) (f : ℕ) (start : Start) → s.content f ≡ IsLoading → IsGuarded s → IsGuarded (after_failed_eld s f start)
-guarded_failed_eld s f start waits h = ?
+guarded_failed_eld s f start waits h = freed s f start (λ va. cc (waits, va)) h
+
+pub guarded_eld : (s : State) (f : ℕ) (start : Start) (page : Page) (kind : Kind) (perm : Perm) (words : List ℕ) → s.content f ≡ IsLoading → IsGuarded s → IsGuarded (after_eld s f start page kind perm words)
+guarded_eld s f start page kind perm words waits h =
+    let t = after_eld s f start page kind perm words in
+    let here : (f == f) ≡ true = equal f f refl in
+    guarded_beside (record s { content = t.content; blocked = t.blocked; start = t.start }) t.words s.enclaves s.measure s.acc t.version_in t.is_slot_busy s.next_version
+    (ended s f t.content t.blocked s.is_sealing h (λ n e. (rw e refl, rw e refl, refl)) (λ va. cc (waits, va)) (rw here refl) (stays_in s f h (rw waits refl)) (λ again. let page_is : Holds page kind perm ≡ IsLoading = rw here at again in cc page_is))

@@ -24,4 +24,5 @@ pub mod StepLaws
 pub mod EntryBridge
 pub mod AccessBridge
 pub mod GuardLaws
+pub mod PagingSound
 pub mod Fresh
