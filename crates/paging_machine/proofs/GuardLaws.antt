@@ -1,11 +1,12 @@
 -- What each row leaves of a guarded state is guarded.
-use Rattle.std.proofs.Common.{◌≡◌, ℕ, zero, suc, ◌+◌, ◌<◌, ◌≤◌, ◌==◌, ◌||◌, ◌⊎◌, inl, inr, not, Bool, true, false, cond, ltb, leb, refl, sym, ap, subst, ◌∙◌, arith, below_more, Option, Some, None, IfSome, IsSomeAnd, List, [], is_some}
+use Rattle.std.proofs.Common.{◌≡◌, ℕ, zero, suc, ◌+◌, ◌<◌, ◌≤◌, ◌==◌, ◌⊎◌, inl, inr, not, Bool, true, false, cond, ltb, leb, refl, sym, ap, subst, ◌∙◌, arith, below_more, Option, Some, None, IfSome, IsSomeAnd, List, [], is_some}
 use Rattle.std.specs.List.{All}
 use Rattle.std.proofs.lemmas.Bool.{cond_both, false≢true, eqb-true, eq-eqb, ltb-true, ltb-false, leb-false, cases_lt}
 use Rattle.std.proofs.lemmas.List.Elements.{All-weaker, All-nil}
 use Rattle.std.proofs.lemmas.Option.{IfSome_then}
 use Rattle.sgx_types.specs.declared.entries.PageInit.{PageInit}
 use Rattle.sgx_types.specs.declared.names.Kind.{Kind}
+use Rattle.sgx_types.specs.declared.names.Kind.TheVariants as kinds
 use Rattle.sgx_types.specs.declared.names.Page.{Page}
 use Rattle.sgx_types.specs.declared.names.Perm.{Perm}
 use Rattle.sgx_types.specs.declared.names.SlotAt.{SlotAt}
@@ -15,7 +16,7 @@ use Rattle.sgx_types.specs.Flat.{FlatEnclave, tcs_fields}
 use Rattle.sgx_types.specs.Frames.{Content, Free, IsVa, SecsOf, Holds, IsLoading, enclave_in, is_free, page_at, same_page}
 use Rattle.sgx_types.specs.Processors.{Seat}
 use Rattle.sgx_types.specs.Starts.{Start}
-use Rattle.sgx_types.specs.Table.{FrameSight, is_loading, is_secs, is_va, enter_row, resume_row, fill_row, block_row, track_row, ewbstart_row, eldstart_row, first_of_row}
+use Rattle.sgx_types.specs.Table.{FrameSight, is_addable, is_loading, is_secs, is_va, enter_row, resume_row, fill_row, block_row, track_row, ewbstart_row, eldstart_row, first_of_row}
 use Rattle.measure_log.specs.declared.measure.Measure.{Measure}
 use Rattle.cached_translations.specs.declared.cache.Translation.{Translation}
 use Rattle.cached_translations.specs.Translations.{with_translation}
@@ -30,6 +31,7 @@ use Rattle.paging_machine.proofs.AccessLaws.{outside_refused, All-with_translati
 
 -- ---- the columns on which no guard depends
 
+-- any change of the words, the ranges, the measurements, the accumulators, the slots and the next version
 guarded_beside : (s : State) (words : ℕ → List ℕ) (enclaves : ℕ → Option FlatEnclave) (measure : ℕ → Option Measure) (acc : ℕ → ℕ) (version_in : SlotAt → ℕ) (is_slot_busy : SlotAt → Bool) (next_version : ℕ) → IsGuarded s
     → IsGuarded (record s { words = words; enclaves = enclaves; measure = measure; acc = acc; version_in = version_in; is_slot_busy = is_slot_busy; next_version = next_version })
 guarded_beside s words enclaves measure acc version_in is_slot_busy next_version h = record {
@@ -49,12 +51,15 @@ guarded_beside s words enclaves measure acc version_in is_slot_busy next_version
 pub guarded_words : (s : State) (words : ℕ → List ℕ) → IsGuarded s → IsGuarded (record s { words = words })
 guarded_words s words h = guarded_beside s words s.enclaves s.measure s.acc s.version_in s.is_slot_busy s.next_version h
 
+-- .. and of an accumulator
 pub guarded_acc : (s : State) (p acc : ℕ) → IsGuarded s → IsGuarded (with_acc s p acc)
 guarded_acc s p acc h = guarded_beside s s.words s.enclaves s.measure (with_acc s p acc).acc s.version_in s.is_slot_busy s.next_version h
 
+-- .. and of a measurement
 pub guarded_extend : (s : State) (enclave : ℕ) (longer : Measure) → IsGuarded s → IsGuarded (after_extend s enclave longer)
 guarded_extend s enclave longer h = guarded_beside s s.words s.enclaves (after_extend s enclave longer).measure s.acc s.version_in s.is_slot_busy s.next_version h
 
+-- .. and whether an enclave is initialised
 pub guarded_init : (s : State) (enclave : ℕ) → IsGuarded s → IsGuarded (after_init s enclave)
 guarded_init s enclave h = guarded_beside s s.words (after_init s enclave).enclaves s.measure s.acc s.version_in s.is_slot_busy s.next_version h
 
@@ -88,6 +93,7 @@ stays_in s f h none = by_test (s.is_sealing f) refl
     by_test false e = refl
 
 module _ (s : State) (f : ℕ) (content : ℕ → Content) (blocked : ℕ → Option ℕ) (is_sealing : ℕ → Bool) (start : ℕ → Option Start) where
+  -- a frame of which nothing is changed
   record IsSame (n : ℕ) : Type 0 where
     held : content n ≡ s.content n
     blocked_at : blocked n ≡ s.blocked n
@@ -149,6 +155,7 @@ guarded_put s f c words h free settled =
       loaded = λ waits. absurd (settled (rw (equal f f refl) at waits));
     }))
 
+-- a free frame that comes to hold an SECS page
 pub guarded_create : (s : State) (enclave f base size : ℕ) (begun : Measure) → IsGuarded s → s.content f ≡ Free → IsGuarded (after_create s enclave f base size begun)
 guarded_create s enclave f base size begun h free =
     let t = after_create s enclave f base size begun in
@@ -169,6 +176,14 @@ guarded_added s g kind perm h paged = record {
   goes_out = h.goes_out;
 }
 
+-- a page that can be added is of such a kind
+pub addable_paged : (kind : Kind) (init : PageInit) → is_addable kind init ≡ true → IsPaged kind
+addable_paged kinds.Tcs init h = tt
+addable_paged kinds.Reg init h = tt
+addable_paged kinds.Secs init h = cc h
+addable_paged kinds.Va init h = cc h
+
+-- a free frame that comes to hold a new page
 pub guarded_add : (s : State) (g : Page) (f : ℕ) (kind : Kind) (perm : Perm) (init : PageInit) (longer : Measure) → IsGuarded s → s.content f ≡ Free → IsPaged kind → IsGuarded (after_add s g f kind perm init longer)
 guarded_add s g f kind perm init longer h free paged =
     let t = after_add s g f kind perm init longer in
@@ -181,6 +196,7 @@ guarded_add s g f kind perm init longer h free paged =
 abbrev IsBy : Page → Option Seat → Type 0
 IsBy g o = IsSomeAnd o (λ seat. page_at seat.enclave seat.tcs ≡ g)
 
+-- a frame that is not blocked was blocked no earlier than any epoch
 unblocked : (o : Option ℕ) (epoch : ℕ) → is_some o ≡ false → IsNoEarlier epoch o
 unblocked None epoch h = tt
 unblocked (Some b) epoch h = cc h
@@ -228,12 +244,14 @@ guarded_inside s p seat acc words h low outside tcs ssa = record {
         cond_both (p == q) (Some seat) (s.inside q) (IsBy g)
         (λ e. let none : s.inside q ≡ None = ap s.inside (sym (eqb-true p q e)) ∙ outside in absurd (rw none at by)) (λ _. by)
 
+-- a processor that enters
 pub guarded_enter : (s : State) (p : ℕ) (seat : Seat) → first_of_row (enter_row seat.enclave seat.tcs (enter_sight s p seat)) ≡ None → p < 16 → IsGuarded s → IsGuarded (after_enter s p seat)
 guarded_enter s p seat allowed low h =
     let f = tcs_fields (s.words seat.tcs_frame) in
     let k = enters seat.enclave seat.tcs (enter_sight s p seat) (enter_saves f) (enter_saved f) allowed in
     guarded_inside s p seat (cssa_in s seat.tcs_frame) s.words h low (none_there (s.inside p) k.outside) k.tcs_open k.ssa_open
 
+-- .. or resumes
 pub guarded_resume : (s : State) (p : ℕ) (seat : Seat) → first_of_row (resume_row seat.enclave seat.tcs (enter_sight s p seat)) ≡ None → p < 16 → IsGuarded s → IsGuarded (after_resume s p seat)
 guarded_resume s p seat allowed low h =
     let f = tcs_fields (s.words seat.tcs_frame) in
@@ -277,13 +295,16 @@ guarded_left s p words h = record {
     still : (g : Page) (q : ℕ) → is_seated_by (s.inside p) g ≡ false → IsBy g (s.inside q) → IsBy g (cond (p == q) None (s.inside q))
     still g q other by = cond_both (p == q) None (s.inside q) (IsBy g) (λ e. absurd (own g (s.inside p) other (subst (λ x. IsBy g (s.inside x)) (sym (eqb-true p q e)) by))) (λ _. by)
 
+-- a processor that exits
 pub guarded_exit : (s : State) (p : ℕ) → IsGuarded s → IsGuarded (after_exit s p)
 guarded_exit s p h = guarded_left s p s.words h
 
+-- .. having saved its accumulator
 guarded_saved : (s : State) (acc : ℕ) (o : Option Seat) → IsGuarded s → IsGuarded (with_saved s acc o)
 guarded_saved s acc None h = h
 guarded_saved s acc (Some seat) h = guarded_words s (with_saved s acc (Some seat)).words h
 
+-- .. asynchronously
 pub guarded_aex : (s : State) (p : ℕ) → IsGuarded s → IsGuarded (after_aex s p)
 guarded_aex s p h = guarded_exit (with_saved s (s.acc p) (s.inside p)) p (guarded_saved s (s.acc p) (s.inside p) h)
 
@@ -292,9 +313,11 @@ fill_open : (number : ℕ) (enclave : Option ℕ) (v : FrameSight) → first_of_
 fill_open number None v allowed = absurd (outside_refused number v allowed)
 fill_open number (Some enclave) v allowed = (none_holds (fill_row number (Some enclave) v) allowed).1.1.1.0
 
+-- what a processor inside has noted
 pub noted_at : (s : State) → IsGuarded s → (p : ℕ) (seat : Seat) → s.inside p ≡ Some seat → HasNoted s.epoch s.blocked (s.noted p) (s.cache p) seat
 noted_at s h p seat is = rw is at (h.noted p)
 
+-- a translation more, of a frame that is not blocked
 pub guarded_fill : (s : State) (p : ℕ) (t : Translation) → first_of_row (fill_row t.number (seat_enclave (s.inside p)) (sight s t.frame.0)) ≡ None → IsGuarded s → IsGuarded (after_fill s p t)
 guarded_fill s p t allowed h = record {
   few = h.few;
@@ -324,9 +347,11 @@ guarded_fill s p t allowed h = record {
 
 -- ---- block and track
 
+-- two facts of each translation give a third
 pub all_both : (P Q R : Translation → Type 0) → ((t : Translation) → P t → Q t → R t) → (xs : List Translation) → All P xs → All Q xs → All R xs
 all_both P Q R both xs h k i d low = both _ (h i d low) (k i d low)
 
+-- a block is at its enclave's epoch, and no processor inside has noted a later one
 pub guarded_block : (s : State) (f : ℕ) → first_of_row (block_row (sight s f)) ≡ None → IsSound s → IsGuarded s → IsGuarded (after_block s f)
 guarded_block s f allowed sound h = record {
   few = h.few;
@@ -370,7 +395,7 @@ none_passes test (suc n) h k low = by_test (test n) refl h (none_passes test n)
     by_test true e none before = absurd (omega arith)
     by_test false e none before = below_more (λ i. test i ≡ false) n (before (omega arith)) e k (omega arith)
 
--- .. no processor inside the enclave passes
+-- .. where that is the count of the processors inside an enclave, none of them passes
 pub none_inside : (s : State) → IsGuarded s → (enclave : ℕ) (test : ℕ → Bool) → number_noting s enclave test ≡ 0 → (p : ℕ) (seat : Seat) → s.inside p ≡ Some seat → seat.enclave ≡ enclave → test (s.noted p) ≡ false
 none_inside s h enclave test none p seat is same = by_number (cases_lt p 16)
   where
@@ -381,6 +406,7 @@ none_inside s h enclave test none p seat is same = by_number (cases_lt p 16)
     by_number (inl low) = in_range low
     by_number (inr high) = absurd (cc (h.few p high, is))
 
+-- a track, as nobody inside is older than the epoch that ends
 pub guarded_track : (s : State) (enclave : ℕ) → first_of_row (track_row (track_sight s enclave)) ≡ None → IsGuarded s → IsGuarded (after_track s enclave)
 guarded_track s enclave allowed h = record {
   few = h.few;
@@ -428,6 +454,7 @@ pub record StartsOut (s : State) (f : ℕ) (slot : SlotAt) : Type 0 where
   pub blocked : is_some (s.blocked f) ≡ true
   pub drained : has_passed s (enclave_in (s.content f)) (s.blocked f) ≡ true
 
+-- a frame that shows as a version array page is one
 va_there : (c : Content) → is_va c ≡ true → c ≡ IsVa
 va_there IsVa h = refl
 va_there Free h = cc h
@@ -435,6 +462,7 @@ va_there (SecsOf enclave) h = cc h
 va_there (Holds page kind perm) h = cc h
 va_there IsLoading h = cc h
 
+-- a frame that holds something else than an SECS or a version array page holds a page of an enclave
 page_there : (c : Content) → is_loading c ≡ false → is_free c ≡ false → is_secs c ≡ false → is_va c ≡ false → is_some (enclave_in c) ≡ true
 page_there (Holds page kind perm) waits free secs va = refl
 page_there Free waits free secs va = cc free
@@ -446,12 +474,12 @@ pub starts_out : (s : State) (f : ℕ) (slot : SlotAt) → first_of_row (ewbstar
 starts_out s f slot allowed =
     let none = none_holds (ewbstart_row (sight s f) (slot_sight s slot) (drain_sight s f) (is_version_spent s)) allowed in
     let idle = neither (s.is_sealing f) (is_loading (s.content f)) (neither _ (s.is_slot_busy slot) none.1.0).0 in
-    let kinds = neither _ (not (is_va (s.content slot.frame.0))) none.1.1.1.0 in
-    let own = neither (is_secs (s.content f)) (is_va (s.content f)) kinds.0 in
+    let of_kind = neither _ (not (is_va (s.content slot.frame.0))) none.1.1.1.0 in
+    let own = neither (is_secs (s.content f)) (is_va (s.content f)) of_kind.0 in
     record {
       idle = idle.0;
       ours = page_there (s.content f) idle.1 none.1.1.0 own.0 own.1;
-      paged = va_there (s.content slot.frame.0) (not_false _ kinds.1);
+      paged = va_there (s.content slot.frame.0) (not_false _ of_kind.1);
       within = let low = ltb-false 511 slot.index (neither _ (ltb 511 slot.index) none.0).1 in omega (arith, low);
       blocked = not_false _ none.1.1.1.1.0;
       drained = not_false _ none.1.1.1.1.1.0;
@@ -491,6 +519,7 @@ tracked_drained s f b h is passed = by_enclave (enclave_in (s.content f)) (rw is
               leb-false _ _ (none_inside s h enclave (λ m. leb m b) (eqb-true _ _ both.1) p seat at here));
         }
 
+-- a drained page starts to go out
 pub guarded_ewbstart : (s : State) (f : ℕ) (slot : SlotAt) → first_of_row (ewbstart_row (sight s f) (slot_sight s slot) (drain_sight s f) (is_version_spent s)) ≡ None → IsGuarded s → IsGuarded (after_ewbstart s f slot)
 guarded_ewbstart s f slot allowed h =
     let t = after_ewbstart s f slot in
@@ -511,6 +540,7 @@ guarded_ewbstart s f slot allowed h =
       goes_out = each_frame f (λ n. t.is_sealing n ≡ true → is_some (enclave_in (s.content n)) ≡ true) (λ _. k.ours) (λ n e. rw e (h.goes_out n));
     }
 
+-- a free frame starts to wait for a page
 pub guarded_eldstart : (s : State) (f : ℕ) (page : Page) (slot : SlotAt) → first_of_row (eldstart_row (sight s f) (is_some (s.added page)) (slot_sight s slot)) ≡ None → IsGuarded s → IsGuarded (after_eldstart s f page slot)
 guarded_eldstart s f page slot allowed h =
     let t = after_eldstart s f page slot in
@@ -549,14 +579,17 @@ freed s f start unpaged h =
     guarded_beside (record s { content = t.content; blocked = t.blocked; is_sealing = t.is_sealing; start = t.start }) t.words s.enclaves s.measure s.acc s.version_in t.is_slot_busy s.next_version
     (ended s f t.content t.blocked t.is_sealing h (λ n e. (rw e refl, rw e refl, rw e refl)) unpaged (rw here refl) (rw here refl) (λ waits. let free : Free ≡ IsLoading = rw here at waits in cc free))
 
+-- a page is out
 pub guarded_ewb : (s : State) (f : ℕ) (start : Start) → s.is_sealing f ≡ true → IsGuarded s → IsGuarded (after_ewb s f start)
 guarded_ewb s f start leaving h =
     let t = after_failed_eld s f start in
     guarded_beside t t.words t.enclaves t.measure t.acc (after_ewb s f start).version_in t.is_slot_busy t.next_version (freed s f start (λ va. false≢true (rw va at (h.goes_out f leaving))) h)
 
+-- a load is refused
 pub guarded_failed_eld : (s : State) (f : ℕ) (start : Start) → s.content f ≡ IsLoading → IsGuarded s → IsGuarded (after_failed_eld s f start)
 guarded_failed_eld s f start waits h = freed s f start (λ va. cc (waits, va)) h
 
+-- a page is back
 pub guarded_eld : (s : State) (f : ℕ) (start : Start) (page : Page) (kind : Kind) (perm : Perm) (words : List ℕ) → s.content f ≡ IsLoading → IsGuarded s → IsGuarded (after_eld s f start page kind perm words)
 guarded_eld s f start page kind perm words waits h =
     let t = after_eld s f start page kind perm words in
