@@ -8,7 +8,7 @@ use Rattle.sgx_types.specs.declared.names.Page.{Page}
 use Rattle.sgx_types.specs.Counts.{count_below}
 use Rattle.sgx_types.specs.ByEpochs.{notes, number_noting as number_noting_by, passed_block, is_drained_by_epochs}
 use Rattle.sgx_types.specs.Enclaves.{IsTaken}
-use Rattle.sgx_types.specs.Epochs.{epoch, noted, block_epoch, is_in, is_in_before, last_track, newer_at, older_at}
+use Rattle.sgx_types.specs.Epochs.{epoch, noted, block_epoch, is_before, is_in, is_in_before, last_track, newer_at, older_at}
 use Rattle.sgx_types.specs.Eviction.{is_drained}
 use Rattle.sgx_types.specs.Frames.{content, enclave_in, is_sealing, page_at}
 use Rattle.sgx_types.specs.Processors.{Seat, Stay, stay}
@@ -43,41 +43,45 @@ noting_agrees s past h enclave test = count_below-agrees _ _ (λ p. rw (h.inside
     by_stay m None = refl
     by_stay m (Some t) = refl
 
-older_agrees : (s : State) (past : List Entry) → HasColumns s past → (e : ℕ) → number_noting s e (λ m. ltb m (s.epoch e)) ≡ older_at past e
+pub older_agrees : (s : State) (past : List Entry) → HasColumns s past → (e : ℕ) → number_noting s e (λ m. ltb m (s.epoch e)) ≡ older_at past e
 older_agrees s past h e =
     rw (h.epoch e) (noting_agrees s past h e (λ m. ltb m (epoch s.first_epoch past e)) ∙ sym ((epochs_tell s.first_epoch past).older e))
 
+one_of_two : (b c : Bool) → one_if (b && c) + one_if (b && not c) ≡ one_if (b && true)
+one_of_two true true = refl
+one_of_two true false = refl
+one_of_two false c = refl
+
+one_of_those : (b c : Bool) → one_if (b && c) + one_if (b && not (b && c)) ≡ one_if b
+one_of_those true true = refl
+one_of_those true false = refl
+one_of_those false c = refl
+
+and_true : (b : Bool) → (b && true) ≡ b
+and_true true = refl
+and_true false = refl
+
 -- all that are inside are older or newer, by epochs and by places
-newer_agrees : (s : State) (past : List Entry) → HasColumns s past → (e : ℕ) → number_noting s e (λ m. not (ltb m (s.epoch e))) ≡ newer_at past e
+pub newer_agrees : (s : State) (past : List Entry) → HasColumns s past → (e : ℕ) → number_noting s e (λ m. not (ltb m (s.epoch e))) ≡ newer_at past e
 newer_agrees s past h e = omega (arith, by_epochs, by_places, all_agree, older_agrees s past h e)
   where
-    sides : (b c : Bool) → one_if (b && c) + one_if (b && not c) ≡ one_if b
-    sides true true = refl
-    sides true false = refl
-    sides false c = refl
-
     by_seat : (o : Option Seat) (m : ℕ) → one_if (is_noting e (λ m. ltb m (s.epoch e)) o m) + one_if (is_noting e (λ m. not (ltb m (s.epoch e))) o m) ≡ one_if (is_noting e (λ m. true) o m)
     by_seat None m = refl
-    by_seat (Some seat) m = sides' (seat.enclave == e) (ltb m (s.epoch e))
-      where
-        sides' : (b c : Bool) → one_if (b && c) + one_if (b && not c) ≡ one_if (b && true)
-        sides' true true = refl
-        sides' true false = refl
-        sides' false c = refl
+    by_seat (Some seat) m = one_of_two (seat.enclave == e) (ltb m (s.epoch e))
 
     by_epochs : number_noting s e (λ m. ltb m (s.epoch e)) + number_noting s e (λ m. not (ltb m (s.epoch e))) ≡ number_noting s e (λ m. true)
     by_epochs = count_below-splits _ _ _ (λ p. by_seat (s.inside p) (s.noted p)) 16
 
     by_stay : (k : Option ℕ) (o : Option Stay) → one_if (is_in_before e k o) + one_if (is_in e o && not (is_in_before e k o)) ≡ one_if (is_in e o)
     by_stay k None = refl
-    by_stay k (Some t) = ?
+    by_stay k (Some t) = one_of_those (t.seat.enclave == e) (is_before k t.entered)
 
     by_places : older_at past e + newer_at past e ≡ count_below (λ p. is_in e (stay past p)) 16
     by_places = count_below-splits _ _ _ (λ p. by_stay (last_track past e) (stay past p)) 16
 
     in_it : (o : Option Stay) (m : ℕ) → is_noting e (λ m. true) (seat_of_stay o) m ≡ is_in e o
     in_it None m = refl
-    in_it (Some t) m = ?
+    in_it (Some t) m = and_true (t.seat.enclave == e)
 
     all_agree : number_noting s e (λ m. true) ≡ count_below (λ p. is_in e (stay past p)) 16
     all_agree = count_below-agrees _ _ (λ p. rw (h.inside p) (in_it (stay past p) (s.noted p))) 16
