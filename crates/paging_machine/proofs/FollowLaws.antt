@@ -1,5 +1,5 @@
 -- Each step takes a machine that follows its entries on to one that does, whatever records are brought.
-use Rattle.std.proofs.Common.{◌≡◌, ℕ, ◌+◌, ◌/◌, ◌≤◌, ◌==◌, ◌⊎◌, inl, inr, Bool, true, false, cond, refl, sym, ap, ◌∙◌, Option, Some, None, IfSome, MatchOption, is_some, is_none, unwrap_or, List, [], ◌∷◌}
+use Rattle.std.proofs.Common.{◌≡◌, ℕ, ◌+◌, ◌/◌, ◌≤◌, ◌==◌, ◌⊎◌, inl, inr, Bool, true, false, cond, refl, sym, ap, subst, ◌∙◌, Option, Some, None, IfSome, MatchOption, is_some, is_none, unwrap_or, List, [], ◌∷◌}
 use Rattle.std.specs.Option.{IsSomeAnd}
 use Rattle.std.proofs.lemmas.Bool.{false≢true}
 use Rattle.std.proofs.lemmas.Option.{IfSome_then}
@@ -35,6 +35,7 @@ use Rattle.measure_log.specs.declared.measure.Measure.{Measure}
 use Rattle.cached_translations.specs.declared.cache.Translation.{Translation}
 use Rattle.cached_translations.specs.Translations.{translation_of}
 use Rattle.paging_machine.specs.Guarded.{IsGuarded, WritesOut}
+use Rattle.paging_machine.specs.Runs.{Run, nothing, step, written, reloaded as comes_back}
 use Rattle.paging_machine.specs.Shape.{Making, making_of, HasColumns, Follows}
 use Rattle.paging_machine.specs.Stands.{IsUsable, IsSound}
 use Rattle.paging_machine.specs.State.{State, fresh, sight, slot_sight, drain_sight, is_version_spent, translation, perm_of_held, with_acc, with_inside, with_saved, word_at, cssa_in, saved_word, after_epa, after_create, after_add, after_extend, after_init, after_enter, after_resume, after_exit, after_aex, after_fill, after_store, after_xadd, after_block, after_track, after_ewbstart, after_eldstart, after_ewb, after_eld, after_failed_eld, row_of}
@@ -456,3 +457,18 @@ fresh_follows frames cpus key first_epoch first_version = record {
       enclaves = λ e. refl;
       added = λ g. refl;
     }
+
+-- ---- every run
+
+follows_made : (s t : State) (past : List Entry) → Follows (making_of s) t past → Follows (making_of t) t past
+follows_made s t past h = subst (λ (m : Making). Follows m t past) (sym h.shape.making) h
+
+-- whatever a fresh machine comes to follows its entries
+pub every_run : (s : State) (past : List Entry) → Run s past → Follows (making_of s) s past
+every_run x all (nothing frames cpus key first_epoch first_version) = fresh_follows frames cpus key first_epoch first_version
+every_run x all (step s t past a action e run old new few can k) =
+    follows_made s t (e ∷ past) (step_follows s t (making_of s) past s.cpus a action e few can old.sound old.guarded new.sound new.guarded k (every_run s past run))
+every_run x all (written s t past a f rec e run old new sealing k) =
+    follows_made s t (e ∷ past) (written_follows s t (making_of s) past a f e rec old.sound old.guarded new.sound new.guarded sealing k (every_run s past run))
+every_run x all (comes_back s t past a f rec e run old new loading k) =
+    follows_made s t (e ∷ past) (reloaded_follows s t (making_of s) past a f e rec old.sound old.guarded new.sound new.guarded loading k (every_run s past run))
