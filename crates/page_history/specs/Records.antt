@@ -1,0 +1,62 @@
+-- The records that write-outs give, by the entries and flat memory, and the rule Sealed.
+use Rattle.std.specs.Prelude.{ℕ, ◌≡◌, List, [], ◌∷◌, ◌++◌, Option, Some, None}
+use Rattle.std.specs.List.{flat_map}
+use Rattle.std.specs.Int.{w64, to_le_bytes}
+use Rattle.sgx_types.specs.declared.entries.Action.TheVariants.{Ewb}
+use Rattle.sgx_types.specs.declared.entries.Answer.{Answer}
+use Rattle.sgx_types.specs.declared.entries.Answer.TheVariants as answers
+use Rattle.sgx_types.specs.declared.entries.Entry.{Entry}
+use Rattle.sgx_types.specs.declared.entries.Event.{Event}
+use Rattle.sgx_types.specs.declared.entries.Event.TheVariants.{Did}
+use Rattle.sgx_types.specs.declared.names.Page.{Page}
+use Rattle.sgx_types.specs.declared.record.Header.{Header}
+use Rattle.sgx_types.specs.Flat.{FlatEnclave, FlatMemory, FlatPage, flat}
+use Rattle.sgx_types.specs.Sealed.{Sealed, header_of}
+use Rattle.seal_record.specs.Cipher.{sealed}
+use Rattle.seal_record.specs.Records.{Made}
+
+-- the bytes of a page's words, each with its low byte first
+abbrev pub page_bytes : List ℕ → List ℕ
+page_bytes words = flat_map (to_le_bytes w64) words
+
+-- the record of a page under a key and a version, by what flat memory has of the page
+abbrev pub record_by : List ℕ → ℕ → Page → Option FlatEnclave → Option FlatPage → Option Sealed
+record_by key version g (Some enclave) (Some page) = Some (sealed key version (header_of enclave.base g page.kind page.perm) (page_bytes page.words))
+record_by key version g _ _ = None
+
+abbrev pub record_in : List ℕ → ℕ → FlatMemory → Page → Option Sealed
+record_in key version m g = record_by key version g (m.enclaves g.enclave) (m.pages g)
+
+-- a record that was given out, with its version
+abbrev pub made_with : ℕ → Sealed → Made
+made_with version rec = record { version = version; header = rec.header; cipher = rec.cipher; tag = rec.tag }
+
+abbrev pub more_made : ℕ → Option Sealed → List Made → List Made
+more_made version None before = before
+more_made version (Some rec) before = before ++ made_with version rec ∷ []
+
+abbrev pub made_after : List ℕ → Event → FlatMemory → List Made → List Made
+made_after key (Did (Ewb f) (answers.Moved page version tag)) m before = more_made version (record_in key version m page) before
+made_after key _ m before = before
+
+-- the records of the done write-outs, in order: each is of the page's bytes there
+abbrev pub made_by : List ℕ → List Entry → List Made
+made_by key [] = []
+made_by key (e ∷ past) = made_after key e.event (flat past) (made_by key past)
+
+-- a write-out tells the tag of the page's bytes
+pub record IsSealed (key : List ℕ) (m : FlatMemory) (page : Page) (version : ℕ) (tag : List ℕ) : Type 0 where
+  pub rec : Sealed
+  pub made : record_in key version m page ≡ Some rec
+  pub told : tag ≡ rec.tag
+
+abbrev pub SealedRule : List ℕ → List Entry → Entry → Type 0
+SealedRule key past e = by_event e.event
+  where
+    by_answer : Answer → Type 0
+    by_answer (answers.Moved page version tag) = IsSealed key (flat past) page version tag
+    by_answer _ = ⊥
+
+    by_event : Event → Type 0
+    by_event (Did (Ewb f) answer) = by_answer answer
+    by_event _ = Unit {0}
