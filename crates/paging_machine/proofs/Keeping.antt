@@ -32,7 +32,7 @@ framed_put : (s : State) (f : ℕ) (c : Content) → ((g : Page) (kind : Kind) (
 framed_put s f c none h n g kind perm = cond_both (f == n) c (s.content n) (λ v. v ≡ Holds g kind perm → is_some (s.added g) ≡ true) (λ _ at. absurd (none g kind perm at)) (λ _. h n g kind perm)
 
 pub kept_put : (s : State) (f : ℕ) (c : Content) → ((g : Page) (kind : Kind) (perm : Perm) → c ≡ Holds g kind perm → ⊥) → s.content f ≡ Free → IsKept s → IsKept (with_content s f c)
-kept_put s f c none free h = record { measured = h.measured; framed = framed_put s f c none h.framed; within = h.within; sound = sound-put s f c s.words h.sound free (λ n other. refl) h.sound.sized }
+kept_put s f c none free h = record { measured = h.measured; framed = framed_put s f c none h.framed; within = h.within; sound = sound-put s f c s.words h.sound free (λ n other. refl) h.sound.sized; guarded = ? }
 
 pub kept_create : (s : State) (e f base size : ℕ) (begun : Measure) → s.content f ≡ Free → IsKept s → IsKept (after_create s e f base size begun)
 kept_create s e f base size begun free h = record {
@@ -40,6 +40,7 @@ kept_create s e f base size begun free h = record {
   framed = framed_put s f (SecsOf e) (λ g kind perm at. cc at) h.framed;
   within = h.within;
   sound = let k = sound-put s f (SecsOf e) s.words h.sound free (λ n other. refl) h.sound.sized in record { seated = k.seated; busy = k.busy; apart = k.apart; sized = k.sized };
+  guarded = ?;
 }
   where
     by_enclave : (k : ℕ) (b : Bool) → is_some (cond b (Some (let x : FlatEnclave = record { base = base; size = size; is_init = false } in x)) (s.enclaves k)) ≡ true → is_some (cond b (Some begun) (s.measure k)) ≡ true
@@ -51,7 +52,7 @@ measured_longer : (s : State) (e : ℕ) (longer : Measure) → IsMeasured s → 
 measured_longer s e longer h k made = cond_both (k == e) (Some longer) (s.measure k) (λ v. is_some v ≡ true) (λ _. refl) (λ _. h k made)
 
 pub kept_extend : (s : State) (e : ℕ) (longer : Measure) → IsKept s → IsKept (after_extend s e longer)
-kept_extend s e longer h = record { measured = measured_longer s e longer h.measured; framed = h.framed; within = h.within; sound = record { seated = h.sound.seated; busy = h.sound.busy; apart = h.sound.apart; sized = h.sound.sized } }
+kept_extend s e longer h = record { measured = measured_longer s e longer h.measured; framed = h.framed; within = h.within; sound = record { seated = h.sound.seated; busy = h.sound.busy; apart = h.sound.apart; sized = h.sound.sized }; guarded = ? }
 
 pub kept_add : (s : State) (g : Page) (f : ℕ) (kind : Kind) (perm : Perm) (init : PageInit) (longer : Measure) → s.content f ≡ Free → IsKept s → IsKept (after_add s g f kind perm init longer)
 kept_add s g f kind perm init longer free h = record {
@@ -62,10 +63,11 @@ kept_add s g f kind perm init longer free h = record {
       (λ _ at. cond_both (same_page q g) (Some (kind, perm)) (s.added q) (λ v. is_some v ≡ true) (λ _. refl) (λ _. h.framed n q k p at));
   within = h.within;
   sound = sound_add s g f kind perm init longer h.sound free;
+  guarded = ?;
 }
 
 pub kept_init : (s : State) (e : ℕ) → IsKept s → IsKept (after_init s e)
-kept_init s e h = record { measured = λ k made. h.measured k (by_mark (k == e) (s.enclaves k) made); framed = h.framed; within = h.within; sound = record { seated = h.sound.seated; busy = h.sound.busy; apart = h.sound.apart; sized = h.sound.sized } }
+kept_init s e h = record { measured = λ k made. h.measured k (by_mark (k == e) (s.enclaves k) made); framed = h.framed; within = h.within; sound = record { seated = h.sound.seated; busy = h.sound.busy; apart = h.sound.apart; sized = h.sound.sized }; guarded = ? }
   where
     by_mark : (b : Bool) (o : Option FlatEnclave) → is_some (cond b (marked o) o) ≡ true → is_some o ≡ true
     by_mark true None made = cc made
