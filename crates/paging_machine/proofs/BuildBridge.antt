@@ -34,6 +34,7 @@ use Rattle.version_array.specs.Slots.{page_at as page_at_va, with_page as with_v
 use Rattle.version_array.proofs.TableLaws.{version_in-with_page, is_busy_at-with_page}
 use Rattle.evict_reload.specs.Sights.{AreVaPages}
 use Rattle.evict_reload.proofs.PageLaws.{pages-with_entry, pages-with_words}
+use Rattle.paging_machine.specs.Guarded.{IsPaged}
 use Rattle.paging_machine.specs.State.{after_epa, after_create, after_add, after_extend, after_init}
 use Rattle.paging_machine.specs.Parts.{Parts, enclave_of, added_in, is_busy_in, state_of}
 use Rattle.paging_machine.specs.Whole.{IsSecsOf, IsTable}
@@ -197,6 +198,13 @@ holds_added g kinds.Tcs perm init h = refl
 holds_added g kinds.Reg perm init h = refl
 holds_added g kinds.Secs perm init h = cc
 holds_added g kinds.Va perm init h = cc
+
+-- a page that can be added is a TCS or a REG page
+pub paged : (kind : Kind) (init : PageInit) → table.is_addable kind init ≡ true → IsPaged kind
+paged kinds.Tcs init h = tt
+paged kinds.Reg init h = tt
+paged kinds.Secs init h = cc
+paged kinds.Va init h = cc
 
 -- the frame of a new page held no version array page, and holds none
 pub add_pages : (d : Parts) (g : Page) (f : ℕ) (kind : Kind) (perm : Perm) (init : PageInit) (x : SecsState) → AreVaPages d.epc d.va → Adds d.epc f g.number kind init x → AreVaPages (with_added d.epc f g kind perm init) d.va

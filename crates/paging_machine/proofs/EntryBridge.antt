@@ -1,5 +1,5 @@
 -- What the rows that take a processor into an enclave and out of it leave of the machine.
-use Rattle.std.proofs.Common.{◌≡◌, ℕ, ◌+◌, ◌-◌, ◌<◌, ◌≤◌, ◌==◌, true, false, cond, refl, sym, ap, ◌∙◌, ◌⊎◌, inl, inr, Some, None, List, [], length, set, is_some, length-set}
+use Rattle.std.proofs.Common.{◌≡◌, ℕ, ◌+◌, ◌-◌, ◌<◌, ◌≤◌, ◌==◌, true, false, cond, refl, sym, ap, ◌∙◌, arith, ◌⊎◌, inl, inr, Some, None, List, [], length, set, is_some, length-set}
 use Rattle.std.specs.Prelude.{slice_set}
 use Rattle.std.proofs.lemmas.Bool.{cond_both, cases_lt, leb-false}
 use Rattle.std.proofs.lemmas.List.Elements.{All-nil}
@@ -50,18 +50,18 @@ emptied : (s : State) (p : ℕ) → IsWithin s → (q : ℕ) → LeadsBelow (con
 emptied s p h q = cond_both (p == q) [] (s.cache q) (λ xs. LeadsBelow xs s.frames) (λ _. All-nil (λ (t : Translation). t.frame.0 < s.frames)) (λ _. h q)
 
 kept_enter : (s : State) (p : ℕ) (seat : Seat) → p < 16 → first_of_row (enter_row seat.enclave seat.tcs (enter_sight s p seat)) ≡ None → IsKept s → IsKept (after_enter s p seat)
-kept_enter s p seat few allowed h = record { measured = h.measured; framed = h.framed; within = emptied s p h.within; sound = sound-enter s p seat allowed h.sound; guarded = guarded_enter s p seat few allowed h.sound h.guarded }
+kept_enter s p seat few allowed h = record { measured = h.measured; framed = h.framed; within = emptied s p h.within; sound = sound-enter s p seat allowed h.sound; guarded = guarded_enter s p seat allowed few h.guarded }
 
 kept_resume : (s : State) (p : ℕ) (seat : Seat) → p < 16 → first_of_row (resume_row seat.enclave seat.tcs (enter_sight s p seat)) ≡ None → IsKept s → IsKept (after_resume s p seat)
-kept_resume s p seat few allowed h = record { measured = h.measured; framed = h.framed; within = emptied s p h.within; sound = sound-resume s p seat allowed h.sound; guarded = guarded_resume s p seat few allowed h.sound h.guarded }
+kept_resume s p seat few allowed h = record { measured = h.measured; framed = h.framed; within = emptied s p h.within; sound = sound-resume s p seat allowed h.sound; guarded = guarded_resume s p seat allowed few h.guarded }
 
-kept_exit : (s : State) (p : ℕ) → p < 16 → IsKept s → IsKept (after_exit s p)
-kept_exit s p few h = record { measured = h.measured; framed = h.framed; within = emptied s p h.within; sound = sound-exit s p h.sound; guarded = guarded_exit s p few h.sound h.guarded }
+kept_exit : (s : State) (p : ℕ) → IsKept s → IsKept (after_exit s p)
+kept_exit s p h = record { measured = h.measured; framed = h.framed; within = emptied s p h.within; sound = sound-exit s p h.sound; guarded = guarded_exit s p h.guarded }
 
-kept_aex : (s : State) (p : ℕ) (seat : Seat) → p < 16 → s.inside p ≡ Some seat → IsKept s → IsKept (after_exit (state_saved s (s.acc p) (Some seat)) p)
-kept_aex s p seat few is h =
+kept_aex : (s : State) (p : ℕ) (seat : Seat) → s.inside p ≡ Some seat → IsKept s → IsKept (after_exit (state_saved s (s.acc p) (Some seat)) p)
+kept_aex s p seat is h =
     let sound : IsSound (after_exit (state_saved s (s.acc p) (Some seat)) p) = rw is at (sound-aex s p seat is h.sound) in
-    let guarded : IsGuarded (after_exit (state_saved s (s.acc p) (Some seat)) p) = rw is at (guarded_aex s p few h.sound h.guarded) in
+    let guarded : IsGuarded (after_exit (state_saved s (s.acc p) (Some seat)) p) = rw is at (guarded_aex s p h.guarded) in
     record { measured = h.measured; framed = h.framed; within = emptied s p h.within; sound = sound; guarded = guarded }
 
 -- ---- where a processor is inside
@@ -226,7 +226,7 @@ module _ (m : Inside) (h : IsWhole m) (p e : ℕ) (x : SecsState) (t : Tracking)
     -- what `exit` leaves
     pub exit_leaves : (x' : SecsState) (t' : Tracking) (v' : Processor) → x' ≡ with_tcs_left x v.mode → t' ≡ with_left t v.mode → v' ≡ outside v → Leaves (parts_written d.epc x' t' v') (after_exit (state_of d) p)
     exit_leaves x' t' v' new_secs new_track new_cpu =
-        left_leaves d.epc (state_of d) k.tcs k.tcs_frame k.ssa_frame k.epoch x' t' v' refl refl h.pages (kept_exit (state_of d) p few (kept_of m h)) k.is (seat_tcs m h p e x k found) (new_secs ∙ ap (with_tcs_left x) mode) (new_track ∙ ap (with_left t) mode)
+        left_leaves d.epc (state_of d) k.tcs k.tcs_frame k.ssa_frame k.epoch x' t' v' refl refl h.pages (kept_exit (state_of d) p (kept_of m h)) k.is (seat_tcs m h p e x k found) (new_secs ∙ ap (with_tcs_left x) mode) (new_track ∙ ap (with_left t) mode)
         (new_cpu ∙ ap outside there)
 
     -- what `aex` leaves
@@ -251,5 +251,5 @@ module _ (m : Inside) (h : IsWhole m) (p e : ℕ) (x : SecsState) (t : Tracking)
         ap (λ epc. state_of (record d { epc = epc })) epc_is ∙ two ∙ ap (λ (s' : State). record s' { words = rewritten s'.words tf change }) one in
         let after : after_exit (state_saved s acc (Some mine)) p ≡ after_aex s p = ap (λ o. after_exit (state_saved s acc o) p) (sym is) in
         rw (← after)
-        (left_leaves epc (state_saved s acc (Some mine)) k.tcs k.tcs_frame k.ssa_frame k.epoch x' t' v' words refl (rw epc_is (pages-with_words mid.epc d.va tf _ (pages-with_words d.epc d.va sf _ h.pages))) (kept_aex s p mine few is (kept_of m h)) k.is (seat_tcs m h p e x k found) (new_secs ∙ ap (with_tcs_left x) mode)
+        (left_leaves epc (state_saved s acc (Some mine)) k.tcs k.tcs_frame k.ssa_frame k.epoch x' t' v' words refl (rw epc_is (pages-with_words mid.epc d.va tf _ (pages-with_words d.epc d.va sf _ h.pages))) (kept_aex s p mine is (kept_of m h)) k.is (seat_tcs m h p e x k found) (new_secs ∙ ap (with_tcs_left x) mode)
         (new_track ∙ ap (with_left t) mode) (new_cpu ∙ ap outside there))

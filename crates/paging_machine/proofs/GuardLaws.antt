@@ -1,29 +1,221 @@
--- placeholder
-use Rattle.std.proofs.Common.{◌≡◌, ℕ, ◌<◌, Some, None, List}
+-- What each row leaves of a guarded state is guarded.
+use Rattle.std.proofs.Common.{◌≡◌, ℕ, ◌+◌, ◌-◌, ◌<◌, ◌≤◌, ◌==◌, ◌||◌, ◌⊎◌, inl, inr, not, Bool, true, false, cond, ltb, leb, refl, sym, ap, subst, ◌∙◌, arith, Option, Some, None, IfSome, IsSomeAnd, List, [], is_some}
+use Rattle.std.specs.List.{All}
+use Rattle.std.proofs.lemmas.Bool.{cond_both, false≢true, eqb-true, eq-eqb, ltb-true, ltb-false, leb-false, cases_lt}
+use Rattle.std.proofs.lemmas.List.Elements.{All-weaker, All-nil}
+use Rattle.std.proofs.lemmas.Option.{IfSome_then}
+use Rattle.sgx_types.specs.declared.entries.PageInit.{PageInit}
+use Rattle.sgx_types.specs.declared.names.Kind.{Kind}
+use Rattle.sgx_types.specs.declared.names.Page.{Page}
+use Rattle.sgx_types.specs.declared.names.Perm.{Perm}
+use Rattle.sgx_types.specs.declared.names.SlotAt.{SlotAt}
+use Rattle.sgx_types.specs.Epochs.{epoch_of}
+use Rattle.sgx_types.specs.Flat.{FlatEnclave, tcs_fields}
+use Rattle.sgx_types.specs.Frames.{Content, Free, IsVa, SecsOf, Holds, IsLoading, enclave_in, page_at, same_page}
 use Rattle.sgx_types.specs.Processors.{Seat}
-use Rattle.sgx_types.specs.Table.{enter_row, resume_row, fill_row, first_of_row}
+use Rattle.sgx_types.specs.Starts.{Start}
+use Rattle.sgx_types.specs.Table.{enter_row, resume_row, fill_row, block_row, track_row, ewbstart_row, eldstart_row, first_of_row}
+use Rattle.measure_log.specs.declared.measure.Measure.{Measure}
 use Rattle.cached_translations.specs.declared.cache.Translation.{Translation}
-use Rattle.paging_machine.specs.State.{State, sight, seat_enclave, enter_sight, after_enter, after_resume, after_exit, after_aex, after_fill, with_acc}
+use Rattle.paging_machine.specs.State.{State, sight, enter_sight, seat_enclave, epoch_in, track_sight, slot_sight, drain_sight, is_version_spent, with_content, with_inside, with_acc, after_create, after_add, after_extend, after_init, after_enter, after_resume, after_exit, after_aex, after_fill, after_block, after_track, after_ewbstart, after_eldstart, after_ewb, after_eld, after_failed_eld}
 use Rattle.paging_machine.specs.Stands.{IsSound}
-use Rattle.paging_machine.specs.Guarded.{IsGuarded}
+use Rattle.paging_machine.proofs.Tools.{apart, equal, each_there, none_holds, neither, not_false, both_true}
+use Rattle.paging_machine.specs.Guarded.{IsNoEarlier, HasNoted, IsDrainedAt, IsTakenIn, IsPaged, IsOpen, WritesOut, Loads, IsGuarded}
 
-pub guarded_enter : (s : State) (p : ℕ) (seat : Seat) → p < 16 → first_of_row (enter_row seat.enclave seat.tcs (enter_sight s p seat)) ≡ None → IsSound s → IsGuarded s → IsGuarded (after_enter s p seat)
-guarded_enter s p seat few allowed sound h = ?
+-- ---- the columns on which no guard depends
 
-pub guarded_resume : (s : State) (p : ℕ) (seat : Seat) → p < 16 → first_of_row (resume_row seat.enclave seat.tcs (enter_sight s p seat)) ≡ None → IsSound s → IsGuarded s → IsGuarded (after_resume s p seat)
-guarded_resume s p seat few allowed sound h = ?
+guarded_beside : (s : State) (words : ℕ → List ℕ) (enclaves : ℕ → Option FlatEnclave) (measure : ℕ → Option Measure) (acc : ℕ → ℕ) (version_in : SlotAt → ℕ) (is_slot_busy : SlotAt → Bool) (next_version : ℕ) → IsGuarded s
+    → IsGuarded (record s { words = words; enclaves = enclaves; measure = measure; acc = acc; version_in = version_in; is_slot_busy = is_slot_busy; next_version = next_version })
+guarded_beside s words enclaves measure acc version_in is_slot_busy next_version h = record {
+  few = h.few;
+  noted = h.noted;
+  blocks = h.blocks;
+  sealing = h.sealing;
+  taken = λ g busy. let k = h.taken g busy in record { cpu = k.cpu; by = k.by };
+  opened = h.opened;
+  written = h.written;
+  loaded = h.loaded;
+  kinds = h.kinds;
+  goes_out = h.goes_out;
+}
 
-pub guarded_exit : (s : State) (p : ℕ) → p < 16 → IsSound s → IsGuarded s → IsGuarded (after_exit s p)
-guarded_exit s p few sound h = ?
+-- any change of the words alone
+pub guarded_words : (s : State) (words : ℕ → List ℕ) → IsGuarded s → IsGuarded (record s { words = words })
+guarded_words s words h = guarded_beside s words s.enclaves s.measure s.acc s.version_in s.is_slot_busy s.next_version h
 
-pub guarded_aex : (s : State) (p : ℕ) → p < 16 → IsSound s → IsGuarded s → IsGuarded (after_aex s p)
-guarded_aex s p few sound h = ?
+pub guarded_acc : (s : State) (p acc : ℕ) → IsGuarded s → IsGuarded (with_acc s p acc)
+guarded_acc s p acc h = guarded_beside s s.words s.enclaves s.measure (with_acc s p acc).acc s.version_in s.is_slot_busy s.next_version h
+
+pub guarded_extend : (s : State) (enclave : ℕ) (longer : Measure) → IsGuarded s → IsGuarded (after_extend s enclave longer)
+guarded_extend s enclave longer h = guarded_beside s s.words s.enclaves (after_extend s enclave longer).measure s.acc s.version_in s.is_slot_busy s.next_version h
+
+pub guarded_init : (s : State) (enclave : ℕ) → IsGuarded s → IsGuarded (after_init s enclave)
+guarded_init s enclave h = guarded_beside s s.words (after_init s enclave).enclaves s.measure s.acc s.version_in s.is_slot_busy s.next_version h
+
+-- ---- one frame that is put, or whose start begins or ends
+
+-- what holds of a frame and of each other holds of all
+pub each_frame : (f : ℕ) (P : ℕ → Type 0) → P f → ((n : ℕ) → (f == n) ≡ false → P n) → (n : ℕ) → P n
+each_frame f P here elsewhere n = by_test (f == n) refl
+  where
+    by_test : (b : Bool) → (f == n) ≡ b → P n
+    by_test true e = subst P (eqb-true f n e) here
+    by_test false e = elsewhere n e
+
+-- a processor's frames are blocked no earlier, where blocks get no earlier
+noted_still : (epoch : ℕ → ℕ) (blocked blocked' : ℕ → Option ℕ) (noted : ℕ) (held : List Translation) (seat : Seat) → ((n : ℕ) → IsNoEarlier noted (blocked n) → IsNoEarlier noted (blocked' n))
+    → HasNoted epoch blocked noted held seat → HasNoted epoch blocked' noted held seat
+noted_still epoch blocked blocked' noted held seat later h = record {
+  not_ahead = h.not_ahead;
+  not_behind = h.not_behind;
+  tcs = later seat.tcs_frame h.tcs;
+  ssa = later seat.ssa_frame h.ssa;
+  cache = All-weaker (λ (t : Translation). IsNoEarlier noted (blocked t.frame.0)) (λ t. IsNoEarlier noted (blocked' t.frame.0)) (λ t. later t.frame.0) held h.cache;
+}
+
+-- a page of no enclave is not on its way out
+stays_in : (s : State) (f : ℕ) → IsGuarded s → is_some (enclave_in (s.content f)) ≡ false → s.is_sealing f ≡ false
+stays_in s f h none = by_test (s.is_sealing f) refl
+  where
+    by_test : (b : Bool) → s.is_sealing f ≡ b → b ≡ false
+    by_test true e = absurd (false≢true (sym none ∙ h.goes_out f e))
+    by_test false e = refl
+
+module _ (s : State) (f : ℕ) (content : ℕ → Content) (blocked : ℕ → Option ℕ) (is_sealing : ℕ → Bool) (start : ℕ → Option Start) where
+  record IsSame (n : ℕ) : Type 0 where
+    held : content n ≡ s.content n
+    blocked_at : blocked n ≡ s.blocked n
+    sealing : is_sealing n ≡ s.is_sealing n
+    start_of : start n ≡ s.start n
+
+  -- the frame held no version array page, and is not blocked and not on its way out then; its start, if it has one, is open
+  record IsPut : Type 0 where
+    same : (n : ℕ) → (f == n) ≡ false → IsSame n
+    unpaged : s.content f ≡ IsVa → ⊥
+    unblocked : blocked f ≡ None
+    settled : is_sealing f ≡ false
+    opened : IfSome (start f) (IsOpen s.content s.added)
+    loaded : content f ≡ IsLoading → IsSomeAnd (start f) Loads
+
+  guarded_frame : IsGuarded s → IsPut → IsGuarded (record s { content = content; blocked = blocked; is_sealing = is_sealing; start = start })
+  guarded_frame h k = record {
+    few = h.few;
+    noted = λ p.
+        IfSome_then (s.inside p) (h.noted p)
+        (λ seat. noted_still s.epoch s.blocked blocked (s.noted p) (s.cache p) seat
+        (each_frame f (λ n. IsNoEarlier (s.noted p) (s.blocked n) → IsNoEarlier (s.noted p) (blocked n)) (λ _. rw k.unblocked tt) (λ n e. rw (k.same n e).blocked_at (λ x. x))));
+    blocks = each_frame f (λ n. IfSome (blocked n) (λ b. b ≤ epoch_of s.epoch (enclave_in (content n)))) (rw k.unblocked tt) (λ n e. let same = k.same n e in rw (same.blocked_at, same.held) (h.blocks n));
+    sealing =
+        each_frame f (λ n. is_sealing n ≡ true → IfSome (blocked n) (IsDrainedAt s.inside s.noted (enclave_in (content n)) (epoch_of s.epoch (enclave_in (content n))))) (λ _. rw k.unblocked tt)
+        (λ n e. let same = k.same n e in rw (same.sealing, same.blocked_at, same.held) (h.sealing n));
+    taken = λ g busy. let k = h.taken g busy in record { cpu = k.cpu; by = k.by };
+    opened = λ n. IfSome_then (start n) (each_frame f (λ n. IfSome (start n) (IsOpen s.content s.added)) k.opened (λ n e. rw (k.same n e).start_of (h.opened n)) n) still_open;
+    written =
+        each_frame f (λ n. is_sealing n ≡ true → IsSomeAnd (start n) WritesOut) (λ leaves. absurd (false≢true (sym k.settled ∙ leaves)))
+        (λ n e. let same = k.same n e in rw (same.sealing, same.start_of) (h.written n));
+    loaded = each_frame f (λ n. content n ≡ IsLoading → IsSomeAnd (start n) Loads) k.loaded (λ n e. let same = k.same n e in rw (same.held, same.start_of) (h.loaded n));
+    kinds = h.kinds;
+    goes_out =
+        each_frame f (λ n. is_sealing n ≡ true → is_some (enclave_in (content n)) ≡ true) (λ leaves. absurd (false≢true (sym k.settled ∙ leaves)))
+        (λ n e. let same = k.same n e in rw (same.sealing, same.held) (h.goes_out n));
+  }
+    where
+      still_open : (x : Start) → IsOpen s.content s.added x → IsOpen content s.added x
+      still_open x o = record {
+        paged = (k.same x.slot.frame.0 (apart f x.slot.frame.0 (λ same. k.unpaged (ap s.content same ∙ o.paged)))).held ∙ o.paged;
+        within = o.within;
+        loads = o.loads;
+      }
+
+-- ---- building
+
+-- a free frame that is put, and may get other words
+pub guarded_put : (s : State) (f : ℕ) (c : Content) (words : ℕ → List ℕ) → IsGuarded s → s.content f ≡ Free → (c ≡ IsLoading → ⊥) → IsGuarded (record (with_content s f c) { words = words })
+guarded_put s f c words h free settled =
+    let t = with_content s f c in
+    guarded_words t words
+    (guarded_frame s f t.content t.blocked s.is_sealing s.start h (record {
+      same = λ n e. record { held = rw e refl; blocked_at = rw e refl; sealing = refl; start_of = refl };
+      unpaged = λ va. cc (free, va);
+      unblocked = rw (equal f f refl) refl;
+      settled = stays_in s f h (rw free refl);
+      opened = h.opened f;
+      loaded = λ waits. absurd (settled (rw (equal f f refl) at waits));
+    }))
+
+pub guarded_create : (s : State) (enclave f base size : ℕ) (begun : Measure) → IsGuarded s → s.content f ≡ Free → IsGuarded (after_create s enclave f base size begun)
+guarded_create s enclave f base size begun h free =
+    let t = after_create s enclave f base size begun in
+    guarded_beside (with_content s f (SecsOf enclave)) s.words t.enclaves t.measure s.acc s.version_in s.is_slot_busy s.next_version (guarded_put s f (SecsOf enclave) s.words h free (λ waits. cc waits))
+
+-- a page more that was added, of a kind for pages
+guarded_added : (s : State) (g : Page) (kind : Kind) (perm : Perm) → IsGuarded s → IsPaged kind → IsGuarded (record s { added = λ q. cond (same_page q g) (Some (kind, perm)) (s.added q) })
+guarded_added s g kind perm h paged = record {
+  few = h.few;
+  noted = h.noted;
+  blocks = h.blocks;
+  sealing = h.sealing;
+  taken = λ q busy. let k = h.taken q busy in record { cpu = k.cpu; by = k.by };
+  opened = λ n. IfSome_then (s.start n) (h.opened n) (λ x o. record { paged = o.paged; within = o.within; loads = IfSome_then x.loads o.loads (λ q there. cond_both (same_page q g) (Some (kind, perm)) (s.added q) (λ v. is_some v ≡ true) (λ _. refl) (λ _. there)) });
+  written = h.written;
+  loaded = h.loaded;
+  kinds = λ q. cond_both (same_page q g) (Some (kind, perm)) (s.added q) (λ v. IfSome v (λ x. IsPaged x.0)) (λ _. paged) (λ _. h.kinds q);
+  goes_out = h.goes_out;
+}
+
+pub guarded_add : (s : State) (g : Page) (f : ℕ) (kind : Kind) (perm : Perm) (init : PageInit) (longer : Measure) → IsGuarded s → s.content f ≡ Free → IsPaged kind → IsGuarded (after_add s g f kind perm init longer)
+guarded_add s g f kind perm init longer h free paged =
+    let t = after_add s g f kind perm init longer in
+    guarded_beside (record (with_content s f (Holds g kind perm)) { added = t.added }) t.words s.enclaves t.measure s.acc s.version_in s.is_slot_busy s.next_version
+    (guarded_added (with_content s f (Holds g kind perm)) g kind perm (guarded_put s f (Holds g kind perm) s.words h free (λ waits. cc waits)) paged)
+
+-- ---- processors
+
+-- a processor that comes inside by frames that are not blocked, while words may change
+pub guarded_inside : (s : State) (p : ℕ) (seat : Seat) (acc : ℕ) (words : ℕ → List ℕ) → IsGuarded s → p < 16 → s.inside p ≡ None → is_some (s.blocked seat.tcs_frame) ≡ false → is_some (s.blocked seat.ssa_frame) ≡ false
+    → IsGuarded (record (with_inside s p seat acc) { words = words })
+guarded_inside s p seat acc words h low outside tcs ssa = ?
+
+pub guarded_enter : (s : State) (p : ℕ) (seat : Seat) → first_of_row (enter_row seat.enclave seat.tcs (enter_sight s p seat)) ≡ None → p < 16 → IsGuarded s → IsGuarded (after_enter s p seat)
+guarded_enter s p seat allowed low h = ?
+
+pub guarded_resume : (s : State) (p : ℕ) (seat : Seat) → first_of_row (resume_row seat.enclave seat.tcs (enter_sight s p seat)) ≡ None → p < 16 → IsGuarded s → IsGuarded (after_resume s p seat)
+guarded_resume s p seat allowed low h = ?
+
+-- a processor that leaves, while words may change
+pub guarded_left : (s : State) (p : ℕ) (words : ℕ → List ℕ) → IsGuarded s → IsGuarded (record (after_exit s p) { words = words })
+guarded_left s p words h = ?
+
+pub guarded_exit : (s : State) (p : ℕ) → IsGuarded s → IsGuarded (after_exit s p)
+guarded_exit s p h = guarded_left s p s.words h
+
+pub guarded_aex : (s : State) (p : ℕ) → IsGuarded s → IsGuarded (after_aex s p)
+guarded_aex s p h = ?
 
 pub guarded_fill : (s : State) (p : ℕ) (t : Translation) → first_of_row (fill_row t.number (seat_enclave (s.inside p)) (sight s t.frame.0)) ≡ None → IsGuarded s → IsGuarded (after_fill s p t)
 guarded_fill s p t allowed h = ?
 
-pub guarded_acc : (s : State) (p acc : ℕ) → IsGuarded s → IsGuarded (with_acc s p acc)
-guarded_acc s p acc h = ?
+-- ---- block and track
 
-pub guarded_words : (s : State) (words : ℕ → List ℕ) → IsGuarded s → IsGuarded (record s { words = words })
-guarded_words s words h = ?
+pub guarded_block : (s : State) (f : ℕ) → first_of_row (block_row (sight s f)) ≡ None → IsSound s → IsGuarded s → IsGuarded (after_block s f)
+guarded_block s f allowed sound h = ?
+
+pub guarded_track : (s : State) (enclave : ℕ) → first_of_row (track_row (track_sight s enclave)) ≡ None → IsGuarded s → IsGuarded (after_track s enclave)
+guarded_track s enclave allowed h = ?
+
+-- ---- write-out and reload
+
+pub guarded_ewbstart : (s : State) (f : ℕ) (slot : SlotAt) → first_of_row (ewbstart_row (sight s f) (slot_sight s slot) (drain_sight s f) (is_version_spent s)) ≡ None → IsGuarded s → IsGuarded (after_ewbstart s f slot)
+guarded_ewbstart s f slot allowed h = ?
+
+pub guarded_eldstart : (s : State) (f : ℕ) (page : Page) (slot : SlotAt) → first_of_row (eldstart_row (sight s f) (is_some (s.added page)) (slot_sight s slot)) ≡ None → IsGuarded s → IsGuarded (after_eldstart s f page slot)
+guarded_eldstart s f page slot allowed h = ?
+
+pub guarded_ewb : (s : State) (f : ℕ) (start : Start) → s.is_sealing f ≡ true → IsGuarded s → IsGuarded (after_ewb s f start)
+guarded_ewb s f start leaving h = ?
+
+pub guarded_eld : (s : State) (f : ℕ) (start : Start) (page : Page) (kind : Kind) (perm : Perm) (words : List ℕ) → s.content f ≡ IsLoading → IsGuarded s → IsGuarded (after_eld s f start page kind perm words)
+guarded_eld s f start page kind perm words waits h = ?
+
+pub guarded_failed_eld : (s : State) (f : ℕ) (start : Start) → s.content f ≡ IsLoading → IsGuarded s → IsGuarded (after_failed_eld s f start)
+guarded_failed_eld s f start waits h = ?

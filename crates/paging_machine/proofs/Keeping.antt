@@ -6,16 +6,17 @@ use Rattle.sgx_types.specs.declared.entries.PageInit.{PageInit}
 use Rattle.sgx_types.specs.declared.names.Page.{Page}
 use Rattle.sgx_types.specs.declared.names.Kind.{Kind}
 use Rattle.sgx_types.specs.declared.names.Perm.{Perm}
-use Rattle.sgx_types.specs.Frames.{Content, Free, SecsOf, Holds, same_page}
+use Rattle.sgx_types.specs.Frames.{Content, Free, SecsOf, Holds, IsLoading, same_page}
 use Rattle.sgx_types.specs.Flat.{FlatEnclave, marked}
 use Rattle.measure_log.specs.declared.measure.Measure.{Measure}
 use Rattle.paging_machine.specs.State.{State, with_content, after_create, after_add, after_extend, after_init}
 use Rattle.paging_machine.specs.Stands.{IsSound}
-use Rattle.paging_machine.specs.Guarded.{IsGuarded}
+use Rattle.paging_machine.specs.Guarded.{IsGuarded, IsPaged}
 use Rattle.paging_machine.specs.Whole.{IsMeasured, IsFramed, IsWithin}
 use Rattle.paging_machine.proofs.Carry.{same_page-refl}
 use Rattle.paging_machine.proofs.SoundLaws.{sound-put}
 use Rattle.paging_machine.proofs.BuildLaws.{sound_add}
+use Rattle.paging_machine.proofs.GuardLaws.{guarded_put, guarded_create, guarded_extend, guarded_add, guarded_init}
 
 pub record IsKept (s : State) : Type 0 where
   pub measured : IsMeasured s
@@ -31,8 +32,8 @@ kept_as s t e h = subst IsKept (sym e) h
 framed_put : (s : State) (f : ℕ) (c : Content) → ((g : Page) (kind : Kind) (perm : Perm) → c ≡ Holds g kind perm → ⊥) → IsFramed s → IsFramed (with_content s f c)
 framed_put s f c none h n g kind perm = cond_both (f == n) c (s.content n) (λ v. v ≡ Holds g kind perm → is_some (s.added g) ≡ true) (λ _ at. absurd (none g kind perm at)) (λ _. h n g kind perm)
 
-pub kept_put : (s : State) (f : ℕ) (c : Content) → ((g : Page) (kind : Kind) (perm : Perm) → c ≡ Holds g kind perm → ⊥) → s.content f ≡ Free → IsKept s → IsKept (with_content s f c)
-kept_put s f c none free h = record { measured = h.measured; framed = framed_put s f c none h.framed; within = h.within; sound = sound-put s f c s.words h.sound free (λ n other. refl) h.sound.sized; guarded = ? }
+pub kept_put : (s : State) (f : ℕ) (c : Content) → ((g : Page) (kind : Kind) (perm : Perm) → c ≡ Holds g kind perm → ⊥) → (c ≡ IsLoading → ⊥) → s.content f ≡ Free → IsKept s → IsKept (with_content s f c)
+kept_put s f c none settled free h = record { measured = h.measured; framed = framed_put s f c none h.framed; within = h.within; sound = sound-put s f c s.words h.sound free (λ n other. refl) h.sound.sized; guarded = guarded_put s f c s.words h.guarded free settled }
 
 pub kept_create : (s : State) (e f base size : ℕ) (begun : Measure) → s.content f ≡ Free → IsKept s → IsKept (after_create s e f base size begun)
 kept_create s e f base size begun free h = record {
@@ -40,7 +41,7 @@ kept_create s e f base size begun free h = record {
   framed = framed_put s f (SecsOf e) (λ g kind perm at. cc at) h.framed;
   within = h.within;
   sound = let k = sound-put s f (SecsOf e) s.words h.sound free (λ n other. refl) h.sound.sized in record { seated = k.seated; busy = k.busy; apart = k.apart; sized = k.sized };
-  guarded = ?;
+  guarded = guarded_create s e f base size begun h.guarded free;
 }
   where
     by_enclave : (k : ℕ) (b : Bool) → is_some (cond b (Some (let x : FlatEnclave = record { base = base; size = size; is_init = false } in x)) (s.enclaves k)) ≡ true → is_some (cond b (Some begun) (s.measure k)) ≡ true
@@ -52,10 +53,10 @@ measured_longer : (s : State) (e : ℕ) (longer : Measure) → IsMeasured s → 
 measured_longer s e longer h k made = cond_both (k == e) (Some longer) (s.measure k) (λ v. is_some v ≡ true) (λ _. refl) (λ _. h k made)
 
 pub kept_extend : (s : State) (e : ℕ) (longer : Measure) → IsKept s → IsKept (after_extend s e longer)
-kept_extend s e longer h = record { measured = measured_longer s e longer h.measured; framed = h.framed; within = h.within; sound = record { seated = h.sound.seated; busy = h.sound.busy; apart = h.sound.apart; sized = h.sound.sized }; guarded = ? }
+kept_extend s e longer h = record { measured = measured_longer s e longer h.measured; framed = h.framed; within = h.within; sound = record { seated = h.sound.seated; busy = h.sound.busy; apart = h.sound.apart; sized = h.sound.sized }; guarded = guarded_extend s e longer h.guarded }
 
-pub kept_add : (s : State) (g : Page) (f : ℕ) (kind : Kind) (perm : Perm) (init : PageInit) (longer : Measure) → s.content f ≡ Free → IsKept s → IsKept (after_add s g f kind perm init longer)
-kept_add s g f kind perm init longer free h = record {
+pub kept_add : (s : State) (g : Page) (f : ℕ) (kind : Kind) (perm : Perm) (init : PageInit) (longer : Measure) → s.content f ≡ Free → IsPaged kind → IsKept s → IsKept (after_add s g f kind perm init longer)
+kept_add s g f kind perm init longer free paged h = record {
   measured = measured_longer s g.enclave longer h.measured;
   framed = λ n q k p.
       cond_both (f == n) (Holds g kind perm) (s.content n) (λ v. v ≡ Holds q k p → is_some (cond (same_page q g) (Some (kind, perm)) (s.added q)) ≡ true)
@@ -63,11 +64,11 @@ kept_add s g f kind perm init longer free h = record {
       (λ _ at. cond_both (same_page q g) (Some (kind, perm)) (s.added q) (λ v. is_some v ≡ true) (λ _. refl) (λ _. h.framed n q k p at));
   within = h.within;
   sound = sound_add s g f kind perm init longer h.sound free;
-  guarded = ?;
+  guarded = guarded_add s g f kind perm init longer h.guarded free paged;
 }
 
 pub kept_init : (s : State) (e : ℕ) → IsKept s → IsKept (after_init s e)
-kept_init s e h = record { measured = λ k made. h.measured k (by_mark (k == e) (s.enclaves k) made); framed = h.framed; within = h.within; sound = record { seated = h.sound.seated; busy = h.sound.busy; apart = h.sound.apart; sized = h.sound.sized }; guarded = ? }
+kept_init s e h = record { measured = λ k made. h.measured k (by_mark (k == e) (s.enclaves k) made); framed = h.framed; within = h.within; sound = record { seated = h.sound.seated; busy = h.sound.busy; apart = h.sound.apart; sized = h.sound.sized }; guarded = guarded_init s e h.guarded }
   where
     by_mark : (b : Bool) (o : Option FlatEnclave) → is_some (cond b (marked o) o) ≡ true → is_some o ≡ true
     by_mark true None made = cc made
