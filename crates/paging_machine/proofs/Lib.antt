@@ -12,7 +12,6 @@ pub mod AccessLaws
 pub mod RegisterLaws
 pub mod Refused
 pub mod Columns
-pub mod GuardLaws
 pub mod Keeping
 pub mod TrackLaws
 pub mod Wholes
