@@ -24,3 +24,6 @@ pub mod StepLaws
 pub mod EntryBridge
 pub mod AccessBridge
 pub mod Fresh
+pub mod ShapeColumns
+pub mod ShapeLaws
+pub mod FollowLaws
