@@ -23,6 +23,8 @@ pub mod ExtendLaws
 pub mod StepLaws
 pub mod EntryBridge
 pub mod AccessBridge
+pub mod GuardLaws
+pub mod PagingSound
 pub mod Fresh
 pub mod ShapeColumns
 pub mod ShapeLaws
