@@ -29,13 +29,13 @@ impl Machine {
         requires { (state_of self.now).is_sealing frame.0 ≡ true }
         ensures { SealsPage (state_of self.now) frame.0 result.key result.version result.header result.plain.items }
     {
-        let start = self.start(frame);
-        let header = self.header(frame);
         let SealWork {
             mut plain, space, ..
         } = work;
         plain.copy_from_slice(self.epc.bytes(frame));
         let key = self.key;
+        let start = self.start(frame);
+        let header = self.header(frame);
         SealWork {
             key,
             version: start.version,
@@ -52,9 +52,9 @@ impl Machine {
         ensures version { IsSomeAnd ((state_of self.now).start frame.0) (λ start. result.version ≡ start.version) }
         ensures rec { result.rec ≡ work.rec }
     {
-        let start = self.start(frame);
         let UnsealWork { rec, space, .. } = work;
         let key = self.key;
+        let start = self.start(frame);
         UnsealWork {
             key,
             version: start.version,
@@ -151,9 +151,10 @@ impl Machine {
         requires { (state_of self.now).is_sealing frame.0 ≡ true }
         ensures { SealsPage (state_of self.now) frame.0 result.key result.version result.rec.header result.plain.items }
     {
+        let key = self.key;
         let start = self.start(frame);
         let header = self.header(frame);
-        let is_input = work.key == self.key
+        let is_input = work.key == key
             && work.version == start.version
             && work.rec.header == header
             && work.plain.as_slice() == self.epc.bytes(frame).as_slice();
@@ -161,7 +162,6 @@ impl Machine {
             return work;
         }
         let SealedWork { plain, rec, .. } = work;
-        let key = self.key;
         let anew = SealWork {
             key,
             version: start.version,
@@ -179,14 +179,15 @@ impl Machine {
         ensures version { IsSomeAnd ((state_of self.now).start frame.0) (λ start. result.version ≡ start.version) }
         ensures rec { result.rec ≡ work.rec }
     {
-        if work.key == self.key && work.version == self.start(frame).version {
+        let key = self.key;
+        let start = self.start(frame);
+        if work.key == key && work.version == start.version {
             return work;
         }
         let UnsealedWork { rec, plain, .. } = work;
-        let key = self.key;
         let anew = UnsealWork {
             key,
-            version: 0,
+            version: start.version,
             rec,
             space: plain,
         };

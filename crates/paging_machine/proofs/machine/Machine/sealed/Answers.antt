@@ -1,0 +1,19 @@
+use Rattle.std.proofs.Common.{◌≡◌, true, is_some}
+use Rattle.paging_machine.specs.Whole.{parts_of}
+use Rattle.paging_machine.specs.Parts.{state_of}
+use Rattle.paging_machine.proofs.PagingSights.{start_out}
+use Rattle.paging_machine.proofs.machine.Machine.sealed.Goals.{then-eq, else-eq, then-work-start, else-work-start, then-eq-2, else-eq-2}
+use Rattle.paging_machine.proofs.machine.Machine.sealed.Goals as goal
+
+pub start-start-requires : goal.start-start-requires
+start-start-requires c =
+    let s = state_of (parts_of c.self.inside) in
+    let open_start : is_some (s.start c.args.frame.0) ≡ true = start_out s c.args.frame.0 c.self.invariant.guarded (rw (← c.self.view_is) at c.requires) in
+    rw (← c.self.view_is) open_start
+
+pub returns-then-is_input : goal.returns-then-is_input
+returns-then-is_input c =
+    elim c.if-eq-2.branch [
+      | then-eq-2 w ↦ ?
+      | else-eq-2 w ↦ ?
+    ]
