@@ -2,13 +2,14 @@
 use Rattle.std.proofs.Common.{◌≡◌, ℕ, zero, suc, ◌+◌, ◌-◌, ◌<◌, ◌≤◌, ◌==◌, ◌&&◌, Bool, true, false, cond, refl, sym, ap, ◌∙◌, arith, Option, Some, None, IfSome, is_some, List, [], ◌∷◌, length, get_or}
 use Rattle.std.specs.Prelude.{count_by, nat_lt, nat_le, slice_get}
 use Rattle.std.specs.Option.{option_and_then, IsSomeAnd}
-use Rattle.std.proofs.lemmas.Bool.{ne_eqb, false≢true}
+use Rattle.std.proofs.lemmas.Bool.{ne_eqb, eqb-true, false≢true}
 use Rattle.std.proofs.lemmas.List.Sums.{sum_by-cons}
 use Rattle.sgx_types.specs.declared.names.Page.{Page}
 use Rattle.sgx_types.specs.declared.names.SlotAt.{SlotAt}
 use Rattle.sgx_types.specs.declared.names.Kind.{Kind}
 use Rattle.sgx_types.specs.declared.names.Kind.TheVariants as kinds
 use Rattle.sgx_types.specs.declared.names.Perm.{Perm}
+use Rattle.sgx_types.specs.declared.record.Header.{Header}
 use Rattle.sgx_types.specs.declared.refusals.Refusal.{Refusal}
 use Rattle.sgx_types.specs.Counts.{count_below}
 use Rattle.sgx_types.specs.Epochs.{epoch_of}
@@ -39,6 +40,7 @@ use Rattle.paging_machine.specs.State.{State, sight, is_noting, number_noting, e
 use Rattle.paging_machine.specs.Parts.{Parts, idle, cpu_at, seat_of_mode, noted_by, is_noted, added_in, epoch_from, enclave_of, state_of}
 use Rattle.paging_machine.specs.Whole.{IsFramed, IsTable, IsTracked}
 use Rattle.paging_machine.proofs.Columns.{numbered}
+use Rattle.paging_machine.proofs.Tools.{both_true}
 
 -- ---- counts
 
@@ -222,3 +224,10 @@ start_out s f guarded leaves = some_there (s.start f) WritesOut (guarded.written
 
 pub start_in : (s : State) (f : ℕ) → IsGuarded s → s.content f ≡ IsLoading → is_some (s.start f) ≡ true
 start_in s f guarded loads = some_there (s.start f) Loads (guarded.loaded f loads)
+
+-- two headers that a test finds alike
+pub same_headers : (a b : Header) → ((a.enclave == b.enclave) && ((a.address == b.address) && (a.flags == b.flags))) ≡ true → a ≡ b
+same_headers a b h =
+    let first = both_true (a.enclave == b.enclave) ((a.address == b.address) && (a.flags == b.flags)) h in
+    let rest = both_true (a.address == b.address) (a.flags == b.flags) first.1 in
+    λ i. record { enclave = eqb-true a.enclave b.enclave first.0 i; address = eqb-true a.address b.address rest.0 i; flags = eqb-true a.flags b.flags rest.1 i }

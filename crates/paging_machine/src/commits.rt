@@ -151,25 +151,40 @@ impl Machine {
         requires { (state_of self.now).is_sealing frame.0 ≡ true }
         ensures { SealsPage (state_of self.now) frame.0 result.key result.version result.rec.header result.plain.items }
     {
-        let key = self.key;
-        let start = self.start(frame);
-        let header = self.header(frame);
-        let is_input = work.key == key
-            && work.version == start.version
-            && work.rec.header == header
-            && work.plain.as_slice() == self.epc.bytes(frame).as_slice();
-        if is_input {
+        if self.is_sealed(frame, &work) {
             return work;
         }
+        let key = self.key;
+        let header = self.header(frame);
         let SealedWork { plain, rec, .. } = work;
         let anew = SealWork {
             key,
-            version: start.version,
+            version: 0,
             header,
             plain,
             space: rec.cipher,
         };
         seal(self.seal_input(frame, anew))
+    }
+
+    // Whether a work is that of the started EWB of a frame.
+    fn is_sealed(&self, frame: Frame, work: &SealedWork) -> bool
+        requires { (state_of self.now).is_sealing frame.0 ≡ true }
+        ensures { result ≡ true → SealsPage (state_of self.now) frame.0 work.now.key work.now.version work.now.rec.header work.now.plain.items }
+    {
+        let key = self.key;
+        let start = self.start(frame);
+        let header = self.header(frame);
+        if work.key != key {
+            return false;
+        }
+        if work.version != start.version {
+            return false;
+        }
+        if work.rec.header != header {
+            return false;
+        }
+        work.plain.as_slice() == self.epc.bytes(frame).as_slice()
     }
 
     // The opened work of the started ELDU of a frame.
