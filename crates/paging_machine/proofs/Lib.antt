@@ -23,4 +23,6 @@ pub mod ExtendLaws
 pub mod StepLaws
 pub mod EntryBridge
 pub mod AccessBridge
+pub mod GuardLaws
+pub mod PagingSound
 pub mod Fresh
