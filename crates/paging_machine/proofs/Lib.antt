@@ -26,3 +26,6 @@ pub mod AccessBridge
 pub mod GuardLaws
 pub mod PagingSound
 pub mod Fresh
+pub mod ShapeColumns
+pub mod ShapeLaws
+pub mod FollowLaws
