@@ -29,3 +29,4 @@ pub mod Fresh
 pub mod ShapeColumns
 pub mod ShapeLaws
 pub mod FollowLaws
+pub mod PagingSights
