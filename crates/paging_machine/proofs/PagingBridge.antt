@@ -1,0 +1,267 @@
+-- The machine's parts after a block, a track, a write-out or a reload, and the state that they make.
+use Rattle.std.proofs.Common.{◌≡◌, ℕ, ◌+◌, ◌<◌, ◌≤◌, ◌==◌, ◌||◌, Bool, true, false, not, cond, leb, refl, sym, ap, ◌∙◌, Option, Some, None, List, length, get_or, set, is_some, length-set}
+use Rattle.std.proofs.lemmas.Bool.{cond_both, eqb-true, leb-false, not-false, false≢true}
+use Rattle.sgx_types.specs.declared.names.Page.{Page}
+use Rattle.sgx_types.specs.declared.names.SlotAt.{SlotAt}
+use Rattle.sgx_types.specs.declared.names.Kind.{Kind}
+use Rattle.sgx_types.specs.declared.names.Kind.TheVariants as kinds
+use Rattle.sgx_types.specs.declared.names.Perm.{Perm}
+use Rattle.sgx_types.specs.Frames.{Content, Free, IsVa, SecsOf, Holds, IsLoading, enclave_in, is_free}
+use Rattle.sgx_types.specs.Slots.{same_slot}
+use Rattle.sgx_types.specs.Starts.{Start}
+use Rattle.sgx_types.specs.Table as table
+use Rattle.sgx_types.specs.Table.{first_of_row, block_row, track_row, ewbstart_row, eldstart_row}
+use Rattle.epcm_entry.specs.declared.entry_view.EntryView.{EntryView}
+use Rattle.epcm_entry.specs.declared.entry_view.EntryView.TheVariants as views
+use Rattle.epcm_entry.specs.EntryView.{is_valid, holding, block_of, goes_out, with_block, outgoing}
+use Rattle.epcm_entry.specs.Epc.{EpcFrame, entry_at, words_at, with_entry, with_page, with_words, with_sealing, with_loading, cleared}
+use Rattle.epcm_entry.specs.Sights.{held, content_of, sight_in}
+use Rattle.epcm_entry.proofs.Columns.{length-with_entry, entry_at-with_entry, words_at-with_entry, length-with_words, entry_at-with_words, words_at-with_words, length-cleared, entry_at-cleared, words_at-cleared}
+use Rattle.track_epoch.specs.Tracking.{Tracking, tracked}
+use Rattle.track_epoch.specs.Tracks.{track_of, with_track}
+use Rattle.track_epoch.proofs.TracksLaws.{track_of-with_track}
+use Rattle.version_array.specs.declared.va_page.VaSlot.{VaSlot}
+use Rattle.version_array.specs.Slots.{IsSlot, IsVaTable, version_in, is_busy_at, with_busy, with_version}
+use Rattle.version_array.proofs.TableLaws.{version_in-with_version, is_busy_at-with_version, version_in-with_busy, is_busy_at-with_busy, slot_kept, IsVaTable-with_slot}
+use Rattle.evict_reload.specs.Effects.{with_blocked, with_tracked, with_ended, with_plain}
+use Rattle.evict_reload.specs.Sights.{AreVaPages, IsNumbered}
+use Rattle.evict_reload.proofs.PageLaws.{pages-with_entry, pages-with_words, pages-with_slot, pages-cleared, is_va-with_block, is_va-outgoing}
+use Rattle.paging_machine.specs.Guarded.{IsPaged}
+use Rattle.paging_machine.specs.State.{State, sight, epoch_in, after_block, after_track, after_ewbstart, after_eldstart, after_ewb, after_eld, after_failed_eld}
+use Rattle.paging_machine.specs.declared.starts.Start as opened
+use Rattle.paging_machine.specs.Parts.{Parts, start_of, epoch_from, state_of}
+use Rattle.paging_machine.proofs.Tools.{none_holds, neither}
+use Rattle.paging_machine.proofs.Columns.{get_or-set_if, through, same_at}
+use Rattle.paging_machine.proofs.PagingSights.{epoch_seen}
+
+-- ---- one entry of the EPC changes
+
+module _ (epc epc' : List EpcFrame) (f : ℕ) (v : EntryView) (entries : (n : ℕ) → entry_at epc' n ≡ cond (f == n) v (entry_at epc n)) where
+  -- what is read of each entry
+  pub entry_column : {A : Type 0} (col : EntryView → A) (n : ℕ) → col (entry_at epc' n) ≡ cond (f == n) (col v) (col (entry_at epc n))
+  entry_column col n = ap col (entries n) ∙ through col (f == n) v (entry_at epc n)
+
+  -- .. where the change leaves it
+  pub entry_kept : {A : Type 0} (col : EntryView → A) (n : ℕ) → col v ≡ col (entry_at epc f) → col (entry_at epc' n) ≡ col (entry_at epc n)
+  entry_kept col n same = entry_column col n ∙ ap (λ c. cond (f == n) c (col (entry_at epc n))) same ∙ same_at (λ m. col (entry_at epc m)) f n
+
+-- the entries of an EPC with another one
+pub entries_with : (epc : List EpcFrame) (f : ℕ) (v : EntryView) → f < length epc → (n : ℕ) → entry_at (with_entry epc f v) n ≡ cond (f == n) v (entry_at epc n)
+entries_with epc f v low n = entry_at-with_entry epc f n v low
+
+-- ---- blocks
+
+held-with_block : (v : EntryView) (b : ℕ) → held (with_block v b) ≡ held v
+held-with_block views.Free b = refl
+held-with_block views.Loading b = refl
+held-with_block (views.Valid page kind perm blocked sealing) b = refl
+
+goes_out-with_block : (v : EntryView) (b : ℕ) → goes_out (with_block v b) ≡ goes_out v
+goes_out-with_block views.Free b = refl
+goes_out-with_block views.Loading b = refl
+goes_out-with_block (views.Valid page kind perm blocked sealing) b = refl
+
+block_of-with_block : (v : EntryView) (b : ℕ) → is_valid v ≡ true → block_of (with_block v b) ≡ Some b
+block_of-with_block views.Free b valid = cc valid
+block_of-with_block views.Loading b valid = cc valid
+block_of-with_block (views.Valid page kind perm blocked sealing) b valid = refl
+
+-- a frame that is in the EPC, and holds a page
+pub record HoldsPage (epc : List EpcFrame) (f : ℕ) : Type 0 where
+  pub low : f < length epc
+  pub valid : is_valid (entry_at epc f) ≡ true
+
+-- an entry that is not free and not loading holds a page
+taken : (v : EntryView) → table.is_busy (record { is_beyond = false; content = held v; is_sealing = goes_out v; is_blocked = is_some (block_of v) }) ≡ false → is_free (held v) ≡ false → is_valid v ≡ true
+taken views.Free idle used = cc used
+taken views.Loading idle used = cc idle
+taken (views.Valid page kind perm blocked sealing) idle used = refl
+
+pub blocks : (d : Parts) (f : ℕ) → first_of_row (block_row (sight_in d.epc f)) ≡ None → HoldsPage d.epc f
+blocks d f allowed =
+    let none = none_holds (block_row (sight_in d.epc f)) allowed in
+    record { low = leb-false _ _ none.0; valid = taken (entry_at d.epc f) none.1.0 none.1.1.0 }
+
+pub block_state : (d : Parts) (f : ℕ) → HoldsPage d.epc f → length d.tracks ≡ 8 → IsNumbered ((state_of d).content f) → state_of (record d { epc = with_blocked d.epc d.tracks f }) ≡ after_block (state_of d) f
+block_state d f k places numbered =
+    let b = epoch_in (state_of d) f in
+    let v = with_block (entry_at d.epc f) b in
+    let epc : with_blocked d.epc d.tracks f ≡ with_entry d.epc f v = ap (λ n. with_entry d.epc f (with_block (entry_at d.epc f) n)) (epoch_seen d f places numbered) in
+    let entries = entries_with d.epc f v k.low in
+    ap (λ xs. state_of (record d { epc = xs })) epc
+    ∙ (λ i. record (after_block (state_of d) f) {
+      frames = length-with_entry d.epc f v i;
+      content = λ n. entry_kept d.epc (with_entry d.epc f v) f v entries held n (held-with_block (entry_at d.epc f) b) i;
+      blocked = λ n. (entry_column d.epc (with_entry d.epc f v) f v entries block_of n ∙ ap (λ o. cond (f == n) o (block_of (entry_at d.epc n))) (block_of-with_block (entry_at d.epc f) b k.valid) ∙ moved n) i;
+      is_sealing = λ n. entry_kept d.epc (with_entry d.epc f v) f v entries goes_out n (goes_out-with_block (entry_at d.epc f) b) i;
+      words = λ n. words_at-with_entry d.epc f n v i;
+    })
+  where
+    moved : (n : ℕ) → cond (f == n) (Some (epoch_in (state_of d) f)) (block_of (entry_at d.epc n)) ≡ cond (f == n) (Some (epoch_in (state_of d) n)) (block_of (entry_at d.epc n))
+    moved n = by_test (f == n) refl
+      where
+        by_test : (t : Bool) → (f == n) ≡ t → cond t (Some (epoch_in (state_of d) f)) (block_of (entry_at d.epc n)) ≡ cond t (Some (epoch_in (state_of d) n)) (block_of (entry_at d.epc n))
+        by_test true e = ap (λ m. Some (epoch_in (state_of d) m)) (eqb-true f n e)
+        by_test false e = refl
+
+-- ---- tracks
+
+pub track_state : (d : Parts) (e : ℕ) (t : Tracking) → length d.tracks ≡ 8 → 1 ≤ e → e ≤ 8 → track_of d.tracks e ≡ Some t → state_of (record d { tracks = with_track d.tracks e (tracked t) }) ≡ after_track (state_of d) e
+track_state d e t places first last found =
+    λ i. record (after_track (state_of d) e) { epoch = λ k. (ap (epoch_from d.start_epoch) (track_of-with_track d.tracks e k (tracked t) first (rw places last)) ∙ raised k) i }
+  where
+    raised : (k : ℕ) → epoch_from d.start_epoch (cond (e == k) (Some (tracked t)) (track_of d.tracks k)) ≡ cond (e == k) (epoch_from d.start_epoch (track_of d.tracks k) + 1) (epoch_from d.start_epoch (track_of d.tracks k))
+    raised k = by_test (e == k) refl
+      where
+        by_test : (b : Bool) → (e == k) ≡ b → epoch_from d.start_epoch (cond b (Some (tracked t)) (track_of d.tracks k)) ≡ cond b (epoch_from d.start_epoch (track_of d.tracks k) + 1) (epoch_from d.start_epoch (track_of d.tracks k))
+        by_test true same = let there : track_of d.tracks k ≡ Some t = ap (track_of d.tracks) (sym (eqb-true e k same)) ∙ found in rw there refl
+        by_test false other = refl
+
+-- ---- slots and starts
+
+-- the start of one frame is written
+pub start_column : (starts : List (Option opened.Start)) (f n : ℕ) (o : Option opened.Start) → f < length starts → start_of (get_or (set starts f o) n None) ≡ cond (f == n) (start_of o) (start_of (get_or starts n None))
+start_column starts f n o low = ap start_of (get_or-set_if starts f n o None low) ∙ through start_of (f == n) o (get_or starts n None)
+
+module _ (va : List (Option (List VaSlot))) (slot : SlotAt) (version : ℕ) (is : IsVaTable va) (at : IsSlot va slot) where
+  -- a slot whose start has ended
+  written : IsVaTable (with_version va slot version)
+  written = IsVaTable-with_slot va slot (record { version = version; busy = is_busy_at va slot }) is at
+
+  there : IsSlot (with_version va slot version) slot
+  there = slot_kept va slot slot (record { version = version; busy = is_busy_at va slot }) at at
+
+  pub table_ended : IsVaTable (with_ended va slot version)
+  table_ended = IsVaTable-with_slot (with_version va slot version) slot (record { version = version_in (with_version va slot version) slot; busy = false }) written there
+
+  pub version_ended : (other : SlotAt) → version_in (with_ended va slot version) other ≡ cond (same_slot slot other) version (version_in va other)
+  version_ended other = version_in-with_busy (with_version va slot version) slot other false written there ∙ version_in-with_version va slot other version is at
+
+  pub busy_ended : (other : SlotAt) → is_busy_at (with_ended va slot version) other ≡ cond (same_slot slot other) false (is_busy_at va other)
+  busy_ended other = is_busy_at-with_busy (with_version va slot version) slot other false written there ∙ ap (cond (same_slot slot other) false) (is_busy_at-with_version va slot other version is at)
+
+  pub pages_ended : (epc : List EpcFrame) → AreVaPages epc va → AreVaPages epc (with_ended va slot version)
+  pages_ended epc pages = pages-with_slot epc (with_version va slot version) slot (record { version = version_in (with_version va slot version) slot; busy = false }) (pages-with_slot epc va slot (record { version = version; busy = is_busy_at va slot }) pages at) there
+
+-- what is there to be written where a start is made or ended: the frame, its start, and the slot
+pub record IsWritable (d : Parts) (f : ℕ) (slot : SlotAt) : Type 0 where
+  pub low : f < length d.epc
+  pub there : f < length d.starts
+  pub is_slot : IsSlot d.va slot
+
+-- ---- the start of EWB
+
+held-outgoing : (v : EntryView) → held (outgoing v) ≡ held v
+held-outgoing views.Free = refl
+held-outgoing views.Loading = refl
+held-outgoing (views.Valid page kind perm blocked sealing) = refl
+
+block_of-outgoing : (v : EntryView) → block_of (outgoing v) ≡ block_of v
+block_of-outgoing views.Free = refl
+block_of-outgoing views.Loading = refl
+block_of-outgoing (views.Valid page kind perm blocked sealing) = refl
+
+goes_out-outgoing : (v : EntryView) → is_valid v ≡ true → goes_out (outgoing v) ≡ true
+goes_out-outgoing views.Free valid = cc valid
+goes_out-outgoing views.Loading valid = cc valid
+goes_out-outgoing (views.Valid page kind perm blocked sealing) valid = refl
+
+abbrev pub out_parts : Parts → ℕ → SlotAt → Parts
+out_parts d f slot = record d { epc = with_sealing d.epc f; va = with_busy d.va slot true; versions = d.versions + 1; starts = set d.starts f (Some (record { slot = slot; version = d.versions; loads = None })) }
+
+pub ewbstart_state : (d : Parts) (f : ℕ) (slot : SlotAt) → IsVaTable d.va → IsWritable d f slot → is_valid (entry_at d.epc f) ≡ true → state_of (out_parts d f slot) ≡ after_ewbstart (state_of d) f slot
+ewbstart_state d f slot is k valid =
+    let v = outgoing (entry_at d.epc f) in
+    let entries = entries_with d.epc f v k.low in
+    λ i. record (after_ewbstart (state_of d) f slot) {
+      frames = length-with_entry d.epc f v i;
+      content = λ n. entry_kept d.epc (with_sealing d.epc f) f v entries held n (held-outgoing (entry_at d.epc f)) i;
+      blocked = λ n. entry_kept d.epc (with_sealing d.epc f) f v entries block_of n (block_of-outgoing (entry_at d.epc f)) i;
+      is_sealing = λ n. (entry_column d.epc (with_sealing d.epc f) f v entries goes_out n ∙ ap (λ b. cond (f == n) b (goes_out (entry_at d.epc n))) (goes_out-outgoing (entry_at d.epc f) valid)) i;
+      words = λ n. words_at-with_entry d.epc f n v i;
+      version_in = λ other. version_in-with_busy d.va slot other true is k.is_slot i;
+      is_slot_busy = λ other. is_busy_at-with_busy d.va slot other true is k.is_slot i;
+      start = λ n. start_column d.starts f n (Some (record { slot = slot; version = d.versions; loads = None })) k.there i;
+    }
+
+-- ---- the start of ELDU
+
+abbrev pub in_parts : Parts → ℕ → Page → SlotAt → Parts
+in_parts d f page slot = record d { epc = with_loading d.epc f; va = with_busy d.va slot true; starts = set d.starts f (Some (record { slot = slot; version = version_in d.va slot; loads = Some page })) }
+
+pub eldstart_state : (d : Parts) (f : ℕ) (page : Page) (slot : SlotAt) → IsVaTable d.va → IsWritable d f slot → goes_out (entry_at d.epc f) ≡ false → state_of (in_parts d f page slot) ≡ after_eldstart (state_of d) f page slot
+eldstart_state d f page slot is k idle =
+    let entries = entries_with d.epc f views.Loading k.low in
+    λ i. record (after_eldstart (state_of d) f page slot) {
+      frames = length-with_entry d.epc f views.Loading i;
+      content = λ n. entry_column d.epc (with_loading d.epc f) f views.Loading entries held n i;
+      blocked = λ n. entry_column d.epc (with_loading d.epc f) f views.Loading entries block_of n i;
+      is_sealing = λ n. entry_kept d.epc (with_loading d.epc f) f views.Loading entries goes_out n (sym idle) i;
+      words = λ n. words_at-with_entry d.epc f n views.Loading i;
+      version_in = λ other. version_in-with_busy d.va slot other true is k.is_slot i;
+      is_slot_busy = λ other. is_busy_at-with_busy d.va slot other true is k.is_slot i;
+      start = λ n. start_column d.starts f n (Some (record { slot = slot; version = version_in d.va slot; loads = Some page })) k.there i;
+    }
+
+-- ---- the commits
+
+abbrev pub written_parts : Parts → ℕ → Start → Parts
+written_parts d f start = record d { epc = cleared d.epc f; va = with_ended d.va start.slot start.version; starts = set d.starts f None }
+
+pub ewb_state : (d : Parts) (f : ℕ) (start : Start) → IsVaTable d.va → IsWritable d f start.slot → state_of (written_parts d f start) ≡ after_ewb (state_of d) f start
+ewb_state d f start is k =
+    let entries : (n : ℕ) → entry_at (cleared d.epc f) n ≡ cond (f == n) views.Free (entry_at d.epc n) = λ n. entry_at-cleared d.epc f n k.low in
+    λ i. record (after_ewb (state_of d) f start) {
+      frames = length-cleared d.epc f i;
+      content = λ n. entry_column d.epc (cleared d.epc f) f views.Free entries held n i;
+      blocked = λ n. entry_column d.epc (cleared d.epc f) f views.Free entries block_of n i;
+      is_sealing = λ n. entry_column d.epc (cleared d.epc f) f views.Free entries goes_out n i;
+      words = λ n. words_at-cleared d.epc f n k.low i;
+      version_in = λ other. version_ended d.va start.slot start.version is k.is_slot other i;
+      is_slot_busy = λ other. busy_ended d.va start.slot start.version is k.is_slot other i;
+      start = λ n. start_column d.starts f n None k.there i;
+    }
+
+abbrev pub failed_parts : Parts → ℕ → Start → Parts
+failed_parts d f start = record d { epc = cleared d.epc f; va = with_busy d.va start.slot false; starts = set d.starts f None }
+
+pub failed_state : (d : Parts) (f : ℕ) (start : Start) → IsVaTable d.va → IsWritable d f start.slot → state_of (failed_parts d f start) ≡ after_failed_eld (state_of d) f start
+failed_state d f start is k =
+    let entries : (n : ℕ) → entry_at (cleared d.epc f) n ≡ cond (f == n) views.Free (entry_at d.epc n) = λ n. entry_at-cleared d.epc f n k.low in
+    λ i. record (after_failed_eld (state_of d) f start) {
+      frames = length-cleared d.epc f i;
+      content = λ n. entry_column d.epc (cleared d.epc f) f views.Free entries held n i;
+      blocked = λ n. entry_column d.epc (cleared d.epc f) f views.Free entries block_of n i;
+      is_sealing = λ n. entry_column d.epc (cleared d.epc f) f views.Free entries goes_out n i;
+      words = λ n. words_at-cleared d.epc f n k.low i;
+      version_in = λ other. version_in-with_busy d.va start.slot other false is k.is_slot i;
+      is_slot_busy = λ other. is_busy_at-with_busy d.va start.slot other false is k.is_slot i;
+      start = λ n. start_column d.starts f n None k.there i;
+    }
+
+-- a page of an enclave's own memory is held as that page
+pub holds_paged : (page : Page) (kind : Kind) (perm : Perm) → IsPaged kind → content_of page kind perm ≡ Holds page kind perm
+holds_paged page kinds.Tcs perm h = refl
+holds_paged page kinds.Reg perm h = refl
+holds_paged page kinds.Secs perm h = absurd h
+holds_paged page kinds.Va perm h = absurd h
+
+abbrev pub loaded_parts : Parts → ℕ → Start → Page → Kind → Perm → List ℕ → Parts
+loaded_parts d f start page kind perm words = record d { epc = with_words (with_page d.epc f page kind perm) f words; va = with_ended d.va start.slot 0; starts = set d.starts f None }
+
+pub eld_state : (d : Parts) (f : ℕ) (start : Start) (page : Page) (kind : Kind) (perm : Perm) (words : List ℕ) → IsVaTable d.va → IsWritable d f start.slot → goes_out (entry_at d.epc f) ≡ false → IsPaged kind
+    → state_of (loaded_parts d f start page kind perm words) ≡ after_eld (state_of d) f start page kind perm words
+eld_state d f start page kind perm words is k idle paged =
+    let v = holding page kind perm in
+    let epc = with_page d.epc f page kind perm in
+    let entries : (n : ℕ) → entry_at (with_words epc f words) n ≡ cond (f == n) v (entry_at d.epc n) = λ n. entry_at-with_words epc f n words ∙ entry_at-with_entry d.epc f n v k.low in
+    λ i. record (after_eld (state_of d) f start page kind perm words) {
+      frames = (length-with_words epc f words ∙ length-with_entry d.epc f v) i;
+      content = λ n. (entry_column d.epc (with_words epc f words) f v entries held n ∙ ap (λ c. cond (f == n) c (held (entry_at d.epc n))) (holds_paged page kind perm paged)) i;
+      blocked = λ n. entry_column d.epc (with_words epc f words) f v entries block_of n i;
+      is_sealing = λ n. entry_kept d.epc (with_words epc f words) f v entries goes_out n (sym idle) i;
+      words = λ n. (words_at-with_words epc f n words (rw (length-with_entry d.epc f v) k.low) ∙ ap (cond (f == n) words) (words_at-with_entry d.epc f n v)) i;
+      version_in = λ other. version_ended d.va start.slot 0 is k.is_slot other i;
+      is_slot_busy = λ other. busy_ended d.va start.slot 0 is k.is_slot other i;
+      start = λ n. start_column d.starts f n None k.there i;
+    }
