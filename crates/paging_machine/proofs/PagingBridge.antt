@@ -1,5 +1,6 @@
 -- The machine's parts after a block, a track, a write-out or a reload, and the state that they make.
 use Rattle.std.proofs.Common.{◌≡◌, ℕ, ◌+◌, ◌<◌, ◌≤◌, ◌==◌, ◌||◌, Bool, true, false, not, cond, leb, refl, sym, ap, ◌∙◌, Option, Some, None, List, length, get_or, set, is_some, length-set}
+use Rattle.std.specs.Prelude.{count_by}
 use Rattle.std.proofs.lemmas.Bool.{cond_both, eqb-true, leb-false, not-false, false≢true}
 use Rattle.sgx_types.specs.declared.names.Page.{Page}
 use Rattle.sgx_types.specs.declared.names.SlotAt.{SlotAt}
@@ -17,22 +18,30 @@ use Rattle.epcm_entry.specs.EntryView.{is_valid, holding, block_of, goes_out, wi
 use Rattle.epcm_entry.specs.Epc.{EpcFrame, entry_at, words_at, with_entry, with_page, with_words, with_sealing, with_loading, cleared}
 use Rattle.epcm_entry.specs.Sights.{held, content_of, sight_in}
 use Rattle.epcm_entry.proofs.Columns.{length-with_entry, entry_at-with_entry, words_at-with_entry, length-with_words, entry_at-with_words, words_at-with_words, length-cleared, entry_at-cleared, words_at-cleared}
+use Rattle.cached_translations.specs.declared.processor.Processor.{Processor}
+use Rattle.secs_state.specs.Secs.{SecsState}
+use Rattle.secs_state.specs.Table.{enclave_at}
 use Rattle.track_epoch.specs.Tracking.{Tracking, tracked}
 use Rattle.track_epoch.specs.Tracks.{track_of, with_track}
-use Rattle.track_epoch.proofs.TracksLaws.{track_of-with_track}
+use Rattle.track_epoch.proofs.TracksLaws.{length-with_track, track_of-with_track}
 use Rattle.version_array.specs.declared.va_page.VaSlot.{VaSlot}
 use Rattle.version_array.specs.Slots.{IsSlot, IsVaTable, version_in, is_busy_at, with_busy, with_version}
 use Rattle.version_array.proofs.TableLaws.{version_in-with_version, is_busy_at-with_version, version_in-with_busy, is_busy_at-with_busy, slot_kept, IsVaTable-with_slot}
-use Rattle.evict_reload.specs.Effects.{with_blocked, with_tracked, with_ended, with_plain}
-use Rattle.evict_reload.specs.Sights.{AreVaPages, IsNumbered}
+use Rattle.evict_reload.specs.Effects.{epoch_of, with_blocked, with_next, with_tracked, with_ended, with_plain}
+use Rattle.evict_reload.specs.Sights as parts
+use Rattle.evict_reload.specs.Sights.{AreVaPages, IsNumbered, track_seen}
 use Rattle.evict_reload.proofs.PageLaws.{pages-with_entry, pages-with_words, pages-with_slot, pages-cleared, is_va-with_block, is_va-outgoing}
 use Rattle.paging_machine.specs.Guarded.{IsPaged}
 use Rattle.paging_machine.specs.State.{State, sight, epoch_in, after_block, after_track, after_ewbstart, after_eldstart, after_ewb, after_eld, after_failed_eld}
 use Rattle.paging_machine.specs.declared.starts.Start as opened
-use Rattle.paging_machine.specs.Parts.{Parts, start_of, epoch_from, state_of}
+use Rattle.paging_machine.specs.Parts.{Parts, is_noted, start_of, epoch_from, state_of}
+use Rattle.paging_machine.specs.Whole.{IsTracked, IsWhole, parts_of}
+use Rattle.paging_machine.specs.declared.machine.Machine.TheInside.{Inside}
 use Rattle.paging_machine.proofs.Tools.{none_holds, neither}
-use Rattle.paging_machine.proofs.Columns.{get_or-set_if, through, same_at}
-use Rattle.paging_machine.proofs.PagingSights.{epoch_seen}
+use Rattle.paging_machine.proofs.Columns.{get_or-set_if, through, same_at, numbered}
+use Rattle.paging_machine.proofs.Keeping.{kept_block, kept_track, kept_ewbstart, kept_eldstart, kept_ewb, kept_eld, kept_failed_eld}
+use Rattle.paging_machine.proofs.PagingSights.{epoch_seen, frame_numbered, track_there, track_row_at, ewbstart_row_at, eldstart_row_at}
+use Rattle.paging_machine.proofs.Wholes.{Leaves, kept_of}
 
 -- ---- one entry of the EPC changes
 
@@ -265,3 +274,74 @@ eld_state d f start page kind perm words is k idle paged =
       is_slot_busy = λ other. busy_ended d.va start.slot 0 is k.is_slot other i;
       start = λ n. start_column d.starts f n None k.there i;
     }
+
+-- ---- what the rows leave
+
+pub block_leaves : (m : Inside) → IsWhole m → (f : ℕ) (epc : List EpcFrame) → first_of_row (block_row (sight_in m.epc f)) ≡ None → epc ≡ with_blocked m.epc m.tracks f → Leaves (record (parts_of m) { epc = epc }) (after_block (state_of (parts_of m)) f)
+block_leaves m h f epc allowed done =
+    let d = parts_of m in
+    let k = blocks d f allowed in
+    let v = with_block (entry_at d.epc f) (epoch_of d.tracks (enclave_in (held (entry_at d.epc f)))) in
+    rw done (record {
+      state = block_state d f k h.track_places (frame_numbered d f h.table.places h.framed);
+      kept = kept_block (state_of d) f allowed (kept_of m h);
+      processors = h.processors;
+      places = h.places;
+      table = h.table;
+      track_places = h.track_places;
+      tracked = h.tracked;
+      slots = h.slots;
+      pages = pages-with_entry d.epc d.va f v h.pages k.low (is_va-with_block (entry_at d.epc f) _);
+      start_places = h.start_places ∙ sym (length-with_entry d.epc f v);
+    })
+
+-- an enclave that is there, by the row of a track
+there_tracked : (o : Option SecsState) (t : Option Tracking) → first_of_row (track_row (track_seen (is_some o) t)) ≡ None → is_some o ≡ true
+there_tracked None None allowed = cc allowed
+there_tracked None (Some t) allowed = cc allowed
+there_tracked (Some x) t allowed = refl
+
+-- the epochs that tracks note stay where one begins its next
+tracked_next : (tracks : List Tracking) (cpus : List Processor) (e : ℕ) (t : Tracking) → length tracks ≡ 8 → 1 ≤ e → e ≤ 8 → track_of tracks e ≡ Some t → IsTracked tracks cpus → IsTracked (with_track tracks e (tracked t)) cpus
+tracked_next tracks cpus e t places first last found h k u at test = by_enclave (e == k) refl (sym (track_of-with_track tracks e k (tracked t) first (rw places last)) ∙ at)
+  where
+    by_enclave : (b : Bool) → (e == k) ≡ b → cond b (Some (tracked t)) (track_of tracks k) ≡ Some u → count_by test u.noted ≡ count_by (λ (c : Processor). is_noted k test c.mode) cpus
+    by_enclave true same is = let new : tracked t ≡ u = cc is in rw (← new, ← eqb-true e k same) (h e t found test)
+    by_enclave false other is = h k u is test
+
+pub track_leaves : (m : Inside) → IsWhole m → (e : ℕ) (tracks : List Tracking) → first_of_row (track_row (parts.track_sight m.secs m.tracks e)) ≡ None → tracks ≡ with_tracked m.tracks e → Leaves (record (parts_of m) { tracks = tracks }) (after_track (state_of (parts_of m)) e)
+track_leaves m h e tracks allowed done = by_state (enclave_at m.secs e) refl (there_tracked (enclave_at m.secs e) (track_of m.tracks e) allowed)
+  where
+    by_state : (o : Option SecsState) → enclave_at m.secs e ≡ o → is_some o ≡ true → Leaves (record (parts_of m) { tracks = tracks }) (after_track (state_of (parts_of m)) e)
+    by_state None at made = cc made
+    by_state (Some x) at made =
+        let d = parts_of m in
+        let number = numbered d.secs e x h.table.places at in
+        let t = track_there d e h.track_places number.0 number.1 in
+        let new : tracks ≡ with_track d.tracks e (tracked t.0) = done ∙ ap (with_next d.tracks e) t.1 in
+        rw new (record {
+          state = track_state d e t.0 h.track_places number.0 number.1 t.1;
+          kept = kept_track (state_of d) e (sym (track_row_at d e h.table.places h.track_places h.processors h.tracked) ∙ allowed) (kept_of m h);
+          processors = h.processors;
+          places = h.places;
+          table = h.table;
+          track_places = length-with_track d.tracks e (tracked t.0) ∙ h.track_places;
+          tracked = tracked_next d.tracks d.cpus e t.0 h.track_places number.0 number.1 t.1 h.tracked;
+          slots = h.slots;
+          pages = h.pages;
+          start_places = h.start_places;
+        })
+
+-- ---- parts that a refusal leaves as they were
+
+pub epc_same : (d : Parts) (epc : List EpcFrame) → epc ≡ d.epc → record d { epc = epc } ≡ d
+epc_same d epc same = λ i. record d { epc = same i }
+
+pub tracks_same : (d : Parts) (tracks : List Tracking) → tracks ≡ d.tracks → record d { tracks = tracks } ≡ d
+tracks_same d tracks same = λ i. record d { tracks = same i }
+
+pub slots_same : (d : Parts) (epc : List EpcFrame) (va : List (Option (List VaSlot))) → epc ≡ d.epc → va ≡ d.va → record d { epc = epc; va = va } ≡ d
+slots_same d epc va same_epc same_va = λ i. record d { epc = same_epc i; va = same_va i }
+
+pub versions_same : (d : Parts) (epc : List EpcFrame) (va : List (Option (List VaSlot))) (versions : ℕ) → epc ≡ d.epc → va ≡ d.va → versions ≡ d.versions → record d { epc = epc; va = va; versions = versions } ≡ d
+versions_same d epc va versions same_epc same_va same_versions = λ i. record d { epc = same_epc i; va = same_va i; versions = same_versions i }
