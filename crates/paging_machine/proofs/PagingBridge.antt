@@ -1,7 +1,7 @@
 -- The machine's parts after a block, a track, a write-out or a reload, and the state that they make.
-use Rattle.std.proofs.Common.{◌≡◌, ℕ, ◌+◌, ◌<◌, ◌≤◌, ◌==◌, ◌||◌, Bool, true, false, not, cond, leb, refl, sym, ap, ◌∙◌, Option, Some, None, List, length, get_or, set, is_some, length-set}
-use Rattle.std.specs.Prelude.{count_by}
-use Rattle.std.proofs.lemmas.Bool.{cond_both, eqb-true, leb-false, not-false, false≢true}
+use Rattle.std.proofs.Common.{◌≡◌, ℕ, ◌+◌, ◌<◌, ◌≤◌, ◌==◌, ◌||◌, Bool, true, false, not, cond, leb, refl, sym, ap, ◌∙◌, Option, Some, None, List, length, get_or, set, is_some, length-set, arith}
+use Rattle.std.specs.Prelude.{count_by, nat_lt}
+use Rattle.std.proofs.lemmas.Bool.{cond_both, eqb-true, leb-false, ltb-false, not-false, false≢true}
 use Rattle.sgx_types.specs.declared.names.Page.{Page}
 use Rattle.sgx_types.specs.declared.names.SlotAt.{SlotAt}
 use Rattle.sgx_types.specs.declared.names.Kind.{Kind}
@@ -11,7 +11,7 @@ use Rattle.sgx_types.specs.Frames.{Content, Free, IsVa, SecsOf, Holds, IsLoading
 use Rattle.sgx_types.specs.Slots.{same_slot}
 use Rattle.sgx_types.specs.Starts.{Start}
 use Rattle.sgx_types.specs.Table as table
-use Rattle.sgx_types.specs.Table.{first_of_row, block_row, track_row, ewbstart_row, eldstart_row}
+use Rattle.sgx_types.specs.Table.{DrainSight, first_of_row, block_row, track_row, ewbstart_row, eldstart_row}
 use Rattle.epcm_entry.specs.declared.entry_view.EntryView.{EntryView}
 use Rattle.epcm_entry.specs.declared.entry_view.EntryView.TheVariants as views
 use Rattle.epcm_entry.specs.EntryView.{is_valid, holding, block_of, goes_out, with_block, outgoing}
@@ -26,6 +26,7 @@ use Rattle.track_epoch.specs.Tracks.{track_of, with_track}
 use Rattle.track_epoch.proofs.TracksLaws.{length-with_track, track_of-with_track}
 use Rattle.version_array.specs.declared.va_page.VaSlot.{VaSlot}
 use Rattle.version_array.specs.Slots.{IsSlot, IsVaTable, version_in, is_busy_at, with_busy, with_version}
+use Rattle.version_array.specs.Versions.{is_spent_at}
 use Rattle.version_array.proofs.TableLaws.{version_in-with_version, is_busy_at-with_version, version_in-with_busy, is_busy_at-with_busy, slot_kept, IsVaTable-with_slot}
 use Rattle.evict_reload.specs.Effects.{epoch_of, with_blocked, with_next, with_tracked, with_ended, with_plain}
 use Rattle.evict_reload.specs.Sights as parts
@@ -331,6 +332,108 @@ track_leaves m h e tracks allowed done = by_state (enclave_at m.secs e) refl (th
           pages = h.pages;
           start_places = h.start_places;
         })
+
+-- a frame and a slot of a version array page, which a start's row finds
+pub record IsFound (d : Parts) (f : ℕ) (slot : SlotAt) : Type 0 where
+  pub writable : IsWritable d f slot
+  pub idle : goes_out (entry_at d.epc f) ≡ false
+
+found : (d : Parts) (f : ℕ) (slot : SlotAt) → AreVaPages d.epc d.va → length d.starts ≡ length d.epc → table.is_out_of_range (sight_in d.epc f) (parts.slot_sight d.epc d.va slot) ≡ false
+    → (table.is_busy (sight_in d.epc f) || is_busy_at d.va slot) ≡ false → table.is_va (held (entry_at d.epc slot.frame.0)) ≡ true → IsFound d f slot
+found d f slot pages places within free va =
+    let outer = neither (leb (length d.epc) f || leb (length d.epc) slot.frame.0) (nat_lt 511 slot.index) within in
+    let inner = neither (leb (length d.epc) f) (leb (length d.epc) slot.frame.0) outer.0 in
+    let idle = neither (table.is_busy (sight_in d.epc f)) (is_busy_at d.va slot) free in
+    let low : f < length d.epc = leb-false _ _ inner.0 in
+    record {
+      writable = record { low = low; there = rw places low; is_slot = record { paged = pages slot.frame.0 ∙ va; within = omega (arith, ltb-false 511 slot.index outer.1) } };
+      idle = (neither (goes_out (entry_at d.epc f)) (table.is_loading (held (entry_at d.epc f))) idle.0).0;
+    }
+
+-- the pages where a slot is marked
+pages_marked : (d : Parts) (epc : List EpcFrame) (f : ℕ) (slot : SlotAt) (on : Bool) → AreVaPages epc d.va → IsWritable d f slot → AreVaPages epc (with_busy d.va slot on)
+pages_marked d epc f slot on pages k = pages-with_slot epc d.va slot (record { version = version_in d.va slot; busy = on }) pages k.is_slot
+
+slots_marked : (d : Parts) (f : ℕ) (slot : SlotAt) (on : Bool) → IsVaTable d.va → IsWritable d f slot → IsVaTable (with_busy d.va slot on)
+slots_marked d f slot on is k = IsVaTable-with_slot d.va slot (record { version = version_in d.va slot; busy = on }) is k.is_slot
+
+-- the start of EWB
+pub record GoesOut (d : Parts) (f : ℕ) (slot : SlotAt) : Type 0 where
+  pub found : IsFound d f slot
+  pub valid : is_valid (entry_at d.epc f) ≡ true
+
+pub goes : (d : Parts) (f : ℕ) (slot : SlotAt) (drain : DrainSight) (spent : Bool) → AreVaPages d.epc d.va → length d.starts ≡ length d.epc → first_of_row (ewbstart_row (sight_in d.epc f) (parts.slot_sight d.epc d.va slot) drain spent) ≡ None → GoesOut d f slot
+goes d f slot drain spent pages places allowed =
+    let none = none_holds (ewbstart_row (sight_in d.epc f) (parts.slot_sight d.epc d.va slot) drain spent) allowed in
+    let va = neither (table.is_secs (held (entry_at d.epc f)) || table.is_va (held (entry_at d.epc f))) (not (table.is_va (held (entry_at d.epc slot.frame.0)))) none.1.1.1.0 in
+    let k = found d f slot pages places none.0 none.1.0 (not-false _ va.1) in
+    record { found = k; valid = taken (entry_at d.epc f) (neither (table.is_busy (sight_in d.epc f)) (is_busy_at d.va slot) none.1.0).0 none.1.1.0 }
+
+pub ewbstart_leaves : (m : Inside) → IsWhole m → (f : ℕ) (slot : SlotAt) (d' : Parts)
+    → first_of_row (ewbstart_row (sight_in m.epc f) (parts.slot_sight m.epc m.va slot) (parts.drain_sight m.epc m.tracks f) (is_spent_at m.versions)) ≡ None → d' ≡ out_parts (parts_of m) f slot → Leaves d' (after_ewbstart (state_of (parts_of m)) f slot)
+ewbstart_leaves m h f slot d' allowed done =
+    let d = parts_of m in
+    let k = goes d f slot (parts.drain_sight d.epc d.tracks f) (is_spent_at d.versions) h.pages h.start_places allowed in
+    let w = k.found.writable in
+    let v = outgoing (entry_at d.epc f) in
+    rw done (record {
+      state = ewbstart_state d f slot h.slots w k.valid;
+      kept = kept_ewbstart (state_of d) f slot (sym (ewbstart_row_at d f slot h.track_places h.processors h.tracked (frame_numbered d f h.table.places h.framed)) ∙ allowed) (kept_of m h);
+      processors = h.processors;
+      places = h.places;
+      table = h.table;
+      track_places = h.track_places;
+      tracked = h.tracked;
+      slots = slots_marked d f slot true h.slots w;
+      pages = pages_marked d (with_sealing d.epc f) f slot true (pages-with_entry d.epc d.va f v h.pages w.low (is_va-outgoing (entry_at d.epc f))) w;
+      start_places = length-set d.starts f _ ∙ h.start_places ∙ sym (length-with_entry d.epc f v);
+    })
+
+-- the start of ELDU
+not_va : (c : Content) → table.is_valid c ≡ false → table.is_va c ≡ false
+not_va Free e = refl
+not_va IsVa e = cc e
+not_va (SecsOf enclave) e = refl
+not_va (Holds page kind perm) e = refl
+not_va IsLoading e = refl
+
+pub record ComesIn (d : Parts) (f : ℕ) (slot : SlotAt) : Type 0 where
+  pub found : IsFound d f slot
+  pub not_va : table.is_va (held (entry_at d.epc f)) ≡ false
+
+pub comes : (d : Parts) (f : ℕ) (slot : SlotAt) (added : Bool) → AreVaPages d.epc d.va → length d.starts ≡ length d.epc → first_of_row (eldstart_row (sight_in d.epc f) added (parts.slot_sight d.epc d.va slot)) ≡ None → ComesIn d f slot
+comes d f slot added pages places allowed =
+    let none = none_holds (eldstart_row (sight_in d.epc f) added (parts.slot_sight d.epc d.va slot)) allowed in
+    record { found = found d f slot pages places none.0 none.1.1.0 (not-false _ none.1.1.1.1.0); not_va = not_va (held (entry_at d.epc f)) none.1.1.1.0 }
+
+pub eldstart_leaves : (m : Inside) → IsWhole m → (f : ℕ) (page : Page) (slot : SlotAt) (d' : Parts)
+    → first_of_row (eldstart_row (sight_in m.epc f) (parts.is_added m.secs page) (parts.slot_sight m.epc m.va slot)) ≡ None → d' ≡ in_parts (parts_of m) f page slot → Leaves d' (after_eldstart (state_of (parts_of m)) f page slot)
+eldstart_leaves m h f page slot d' allowed done =
+    let d = parts_of m in
+    let k = comes d f slot (parts.is_added d.secs page) h.pages h.start_places allowed in
+    let w = k.found.writable in
+    rw done (record {
+      state = eldstart_state d f page slot h.slots w k.found.idle;
+      kept = kept_eldstart (state_of d) f page slot (sym (eldstart_row_at d f page slot) ∙ allowed) (kept_of m h);
+      processors = h.processors;
+      places = h.places;
+      table = h.table;
+      track_places = h.track_places;
+      tracked = h.tracked;
+      slots = slots_marked d f slot true h.slots w;
+      pages = pages_marked d (with_loading d.epc f) f slot true (pages-with_entry d.epc d.va f views.Loading h.pages w.low (sym k.not_va)) w;
+      start_places = length-set d.starts f _ ∙ h.start_places ∙ sym (length-with_entry d.epc f views.Loading);
+    })
+
+-- ---- parts that are written as a row says
+
+pub out_as : (d : Parts) (f : ℕ) (slot : SlotAt) (epc : List EpcFrame) (va : List (Option (List VaSlot))) (versions version : ℕ) → epc ≡ with_sealing d.epc f → va ≡ with_busy d.va slot true → versions ≡ d.versions + 1 → version ≡ d.versions
+    → record d { epc = epc; va = va; versions = versions; starts = set d.starts f (Some (record { slot = slot; version = version; loads = None })) } ≡ out_parts d f slot
+out_as d f slot epc va versions version e v q a = λ i. record d { epc = e i; va = v i; versions = q i; starts = set d.starts f (Some (record { slot = slot; version = a i; loads = None })) }
+
+pub in_as : (d : Parts) (f : ℕ) (page : Page) (slot : SlotAt) (epc : List EpcFrame) (va : List (Option (List VaSlot))) (version : ℕ) → epc ≡ with_loading d.epc f → va ≡ with_busy d.va slot true → version ≡ version_in d.va slot
+    → record d { epc = epc; va = va; starts = set d.starts f (Some (record { slot = slot; version = version; loads = Some page })) } ≡ in_parts d f page slot
+in_as d f page slot epc va version e v a = λ i. record d { epc = e i; va = v i; starts = set d.starts f (Some (record { slot = slot; version = a i; loads = Some page })) }
 
 -- ---- parts that a refusal leaves as they were
 
