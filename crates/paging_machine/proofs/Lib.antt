@@ -30,3 +30,5 @@ pub mod ShapeColumns
 pub mod ShapeLaws
 pub mod FollowLaws
 pub mod PagingSights
+pub mod PagingBridge
+pub mod CommitBridge

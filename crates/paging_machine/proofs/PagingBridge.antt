@@ -351,10 +351,10 @@ found d f slot pages places within free va =
     }
 
 -- the pages where a slot is marked
-pages_marked : (d : Parts) (epc : List EpcFrame) (f : ℕ) (slot : SlotAt) (on : Bool) → AreVaPages epc d.va → IsWritable d f slot → AreVaPages epc (with_busy d.va slot on)
+pub pages_marked : (d : Parts) (epc : List EpcFrame) (f : ℕ) (slot : SlotAt) (on : Bool) → AreVaPages epc d.va → IsWritable d f slot → AreVaPages epc (with_busy d.va slot on)
 pages_marked d epc f slot on pages k = pages-with_slot epc d.va slot (record { version = version_in d.va slot; busy = on }) pages k.is_slot
 
-slots_marked : (d : Parts) (f : ℕ) (slot : SlotAt) (on : Bool) → IsVaTable d.va → IsWritable d f slot → IsVaTable (with_busy d.va slot on)
+pub slots_marked : (d : Parts) (f : ℕ) (slot : SlotAt) (on : Bool) → IsVaTable d.va → IsWritable d f slot → IsVaTable (with_busy d.va slot on)
 slots_marked d f slot on is k = IsVaTable-with_slot d.va slot (record { version = version_in d.va slot; busy = on }) is k.is_slot
 
 -- the start of EWB
