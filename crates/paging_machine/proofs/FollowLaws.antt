@@ -1,6 +1,5 @@
 -- Each step takes a machine that follows its entries on to one that does, whatever records are brought.
-use Rattle.std.proofs.Common.{◌≡◌, ℕ, ◌+◌, ◌/◌, ◌≤◌, ◌==◌, ◌⊎◌, inl, inr, Bool, true, false, cond, refl, sym, ap, subst, ◌∙◌, Option, Some, None, IfSome, MatchOption, is_some, is_none, unwrap_or, List, [], ◌∷◌}
-use Rattle.std.specs.Option.{IsSomeAnd}
+use Rattle.std.proofs.Common.{◌≡◌, ℕ, ◌/◌, ◌≤◌, ◌==◌, inl, inr, Bool, true, false, cond, refl, sym, ap, subst, ◌∙◌, Option, Some, None, IfSome, MatchOption, is_some, is_none, unwrap_or, List, [], ◌∷◌}
 use Rattle.std.proofs.lemmas.Bool.{false≢true}
 use Rattle.std.proofs.lemmas.Option.{IfSome_then}
 use Rattle.sgx_types.specs.declared.entries.Entry.{Entry}
@@ -23,10 +22,10 @@ use Rattle.sgx_types.specs.declared.refusals.Refusal.{Refusal}
 use Rattle.sgx_types.specs.declared.refusals.Refusal.TheVariants as why
 use Rattle.sgx_types.specs.Frames.{Content, Free, IsVa, SecsOf, Holds, IsLoading, added, content, enclave_in, page_at, reloaded}
 use Rattle.sgx_types.specs.Processors.{Seat, Stay, stay, stay_from, holds_number, translations}
-use Rattle.sgx_types.specs.Rules.{EndsWriteOut, EvictRule, RisingRule, StaleRule}
+use Rattle.sgx_types.specs.Rules.{EvictRule, RisingRule, StaleRule}
 use Rattle.sgx_types.specs.Sealed.{Sealed}
 use Rattle.sgx_types.specs.Sights.{seat_of}
-use Rattle.sgx_types.specs.Starts.{Start, open_start}
+use Rattle.sgx_types.specs.Starts.{Start}
 use Rattle.sgx_types.specs.Table.{EnclaveSight, FrameSight, is_valid, perm_in, access_row, add_row, allows_read, allows_update, allows_write, create_row, eldstart_row, epa_row, ewbstart_row, first_of_row}
 use Rattle.sgx_types.specs.Flat.{enclave_sight_of}
 use Rattle.epcm_entry.specs.Words.{words_of}
@@ -39,10 +38,10 @@ use Rattle.paging_machine.specs.Runs.{Run, nothing, step, written, reloaded as c
 use Rattle.paging_machine.specs.Shape.{Making, making_of, HasColumns, Follows}
 use Rattle.paging_machine.specs.Stands.{IsUsable, IsSound}
 use Rattle.paging_machine.specs.State.{State, fresh, sight, slot_sight, drain_sight, is_version_spent, translation, perm_of_held, with_acc, with_inside, with_saved, word_at, cssa_in, saved_word, after_epa, after_create, after_add, after_extend, after_init, after_enter, after_resume, after_exit, after_aex, after_fill, after_store, after_xadd, after_block, after_track, after_ewbstart, after_eldstart, after_ewb, after_eld, after_failed_eld, row_of}
-use Rattle.paging_machine.specs.Steps.{did_by, refused_by, CanApply, IsStep, IsDone, IsJudged, IsCreated, IsAdded, IsExtended, IsWrittenOut, IsReloaded, commit_row, no_perm}
+use Rattle.paging_machine.specs.Steps.{did_by, refused_by, CanApply, IsStep, IsDone, IsWrittenOut, IsReloaded, commit_row, no_perm}
 use Rattle.paging_machine.proofs.Tools.{none_holds, not_false, apart}
 use Rattle.paging_machine.proofs.Carry.{seat_at, IsHeld}
-use Rattle.paging_machine.proofs.ShapeColumns.{IsQuiet, is_eld, refused_quiet, is_quiet, did_quiet, quiet_columns, columns_beside, epa_columns, create_columns, add_columns, init_columns, enter_columns, resume_columns, exit_columns, aex_columns, fill_columns, block_columns, track_columns, ewbstart_columns, eldstart_columns, ewb_columns, eld_columns, failed_eld_columns, holds_number-pairs}
+use Rattle.paging_machine.proofs.ShapeColumns.{IsQuiet, is_eld, refused_quiet, did_quiet, quiet_columns, columns_beside, epa_columns, create_columns, add_columns, init_columns, enter_columns, resume_columns, exit_columns, aex_columns, fill_columns, block_columns, track_columns, ewbstart_columns, eldstart_columns, ewb_columns, eld_columns, failed_eld_columns, holds_number-pairs}
 use Rattle.paging_machine.proofs.ShapeLaws.{older_agrees, newer_agrees, drained_by, IsNextTo, held_by, follows_more}
 
 -- ---- what the frames that processors use hold
@@ -51,7 +50,7 @@ use Rattle.paging_machine.proofs.ShapeLaws.{older_agrees, newer_agrees, drained_
 abbrev pub IsUnused : State → ℕ → Type 0
 IsUnused s f = (enclave : ℕ) → IsUsable enclave (s.content f) (s.is_sealing f) → ⊥
 
--- .. as one with no page in it
+-- .. is one with no page in it
 unused_invalid : (s : State) (f : ℕ) → is_valid (s.content f) ≡ false → IsUnused s f
 unused_invalid s f none enclave u = by_content (s.content f) none u.ours
   where
@@ -63,7 +62,7 @@ unused_invalid s f none enclave u = by_content (s.content f) none u.ours
     by_content IsLoading is ours = cc
 
 module _ (s : State) (past : List Entry) (sound : IsSound s) (h : HasColumns s past) (held : IsHeld past) where
-  -- .. that is put: the frames that processors use hold what they held
+  -- where an unused frame is put, the frames that processors use hold what they held
   held_put : (f : ℕ) (c : Content) → IsUnused s f
       → (p : ℕ) → IfSome (stay past p) (λ t. (cond (f == t.seat.tcs_frame) c (content past t.seat.tcs_frame) ≡ t.tcs_held) × (cond (f == t.seat.ssa_frame) c (content past t.seat.ssa_frame) ≡ t.ssa_held))
   held_put f c unused p = by_stay (stay past p) refl (held p)
@@ -88,6 +87,7 @@ held_entered past held p seat q =
       | false ↦ held q
     ]
 
+-- .. and one that leaves uses nothing
 held_left : (past : List Entry) → IsHeld past → (p : ℕ)
     → (q : ℕ) → IfSome (cond (p == q) None (stay past q)) (λ t. (content past t.seat.tcs_frame ≡ t.tcs_held) × (content past t.seat.ssa_frame ≡ t.ssa_held))
 held_left past held p q =
@@ -96,16 +96,19 @@ held_left past held p q =
       | false ↦ held q
     ]
 
+-- an entry that changes no column changes no frame
 held_quiet : (past : List Entry) (e : Entry) → IsQuiet e.event → IsHeld past → IsHeld (e ∷ past)
 held_quiet past e q held p = rw q.moves (IfSome_then (stay past p) (held p) (λ t k. (rw (q.puts (added past)) k.0, rw (q.puts (added past)) k.1)))
 
 -- ---- an entry that changes no column
 
+-- a machine that changed beside its columns
 pub quiet_next : (s t : State) (past : List Entry) (e : Entry) → IsQuiet e.event → making_of t ≡ making_of s → HasColumns t past → IsHeld past → StaleRule past e → EvictRule past e → RisingRule s.first_version past e
     → IsNextTo s t past e
 quiet_next s t past e q making h held access evict rising =
     record { making = making; columns = quiet_columns t past e q h; held = held_quiet past e q held; access = access; evict = evict; rising = rising }
 
+-- a refusal, but for that of a load's commit
 refused_next : (s : State) (past : List Entry) (a : Actor) (action : Action) (r : Refusal) → is_eld action ≡ false → HasColumns s past → IsHeld past → IsNextTo s s past (refused_by a action r)
 refused_next s past a action r other h held = quiet_next s s past (refused_by a action r) (refused_quiet action r other) refl h held tt tt tt
 
@@ -128,10 +131,12 @@ holds_page s past p off is_allowed h allowed =
 
 -- ---- the rows
 
+-- a page is added to a frame that holds nothing
 add_empty : (number : ℕ) (kind : Kind) (perm : Perm) (init : PageInit) (o : Option EnclaveSight) (is_added : Bool) (v : FrameSight) → first_of_row (add_row number kind perm init o is_added v) ≡ None → is_valid v.content ≡ false
 add_empty number kind perm init None is_added v allowed = absurd (false≢true (sym (none_holds (add_row number kind perm init None is_added v) allowed).1.0))
 add_empty number kind perm init (Some enclave) is_added v allowed = (none_holds (add_row number kind perm init (Some enclave) is_added v) allowed).1.1.1.1.1.1.1.0
 
+-- what an asynchronous exit saves changes no number of the machine's making
 saved_making : (s : State) (acc : ℕ) (o : Option Seat) → making_of (with_saved s acc o) ≡ making_of s
 saved_making s acc None = refl
 saved_making s acc (Some seat) = refl
@@ -296,6 +301,7 @@ module _ (s : State) (past : List Entry) (sound : IsSound s) (h : HasColumns s p
 
   -- ---- the commits
 
+  -- a page is out
   ewb_next : (a : Actor) (f : Frame) (start : Start) (page : Page) (tag : List ℕ) → s.start f.0 ≡ Some start → s.is_sealing f.0 ≡ true → start.loads ≡ None
       → IsNextTo s (after_ewb s f.0 start) past (did_by a (Ewb f) (answers.Moved page start.version tag))
   ewb_next a f start page tag is sealing writes = record {
@@ -307,6 +313,7 @@ module _ (s : State) (past : List Entry) (sound : IsSound s) (h : HasColumns s p
     rising = tt;
   }
 
+  -- a page is back
   eld_next : (a : Actor) (f : Frame) (start : Start) (page : Page) (kind : Kind) (perm : Perm) (words tag : List ℕ) → s.start f.0 ≡ Some start → s.content f.0 ≡ IsLoading → s.added page ≡ Some (kind, perm)
       → IsNextTo s (after_eld s f.0 start page kind perm words) past (did_by a (Eld f) (answers.Moved page start.version tag))
   eld_next a f start page kind perm words tag is loading told = record {
@@ -318,6 +325,7 @@ module _ (s : State) (past : List Entry) (sound : IsSound s) (h : HasColumns s p
     rising = tt;
   }
 
+  -- a load is refused
   failed_eld_next : (a : Actor) (f : Frame) (start : Start) (r : Refusal) → s.start f.0 ≡ Some start → s.content f.0 ≡ IsLoading → s.is_sealing f.0 ≡ false
       → IsNextTo s (after_failed_eld s f.0 start) past (refused_by a (Eld f) r)
   failed_eld_next a f start r is loading idle = record {
@@ -331,6 +339,7 @@ module _ (s : State) (past : List Entry) (sound : IsSound s) (h : HasColumns s p
 
 -- ---- every step
 
+-- the same entry and state, under other names
 next_as : (s t t' : State) (past : List Entry) (e e' : Entry) → e ≡ e' → t ≡ t' → IsNextTo s t' past e' → IsNextTo s t past e
 next_as s t t' past e e' p q k = rw (p, q) k
 
@@ -340,6 +349,7 @@ next_cases : (o : Option Refusal) (Done : Type 0) (s t : State) (past : List Ent
 next_cases None Done s t past e a action other h held f k = f refl k
 next_cases (Some r) Done s t past e a action other h held f k = next_as s t s past e _ k.0 k.1 (refused_next s past a action r other h held)
 
+-- what each instruction brings
 step_next : (s t : State) (past : List Entry) (cpus : ℕ) (a : Actor) (action : Action) (e : Entry) → CanApply cpus a action → IsSound s → HasColumns s past → IsHeld past → IsStep s a action e t → IsNextTo s t past e
 step_next s t past cpus a (Epa f) e can sound h held k =
     next_cases _ (IsDone s a (Epa f) e t) s t past e a (Epa f) refl h held (λ allowed done. next_as s t _ past e _ done.0 done.1 (epa_next s past sound h held a f allowed)) k
@@ -392,7 +402,7 @@ step_next s t past cpus (actors.Cpu p) (OutStore enclave off value) e can sound 
     next_cases _ (IsDone s (actors.Cpu p) (OutStore enclave off value) e t) s t past e (actors.Cpu p) (OutStore enclave off value) refl h held (λ allowed done. next_as s t _ past e _ done.0 done.1 (outstore_next s past sound h held p enclave off value _)) k
 step_next s t past cpus a action e can sound h held k = absurd can
 
--- every instruction that can be applied
+-- each instruction that can be applied
 pub step_follows : (s t : State) (made : Making) (past : List Entry) (cpus : ℕ) (a : Actor) (action : Action) (e : Entry) → cpus ≤ 16 → CanApply cpus a action → IsSound s → IsGuarded s → IsSound t → IsGuarded t
     → IsStep s a action e t → Follows made s past → Follows made t (e ∷ past)
 step_follows s t made past cpus a action e few can sound guarded sound' guarded' k h =
@@ -418,9 +428,9 @@ reloaded_follows s t made past a f e rec sound guarded sound' guarded' loading b
 
     by_row : (o : Option Refusal)
         → MatchOption o
-          ((e ≡ did_by a (Eld f) (answers.Moved back.coming.page back.coming.start.version rec.tag))
-          × (t ≡ after_eld s f.0 back.coming.start back.coming.page back.coming.kind back.coming.perm (words_of (cipher s.key back.coming.start.version rec.cipher))))
-          (λ r. (e ≡ refused_by a (Eld f) r) × (t ≡ after_failed_eld s f.0 back.coming.start))
+        ((e ≡ did_by a (Eld f) (answers.Moved back.coming.page back.coming.start.version rec.tag))
+        × (t ≡ after_eld s f.0 back.coming.start back.coming.page back.coming.kind back.coming.perm (words_of (cipher s.key back.coming.start.version rec.cipher))))
+        (λ r. (e ≡ refused_by a (Eld f) r) × (t ≡ after_failed_eld s f.0 back.coming.start))
         → IsNextTo s t past e
     by_row None k =
         next_as s t _ past e _ k.0 k.1
@@ -460,6 +470,7 @@ fresh_follows frames cpus key first_epoch first_version = record {
 
 -- ---- every run
 
+-- the numbers of a machine's making stay
 follows_made : (s t : State) (past : List Entry) → Follows (making_of s) t past → Follows (making_of t) t past
 follows_made s t past h = subst (λ (m : Making). Follows m t past) (sym h.shape.making) h
 

@@ -1,24 +1,24 @@
 -- A machine whose columns are those of its entries has their shape, and what one more entry needs to follow them.
-use Rattle.std.proofs.Common.{rules, ◌≡◌, ℕ, zero, suc, ◌+◌, ◌==◌, ◌&&◌, not, Bool, true, false, cond, ltb, leb, refl, sym, ap, subst, arith, ◌∙◌, Option, Some, None, IfSome, List, [], ◌∷◌, map}
+use Rattle.std.proofs.Common.{◌≡◌, ℕ, zero, suc, ◌+◌, ◌==◌, ◌&&◌, not, Bool, true, false, cond, ltb, leb, refl, sym, ap, subst, arith, ◌∙◌, Option, Some, None, IfSome, List, ◌∷◌, map}
 use Rattle.std.specs.List.{All}
 use Rattle.std.specs.Option.{IsSomeAnd}
 use Rattle.std.proofs.lemmas.List.Elements.{All-weaker, All-map}
 use Rattle.sgx_types.specs.declared.entries.Entry.{Entry}
 use Rattle.sgx_types.specs.declared.names.Page.{Page}
 use Rattle.sgx_types.specs.Counts.{count_below}
-use Rattle.sgx_types.specs.ByEpochs.{notes, number_noting as number_noting_by, passed_block, is_drained_by_epochs}
+use Rattle.sgx_types.specs.ByEpochs.{notes, number_noting as number_noting_by, passed_block}
 use Rattle.sgx_types.specs.Enclaves.{IsTaken}
 use Rattle.sgx_types.specs.Epochs.{epoch, noted, block_epoch, is_before, is_in, is_in_before, last_track, newer_at, older_at}
 use Rattle.sgx_types.specs.Eviction.{is_drained}
 use Rattle.sgx_types.specs.Frames.{content, enclave_in, is_sealing, page_at}
 use Rattle.sgx_types.specs.Processors.{Seat, Stay, stay}
-use Rattle.sgx_types.specs.Rules.{Along, EvictRule, IsCurrent, IsUndisturbed, NoneStale, RisingRule, StaleRule}
+use Rattle.sgx_types.specs.Rules.{EvictRule, IsCurrent, IsUndisturbed, NoneStale, RisingRule, StaleRule}
 use Rattle.sgx_types.proofs.CountLaws.{count_below-agrees}
 use Rattle.sgx_types.proofs.Keystone.{epochs_tell}
 use Rattle.cached_translations.specs.declared.cache.Translation.{Translation}
 use Rattle.paging_machine.specs.Guarded.{IsGuarded, IsTakenIn}
-use Rattle.paging_machine.specs.Shape.{Making, making_of, noted_inside, HasColumns, IsBusyBy, IsShaped, Follows}
-use Rattle.paging_machine.specs.Stands.{IsTranslation, IsSeated, IsSound, pair_of, seat_of_stay}
+use Rattle.paging_machine.specs.Shape.{Making, making_of, noted_inside, HasColumns, IsShaped, Follows}
+use Rattle.paging_machine.specs.Stands.{IsTranslation, IsSound, pair_of, seat_of_stay}
 use Rattle.paging_machine.specs.State.{State, is_noting, number_noting, has_passed}
 use Rattle.paging_machine.proofs.Tools.{last_place}
 use Rattle.paging_machine.proofs.Carry.{seat_at, same_page-refl, IsHeld, held_of}
@@ -43,20 +43,24 @@ noting_agrees s past h enclave test = count_below-agrees _ _ (λ p. rw (h.inside
     by_stay m None = refl
     by_stay m (Some t) = refl
 
+-- as many are older than the last track, by epochs and by places
 pub older_agrees : (s : State) (past : List Entry) → HasColumns s past → (e : ℕ) → number_noting s e (λ m. ltb m (s.epoch e)) ≡ older_at past e
 older_agrees s past h e =
     rw (h.epoch e) (noting_agrees s past h e (λ m. ltb m (epoch s.first_epoch past e)) ∙ sym ((epochs_tell s.first_epoch past).older e))
 
+-- what passes one test passes one of two that share it out
 one_of_two : (b c : Bool) → one_if (b && c) + one_if (b && not c) ≡ one_if (b && true)
 one_of_two true true = refl
 one_of_two true false = refl
 one_of_two false c = refl
 
+-- .. also where the second is told by the first
 one_of_those : (b c : Bool) → one_if (b && c) + one_if (b && not (b && c)) ≡ one_if b
 one_of_those true true = refl
 one_of_those true false = refl
 one_of_those false c = refl
 
+-- a test beside one that always passes
 and_true : (b : Bool) → (b && true) ≡ b
 and_true true = refl
 and_true false = refl
@@ -88,6 +92,7 @@ newer_agrees s past h e = omega (arith, by_epochs, by_places, all_agree, older_a
 
 -- ---- who is inside by a TCS page
 
+-- a processor that is inside by a TCS page is so by the entries
 taken_by : (s : State) (past : List Entry) (g : Page) → HasColumns s past → IsTakenIn s g → IsTaken past g
 taken_by s past g h k = record { cpu = k.cpu; by = by_stay (stay past k.cpu) (rw (h.inside k.cpu) at k.by) }
   where
@@ -95,6 +100,7 @@ taken_by s past g h k = record { cpu = k.cpu; by = by_stay (stay past k.cpu) (rw
     by_stay None by = by
     by_stay (Some t) by = by
 
+-- .. and the page is busy
 busy_by : (s : State) (past : List Entry) (g : Page) → HasColumns s past → IsSound s → IsTaken past g → s.is_busy g ≡ true
 busy_by s past g h sound k = by_stay (stay past k.cpu) k.by (rw (h.inside k.cpu) at (sound.busy k.cpu))
   where
@@ -164,9 +170,11 @@ pub record IsNextTo (s t : State) (past : List Entry) (e : Entry) : Type 0 where
   pub evict : EvictRule past e
   pub rising : RisingRule s.first_version past e
 
+-- the frames that processors use hold what they held at their entries
 pub held_by : (made : Making) (s : State) (past : List Entry) → Follows made s past → IsHeld past
 held_by made s past h = held_of past (last_place NoneStale past h.stale.places)
 
+-- a machine that follows its entries follows one more
 pub follows_more : (made : Making) (s t : State) (past : List Entry) (e : Entry) → IsSound t → IsGuarded t → Follows made s past → IsNextTo s t past e → Follows made t (e ∷ past)
 follows_more made s t past e sound guarded h next =
     let shape = shaped_by t (e ∷ past) next.columns sound guarded in

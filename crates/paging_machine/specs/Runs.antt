@@ -1,5 +1,4 @@
--- What a fresh machine comes to, step by step, by states that keep what tracking and open starts keep, whatever records
--- are brought.
+-- What a fresh machine comes to, step by step, through states that are sound and guarded, whatever records are brought.
 use Rattle.std.specs.Prelude.{ℕ, ◌≡◌, ◌≤◌, true, List, [], ◌∷◌}
 use Rattle.sgx_types.specs.declared.entries.Entry.{Entry}
 use Rattle.sgx_types.specs.declared.entries.Actor.{Actor}
@@ -12,6 +11,7 @@ use Rattle.paging_machine.specs.Stands.{IsSound}
 use Rattle.paging_machine.specs.State.{State, fresh}
 use Rattle.paging_machine.specs.Steps.{CanApply, IsStep, IsWrittenOut, IsReloaded}
 
+-- what the machine's type keeps of each state
 pub record IsSafe (s : State) : Type 0 where
   pub sound : IsSound s
   pub guarded : IsGuarded s

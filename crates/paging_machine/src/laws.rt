@@ -6,9 +6,10 @@ ghost use Rattle.paging_machine.specs.Runs.{Run};
 ghost use Rattle.paging_machine.specs.Shape.{Follows, making_of};
 ghost use Rattle.paging_machine.specs.State.{State};
 
-/// Whatever instructions and commits a fresh machine does, its state is the one that its entries say, column by column.
-/// By these entries no processor inside has a stale translation, only drained pages go out, and the versions that EWB
-/// draws are in order. This needs nothing of the records that are brought: a forged one is refused, and its entry says so.
+/// Whatever instructions and commits take a fresh machine on, through states that are sound and guarded, as its type keeps
+/// them, its state is the one that its entries say, column by column. By these entries no processor inside has a stale
+/// translation, only drained pages go out, and the versions that EWB draws are in order. Nothing is asked of the records
+/// that are brought, so that it holds of forged ones too.
 pub fn every_run_follows()
     ensures { (s : State) (past : List Entry) → Run s past → Follows (making_of s) s past }
 {}
