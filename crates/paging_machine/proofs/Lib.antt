@@ -1,4 +1,5 @@
 pub mod Tools
+pub mod FitLaws
 pub mod MeasureLaws
 pub mod Carry
 pub mod Contents
