@@ -1,5 +1,5 @@
 -- What the commits of EWB and ELDU leave of the machine's parts, and what they answer.
-use Rattle.std.proofs.Common.{◌≡◌, ℕ, ◌<◌, ◌≤◌, Bool, true, false, cond, refl, sym, ap, ◌∙◌, arith, ◌⊎◌, inl, inr, Option, Some, None, IfSome, List, length, set, is_some, length-set, MatchOption, subst}
+use Rattle.std.proofs.Common.{◌≡◌, ℕ, ◌/◌, ◌<◌, ◌≤◌, Bool, true, false, cond, refl, sym, ap, ◌∙◌, arith, ◌⊎◌, inl, inr, Option, Some, None, IfSome, List, length, set, is_some, length-set, MatchOption, subst}
 use Rattle.std.specs.Option.{IsSomeAnd, option_and_then}
 use Rattle.std.proofs.lemmas.Bool.{cases_lt, false≢true}
 use Rattle.std.proofs.lemmas.List.{get_or_past}
@@ -142,3 +142,172 @@ written m h a f e work start page epc va leaves seals at holds frees ends told =
         state = left.state;
       };
     }
+
+-- ---- ELDU
+
+-- a page that was added, as what, and its enclave
+pub record Waits (d : Parts) (page : Page) : Type 0 where
+  pub secs : SecsState
+  pub there : enclave_at d.secs page.enclave ≡ Some secs
+  pub kind : Kind
+  pub perm : Perm
+  pub added : added_in (enclave_at d.secs page.enclave) page.number ≡ Some (kind, perm)
+  pub paged : IsPaged kind
+
+-- the page that an open start loads was added
+pub waits : (m : Inside) → IsWhole m → (f : ℕ) (start : Start) (page : Page) → (state_of (parts_of m)).start f ≡ Some start → start.loads ≡ Some page → Waits (parts_of m) page
+waits m h f start page at loads =
+    let is : IsOpen (state_of (parts_of m)).content (state_of (parts_of m)).added start = rw at at (h.guarded.opened f) in
+    by_state (enclave_at m.secs page.enclave) refl (rw loads at is.loads) (h.guarded.kinds page)
+  where
+    by_added : (x : SecsState) → enclave_at m.secs page.enclave ≡ Some x → (o : Option (Kind × Perm)) → added_in (enclave_at m.secs page.enclave) page.number ≡ o → is_some o ≡ true → IfSome o (λ k. IsPaged k.0) → Waits (parts_of m) page
+    by_added x there None added is kind = cc is
+    by_added x there (Some k) added is kind = record { secs = x; there = there; kind = k.0; perm = k.1; added = added; paged = kind }
+
+    by_state : (o : Option SecsState) → enclave_at m.secs page.enclave ≡ o → is_some (added_in o page.number) ≡ true → IfSome (added_in o page.number) (λ k. IsPaged k.0) → Waits (parts_of m) page
+    by_state None there is kind = cc is
+    by_state (Some x) there is kind = by_added x there (added_at x page.number) (ap (λ o. added_in o page.number) there) is kind
+
+waits_idle : (v : EntryView) → held v ≡ IsLoading → goes_out v ≡ false
+waits_idle views.Free h = refl
+waits_idle views.Loading h = refl
+waits_idle (views.Valid page kinds.Tcs perm blocked sealing) h = cc h
+waits_idle (views.Valid page kinds.Reg perm blocked sealing) h = cc h
+waits_idle (views.Valid page kinds.Secs perm blocked sealing) h = cc h
+waits_idle (views.Valid page kinds.Va perm blocked sealing) h = cc h
+
+paged_is_not_va : (page : Page) (kind : Kind) (perm : Perm) → IsPaged kind → table.is_va (content_of page kind perm) ≡ false
+paged_is_not_va page kinds.Tcs perm h = refl
+paged_is_not_va page kinds.Reg perm h = refl
+paged_is_not_va page kinds.Secs perm h = absurd h
+paged_is_not_va page kinds.Va perm h = absurd h
+
+pub eld_leaves : (m : Inside) → IsWhole m → (f : ℕ) (start : Start) (page : Page) (kind : Kind) (perm : Perm) (words : List ℕ) (d' : Parts) → (state_of (parts_of m)).content f ≡ IsLoading → (state_of (parts_of m)).start f ≡ Some start
+    → (state_of (parts_of m)).added page ≡ Some (kind, perm) → IsPaged kind → length words ≡ 512 → d' ≡ loaded_parts (parts_of m) f start page kind perm words → Leaves d' (after_eld (state_of (parts_of m)) f start page kind perm words)
+eld_leaves m h f start page kind perm words d' comes at added paged long done =
+    let d = parts_of m in
+    let k = writable m h f start (low_in d f comes) at in
+    let v = holding page kind perm in
+    let epc = with_page d.epc f page kind perm in
+    rw done (record {
+      state = eld_state d f start page kind perm words h.slots k (waits_idle (entry_at d.epc f) comes) paged;
+      kept = kept_eld (state_of d) f start page kind perm words comes added long (kept_of m h);
+      processors = h.processors;
+      places = h.places;
+      table = h.table;
+      track_places = h.track_places;
+      tracked = h.tracked;
+      slots = table_ended d.va start.slot 0 h.slots k.is_slot;
+      pages = pages_ended d.va start.slot 0 h.slots k.is_slot (with_words epc f words) (pages-with_words epc d.va f words (pages-with_entry d.epc d.va f v h.pages k.low (paged_is_not_va page kind perm paged ∙ sym (ap table.is_va comes))));
+      start_places = length-set d.starts f _ ∙ h.start_places ∙ sym (length-with_words epc f words ∙ length-with_entry d.epc f v);
+    })
+
+pub failed_leaves : (m : Inside) → IsWhole m → (f : ℕ) (start : Start) (d' : Parts) → (state_of (parts_of m)).content f ≡ IsLoading → (state_of (parts_of m)).start f ≡ Some start → d' ≡ failed_parts (parts_of m) f start → Leaves d' (after_failed_eld (state_of (parts_of m)) f start)
+failed_leaves m h f start d' comes at done =
+    let d = parts_of m in
+    let k = writable m h f start (low_in d f comes) at in
+    rw done (record {
+      state = failed_state d f start h.slots k;
+      kept = kept_failed_eld (state_of d) f start comes (kept_of m h);
+      processors = h.processors;
+      places = h.places;
+      table = h.table;
+      track_places = h.track_places;
+      tracked = h.tracked;
+      slots = slots_marked d f start.slot false h.slots k;
+      pages = pages_marked d (cleared d.epc f) f start.slot false (pages-cleared d.epc d.va f h.pages k.low (ap table.is_va comes)) k;
+      start_places = length-set d.starts f _ ∙ h.start_places ∙ sym (length-cleared d.epc f);
+    })
+
+-- the start of a frame that waits, with its page
+abbrev pub coming : (m : Inside) (f : ℕ) (start : Start) (page : Page) → (state_of (parts_of m)).start f ≡ Some start → start.loads ≡ Some page → (w : Waits (parts_of m) page) → IsComing (state_of (parts_of m)) f
+coming m f start page at loads w = record {
+  start = start;
+  opened = at;
+  page = page;
+  loads = loads;
+  kind = w.kind;
+  perm = w.perm;
+  added = w.added;
+  enclave = record { base = w.secs.base; size = w.secs.size; is_init = w.secs.is_init };
+  made = ap enclave_of w.there;
+  header = header_of w.secs.base page w.kind w.perm;
+  headed = refl;
+}
+
+-- what the commit of ELDU leaves and answers
+pub record Ended (m : Inside) (a : Actor) (f : Frame) (e : Entry) (rec : Sealed) (d' : Parts) : Type 0 where
+  pub after : State
+  pub leaves : Leaves d' after
+  pub back : IsReloaded (state_of (parts_of m)) a f rec e (state_of d')
+
+-- the opened work is that of the frame's start
+pub record IsOpened (s : State) (f : ℕ) (work : UnsealedWork) (rec : Sealed) : Type 0 where
+  pub key : work.key ≡ s.key
+  pub version : IsSomeAnd (s.start f) (λ start. work.version ≡ start.version)
+  pub rec_is : work.rec ≡ rec
+
+module _ (m : Inside) (h : IsWhole m) (a : Actor) (f : Frame) (work : UnsealedWork) (rec : Sealed) (start : opened.Start) (page : Page) (epc : List EpcFrame) (va : List (Option (List VaSlot)))
+  (comes : (state_of (parts_of m)).content f.0 ≡ IsLoading) (is : IsOpened (state_of (parts_of m)) f.0 work rec) (at : (state_of (parts_of m)).start f.0 ≡ start_of (Some start)) (loads : start.loads ≡ Some page)
+  where
+  abbrev d : Parts
+  d = parts_of m
+
+  abbrev s : State
+  s = state_of d
+
+  abbrev own : Start
+  own = record { slot = start.slot; version = start.version; loads = start.loads }
+
+  abbrev d' : Parts
+  d' = record d { epc = epc; va = va; starts = set d.starts f.0 None }
+
+  w : Waits d page
+  w = waits m h f.0 own page at loads
+
+  version_is : work.version ≡ start.version
+  version_is = rw at at is.version
+
+  -- the header that its record should have
+  header_is : header_in d.secs page ≡ Some (header_of w.secs.base page w.kind w.perm)
+  header_is =
+      ap (λ o. header_by (enclave_at d.secs page.enclave) page o) (added_same d.secs page ∙ w.added)
+      ∙ ap (λ o. header_by o page (Some (w.kind, w.perm))) w.there
+
+  tag_is : work.computed ≡ tag s.key start.version rec.header rec.cipher
+  tag_is = work.is_computed ∙ (λ i. tag (is.key i) (version_is i) (let r : Sealed = is.rec_is i in r.header) (let r : Sealed = is.rec_is i in r.cipher))
+
+  -- the row of the commit
+  row_is : first_of_row (eld_row work.rec work.computed (header_in d.secs page)) ≡ first_of_row (commit_row s f.0 (coming m f.0 own page at loads w) rec)
+  row_is = λ i. first_of_row (eld_row (is.rec_is i) (tag_is i) (header_is i))
+
+  words_is : words_of work.plain.items ≡ words_of (cipher s.key start.version rec.cipher)
+  words_is = ap words_of (work.is_plain ∙ (λ i. cipher (is.key i) (version_is i) (let r : Sealed = is.rec_is i in r.cipher)))
+
+  pub ended_back : (e : Entry) → None ≡ first_of_row (eld_row work.rec work.computed (header_in d.secs page)) → epc ≡ with_reloaded d.epc d.secs f.0 page work.plain.items → va ≡ with_ended d.va start.slot 0
+      → e ≡ did_by a (Eld f) (Moved page start.version work.rec.tag) → Ended m a f e rec d'
+  ended_back e row puts ends told =
+      let words = words_of (cipher s.key start.version rec.cipher) in
+      let long : length words ≡ 512 = ap length (sym words_is) ∙ length-words_of work.plain.items ∙ ap (λ n. n / 8) work.plain_size in
+      let put : epc ≡ with_words (with_page d.epc f.0 page w.kind w.perm) f.0 words = puts ∙ ap (λ o. with_plain d.epc f.0 page o work.plain.items) (added_same d.secs page ∙ w.added) ∙ ap (with_words (with_page d.epc f.0 page w.kind w.perm) f.0) words_is in
+      let parts : d' ≡ loaded_parts d f.0 own page w.kind w.perm words = λ i. record d { epc = put i; va = ends i; starts = set d.starts f.0 None } in
+      let left = eld_leaves m h f.0 own page w.kind w.perm words d' comes at w.added w.paged long parts in
+      record {
+        after = after_eld s f.0 own page w.kind w.perm words;
+        leaves = left;
+        back = record {
+          coming = coming m f.0 own page at loads w;
+          row = done_step _ _ _ (sym row_is ∙ sym row) (told ∙ ap (λ (r : Sealed). did_by a (Eld f) (Moved page start.version r.tag)) is.rec_is, left.state);
+        };
+      }
+
+  pub ended_refused : (e : Entry) (refusal : Refusal) → Some refusal ≡ first_of_row (eld_row work.rec work.computed (header_in d.secs page)) → epc ≡ cleared d.epc f.0 → va ≡ with_busy d.va start.slot false → e ≡ refused_by a (Eld f) refusal
+      → Ended m a f e rec d'
+  ended_refused e refusal row frees marks told =
+      let parts : d' ≡ failed_parts d f.0 own = λ i. record d { epc = frees i; va = marks i; starts = set d.starts f.0 None } in
+      let left = failed_leaves m h f.0 own d' comes at parts in
+      record {
+        after = after_failed_eld s f.0 own;
+        leaves = left;
+        back = record { coming = coming m f.0 own page at loads w; row = refused_step _ _ _ refusal (sym row_is ∙ sym row) (told, left.state) };
+      }
