@@ -1,6 +1,6 @@
 -- What the commits of EWB and ELDU leave of the machine's parts, and what they answer.
-use Rattle.std.proofs.Common.{◌≡◌, ℕ, ◌/◌, ◌<◌, ◌≤◌, Bool, true, false, cond, refl, sym, ap, ◌∙◌, arith, ◌⊎◌, inl, inr, Option, Some, None, IfSome, List, length, set, is_some, length-set, MatchOption, subst}
-use Rattle.std.specs.Option.{IsSomeAnd, option_and_then}
+use Rattle.std.proofs.Common.{◌≡◌, ℕ, ◌/◌, ◌<◌, ◌≤◌, true, false, refl, sym, ap, ◌∙◌, ◌⊎◌, inl, inr, Option, Some, None, IfSome, List, length, set, is_some, length-set}
+use Rattle.std.specs.Option.{IsSomeAnd}
 use Rattle.std.proofs.lemmas.Bool.{cases_lt, false≢true}
 use Rattle.std.proofs.lemmas.List.{get_or_past}
 use Rattle.sgx_types.specs.declared.entries.Actor.{Actor}
@@ -22,8 +22,8 @@ use Rattle.epcm_entry.specs.declared.entry_view.EntryView.{EntryView}
 use Rattle.epcm_entry.specs.declared.entry_view.EntryView.TheVariants as views
 use Rattle.epcm_entry.specs.EntryView.{holding, goes_out}
 use Rattle.epcm_entry.specs.Epc.{EpcFrame, free_frame, entry_at, with_page, with_words, cleared}
-use Rattle.epcm_entry.specs.Sights.{held, content_of, sight_in}
-use Rattle.epcm_entry.specs.Words.{words_of, bytes_of}
+use Rattle.epcm_entry.specs.Sights.{held, content_of}
+use Rattle.epcm_entry.specs.Words.{words_of}
 use Rattle.epcm_entry.proofs.Words.{length-words_of}
 use Rattle.epcm_entry.proofs.Columns.{length-with_entry, length-with_words, length-cleared}
 use Rattle.secs_state.specs.Secs.{SecsState, added_at}
@@ -33,19 +33,18 @@ use Rattle.seal_record.specs.declared.seal.SealedWork.{SealedWork}
 use Rattle.seal_record.specs.declared.unseal.UnsealedWork.{UnsealedWork}
 use Rattle.version_array.specs.declared.va_page.VaSlot.{VaSlot}
 use Rattle.version_array.specs.Slots.{with_busy}
-use Rattle.evict_reload.specs.Sights as parts
 use Rattle.evict_reload.specs.Effects.{page_of, with_ended, with_plain, with_reloaded, header_by, header_in, eld_row}
 use Rattle.evict_reload.proofs.PageLaws.{pages-with_entry, pages-with_words, pages-cleared}
 use Rattle.paging_machine.specs.declared.machine.Machine.TheInside.{Inside}
 use Rattle.paging_machine.specs.declared.starts.Start as opened
-use Rattle.paging_machine.specs.Guarded.{IsGuarded, IsOpen, IsPaged}
+use Rattle.paging_machine.specs.Guarded.{IsOpen, IsPaged}
 use Rattle.paging_machine.specs.State.{State, after_ewb, after_eld, after_failed_eld}
 use Rattle.paging_machine.specs.Parts.{Parts, enclave_of, added_in, start_of, state_of}
-use Rattle.paging_machine.specs.Steps.{IsLeaving, IsHeaderIn, SealsPage, IsWrittenOut, IsComing, IsReloaded, commit_row, did_by, refused_by}
+use Rattle.paging_machine.specs.Steps.{SealsPage, IsWrittenOut, IsComing, IsReloaded, commit_row, did_by, refused_by}
 use Rattle.paging_machine.specs.Whole.{IsWhole, parts_of}
-use Rattle.paging_machine.proofs.Keeping.{IsKept, kept_as, kept_ewb, kept_eld, kept_failed_eld}
+use Rattle.paging_machine.proofs.Keeping.{kept_ewb, kept_eld, kept_failed_eld}
 use Rattle.paging_machine.proofs.PagingSights.{added_same}
-use Rattle.paging_machine.proofs.PagingBridge.{IsWritable, written_parts, failed_parts, loaded_parts, ewb_state, failed_state, eld_state, holds_paged, table_ended, pages_ended, pages_marked, slots_marked}
+use Rattle.paging_machine.proofs.PagingBridge.{IsWritable, written_parts, failed_parts, loaded_parts, ewb_state, failed_state, eld_state, table_ended, pages_ended, pages_marked, slots_marked}
 use Rattle.paging_machine.proofs.Wholes.{Leaves, kept_of, done_step, refused_step}
 
 -- ---- the frame and the slot of a start
@@ -248,66 +247,66 @@ pub record IsOpened (s : State) (f : ℕ) (work : UnsealedWork) (rec : Sealed) :
   pub rec_is : work.rec ≡ rec
 
 module _ (m : Inside) (h : IsWhole m) (a : Actor) (f : Frame) (work : UnsealedWork) (rec : Sealed) (start : opened.Start) (page : Page) (epc : List EpcFrame) (va : List (Option (List VaSlot)))
-  (comes : (state_of (parts_of m)).content f.0 ≡ IsLoading) (is : IsOpened (state_of (parts_of m)) f.0 work rec) (at : (state_of (parts_of m)).start f.0 ≡ start_of (Some start)) (loads : start.loads ≡ Some page)
+    (comes : (state_of (parts_of m)).content f.0 ≡ IsLoading) (is : IsOpened (state_of (parts_of m)) f.0 work rec) (at : (state_of (parts_of m)).start f.0 ≡ start_of (Some start)) (loads : start.loads ≡ Some page)
   where
-  abbrev d : Parts
-  d = parts_of m
+    abbrev d : Parts
+    d = parts_of m
 
-  abbrev s : State
-  s = state_of d
+    abbrev s : State
+    s = state_of d
 
-  abbrev own : Start
-  own = record { slot = start.slot; version = start.version; loads = start.loads }
+    abbrev own : Start
+    own = record { slot = start.slot; version = start.version; loads = start.loads }
 
-  abbrev d' : Parts
-  d' = record d { epc = epc; va = va; starts = set d.starts f.0 None }
+    abbrev d' : Parts
+    d' = record d { epc = epc; va = va; starts = set d.starts f.0 None }
 
-  w : Waits d page
-  w = waits m h f.0 own page at loads
+    w : Waits d page
+    w = waits m h f.0 own page at loads
 
-  version_is : work.version ≡ start.version
-  version_is = rw at at is.version
+    version_is : work.version ≡ start.version
+    version_is = rw at at is.version
 
-  -- the header that its record should have
-  header_is : header_in d.secs page ≡ Some (header_of w.secs.base page w.kind w.perm)
-  header_is =
-      ap (λ o. header_by (enclave_at d.secs page.enclave) page o) (added_same d.secs page ∙ w.added)
-      ∙ ap (λ o. header_by o page (Some (w.kind, w.perm))) w.there
+    -- the header that its record should have
+    header_is : header_in d.secs page ≡ Some (header_of w.secs.base page w.kind w.perm)
+    header_is =
+        ap (λ o. header_by (enclave_at d.secs page.enclave) page o) (added_same d.secs page ∙ w.added)
+        ∙ ap (λ o. header_by o page (Some (w.kind, w.perm))) w.there
 
-  tag_is : work.computed ≡ tag s.key start.version rec.header rec.cipher
-  tag_is = work.is_computed ∙ (λ i. tag (is.key i) (version_is i) (let r : Sealed = is.rec_is i in r.header) (let r : Sealed = is.rec_is i in r.cipher))
+    tag_is : work.computed ≡ tag s.key start.version rec.header rec.cipher
+    tag_is = work.is_computed ∙ (λ i. tag (is.key i) (version_is i) (let r : Sealed = is.rec_is i in r.header) (let r : Sealed = is.rec_is i in r.cipher))
 
-  -- the row of the commit
-  row_is : first_of_row (eld_row work.rec work.computed (header_in d.secs page)) ≡ first_of_row (commit_row s f.0 (coming m f.0 own page at loads w) rec)
-  row_is = λ i. first_of_row (eld_row (is.rec_is i) (tag_is i) (header_is i))
+    -- the row of the commit
+    row_is : first_of_row (eld_row work.rec work.computed (header_in d.secs page)) ≡ first_of_row (commit_row s f.0 (coming m f.0 own page at loads w) rec)
+    row_is = λ i. first_of_row (eld_row (is.rec_is i) (tag_is i) (header_is i))
 
-  words_is : words_of work.plain.items ≡ words_of (cipher s.key start.version rec.cipher)
-  words_is = ap words_of (work.is_plain ∙ (λ i. cipher (is.key i) (version_is i) (let r : Sealed = is.rec_is i in r.cipher)))
+    words_is : words_of work.plain.items ≡ words_of (cipher s.key start.version rec.cipher)
+    words_is = ap words_of (work.is_plain ∙ (λ i. cipher (is.key i) (version_is i) (let r : Sealed = is.rec_is i in r.cipher)))
 
-  pub ended_back : (e : Entry) → None ≡ first_of_row (eld_row work.rec work.computed (header_in d.secs page)) → epc ≡ with_reloaded d.epc d.secs f.0 page work.plain.items → va ≡ with_ended d.va start.slot 0
-      → e ≡ did_by a (Eld f) (Moved page start.version work.rec.tag) → Ended m a f e rec d'
-  ended_back e row puts ends told =
-      let words = words_of (cipher s.key start.version rec.cipher) in
-      let long : length words ≡ 512 = ap length (sym words_is) ∙ length-words_of work.plain.items ∙ ap (λ n. n / 8) work.plain_size in
-      let put : epc ≡ with_words (with_page d.epc f.0 page w.kind w.perm) f.0 words = puts ∙ ap (λ o. with_plain d.epc f.0 page o work.plain.items) (added_same d.secs page ∙ w.added) ∙ ap (with_words (with_page d.epc f.0 page w.kind w.perm) f.0) words_is in
-      let parts : d' ≡ loaded_parts d f.0 own page w.kind w.perm words = λ i. record d { epc = put i; va = ends i; starts = set d.starts f.0 None } in
-      let left = eld_leaves m h f.0 own page w.kind w.perm words d' comes at w.added w.paged long parts in
-      record {
-        after = after_eld s f.0 own page w.kind w.perm words;
-        leaves = left;
-        back = record {
-          coming = coming m f.0 own page at loads w;
-          row = done_step _ _ _ (sym row_is ∙ sym row) (told ∙ ap (λ (r : Sealed). did_by a (Eld f) (Moved page start.version r.tag)) is.rec_is, left.state);
-        };
-      }
+    pub ended_back : (e : Entry) → None ≡ first_of_row (eld_row work.rec work.computed (header_in d.secs page)) → epc ≡ with_reloaded d.epc d.secs f.0 page work.plain.items → va ≡ with_ended d.va start.slot 0
+        → e ≡ did_by a (Eld f) (Moved page start.version work.rec.tag) → Ended m a f e rec d'
+    ended_back e row puts ends told =
+        let words = words_of (cipher s.key start.version rec.cipher) in
+        let long : length words ≡ 512 = ap length (sym words_is) ∙ length-words_of work.plain.items ∙ ap (λ n. n / 8) work.plain_size in
+        let put : epc ≡ with_words (with_page d.epc f.0 page w.kind w.perm) f.0 words = puts ∙ ap (λ o. with_plain d.epc f.0 page o work.plain.items) (added_same d.secs page ∙ w.added) ∙ ap (with_words (with_page d.epc f.0 page w.kind w.perm) f.0) words_is in
+        let parts : d' ≡ loaded_parts d f.0 own page w.kind w.perm words = λ i. record d { epc = put i; va = ends i; starts = set d.starts f.0 None } in
+        let left = eld_leaves m h f.0 own page w.kind w.perm words d' comes at w.added w.paged long parts in
+        record {
+          after = after_eld s f.0 own page w.kind w.perm words;
+          leaves = left;
+          back = record {
+            coming = coming m f.0 own page at loads w;
+            row = done_step _ _ _ (sym row_is ∙ sym row) (told ∙ ap (λ (r : Sealed). did_by a (Eld f) (Moved page start.version r.tag)) is.rec_is, left.state);
+          };
+        }
 
-  pub ended_refused : (e : Entry) (refusal : Refusal) → Some refusal ≡ first_of_row (eld_row work.rec work.computed (header_in d.secs page)) → epc ≡ cleared d.epc f.0 → va ≡ with_busy d.va start.slot false → e ≡ refused_by a (Eld f) refusal
-      → Ended m a f e rec d'
-  ended_refused e refusal row frees marks told =
-      let parts : d' ≡ failed_parts d f.0 own = λ i. record d { epc = frees i; va = marks i; starts = set d.starts f.0 None } in
-      let left = failed_leaves m h f.0 own d' comes at parts in
-      record {
-        after = after_failed_eld s f.0 own;
-        leaves = left;
-        back = record { coming = coming m f.0 own page at loads w; row = refused_step _ _ _ refusal (sym row_is ∙ sym row) (told, left.state) };
-      }
+    pub ended_refused : (e : Entry) (refusal : Refusal) → Some refusal ≡ first_of_row (eld_row work.rec work.computed (header_in d.secs page)) → epc ≡ cleared d.epc f.0 → va ≡ with_busy d.va start.slot false → e ≡ refused_by a (Eld f) refusal
+        → Ended m a f e rec d'
+    ended_refused e refusal row frees marks told =
+        let parts : d' ≡ failed_parts d f.0 own = λ i. record d { epc = frees i; va = marks i; starts = set d.starts f.0 None } in
+        let left = failed_leaves m h f.0 own d' comes at parts in
+        record {
+          after = after_failed_eld s f.0 own;
+          leaves = left;
+          back = record { coming = coming m f.0 own page at loads w; row = refused_step _ _ _ refusal (sym row_is ∙ sym row) (told, left.state) };
+        }

@@ -1,7 +1,7 @@
 -- The machine's parts after a block, a track, a write-out or a reload, and the state that they make.
 use Rattle.std.proofs.Common.{◌≡◌, ℕ, ◌+◌, ◌<◌, ◌≤◌, ◌==◌, ◌||◌, Bool, true, false, not, cond, leb, refl, sym, ap, ◌∙◌, Option, Some, None, List, length, get_or, set, is_some, length-set, arith}
 use Rattle.std.specs.Prelude.{count_by, nat_lt}
-use Rattle.std.proofs.lemmas.Bool.{cond_both, eqb-true, leb-false, ltb-false, not-false, false≢true}
+use Rattle.std.proofs.lemmas.Bool.{eqb-true, leb-false, ltb-false, not-false}
 use Rattle.sgx_types.specs.declared.names.Page.{Page}
 use Rattle.sgx_types.specs.declared.names.SlotAt.{SlotAt}
 use Rattle.sgx_types.specs.declared.names.Kind.{Kind}
@@ -15,7 +15,7 @@ use Rattle.sgx_types.specs.Table.{DrainSight, first_of_row, block_row, track_row
 use Rattle.epcm_entry.specs.declared.entry_view.EntryView.{EntryView}
 use Rattle.epcm_entry.specs.declared.entry_view.EntryView.TheVariants as views
 use Rattle.epcm_entry.specs.EntryView.{is_valid, holding, block_of, goes_out, with_block, outgoing}
-use Rattle.epcm_entry.specs.Epc.{EpcFrame, entry_at, words_at, with_entry, with_page, with_words, with_sealing, with_loading, cleared}
+use Rattle.epcm_entry.specs.Epc.{EpcFrame, entry_at, with_entry, with_page, with_words, with_sealing, with_loading, cleared}
 use Rattle.epcm_entry.specs.Sights.{held, content_of, sight_in}
 use Rattle.epcm_entry.proofs.Columns.{length-with_entry, entry_at-with_entry, words_at-with_entry, length-with_words, entry_at-with_words, words_at-with_words, length-cleared, entry_at-cleared, words_at-cleared}
 use Rattle.cached_translations.specs.declared.processor.Processor.{Processor}
@@ -28,19 +28,19 @@ use Rattle.version_array.specs.declared.va_page.VaSlot.{VaSlot}
 use Rattle.version_array.specs.Slots.{IsSlot, IsVaTable, version_in, is_busy_at, with_busy, with_version}
 use Rattle.version_array.specs.Versions.{is_spent_at}
 use Rattle.version_array.proofs.TableLaws.{version_in-with_version, is_busy_at-with_version, version_in-with_busy, is_busy_at-with_busy, slot_kept, IsVaTable-with_slot}
-use Rattle.evict_reload.specs.Effects.{epoch_of, with_blocked, with_next, with_tracked, with_ended, with_plain}
+use Rattle.evict_reload.specs.Effects.{epoch_of, with_blocked, with_next, with_tracked, with_ended}
 use Rattle.evict_reload.specs.Sights as parts
 use Rattle.evict_reload.specs.Sights.{AreVaPages, IsNumbered, track_seen}
-use Rattle.evict_reload.proofs.PageLaws.{pages-with_entry, pages-with_words, pages-with_slot, pages-cleared, is_va-with_block, is_va-outgoing}
+use Rattle.evict_reload.proofs.PageLaws.{pages-with_entry, pages-with_slot, is_va-with_block, is_va-outgoing}
 use Rattle.paging_machine.specs.Guarded.{IsPaged}
-use Rattle.paging_machine.specs.State.{State, sight, epoch_in, after_block, after_track, after_ewbstart, after_eldstart, after_ewb, after_eld, after_failed_eld}
+use Rattle.paging_machine.specs.State.{epoch_in, after_block, after_track, after_ewbstart, after_eldstart, after_ewb, after_eld, after_failed_eld}
 use Rattle.paging_machine.specs.declared.starts.Start as opened
 use Rattle.paging_machine.specs.Parts.{Parts, is_noted, start_of, epoch_from, state_of}
 use Rattle.paging_machine.specs.Whole.{IsTracked, IsWhole, parts_of}
 use Rattle.paging_machine.specs.declared.machine.Machine.TheInside.{Inside}
 use Rattle.paging_machine.proofs.Tools.{none_holds, neither}
 use Rattle.paging_machine.proofs.Columns.{get_or-set_if, through, same_at, numbered}
-use Rattle.paging_machine.proofs.Keeping.{kept_block, kept_track, kept_ewbstart, kept_eldstart, kept_ewb, kept_eld, kept_failed_eld}
+use Rattle.paging_machine.proofs.Keeping.{kept_block, kept_track, kept_ewbstart, kept_eldstart}
 use Rattle.paging_machine.proofs.PagingSights.{epoch_seen, frame_numbered, track_there, track_row_at, ewbstart_row_at, eldstart_row_at}
 use Rattle.paging_machine.proofs.Wholes.{Leaves, kept_of}
 

@@ -30,7 +30,9 @@ impl Machine {
         ensures { SealsPage (state_of self.now) frame.0 result.key result.version result.header result.plain.items }
     {
         let SealWork {
-            mut plain, space, ..
+            mut plain,
+            space,
+            ..
         } = work;
         plain.copy_from_slice(self.epc.bytes(frame));
         let key = self.key;
@@ -135,7 +137,13 @@ impl Machine {
         requires { (state_of self.now).is_sealing frame.0 ≡ true }
         ensures { IsHeaderIn (state_of self.now) frame.0 result }
     {
-        let EntryView::Valid { page, kind, perm, .. } = self.epc.entry(frame) else {
+        let EntryView::Valid {
+            page,
+            kind,
+            perm,
+            ..
+        } = self.epc.entry(frame)
+        else {
             unreachable!();
         };
         let secs = self.secs.get(page.enclave).unwrap();

@@ -1,4 +1,4 @@
-use Rattle.std.proofs.Common.{◌≡◌, ◌∙◌, ap, Some, None, set}
+use Rattle.std.proofs.Common.{◌≡◌, ◌∙◌, ap, None, set}
 use Rattle.sgx_types.specs.Frames.{IsLoading}
 use Rattle.seal_record.specs.declared.unseal.UnsealedWork.{UnsealedWork}
 use Rattle.sgx_types.specs.declared.entries.Action.TheVariants.{Eld}

@@ -23,7 +23,7 @@ returns c = λ same.
     let version : c.args.work.now.version ≡ x.version = ap (λ (w : SealedWork). w.version) (sym c.work.view_is) ∙ c.if-work-start.false in
     let header : c.args.work.now.rec.header ≡ c.header-header.result = ap (λ (w : SealedWork). w.rec.header) (sym c.work.view_is) ∙ same_headers _ c.header-header.result (not-false _ (sym c.if-ne-2.ensures)) in
     let plain : c.args.work.now.plain.items ≡ bytes_at c.self.inside.epc c.args.frame.0 =
-        ap (λ (w : SealedWork). w.plain.items) (sym c.work.view_is) ∙ sym c.as_slice.ensures.value ∙ (bytes_eq-Decides c.as_slice.result.now c.as_slice-2.result.now).0 (sym c.eq.ensures ∙ same) ∙ c.as_slice-2.ensures ∙ c.bytes.ensures.value
+    ap (λ (w : SealedWork). w.plain.items) (sym c.work.view_is) ∙ sym c.as_slice.ensures.value ∙ (bytes_eq-Decides c.as_slice.result.now c.as_slice-2.result.now).0 (sym c.eq.ensures ∙ same) ∙ c.as_slice-2.ensures ∙ c.bytes.ensures.value
     in
     let is : SealsPage (state_of c.args.self.now) c.args.frame.0 _ _ _ _ = record {
       leaving = leaving;
