@@ -1,5 +1,5 @@
 -- The machine's parts after a row that builds an enclave, and the state that they make.
-use Rattle.std.proofs.Common.{◌≡◌, ℕ, ◌/◌, ◌<◌, ◌≤◌, ◌==◌, ◌||◌, Bool, true, false, not, cond, leb, refl, sym, ap, ◌∙◌, Option, Some, None, List, [], length, set, is_some, length-set}
+use Rattle.std.proofs.Common.{◌≡◌, ℕ, ◌/◌, ◌<◌, ◌≤◌, ◌==◌, ◌||◌, Bool, true, false, not, cond, leb, refl, sym, ap, ◌∙◌, Option, Some, None, List, length, set, is_some, length-set}
 use Rattle.std.specs.Prelude.{slice_index_or}
 use Rattle.std.proofs.lemmas.Bool.{cond_both, eqb-true, leb-false, leb-true, ltb-true}
 use Rattle.std.proofs.lemmas.List.{length-replicate}
@@ -12,7 +12,7 @@ use Rattle.sgx_types.specs.declared.names.Perm.{Perm}
 use Rattle.sgx_types.specs.declared.names.SlotAt.{SlotAt}
 use Rattle.sgx_types.specs.Frames.{Free, Holds, page_at}
 use Rattle.sgx_types.specs.Table as table
-use Rattle.sgx_types.specs.Table.{EnclaveSight, FrameSight, epa_row, create_row, add_row, first_of_row}
+use Rattle.sgx_types.specs.Table.{epa_row, create_row, add_row, first_of_row}
 use Rattle.sgx_types.specs.Flat.{first_words, marked}
 use Rattle.epcm_entry.specs.declared.entry_view.EntryView.{EntryView}
 use Rattle.epcm_entry.specs.declared.entry_view.EntryView.TheVariants as views

@@ -1,5 +1,5 @@
 -- A machine that has done nothing yet stands for no entry.
-use Rattle.std.proofs.Common.{ℕ, zero, suc, ◌≡◌, ◌==◌, ◌-◌, ◌≤◌, ◌+◌, refl, sym, ap, subst, ◌∙◌, true, false, cond, mul-zero, ◌<◌, List, [], ◌∷◌, ◌++◌, Option, Some, None, length, replicate, get_or, is_some}
+use Rattle.std.proofs.Common.{ℕ, zero, suc, ◌≡◌, ◌==◌, ◌-◌, ◌≤◌, ◌+◌, refl, sym, ap, subst, ◌∙◌, true, false, cond, mul-zero, ◌<◌, List, [], ◌∷◌, ◌++◌, Option, Some, None, length, replicate, get_or}
 use Rattle.std.specs.Prelude.{Bool, count_by}
 use Rattle.std.proofs.lemmas.Bool.{cond_both}
 use Rattle.std.proofs.lemmas.List.{length-replicate, replicate-append-replicate}
@@ -103,8 +103,8 @@ fresh_upheld frames cpus key epoch version = record {
 pub made_upheld : (frames cpus : ℕ) (key : List ℕ) (epoch version : ℕ) → Upholds (state_of (made frames cpus key epoch version)) []
 made_upheld frames cpus key epoch version = rw (made_state frames cpus key epoch version) (fresh_upheld frames cpus key epoch version)
 
-pub made_follows : (frames cpus : ℕ) (key : List ℕ) (epoch version : ℕ) → Follows (making_of (state_of (made frames cpus key epoch version))) (state_of (made frames cpus key epoch version)) []
-made_follows frames cpus key epoch version = subst (λ s. Follows (making_of s) s []) (sym (made_state frames cpus key epoch version)) (fresh_follows frames cpus key epoch version)
+pub made_follows : (d : Parts) (frames cpus : ℕ) (key : List ℕ) (epoch version : ℕ) → d ≡ made frames cpus key epoch version → Follows (making_of (state_of d)) (state_of d) []
+made_follows d frames cpus key epoch version is = subst (λ s. Follows (making_of s) s []) (sym (ap state_of is ∙ made_state frames cpus key epoch version)) (fresh_follows frames cpus key epoch version)
 
 zero_sized : length zero_words ≡ 512
 unfolding zero_words
@@ -120,7 +120,7 @@ guarded_made frames cpus key epoch version =
       few = λ p past. refl;
       noted = λ p. tt;
       blocks = λ n. tt;
-      sealing = λ n is. cc is;
+      sealing = λ n is. cc;
       taken = λ g is. cc is;
       opened = λ n. tt;
       written = λ n is. cc is;

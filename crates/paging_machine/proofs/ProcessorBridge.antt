@@ -133,13 +133,12 @@ words_state d f change low =
     by_frame : (n : ℕ) → cond (f == n) (change (words_at d.epc f)) (words_at d.epc n) ≡ rewritten (state_of d).words f change n
     by_frame n = cond_both (f == n) (change (words_at d.epc f)) (words_at d.epc n) (λ ws. ws ≡ cond (f == n) (change (words_at d.epc n)) (words_at d.epc n)) (λ e. rw e (ap (λ m. change (words_at d.epc m)) (eqb-true f n e))) (λ e. rw e refl)
 
--- an enclave's track that is written, where its epoch stays
-module _ (d : Parts) (e : ℕ) (t t' : Tracking) (eight : length d.tracks ≡ 8) (first : 1 ≤ e) (last : e ≤ 8) (track : track_of d.tracks e ≡ Some t) (same : t'.epoch ≡ t.epoch) where
-  pub epoch_kept : (k : ℕ) → (state_of (record d { tracks = with_track d.tracks e t' })).epoch k ≡ (state_of d).epoch k
-  epoch_kept k =
-      ap (epoch_from d.start_epoch) (track_of-with_track d.tracks e k t' first (rw eight last))
-      ∙ cond_both (e == k) (Some t') (track_of d.tracks k) (λ o. epoch_from d.start_epoch o ≡ (state_of d).epoch k)
-      (λ is. same ∙ sym (ap (epoch_from d.start_epoch) (ap (track_of d.tracks) (sym (eqb-true e k is)) ∙ track))) (λ _. refl)
+-- an enclave's track that is written, where its epoch stays: each enclave's epoch stays
+pub epoch_kept : (d : Parts) (e k : ℕ) (t t' : Tracking) → length d.tracks ≡ 8 → 1 ≤ e → e ≤ 8 → track_of d.tracks e ≡ Some t → t'.epoch ≡ t.epoch → epoch_from d.start_epoch (track_of (with_track d.tracks e t') k) ≡ (state_of d).epoch k
+epoch_kept d e k t t' eight first last track same =
+    ap (epoch_from d.start_epoch) (track_of-with_track d.tracks e k t' first (rw eight last))
+    ∙ cond_both (e == k) (Some t') (track_of d.tracks k) (λ o. epoch_from d.start_epoch o ≡ (state_of d).epoch k)
+    (λ is. same ∙ sym (ap (epoch_from d.start_epoch) (ap (track_of d.tracks) (sym (eqb-true e k is)) ∙ track))) (λ _. refl)
 
 -- a processor that comes inside
 pub inside_state : (d : Parts) (p enclave tcs : ℕ) (tf sf : Frame) (acc : ℕ) (x : SecsState) (t : Tracking) → p < length d.cpus → length d.tracks ≡ 8 → track_of d.tracks enclave ≡ Some t → IsTable d.secs → enclave_at d.secs enclave ≡ Some x
@@ -157,7 +156,7 @@ inside_state d p enclave tcs tf sf acc x t cpu_in eight track table found added 
       acc = λ q. cpu_column (λ v. v.acc) d p q v cpu_in i;
       cache = λ q. cpu_column (λ v. v.cache) d p q v cpu_in i;
       noted = λ q. (cpu_column (λ v. noted_by v.mode) d p q v cpu_in ∙ ap (λ n. cond (p == q) n ((state_of d).noted q)) (sym (ap (epoch_from d.start_epoch) track))) i;
-      epoch = λ k. epoch_kept d enclave t (entered t) eight number.0 number.1 track refl k i;
+      epoch = λ k. epoch_kept d enclave k t (entered t) eight number.0 number.1 track refl i;
       cpus = length-set d.cpus p v i;
     }
 
@@ -177,7 +176,7 @@ exit_state d p enclave tcs tf sf epoch x t is cpu_in eight track table found add
       acc = λ q. (cpu_column (λ v. v.acc) d p q v cpu_in ∙ same_at (λ k. (cpu_at d k).acc) p q) i;
       cache = λ q. cpu_column (λ v. v.cache) d p q v cpu_in i;
       noted = λ q. cpu_column (λ v. noted_by v.mode) d p q v cpu_in i;
-      epoch = λ k. epoch_kept d enclave t (left t epoch) eight number.0 number.1 track refl k i;
+      epoch = λ k. epoch_kept d enclave k t (left t epoch) eight number.0 number.1 track refl i;
       cpus = length-set d.cpus p v i;
     }
 

@@ -13,9 +13,9 @@ use sgx_types::refusals::Refusal;
 use std::alloc::Global;
 
 impl Machine {
-    /// One instruction but the commits of EWB and ELDU: its entry says whether it was done, with its answer, or refused, with the first case of its row
-    /// in this project's instruction table that holds. A refusal changes nothing. Memory may be refused to `epa` and
-    /// `create` alone.
+    /// One instruction but the commits of EWB and ELDU: its entry says whether it was done, with its answer, or refused,
+    /// with the first case of its row in this project's instruction table that holds. A refusal changes nothing. Memory
+    /// may be refused to `epa` and `create` alone.
     pub fn apply(&mut self, alloc: Global, actor: Actor, action: Action) -> Result<Entry, Memory>
         requires { CanApply (length self.old.cpus) actor action }
         ensures step { IfOk result (λ e. IsStep (state_of self.old) actor action e (state_of self.new)) }

@@ -22,7 +22,7 @@ const PLACES: usize = 9;
 impl Machine {
     /// A machine with at most 4096 free frames and at most 16 processors outside. It seals with a key, and counts
     /// tracking epochs, of which 2^40 - 1 is the last, and versions from the given numbers on.
-    #[tactic(auto, using(crate::proofs::Fresh::made_upheld, crate::proofs::Fresh::made_follows))]
+    #[tactic(auto, using(crate::proofs::Fresh::made_upheld))]
     pub fn new(
         alloc: Global,
         frames: u32,
