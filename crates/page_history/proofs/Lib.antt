@@ -1,0 +1,5 @@
+pub mod OpenStarts
+pub mod DrawnLaws
+pub mod FlatLaws
+pub mod StartLaws
+pub mod RecordLaws
