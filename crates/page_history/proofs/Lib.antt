@@ -1,0 +1,3 @@
+pub mod CopyLaws
+pub mod DrawnLaws
+pub mod StartLaws
