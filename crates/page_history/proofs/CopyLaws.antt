@@ -94,31 +94,36 @@ went_first x before y same = (0, x, omega arith, refl, same)
 went_before : (x : Gone) (before : List Gone) (y : Gone) → Any (λ one. one ≡ y) before → Any (λ one. one ≡ y) (x ∷ before)
 went_before x before y (k, z, below, at, same) = (suc k, z, omega arith, at, same)
 
--- a copy in a slot went out under the version that it has there
-pub went_out : (past : List Entry) (g : Page) (s : SlotAt) (v : ℕ) → copy past g ≡ Some (InSlot s v) → IsGone past (record { page = g; version = v })
-went_out [] g s v h = cc
-went_out (e ∷ past) g s v h = by_event e.event h (went_out past g s v)
+-- a last write-out was under this version
+abbrev pub IsUnder : ℕ → Option Out → Type 0
+IsUnder v o = (tag : List ℕ) × (o ≡ Some (record { version = v; tag = tag }))
+
+-- a copy in a slot has the version of the page's last write-out
+pub copy_is_last : (past : List Entry) (g : Page) (s : SlotAt) (v : ℕ) → copy past g ≡ Some (InSlot s v) → IsUnder v (last_out past g)
+copy_is_last [] g s v there = cc
+copy_is_last (e ∷ past) g s v there = by_event e.event there (copy_is_last past g s v)
   where
-    kept : (b : Bool) (n : ℕ) → cond b (Some (InFrame n)) (copy past g) ≡ Some (InSlot s v) → copy past g ≡ Some (InSlot s v)
-    kept true n k = cc
-    kept false n k = k
+    by_add : (b : Bool) (n : ℕ) → cond b (Some (InFrame n)) (copy past g) ≡ Some (InSlot s v) → (copy past g ≡ Some (InSlot s v) → IsUnder v (last_out past g)) → IsUnder v (last_out past g)
+    by_add true n k before = cc
+    by_add false n k before = before k
 
     by_slot : (o : Option Start) (w : ℕ) → in_slot o w ≡ Some (InSlot s v) → w ≡ v
     by_slot None w k = cc
     by_slot (Some start) w k = cc
 
-    by_page : (page : Page) (w : ℕ) (o : Option Start) (b : Bool) → same_page page g ≡ b → cond b (in_slot o w) (copy past g) ≡ Some (InSlot s v)
-        → (copy past g ≡ Some (InSlot s v) → IsGone past (record { page = g; version = v }))
-        → Any (λ one. one ≡ record { page = g; version = v }) (record { page = page; version = w } ∷ gone past)
-    by_page page w o true is k before = went_first _ (gone past) _ (λ i. record { page = same_page-is page g is i; version = by_slot o w k i })
-    by_page page w o false is k before = went_before _ (gone past) _ (before k)
+    by_ewb : (b : Bool) (o : Option Start) (w : ℕ) (tag : List ℕ) → cond b (in_slot o w) (copy past g) ≡ Some (InSlot s v) → (copy past g ≡ Some (InSlot s v) → IsUnder v (last_out past g))
+        → IsUnder v (cond b (Some (record { version = w; tag = tag })) (last_out past g))
+    by_ewb true o w tag k before = (tag, λ i. Some (record { version = by_slot o w k i; tag = tag }))
+    by_ewb false o w tag k before = before k
 
-    by_event : (ev : Event) → copy_after ev (open_start past) g (copy past g) ≡ Some (InSlot s v)
-        → (copy past g ≡ Some (InSlot s v) → IsGone past (record { page = g; version = v }))
-        → Any (λ one. one ≡ record { page = g; version = v }) (gone_after ev (gone past))
-    by_event (Did (Add enclave number f kind perm init) answer) k before = before (kept (same_page (page_at enclave number) g) f.0 k)
-    by_event (Did (Ewb f) (Moved page version tag)) k before = by_page page version (open_start past f.0) (same_page page g) refl k before
-    by_event (Did (Eld f) (Moved page version tag)) k before = before (kept (same_page page g) f.0 k)
+    by_eld : (b : Bool) (n : ℕ) → cond b (Some (InFrame n)) (copy past g) ≡ Some (InSlot s v) → (copy past g ≡ Some (InSlot s v) → IsUnder v (last_out past g)) → IsUnder v (cond b None (last_out past g))
+    by_eld true n k before = cc
+    by_eld false n k before = before k
+
+    by_event : (ev : Event) → copy_after ev (open_start past) g (copy past g) ≡ Some (InSlot s v) → (copy past g ≡ Some (InSlot s v) → IsUnder v (last_out past g)) → IsUnder v (out_after ev g (last_out past g))
+    by_event (Did (Add enclave number f kind perm init) answer) k before = by_add (same_page (page_at enclave number) g) f.0 k before
+    by_event (Did (Ewb f) (Moved page version tag)) k before = by_ewb (same_page page g) (open_start past f.0) version tag k before
+    by_event (Did (Eld f) (Moved page version tag)) k before = by_eld (same_page page g) f.0 k before
     by_event _ k before = before k
 
 -- a page that is out went out under the version of its last write-out
@@ -145,6 +150,10 @@ out_is_gone (e ∷ past) g o h = by_event e.event h (out_is_gone past g o)
     by_event (Did (Ewb f) (Moved page version tag)) k before = by_page page version tag (same_page page g) refl k before
     by_event (Did (Eld f) (Moved page version tag)) k before = before (kept (same_page page g) k)
     by_event _ k before = before k
+
+-- .. and so did a page whose copy is in a slot
+pub went_out : (past : List Entry) (g : Page) (s : SlotAt) (v : ℕ) → copy past g ≡ Some (InSlot s v) → IsGone past (record { page = g; version = v })
+went_out past g s v there = let last = copy_is_last past g s v there in out_is_gone past g _ last.1
 
 -- so a page that went out under the version of a slot has its live copy there
 pub whose_copy : (first : ℕ) (past : List Entry) → OneLiveCopy past → DrawnOnce first past → (s : SlotAt) (g : Page) → 0 < version_in past s
