@@ -3,3 +3,4 @@ pub mod DrawnLaws
 pub mod FlatLaws
 pub mod StartLaws
 pub mod RecordLaws
+pub mod CopyLaws
