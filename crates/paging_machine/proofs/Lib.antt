@@ -31,3 +31,4 @@ pub mod ShapeColumns
 pub mod ShapeLaws
 pub mod FollowLaws
 pub mod MoveSights
+pub mod MoveLaws
