@@ -33,3 +33,5 @@ pub mod FollowLaws
 pub mod PagingSights
 pub mod PagingBridge
 pub mod CommitBridge
+pub mod MoveSights
+pub mod MoveLaws
