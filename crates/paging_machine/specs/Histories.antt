@@ -12,6 +12,7 @@ use Rattle.sgx_types.specs.Flat.{flat, words_of}
 use Rattle.sgx_types.specs.Rules.{Along}
 use Rattle.sgx_types.specs.Sealed.{Sealed}
 use Rattle.sgx_types.specs.Starts.{Start}
+use Rattle.epcm_entry.specs.Words as words
 use Rattle.seal_record.specs.Cipher.{cipher}
 use Rattle.seal_record.specs.Records.{Given, Made}
 use Rattle.page_history.specs.Copies.{InSlot, copy}
@@ -31,6 +32,9 @@ pub record HasBytes (key : List ℕ) (past : List Entry) (g : Page) (version : �
   pub made : IsMade key past one
   pub version : one.version ≡ version
   pub cipher : one.cipher ≡ cipher key version (page_bytes (words_of (flat past) g))
+  pub size : length (page_bytes (words_of (flat past) g)) ≡ 4096
+  -- its words are those of its bytes
+  pub back : words.words_of (page_bytes (words_of (flat past) g)) ≡ words_of (flat past) g
 
 -- the record of each page that is outside has the page's flat bytes
 abbrev pub OutsideBytes : List ℕ → List Entry → Type 0

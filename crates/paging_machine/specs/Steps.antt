@@ -171,6 +171,8 @@ pub record IsLeaving (s : State) (f : ℕ) : Type 0 where
   pub opened : s.start f ≡ Some start
   pub header : Header
   pub page : IsHeaderIn s f header
+  -- its words are those of its bytes
+  pub words : words_of (bytes_of (s.words f)) ≡ s.words f
 
 -- what is sealed of it: its bytes, under the machine's key, the version that was drawn and the page's header
 pub record SealsPage (s : State) (f : ℕ) (by : List ℕ) (under : ℕ) (headed : Header) (bytes : List ℕ) : Type 0 where
