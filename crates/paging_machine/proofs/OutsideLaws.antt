@@ -1,5 +1,6 @@
 -- The record of a page that is outside goes on to have the page's flat bytes, and each write-out gives the record of its page's.
-use Rattle.std.proofs.Common.{◌≡◌, ℕ, ◌+◌, ◌-◌, ◌/◌, ◌<◌, ◌⊎◌, arith, length, inl, inr, Bool, true, false, cond, refl, sym, ap, subst, ◌∙◌, Option, Some, None, MatchOption, List, [], ◌∷◌, ◌++◌, set}
+use Rattle.std.proofs.Common.{◌≡◌, ℕ, ◌+◌, ◌-◌, ◌*◌, ◌/◌, ◌<◌, ◌⊎◌, arith, length, inl, inr, Bool, true, false, cond, refl, sym, ap, subst, ◌∙◌, Option, Some, None, MatchOption, List, [], ◌∷◌, ◌++◌, set}
+use Rattle.std.specs.Int.{w64, to_le_bytes}
 use Rattle.std.specs.List.{Any}
 use Rattle.std.proofs.lemmas.Bool.{cond_both}
 use Rattle.std.proofs.lemmas.List.{get_or_append_left, length-append}
@@ -39,7 +40,7 @@ use Rattle.page_history.specs.Records.{IsSealed, SealedRule, made_by, made_with,
 use Rattle.paging_machine.specs.Histories.{HasBytes, OutsideBytes, given_out}
 use Rattle.paging_machine.specs.Shape.{Follows, HasColumns, Making, making_of}
 use Rattle.paging_machine.specs.Stands.{IsSound, Stands, Upholds, inside_of_stay, next_save, seat_of_stay}
-use Rattle.paging_machine.specs.State.{State, row_of, after_eld, after_failed_eld, after_init}
+use Rattle.paging_machine.specs.State.{State, enter_sight, row_of, after_eld, after_failed_eld, after_init}
 use Rattle.paging_machine.specs.Steps.{CanApply, IsComing, IsDone, IsHeaderIn, IsJudged, IsLeaving, IsReloaded, IsStep, IsWrittenOut, answer_of, commit_row, did_by, refused_by}
 use Rattle.measure_log.specs.Rule.{IsExpected, IsOther}
 use Rattle.paging_machine.proofs.AccessLaws.{Reads, access_allowed}
@@ -65,12 +66,17 @@ pub record KeepsOutside (past : List Entry) (e : Entry) : Type 0 where
 pub outside_more : (key : List ℕ) (past : List Entry) (e : Entry) → KeepsOutside past e → OutsideBytes key past → OutsideBytes key (e ∷ past)
 outside_more key past e keeps outside g slot v there = still (outside g slot v (keeps.stays g slot v there))
   where
+    same : words_of (flat past) g ≡ words_of (flat (e ∷ past)) g
+    same = sym (keeps.words g slot v there)
+
     still : (one : Made) × HasBytes key past g v one → (one : Made) × HasBytes key (e ∷ past) g v one
     still (one, has) =
         (one, record {
           made = subst (λ all. Any (λ other. other ≡ one) all) (sym (keeps.made key)) has.made;
           version = has.version;
-          cipher = has.cipher ∙ ap (λ words. cipher key v (page_bytes words)) (sym (keeps.words g slot v there));
+          cipher = has.cipher ∙ ap (λ words. cipher key v (page_bytes words)) same;
+          size = ap (λ words. length (page_bytes words)) (sym same) ∙ has.size;
+          back = ap (λ words. words_in (page_bytes words)) (sym same) ∙ has.back ∙ same;
         })
 
 -- a refusal
@@ -158,7 +164,7 @@ resume_words : (s : State) (past : List Entry) (p : Cpu) (enclave tcs : ℕ) (tf
     → (g : Page) (slot : SlotAt) (v : ℕ) → copy past g ≡ Some (InSlot slot v) → words_of (memory_after (actors.Cpu p) (Resume enclave tcs tf sf) (flat past)) g ≡ words_of (flat past) g
 resume_words s past p enclave tcs tf sf stands allowed one g slot v there =
     let f = tcs_fields (s.words tf.0) in
-    let k = enters enclave tcs _ (resume_saves f) (resume_saved f) allowed in
+    let k = enters enclave tcs (enter_sight s p.0 (seat_of enclave tcs tf.0 sf.0)) (resume_saves f) (resume_saved f) allowed in
     let framed : is_page (content past tf.0) (page_at enclave tcs) ≡ true = rw (← stands.content tf.0) (not_false _ k.tcs_page) in
     other_words (flat past) (page_at enclave tcs) g (λ words. with_cssa words ((fields_in (flat past) enclave tcs).cssa - 1)) (framed_apart past one tf.0 (page_at enclave tcs) g slot v framed there)
 
@@ -181,7 +187,8 @@ aex_words s past p acc sound stands one g slot v there = by_stay (stay past p) r
         let fields : tcs_fields (s.words seat.tcs_frame) ≡ fields_in m seat.enclave seat.tcs = ap (λ x. tcs_fields (page_words x)) (sym tcs_flat) in
         let save = next_save seat.enclave (fields_in m seat.enclave seat.tcs) in
         let tcs_framed : is_page (content past seat.tcs_frame) q ≡ true = rw (← stands.content seat.tcs_frame) k.tcs_page in
-        let ssa_framed : is_page (content past seat.ssa_frame) save ≡ true = rw (← stands.content seat.ssa_frame, ← fields) k.ssa_page in
+        let ssa_framed : is_page (content past seat.ssa_frame) save ≡ true =
+        subst (λ (x : TcsSight). is_page (content past seat.ssa_frame) (next_save seat.enclave x) ≡ true) fields (rw (← stands.content seat.ssa_frame) k.ssa_page) in
         let first = with_words m save (λ words. set words 0 acc) in
         ap (λ o. words_of (saved m acc o) g) inside
         ∙ other_words first q g (λ words. with_cssa words ((fields_in m seat.enclave seat.tcs).cssa + 1)) (framed_apart past one seat.tcs_frame q g slot v tcs_framed there)
@@ -376,6 +383,13 @@ Any-front P xs ys (k, x, low, here, holds) =
     let longer : k < length (xs ++ ys) = omega (arith, length-append xs ys) in
     (k, x, longer, get_or_append_left xs ys x k low ∙ here, holds)
 
+bytes_length : (words : List ℕ) → length (page_bytes words) ≡ 8 * length words
+bytes_length [] = refl
+bytes_length (word ∷ words) = let eight : length (to_le_bytes w64 word) ≡ 8 = refl in length-append (to_le_bytes w64 word) (page_bytes words) ∙ omega (arith, eight, bytes_length words)
+
+page_size : (words : List ℕ) → length words ≡ 512 → length (page_bytes words) ≡ 4096
+page_size words sized = omega (arith, bytes_length words)
+
 -- the record that goes out is that of the page's flat bytes
 pub recorded : (s : State) (made : Making) (past : List Entry) (f : ℕ) (leaving : IsLeaving s f) → Stands s past → Follows made s past
     → record_in made.key leaving.start.version (flat past) leaving.page.page ≡ Some (sealed s.key leaving.start.version leaving.header (bytes_of (s.words f)))
@@ -400,7 +414,7 @@ pub record GivesRecord (key : List ℕ) (past : List Entry) (e : Entry) (rec : S
 
 -- an `ewb` whose record is that of its page's flat bytes
 module _ (key : List ℕ) (past : List Entry) (a : Actor) (f : Frame) (page : Page) (start : Start) (header : Header) (words : List ℕ) (rec : Sealed)
-    (in_flat : record_in key start.version (flat past) page ≡ Some rec) (is : rec ≡ sealed key start.version header (page_bytes words)) (held : words_of (flat past) page ≡ words) (opened : open_start past f.0 ≡ Some start) where
+    (in_flat : record_in key start.version (flat past) page ≡ Some rec) (is : rec ≡ sealed key start.version header (page_bytes words)) (held : words_of (flat past) page ≡ words) (size : length (page_bytes words) ≡ 4096) (back : words_in (page_bytes words) ≡ words) (opened : open_start past f.0 ≡ Some start) where
   ewb_made : made_by key (did_by a (Ewb f) (answers.Moved page start.version rec.tag) ∷ past) ≡ made_by key past ++ made_with start.version rec ∷ []
   ewb_made = ap (λ o. more_made start.version o (made_by key past)) in_flat
 
@@ -418,17 +432,19 @@ module _ (key : List ℕ) (past : List Entry) (a : Actor) (f : Frame) (page : Pa
 
       still : (one : Made) × HasBytes key past g v one → (one : Made) × HasBytes key (e ∷ past) g v one
       still (one, has) =
-          (one, record { made = made_now one (Any-front (λ other. other ≡ one) (made_by key past) (made_with start.version rec ∷ []) has.made); version = has.version; cipher = has.cipher })
+          (one, record { made = made_now one (Any-front (λ other. other ≡ one) (made_by key past) (made_with start.version rec ∷ []) has.made); version = has.version; cipher = has.cipher; size = has.size; back = has.back })
 
       goes : same_page page g ≡ true → start.version ≡ v → HasBytes key (e ∷ past) g v (made_with start.version rec)
       goes same told =
           let is_it : page ≡ g = same_pages page g same in
+          let here : words_of (flat past) g ≡ words = ap (words_of (flat past)) (sym is_it) ∙ held in
           record {
             made = made_now (made_with start.version rec) (Any-push (λ other. other ≡ made_with start.version rec) (made_by key past) (made_with start.version rec) refl);
             version = told;
             cipher =
-                ap (λ (x : Sealed). x.cipher) is ∙ ap (λ n. cipher key n (page_bytes words)) told ∙ ap (λ ws. cipher key v (page_bytes ws)) (sym held)
-                ∙ ap (λ q. cipher key v (page_bytes (words_of (flat past) q))) is_it;
+                ap (λ (x : Sealed). x.cipher) is ∙ ap (λ n. cipher key n (page_bytes words)) told ∙ ap (λ ws. cipher key v (page_bytes ws)) (sym here);
+            size = ap (λ ws. length (page_bytes ws)) here ∙ size;
+            back = ap (λ ws. words_in (page_bytes ws)) here ∙ back ∙ sym here;
           }
 
       by_page : (b : Bool) → same_page page g ≡ b → cond b (in_slot (open_start past f.0) start.version) (copy past g) ≡ Some (InSlot slot v) → (one : Made) × HasBytes key (e ∷ past) g v one
@@ -438,8 +454,8 @@ module _ (key : List ℕ) (past : List Entry) (a : Actor) (f : Frame) (page : Pa
           (made_with start.version rec, goes same told)
       by_page false other k = still (outside g slot v k)
 
-pub written : (s t : State) (made : Making) (past : List Entry) (a : Actor) (f : Frame) (e : Entry) (rec : Sealed) → IsWrittenOut s a f e rec t → Stands s past → Follows made s past → GivesRecord made.key past e rec
-written s t made past a f e rec out stands h =
+pub written : (s t : State) (made : Making) (past : List Entry) (a : Actor) (f : Frame) (e : Entry) (rec : Sealed) → IsWrittenOut s a f e rec t → IsSound s → Stands s past → Follows made s past → GivesRecord made.key past e rec
+written s t made past a f e rec out sound stands h =
     let leaving = out.leaving in
     let head = leaving.page in
     let keyed : s.key ≡ made.key = ap (λ (k : Making). k.key) h.shape.making in
@@ -447,10 +463,11 @@ written s t made past a f e rec out stands h =
     let is : rec ≡ sealed made.key leaving.start.version leaving.header (page_bytes (s.words f.0)) =
     out.sealed ∙ ap (λ k. sealed k leaving.start.version leaving.header (bytes_of (s.words f.0))) keyed in
     let held : words_of (flat past) head.page ≡ s.words f.0 = ap page_words (stands.words f.0 head.page head.kind head.perm head.held) in
+    let size : length (page_bytes (s.words f.0)) ≡ 4096 = page_size (s.words f.0) (sound.sized f.0) in
     let opened : open_start past f.0 ≡ Some leaving.start = sym (h.shape.columns.start f.0) ∙ leaving.opened in
     subst (λ x. GivesRecord made.key past x rec) (sym out.entry)
     (record {
-      made = ewb_made made.key past a f head.page leaving.start leaving.header (s.words f.0) rec in_flat is held opened;
-      sealed = ewb_sealed made.key past a f head.page leaving.start leaving.header (s.words f.0) rec in_flat is held opened;
-      outside = ewb_outside made.key past a f head.page leaving.start leaving.header (s.words f.0) rec in_flat is held opened;
+      made = ewb_made made.key past a f head.page leaving.start leaving.header (s.words f.0) rec in_flat is held size out.leaving.words opened;
+      sealed = ewb_sealed made.key past a f head.page leaving.start leaving.header (s.words f.0) rec in_flat is held size out.leaving.words opened;
+      outside = ewb_outside made.key past a f head.page leaving.start leaving.header (s.words f.0) rec in_flat is held size out.leaving.words opened;
     })
