@@ -35,3 +35,4 @@ pub mod PagingBridge
 pub mod CommitBridge
 pub mod MoveSights
 pub mod MoveLaws
+pub mod OutsideLaws
