@@ -1,0 +1,4 @@
+pub mod OpenStarts
+pub mod DrawnLaws
+pub mod StartLaws
+pub mod RecordLaws
