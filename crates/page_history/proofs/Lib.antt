@@ -1,4 +1,6 @@
 pub mod OpenStarts
 pub mod DrawnLaws
+pub mod FlatLaws
 pub mod StartLaws
 pub mod RecordLaws
+pub mod CopyLaws
