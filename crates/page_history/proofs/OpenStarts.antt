@@ -1,6 +1,6 @@
 -- Facts on tests, rows, lists and open starts.
-use Rattle.std.proofs.Common.{◌≡◌, ℕ, ◌<◌, ◌==◌, ◌&&◌, ◌||◌, not, Bool, true, false, cond, refl, sym, ap, ◌∙◌, Option, Some, None, option_map, is_some, List, [], ◌∷◌, ◌++◌, length, get_or, ◌⊎◌, inl, inr, Any, arith}
-use Rattle.std.proofs.lemmas.Bool.{eqb-true, eq-eqb}
+use Rattle.std.proofs.Common.{◌≡◌, ℕ, ◌<◌, ◌==◌, ◌&&◌, ◌||◌, not, Bool, true, false, cond, refl, sym, ap, ◌∙◌, Option, Some, None, option_map, is_some, List, [], ◌∷◌, ◌++◌, length, get_or, ◌⊎◌, inl, inr, ⊎_elim, subst, Any, zero, suc, arith}
+use Rattle.std.proofs.lemmas.Bool.{eqb-true, eq-eqb, false≢true}
 use Rattle.std.proofs.lemmas.List.{length-append, get_or_append_left, get_or_push}
 use Rattle.sgx_types.specs.declared.entries.Entry.{Entry}
 use Rattle.sgx_types.specs.declared.entries.Event.{Event}
@@ -51,18 +51,23 @@ same_slots a b h = let k = both_true (a.frame.0 == b.frame.0) (a.index == b.inde
 
 -- something of a longer list is its head or of its rest
 pub any_cases : {X : Type 0} (P : X → Type 0) (x : X) (xs : List X) → Any P (x ∷ xs) → P x ⊎ Any P xs
-any_cases P x xs any = ?
+any_cases P x xs (zero, y, low, here, p) = inl (subst P (sym here) p)
+any_cases P x xs (suc k, y, low, here, p) = inr (k, y, omega arith, here, p)
 
 -- .. and the head is of it, and the rest
 pub any_head : {X : Type 0} (P : X → Type 0) (x : X) (xs : List X) → P x → Any P (x ∷ xs)
-any_head P x xs p = ?
+any_head P x xs p = (0, x, omega arith, refl, p)
 
 pub any_rest : {X : Type 0} (P : X → Type 0) (x : X) (xs : List X) → Any P xs → Any P (x ∷ xs)
-any_rest P x xs any = ?
+any_rest P x xs (k, y, low, here, p) = (suc k, y, omega arith, here, p)
 
 -- something of a list with one more at its end is of the list, or the one more
 pub any_last : {X : Type 0} (P : X → Type 0) (xs : List X) (x : X) → Any P (xs ++ x ∷ []) → Any P xs ⊎ P x
-any_last P xs x any = ?
+any_last P [] x any = inr (elim (any_cases P x [] any) as (λ _. P x) [ inl p ↦ p | inr none ↦ absurd (none_there none) ])
+  where
+    none_there : Any P [] → ⊥
+    none_there (k, y, low, here, p) = omega arith
+any_last P (y ∷ xs) x any = ⊎_elim (λ p. inl (any_head P y xs p)) (λ more. ⊎_elim (λ inside. inl (any_rest P y xs inside)) inr (any_last P xs x more)) (any_cases P y (xs ++ x ∷ []) any)
 
 pub any_front : {X : Type 0} (P : X → Type 0) (xs ys : List X) → Any P xs → Any P (xs ++ ys)
 any_front P xs ys (k, x, low, here, holds) =
@@ -81,9 +86,9 @@ pub ended_cases : {X : Type 0} (b : Bool) (x : X) (old : Option X) → cond b No
 ended_cases true x old h = cc
 ended_cases false x old h = (refl, h)
 
--- two tests of a number that differ are of two numbers
-pub apart_frames : (f m n : ℕ) → (f == m) ≡ true → (f == n) ≡ false → m ≡ n → ⊥
-apart_frames f m n is isnt same = ?
+-- numbers that a test tells apart are not equal
+pub apart_frames : (f n : ℕ) → (f == n) ≡ false → f ≡ n → ⊥
+apart_frames f n isnt same = false≢true (sym isnt ∙ eq-eqb f n same)
 
 abbrev slot_in : Option Start → Option SlotAt
 slot_in o = option_map (λ (x : Start). x.slot) o

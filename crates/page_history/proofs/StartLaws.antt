@@ -1,17 +1,184 @@
 -- Each open start has its slot for itself.
-use Rattle.std.proofs.Common.{◌≡◌, List}
+use Rattle.std.proofs.Common.{◌≡◌, ℕ, ◌<◌, ◌==◌, ◌&&◌, Bool, true, false, cond, refl, sym, ap, ◌∙◌, subst, Option, Some, None, option_map, is_some, is_none, List, [], ◌∷◌, ◌⊎◌, inl, inr, ⊎_elim, arith}
+use Rattle.std.proofs.lemmas.Bool.{cond_both, eqb-true, eq-eqb, false≢true}
+use Rattle.sgx_types.specs.declared.entries.Action.{Action}
+use Rattle.sgx_types.specs.declared.entries.Action.TheVariants.{Epa, Create, Add, Extend, Init, Enter, Resume, Exit, Aex, Fill, Load, Store, Xadd, Set, Plus, Pf, OutLoad, OutStore, Block, Track, EwbStart, Ewb, EldStart, Eld}
+use Rattle.sgx_types.specs.declared.entries.Actor.{Actor}
+use Rattle.sgx_types.specs.declared.entries.Actor.TheVariants as actors
+use Rattle.sgx_types.specs.declared.entries.Answer.{Answer}
+use Rattle.sgx_types.specs.declared.entries.Answer.TheVariants.{Version, Moved}
 use Rattle.sgx_types.specs.declared.entries.Entry.{Entry}
+use Rattle.sgx_types.specs.declared.entries.Event.{Event}
+use Rattle.sgx_types.specs.declared.entries.Event.TheVariants.{Did, Refused}
+use Rattle.sgx_types.specs.declared.entries.PageInit.{PageInit}
+use Rattle.sgx_types.specs.declared.names.Frame.{Frame}
+use Rattle.sgx_types.specs.declared.names.Kind.{Kind}
 use Rattle.sgx_types.specs.declared.names.Page.{Page}
-use Rattle.sgx_types.specs.Flat.{added_as, flat}
-use Rattle.sgx_types.specs.Frames.{added}
-use Rattle.sgx_types.specs.Rules.{Along, FlatRule}
-use Rattle.page_history.specs.Moves.{Numbers}
+use Rattle.sgx_types.specs.declared.names.Perm.{Perm}
+use Rattle.sgx_types.specs.declared.names.SlotAt.{SlotAt}
+use Rattle.sgx_types.specs.Flat.{FlatEnclave, FlatMemory, FlatPage, accepts, added_as, cpu_after, event_after, flat, is_processors, memory_after, rewritten}
+use Rattle.sgx_types.specs.Frames.{Content, IsLoading, added, added_by, content, page_at, put_by, held_after, same_page}
+use Rattle.sgx_types.specs.Rules.{Along, FlatRule, RefusalRule}
+use Rattle.sgx_types.specs.Sights.{sight_at}
+use Rattle.sgx_types.specs.Slots.{busy_after, is_slot_busy, names_slot, open_slot, same_slot, version_after, version_in}
+use Rattle.sgx_types.specs.Starts.{Start, open_start, opened_by, version_told}
+use Rattle.sgx_types.specs.Table.{FrameSight, is_busy, is_loading}
+use Rattle.page_history.specs.Moves.{MovesRule, Numbers}
 use Rattle.page_history.specs.Once.{KeepsMoves, StartsApart}
+use Rattle.page_history.proofs.DrawnLaws.{entry_of}
+use Rattle.page_history.proofs.FlatLaws.{added_flat}
+use Rattle.page_history.proofs.OpenStarts.{apart_frames, ended_cases, neither, none_holds, not_false, opened_cases, same_slots, slot_of_start}
 
--- where flat memory answers, a page was added as flat memory has it
-pub added_flat : (past : List Entry) → Along FlatRule past → (g : Page) → added past g ≡ added_as ((flat past).pages g)
-added_flat past h g = ?
+-- ---- entries that leave the starts
+
+-- an event that leaves each open start, and each slot
+pub record LeavesStarts (e : Event) : Type 0 where
+  pub opens : (n : ℕ) (o : Option Start) → opened_by e n o ≡ o
+  pub busies : (opened : ℕ → Option SlotAt) (slot : SlotAt) (b : Bool) → busy_after e opened slot b ≡ b
+  pub versions : (opened : ℕ → Option SlotAt) (slot : SlotAt) (v : ℕ) → version_after e opened slot v ≡ v
+
+-- .. leaves each start apart, where it takes no page that is added nor a frame that is being loaded
+kept_apart : (past : List Entry) (e : Entry) → LeavesStarts e.event → ((g : Page) → is_some (added past g) ≡ true → is_some (added (e ∷ past) g) ≡ true)
+    → ((n : ℕ) → content past n ≡ IsLoading → content (e ∷ past) n ≡ IsLoading) → StartsApart past → StartsApart (e ∷ past)
+kept_apart past e q adds puts h = record {
+  busy = λ n x is. rw (q.busies (open_slot past) x.slot (is_slot_busy past x.slot)) (h.busy n x (before n x is));
+  alone = λ m n x y is too same. h.alone m n x y (before m x is) (before n y too) same;
+  found = λ n x g is loads. rw (q.versions (open_slot past) x.slot (version_in past x.slot)) (h.found n x g (before n x is) loads);
+  added = λ n x g is loads. adds g (h.added n x g (before n x is) loads);
+  loading = λ n x g is loads. puts n (h.loading n x g (before n x is) loads);
+  empty = λ n x is writes. rw (q.versions (open_slot past) x.slot (version_in past x.slot)) (h.empty n x (before n x is) writes);
+}
+  where
+    before : (n : ℕ) (x : Start) → open_start (e ∷ past) n ≡ Some x → open_start past n ≡ Some x
+    before n x is = sym (q.opens n (open_start past n)) ∙ is
+
+-- what takes a frame that is not busy takes none that is being loaded
+kept_loading : (s : FrameSight) → is_busy s ≡ false → s.content ≡ IsLoading → ⊥
+kept_loading s idle loads = let k = neither s.is_sealing (is_loading s.content) idle in false≢true (sym k.1 ∙ ap is_loading loads)
+
+-- .. and so each loading frame is left
+taken_idle : (k : Numbers) (past : List Entry) (f n : ℕ) (new : Content) → is_busy (sight_at k.frames past f) ≡ false → content past n ≡ IsLoading → cond (f == n) new (content past n) ≡ IsLoading
+taken_idle k past f n new idle loads =
+    cond_both (f == n) new (content past n) (λ v. v ≡ IsLoading) (λ same. absurd (kept_loading (sight_at k.frames past f) idle (ap (content past) (eqb-true f n same) ∙ loads))) (λ _. loads)
+
+-- one more page was added
+more_added : (b : Bool) (x : Kind × Perm) (o : Option (Kind × Perm)) → is_some o ≡ true → is_some (cond b (Some x) o) ≡ true
+more_added true x o h = refl
+more_added false x o h = h
+
+-- ---- entries that end a start
+
+-- where a frame's start ends, and no slot but its own changes, the others are apart still
+module _ (past : List Entry) (e : Entry) (f : ℕ) (h : StartsApart past) where
+  -- what the end leaves
+  record Ends : Type 0 where
+    pub opens : (n : ℕ) → open_start (e ∷ past) n ≡ cond (f == n) None (open_start past n)
+    pub busies : (slot : SlotAt) → names_slot (open_slot past f) slot ≡ false → is_slot_busy (e ∷ past) slot ≡ is_slot_busy past slot
+    pub versions : (slot : SlotAt) → names_slot (open_slot past f) slot ≡ false → version_in (e ∷ past) slot ≡ version_in past slot
+    pub adds : (g : Page) → added (e ∷ past) g ≡ added past g
+    pub puts : (n : ℕ) → (f == n) ≡ false → content (e ∷ past) n ≡ content past n
+
+  -- an open start of another frame has another slot
+  other_slot : (n : ℕ) (x : Start) → (f == n) ≡ false → open_start past n ≡ Some x → names_slot (open_slot past f) x.slot ≡ false
+  other_slot n x isnt is = rw (slot_of_start past f) (by_start (open_start past f) refl)
+    where
+      by_test : (y : Start) (b : Bool) → open_start past f ≡ Some y → same_slot y.slot x.slot ≡ b → b ≡ false
+      by_test y true there same = absurd (apart_frames f n isnt (h.alone f n y x there is same))
+      by_test y false there same = refl
+
+      by_start : (o : Option Start) → open_start past f ≡ o → names_slot (option_map (λ (z : Start). z.slot) o) x.slot ≡ false
+      by_start None there = refl
+      by_start (Some y) there = by_test y (same_slot y.slot x.slot) there refl
+
+  ended_apart : Ends → StartsApart (e ∷ past)
+  ended_apart q = record {
+    busy = λ n x is. let k = before n x is in q.busies x.slot (other_slot n x k.0 k.1) ∙ h.busy n x k.1;
+    alone = λ m n x y is too same. h.alone m n x y (before m x is).1 (before n y too).1 same;
+    found = λ n x g is loads. let k = before n x is in let was = h.found n x g k.1 loads in (q.versions x.slot (other_slot n x k.0 k.1) ∙ was.0, was.1);
+    added = λ n x g is loads. ap is_some (q.adds g) ∙ h.added n x g (before n x is).1 loads;
+    loading = λ n x g is loads. let k = before n x is in q.puts n k.0 ∙ h.loading n x g k.1 loads;
+    empty = λ n x is writes. let k = before n x is in q.versions x.slot (other_slot n x k.0 k.1) ∙ h.empty n x k.1 writes;
+  }
+    where
+      before : (n : ℕ) (x : Start) → open_start (e ∷ past) n ≡ Some x → ((f == n) ≡ false) × (open_start past n ≡ Some x)
+      before n x is = ended_cases (f == n) x (open_start past n) (sym (q.opens n) ∙ is)
+
+-- ---- entries that start
+
+-- one more slot is busy
+more_busy : (b c : Bool) → c ≡ true → cond b true c ≡ true
+more_busy true c h = refl
+more_busy false c h = h
+
+cond_same : (b c : Bool) → b ≡ true → cond b true c ≡ true
+cond_same b c h = rw h refl
+
+-- a slot is the same as itself
+slot_itself : (s : SlotAt) → same_slot s s ≡ true
+slot_itself s = rw (eq-eqb s.frame.0 s.frame.0 refl, eq-eqb s.index s.index refl) refl
+
+-- where a frame starts with a slot that is not busy, the starts are apart still
+module _ (past : List Entry) (e : Entry) (f : ℕ) (new : Start) (h : StartsApart past) where
+  record Starts : Type 0 where
+    pub opens : (n : ℕ) → open_start (e ∷ past) n ≡ cond (f == n) (Some new) (open_start past n)
+    pub busies : (slot : SlotAt) → is_slot_busy (e ∷ past) slot ≡ cond (same_slot new.slot slot) true (is_slot_busy past slot)
+    pub versions : (slot : SlotAt) → version_in (e ∷ past) slot ≡ version_in past slot
+    pub adds : (g : Page) → added (e ∷ past) g ≡ added past g
+    pub idle : is_slot_busy past new.slot ≡ false
+    pub found : (g : Page) → new.loads ≡ Some g → (version_in past new.slot ≡ new.version) × (0 < new.version)
+    pub there : (g : Page) → new.loads ≡ Some g → is_some (added past g) ≡ true
+    pub loading : (g : Page) → new.loads ≡ Some g → content (e ∷ past) f ≡ IsLoading
+    pub puts : (n : ℕ) → (f == n) ≡ false → content (e ∷ past) n ≡ content past n
+    pub empty : new.loads ≡ None → version_in past new.slot ≡ 0
+
+  -- no start from before has its slot
+  other_slots : (n : ℕ) (x : Start) → is_slot_busy past new.slot ≡ false → open_start past n ≡ Some x → new.slot ≡ x.slot → ⊥
+  other_slots n x idle is same = false≢true (sym idle ∙ ap (is_slot_busy past) same ∙ h.busy n x is)
+
+  started_apart : Starts → StartsApart (e ∷ past)
+  started_apart q = record {
+    busy = λ n x is. q.busies x.slot ∙ ⊎_elim (λ k. cond_same (same_slot new.slot x.slot) (is_slot_busy past x.slot) (ap (λ (z : Start). same_slot new.slot z.slot) (sym k.1) ∙ slot_itself new.slot))
+        (λ k. more_busy (same_slot new.slot x.slot) (is_slot_busy past x.slot) (h.busy n x k.1)) (new_or_old n x is);
+    alone = alone_still;
+    found = λ n x g is loads. ⊎_elim (λ k. ?) (λ k. ?) (new_or_old n x is);
+    added = λ n x g is loads. ap is_some (q.adds g) ∙ ⊎_elim (λ k. q.there g (ap (λ (z : Start). z.loads) k.1 ∙ loads)) (λ k. h.added n x g k.1 loads) (new_or_old n x is);
+    loading = λ n x g is loads.
+        ⊎_elim (λ k. ap (content (e ∷ past)) (sym (eqb-true f n k.0)) ∙ q.loading g (ap (λ (z : Start). z.loads) k.1 ∙ loads)) (λ k. q.puts n k.0 ∙ h.loading n x g k.1 loads) (new_or_old n x is);
+    empty = λ n x is writes.
+        q.versions x.slot ∙ ⊎_elim (λ k. ap (λ (z : Start). version_in past z.slot) (sym k.1) ∙ q.empty (ap (λ (z : Start). z.loads) k.1 ∙ writes)) (λ k. h.empty n x k.1 writes) (new_or_old n x is);
+  }
+    where
+      new_or_old : (n : ℕ) (x : Start) → open_start (e ∷ past) n ≡ Some x → (((f == n) ≡ true) × (new ≡ x)) ⊎ (((f == n) ≡ false) × (open_start past n ≡ Some x))
+      new_or_old n x is = opened_cases (f == n) new x (open_start past n) (sym (q.opens n) ∙ is)
+
+      alone_still : (m n : ℕ) (x y : Start) → open_start (e ∷ past) m ≡ Some x → open_start (e ∷ past) n ≡ Some y → same_slot x.slot y.slot ≡ true → m ≡ n
+      alone_still m n x y is too same = by_cases (new_or_old m x is) (new_or_old n y too)
+        where
+          by_cases : (((f == m) ≡ true) × (new ≡ x)) ⊎ (((f == m) ≡ false) × (open_start past m ≡ Some x)) → (((f == n) ≡ true) × (new ≡ y)) ⊎ (((f == n) ≡ false) × (open_start past n ≡ Some y)) → m ≡ n
+          by_cases (inl a) (inl b) = sym (eqb-true f m a.0) ∙ eqb-true f n b.0
+          by_cases (inl a) (inr b) = absurd (other_slots n y q.idle b.1 (ap (λ (z : Start). z.slot) a.1 ∙ same_slots x.slot y.slot same))
+          by_cases (inr a) (inl b) = absurd (other_slots m x q.idle a.1 (ap (λ (z : Start). z.slot) b.1 ∙ sym (same_slots x.slot y.slot same)))
+          by_cases (inr a) (inr b) = h.alone m n x y a.1 b.1 same
+
+-- ---- each entry
+
+apart_still : (k : Numbers) (past : List Entry) (actor : Actor) (event : Event) → RefusalRule k.frames past (entry_of actor event) → MovesRule k past (entry_of actor event) → Along FlatRule past → StartsApart past
+    → StartsApart (entry_of actor event ∷ past)
+apart_still k past actor event refusal moves answers h = ?
 
 -- where the rules are kept, each open start has its slot for itself
 pub starts_apart : (k : Numbers) (past : List Entry) → KeepsMoves k past → StartsApart past
-starts_apart k past h = ?
+starts_apart k [] h = record {
+  busy = λ n x is. cc;
+  alone = λ m n x y is too same. cc;
+  found = λ n x g is loads. let no : None ≡ Some x = is in absurd (no_start x no);
+  added = λ n x g is loads. cc;
+  loading = λ n x g is loads. cc;
+  empty = λ n x is writes. cc;
+}
+  where
+    no_start : (x : Start) → None ≡ Some x → ⊥
+    no_start x is = cc
+starts_apart k (e ∷ past) h =
+    apart_still k past e.actor e.event h.refusal.0 h.moves.0 h.flat.1
+    (starts_apart k past (record { refusal = h.refusal.1; flat = h.flat.1; moves = h.moves.1; evict = h.evict.1; fresh = h.fresh.1 }))
