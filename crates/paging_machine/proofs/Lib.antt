@@ -30,3 +30,4 @@ pub mod Fresh
 pub mod ShapeColumns
 pub mod ShapeLaws
 pub mod FollowLaws
+pub mod OutsideLaws

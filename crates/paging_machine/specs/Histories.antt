@@ -28,10 +28,10 @@ abbrev pub numbers_of : Making → Numbers
 numbers_of made = record { frames = made.frames; first_epoch = made.first_epoch; first_version = made.first_version }
 
 -- a record that was made under this version has the flat bytes of a page
-pub record HasBytes (key : List ℕ) (past : List Entry) (g : Page) (version : ℕ) (one : Made) : Type 0 where
+pub record HasBytes (key : List ℕ) (past : List Entry) (g : Page) (under : ℕ) (one : Made) : Type 0 where
   pub made : IsMade key past one
-  pub version : one.version ≡ version
-  pub cipher : one.cipher ≡ cipher key version (page_bytes (words_of (flat past) g))
+  pub version : one.version ≡ under
+  pub cipher : one.cipher ≡ cipher key under (page_bytes (words_of (flat past) g))
   pub size : length (page_bytes (words_of (flat past) g)) ≡ 4096
   -- its words are those of its bytes
   pub back : words.words_of (page_bytes (words_of (flat past) g)) ≡ words_of (flat past) g
@@ -40,14 +40,14 @@ pub record HasBytes (key : List ℕ) (past : List Entry) (g : Page) (version : �
 abbrev pub OutsideBytes : List ℕ → List Entry → Type 0
 OutsideBytes key past = (g : Page) (slot : SlotAt) (v : ℕ) → copy past g ≡ Some (InSlot slot v) → (one : Made) × HasBytes key past g v one
 
-pub record UpholdsAll (made : Making) (s : State) (past : List Entry) (records : List Made) : Type 0 where
+pub record UpholdsAll (made : Making) (s : State) (past : List Entry) (given : List Made) : Type 0 where
   pub positive : 1 ≤ made.first_version
   pub follows : Follows made s past
   pub upheld : Upholds s past
   pub moves : Along (MovesRule (numbers_of made)) past
   pub fresh : Along (FreshRule made.first_version) past
   pub sealed : Along (SealedRule made.key) past
-  pub records : records ≡ made_by made.key past
+  pub records : given ≡ made_by made.key past
   pub outside : OutsideBytes made.key past
 
 -- the record that a write-out gave, with the version that it tells
