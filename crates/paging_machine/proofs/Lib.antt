@@ -31,3 +31,5 @@ pub mod ShapeColumns
 pub mod ShapeLaws
 pub mod FollowLaws
 pub mod OutsideLaws
+pub mod MoveSights
+pub mod ReloadLaws
