@@ -17,11 +17,7 @@ use Rattle.sgx_types.specs.Slots.{is_draw, next_version}
 use Rattle.sgx_types.specs.Starts.{Start, open_start, version_told}
 use Rattle.page_history.specs.Moves.{Numbers}
 use Rattle.page_history.specs.Once.{DrawnOnce, Gone, IsGone, KeepsMoves, gone}
-use Rattle.page_history.proofs.OpenStarts.{any_cases, apart_frames, ended_cases, opened_cases}
-
--- an entry of an actor
-abbrev pub entry_of : Actor → Event → Entry
-entry_of actor event = record { actor = actor; event = event }
+use Rattle.page_history.proofs.OpenStarts.{any_cases, apart_frames, ended_cases, entry_of, opened_cases}
 
 -- the next version is not below the first
 pub first_below : (first : ℕ) (past : List Entry) → first ≤ next_version first past

@@ -2,6 +2,8 @@
 use Rattle.std.proofs.Common.{◌≡◌, ℕ, ◌<◌, ◌==◌, ◌&&◌, ◌||◌, not, Bool, true, false, cond, refl, sym, ap, ◌∙◌, Option, Some, None, option_map, is_some, List, [], ◌∷◌, ◌++◌, length, get_or, ◌⊎◌, inl, inr, ⊎_elim, subst, Any, zero, suc, arith}
 use Rattle.std.proofs.lemmas.Bool.{eqb-true, eq-eqb, false≢true}
 use Rattle.std.proofs.lemmas.List.{length-append, get_or_append_left, get_or_push}
+use Rattle.std.proofs.lemmas.List.Quantifiers.{Any-push}
+use Rattle.sgx_types.specs.declared.entries.Actor.{Actor}
 use Rattle.sgx_types.specs.declared.entries.Entry.{Entry}
 use Rattle.sgx_types.specs.declared.entries.Event.{Event}
 use Rattle.sgx_types.specs.declared.entries.Event.TheVariants.{Did, Refused}
@@ -12,6 +14,10 @@ use Rattle.sgx_types.specs.Frames.{same_page}
 use Rattle.sgx_types.specs.Slots.{open_slot, same_slot, start_after}
 use Rattle.sgx_types.specs.Starts.{Start, open_start, opened_by, version_told}
 use Rattle.sgx_types.specs.Table.{Case, first_of_row}
+
+-- an entry of an actor
+abbrev pub entry_of : Actor → Event → Entry
+entry_of actor event = record { actor = actor; event = event }
 
 -- ---- tests and rows
 
@@ -47,6 +53,17 @@ same_pages a b h = let k = both_true (a.enclave == b.enclave) (a.number == b.num
 pub same_slots : (a b : SlotAt) → same_slot a b ≡ true → a ≡ b
 same_slots a b h = let k = both_true (a.frame.0 == b.frame.0) (a.index == b.index) h in λ i. record { frame = record a.frame { 0 = eqb-true a.frame.0 b.frame.0 k.0 i }; index = eqb-true a.index b.index k.1 i }
 
+pub eqb-swap : (a b : ℕ) → (a == b) ≡ (b == a)
+eqb-swap a b = by_test (a == b) refl
+  where
+    by_test : (x : Bool) → (a == b) ≡ x → x ≡ (b == a)
+    by_test true e = sym (eq-eqb b a (sym (eqb-true a b e)))
+    by_test false e = by_other (b == a) refl
+      where
+        by_other : (y : Bool) → (b == a) ≡ y → false ≡ y
+        by_other true o = sym e ∙ eq-eqb a b (sym (eqb-true b a o))
+        by_other false o = refl
+
 -- ---- lists
 
 -- something of a longer list is its head or of its rest
@@ -73,6 +90,10 @@ pub any_front : {X : Type 0} (P : X → Type 0) (xs ys : List X) → Any P xs �
 any_front P xs ys (k, x, low, here, holds) =
     let longer : k < length (xs ++ ys) = omega (arith, length-append xs ys) in
     (k, x, longer, get_or_append_left xs ys x k low ∙ here, holds)
+
+-- .. and the one more is of it
+pub any_push : {X : Type 0} (P : X → Type 0) (xs : List X) (x : X) → P x → Any P (xs ++ x ∷ [])
+any_push P xs x p = Any-push P xs x p
 
 -- ---- open starts
 

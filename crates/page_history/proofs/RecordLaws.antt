@@ -1,11 +1,151 @@
 -- Each record is of one page, and no two have one version.
-use Rattle.std.proofs.Common.{ℕ, List}
+use Rattle.std.proofs.Common.{◌≡◌, ℕ, ◌==◌, Bool, true, false, cond, refl, sym, ap, ◌∙◌, subst, Option, Some, None, List, [], ◌∷◌, ◌++◌, ◌⊎◌, inl, inr, ⊎_elim, Any, arith}
+use Rattle.sgx_types.specs.declared.entries.Action.TheVariants.{Ewb, Eld}
+use Rattle.sgx_types.specs.declared.entries.Actor.{Actor}
+use Rattle.sgx_types.specs.declared.entries.Answer.{Answer}
+use Rattle.sgx_types.specs.declared.entries.Answer.TheVariants.{Moved}
 use Rattle.sgx_types.specs.declared.entries.Entry.{Entry}
-use Rattle.sgx_types.specs.Rules.{Along}
-use Rattle.page_history.specs.Moves.{Numbers}
-use Rattle.page_history.specs.Once.{KeepsMoves, MadeOnce}
-use Rattle.page_history.specs.Records.{SealedRule}
+use Rattle.sgx_types.specs.declared.entries.Event.{Event}
+use Rattle.sgx_types.specs.declared.entries.Event.TheVariants.{Did, Refused}
+use Rattle.sgx_types.specs.declared.names.Frame.{Frame}
+use Rattle.sgx_types.specs.declared.names.Page.{Page}
+use Rattle.sgx_types.specs.declared.names.SlotAt.{SlotAt}
+use Rattle.sgx_types.specs.Flat.{FlatEnclave, FlatMemory, FlatPage, flat}
+use Rattle.sgx_types.specs.Frames.{same_page}
+use Rattle.sgx_types.specs.Rules.{Along, EvictRule}
+use Rattle.sgx_types.specs.Sealed.{Sealed, header_of}
+use Rattle.sgx_types.specs.Starts.{Start, open_start}
+use Rattle.seal_record.specs.Cipher.{tag, sealed}
+use Rattle.seal_record.specs.Records.{Made, made_of, tag_of}
+use Rattle.page_history.specs.Fresh.{Out, last_out}
+use Rattle.page_history.specs.Moves.{IsHeader, Numbers}
+use Rattle.page_history.specs.Once.{DrawnOnce, Gone, IsGone, IsLastMade, IsMade, IsOfPage, KeepsMoves, MadeOnce, gone}
+use Rattle.page_history.specs.Records.{IsSealed, SealedRule, made_by, made_with, more_made, page_bytes, record_by, record_in}
+use Rattle.page_history.proofs.DrawnLaws.{drawn_once}
+use Rattle.page_history.proofs.FlatLaws.{header_still}
+use Rattle.page_history.proofs.OpenStarts.{any_front, any_head, any_last, any_push, any_rest, ended_cases, entry_of, opened_cases}
+
+-- a record of a page stays one, whatever is done
+still_of_page : (key : List ℕ) (past : List Entry) (actor : Actor) (event : Event) → ((x : Gone) → IsGone past x → IsGone (entry_of actor event ∷ past) x) → (one : Made) → IsOfPage key past one
+    → IsOfPage key (entry_of actor event ∷ past) one
+still_of_page key past actor event goes one is = record {
+  page = is.page;
+  gone = goes (record { page = is.page; version = one.version }) is.gone;
+  header = header_still actor event (flat past) is.page one.header is.header;
+  tagged = is.tagged;
+}
+
+-- an entry that makes no record leaves them
+kept_records : (key : List ℕ) (past : List Entry) (actor : Actor) (event : Event) → ((x : Gone) → IsGone past x → IsGone (entry_of actor event ∷ past) x)
+    → ((one : Made) → IsMade key (entry_of actor event ∷ past) one → IsMade key past one) → ((one : Made) → IsMade key past one → IsMade key (entry_of actor event ∷ past) one)
+    → ((g : Page) (o : Out) → last_out (entry_of actor event ∷ past) g ≡ Some o → last_out past g ≡ Some o) → MadeOnce key past → MadeOnce key (entry_of actor event ∷ past)
+kept_records key past actor event goes before after lasts h = record {
+  own = λ one is. still_of_page key past actor event goes one (h.own one (before one is));
+  once = λ one other is too same. h.once one other (before one is) (before other too) same;
+  last = λ g o is. let was = h.last g o (lasts g o is) in (was.0, record { made = after was.0 was.1.made; version = was.1.version; tag = was.1.tag });
+}
+
+-- what a sealed record of a page is
+record IsSealedOf (key : List ℕ) (version : ℕ) (m : FlatMemory) (g : Page) (rec : Sealed) : Type 0 where
+  pub header : IsHeader m g rec.header
+  pub tagged : rec.tag ≡ tag key version rec.header rec.cipher
+
+sealed_of : (key : List ℕ) (version : ℕ) (m : FlatMemory) (g : Page) (rec : Sealed) → record_in key version m g ≡ Some rec → IsSealedOf key version m g rec
+sealed_of key version m g rec = by_values (m.enclaves g.enclave) (m.pages g) refl refl
+  where
+    by_values : (enclave : Option FlatEnclave) (page : Option FlatPage) → m.enclaves g.enclave ≡ enclave → m.pages g ≡ page → record_by key version g enclave page ≡ Some rec → IsSealedOf key version m g rec
+    by_values None page made added is = cc
+    by_values (Some x) None made added is = cc
+    by_values (Some x) (Some y) made added is =
+        let its : Sealed = sealed key version (header_of x.base g y.kind y.perm) (page_bytes y.words) in
+        let same : its ≡ rec = cc in
+        subst (IsSealedOf key version m g) same (record { header = record { enclave = x; made = made; page = y; added = added; headed = refl }; tagged = refl })
+
+-- a page is out, and its record is made
+module _ (first : ℕ) (key : List ℕ) (past : List Entry) (actor : Actor) (f : Frame) (page : Page) (version : ℕ) (digest : List ℕ) (slot : SlotAt)
+    (opened : open_start past f.0 ≡ Some (record { slot = slot; version = version; loads = None })) (drawn : DrawnOnce first past) (its : IsSealed key (flat past) page version digest) (h : MadeOnce key past) where
+  abbrev event_out : Event
+  event_out = Did (Ewb f) (Moved page version digest)
+
+  abbrev after : List Entry
+  after = entry_of actor event_out ∷ past
+
+  abbrev new : Made
+  new = made_with version its.rec
+
+  one_more : made_by key after ≡ made_by key past ++ new ∷ []
+  one_more = ap (λ (o : Option Sealed). more_made version o (made_by key past)) its.made
+
+  old_or_new : (one : Made) → IsMade key after one → IsMade key past one ⊎ (new ≡ one)
+  old_or_new one is = any_last (λ other. other ≡ one) (made_by key past) new (subst (Any (λ other. other ≡ one)) one_more is)
+
+  made_still : (one : Made) → IsMade key past one → IsMade key after one
+  made_still one is = subst (Any (λ other. other ≡ one)) (sym one_more) (any_front (λ other. other ≡ one) (made_by key past) (new ∷ []) is)
+
+  new_made : IsMade key after new
+  new_made = subst (Any (λ other. other ≡ new)) (sym one_more) (any_push (λ other. other ≡ new) (made_by key past) new refl)
+
+  goes_still : (x : Gone) → IsGone past x → IsGone after x
+  goes_still x is = any_rest (λ one. one ≡ x) (record { page = page; version = version }) (gone past) is
+
+  new_of_page : IsOfPage key after new
+  new_of_page =
+      let k = sealed_of key version (flat past) page its.rec its.made in
+      record {
+        page = page;
+        gone = any_head (λ one. one ≡ record { page = page; version = version }) (record { page = page; version = version }) (gone past) refl;
+        header = header_still actor event_out (flat past) page its.rec.header k.header;
+        tagged = k.tagged;
+      }
+
+  -- no record from before has its version
+  other_version : (one : Made) → IsMade key past one → version ≡ one.version → ⊥
+  other_version one is same =
+      let own = h.own one is in
+      drawn.not_open f.0 (record { slot = slot; version = version; loads = None }) (record { page = own.page; version = one.version }) opened refl own.gone same
+
+  once_still : (one other : Made) → IsMade key after one → IsMade key after other → one.version ≡ other.version → one ≡ other
+  once_still one other is too same = by_cases (old_or_new one is) (old_or_new other too)
+    where
+      by_cases : IsMade key past one ⊎ (new ≡ one) → IsMade key past other ⊎ (new ≡ other) → one ≡ other
+      by_cases (inl a) (inl b) = h.once one other a b same
+      by_cases (inl a) (inr b) = absurd (other_version one a (ap (λ (z : Made). z.version) b ∙ sym same))
+      by_cases (inr a) (inl b) = absurd (other_version other b (ap (λ (z : Made). z.version) a ∙ same))
+      by_cases (inr a) (inr b) = sym a ∙ b
+
+  abbrev this : Out
+  this = record { version = version; tag = digest }
+
+  last_still : (g : Page) (o : Out) → last_out after g ≡ Some o → (one : Made) × IsLastMade key after g o one
+  last_still g o is = by_cases (opened_cases (same_page page g) (record { version = version; tag = digest }) o (last_out past g) is)
+    where
+      by_cases : ((same_page page g ≡ true) × (this ≡ o)) ⊎ ((same_page page g ≡ false) × (last_out past g ≡ Some o)) → (one : Made) × IsLastMade key after g o one
+      by_cases (inl a) = (new, record { made = new_made; version = ap (λ (z : Out). z.version) a.1; tag = sym its.told ∙ ap (λ (z : Out). z.tag) a.1 })
+      by_cases (inr a) = let was = h.last g o a.1 in (was.0, record { made = made_still was.0 was.1.made; version = was.1.version; tag = was.1.tag })
+
+  ewb_made : MadeOnce key after
+  ewb_made = record {
+    own = λ one is. ⊎_elim (λ old. still_of_page key past actor event_out goes_still one (h.own one old)) (λ this. subst (IsOfPage key after) this new_of_page) (old_or_new one is);
+    once = once_still;
+    last = last_still;
+  }
+
+-- an entry that keeps the rules leaves each record one page's
+records_still : (first : ℕ) (key : List ℕ) (past : List Entry) (actor : Actor) (event : Event) → EvictRule past (entry_of actor event) → SealedRule key past (entry_of actor event) → DrawnOnce first past → MadeOnce key past
+    → MadeOnce key (entry_of actor event ∷ past)
+records_still first key past actor (Did (Ewb f) (Moved page version digest)) evict its drawn h = ewb_made first key past actor f page version digest evict.slot evict.opened drawn its h
+records_still first key past actor (Did (Ewb f) answer) evict its drawn h = absurd its
+records_still first key past actor (Did (Eld f) (Moved page version digest)) evict its drawn h =
+    kept_records key past actor (Did (Eld f) (Moved page version digest)) (λ x is. is) (λ one is. is) (λ one is. is) (λ g o is. (ended_cases (same_page page g) o (last_out past g) is).1) h
+records_still first key past actor event evict its drawn h = kept_records key past actor event (λ x is. is) (λ one is. is) (λ one is. is) (λ g o is. is) h
 
 -- where the rules are kept, each record that was made is of one page
 pub made_once : (k : Numbers) (key : List ℕ) (past : List Entry) → KeepsMoves k past → Along (SealedRule key) past → MadeOnce key past
-made_once k key past h sealed = ?
+made_once k key [] h its = record {
+  own = λ one is. let no : ⊥ = omega (arith, is.2) in absurd no;
+  once = λ one other is too same. let no : ⊥ = omega (arith, is.2) in absurd no;
+  last = λ g o is. cc;
+}
+made_once k key (e ∷ past) h its =
+    let before : KeepsMoves k past = record { refusal = h.refusal.1; flat = h.flat.1; moves = h.moves.1; evict = h.evict.1; fresh = h.fresh.1 } in
+    records_still k.first_version key past e.actor e.event h.evict.0 its.0 (drawn_once k past before) (made_once k key past before its.1)

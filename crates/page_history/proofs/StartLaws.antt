@@ -1,5 +1,5 @@
 -- Each open start has its slot for itself.
-use Rattle.std.proofs.Common.{◌≡◌, ℕ, ◌<◌, ◌==◌, ◌&&◌, Bool, true, false, cond, refl, sym, ap, ◌∙◌, subst, Option, Some, None, option_map, is_some, is_none, List, [], ◌∷◌, ◌⊎◌, inl, inr, ⊎_elim, arith}
+use Rattle.std.proofs.Common.{◌≡◌, ℕ, zero, suc, ◌<◌, ◌==◌, ◌&&◌, Bool, true, false, cond, refl, sym, ap, ◌∙◌, subst, Option, Some, None, option_map, is_some, is_none, List, [], ◌∷◌, ◌⊎◌, inl, inr, ⊎_elim, arith}
 use Rattle.std.proofs.lemmas.Bool.{cond_both, eqb-true, eq-eqb, false≢true}
 use Rattle.sgx_types.specs.declared.entries.Action.{Action}
 use Rattle.sgx_types.specs.declared.entries.Action.TheVariants.{Epa, Create, Add, Extend, Init, Enter, Resume, Exit, Aex, Fill, Load, Store, Xadd, Set, Plus, Pf, OutLoad, OutStore, Block, Track, EwbStart, Ewb, EldStart, Eld}
@@ -16,18 +16,17 @@ use Rattle.sgx_types.specs.declared.names.Kind.{Kind}
 use Rattle.sgx_types.specs.declared.names.Page.{Page}
 use Rattle.sgx_types.specs.declared.names.Perm.{Perm}
 use Rattle.sgx_types.specs.declared.names.SlotAt.{SlotAt}
-use Rattle.sgx_types.specs.Flat.{FlatEnclave, FlatMemory, FlatPage, accepts, added_as, cpu_after, event_after, flat, is_processors, memory_after, rewritten}
-use Rattle.sgx_types.specs.Frames.{Content, IsLoading, added, added_by, content, page_at, put_by, held_after, same_page}
+use Rattle.sgx_types.specs.Flat.{FlatPage, added_as, enclave_sight, flat}
+use Rattle.sgx_types.specs.Frames.{Content, Holds, IsLoading, IsVa, SecsOf, added, added_by, content, page_at, put_by, held_after, same_page}
 use Rattle.sgx_types.specs.Rules.{Along, FlatRule, RefusalRule}
-use Rattle.sgx_types.specs.Sights.{sight_at}
+use Rattle.sgx_types.specs.Sights.{row_at, sight_at}
 use Rattle.sgx_types.specs.Slots.{busy_after, is_slot_busy, names_slot, open_slot, same_slot, version_after, version_in}
 use Rattle.sgx_types.specs.Starts.{Start, open_start, opened_by, version_told}
-use Rattle.sgx_types.specs.Table.{FrameSight, is_busy, is_loading}
-use Rattle.page_history.specs.Moves.{MovesRule, Numbers}
+use Rattle.sgx_types.specs.Table.{EnclaveSight, FrameSight, add_row, is_busy, is_loading}
+use Rattle.page_history.specs.Moves.{MovesRule, Numbers, move_row_at}
 use Rattle.page_history.specs.Once.{KeepsMoves, StartsApart}
-use Rattle.page_history.proofs.DrawnLaws.{entry_of}
 use Rattle.page_history.proofs.FlatLaws.{added_flat}
-use Rattle.page_history.proofs.OpenStarts.{apart_frames, ended_cases, neither, none_holds, not_false, opened_cases, same_slots, slot_of_start}
+use Rattle.page_history.proofs.OpenStarts.{apart_frames, ended_cases, entry_of, neither, NoneHolds, none_holds, not_false, opened_cases, same_slots, slot_of_start}
 
 -- ---- entries that leave the starts
 
@@ -140,7 +139,9 @@ module _ (past : List Entry) (e : Entry) (f : ℕ) (new : Start) (h : StartsApar
     busy = λ n x is. q.busies x.slot ∙ ⊎_elim (λ k. cond_same (same_slot new.slot x.slot) (is_slot_busy past x.slot) (ap (λ (z : Start). same_slot new.slot z.slot) (sym k.1) ∙ slot_itself new.slot))
         (λ k. more_busy (same_slot new.slot x.slot) (is_slot_busy past x.slot) (h.busy n x k.1)) (new_or_old n x is);
     alone = alone_still;
-    found = λ n x g is loads. ⊎_elim (λ k. ?) (λ k. ?) (new_or_old n x is);
+    found = λ n x g is loads. 
+        ⊎_elim (λ k. subst (λ (z : Start). (version_in (e ∷ past) z.slot ≡ z.version) × (0 < z.version)) k.1 (let new_found = q.found g (ap (λ (z : Start). z.loads) k.1 ∙ loads) in (q.versions new.slot ∙ new_found.0, new_found.1)))
+        (λ k. let was = h.found n x g k.1 loads in (q.versions x.slot ∙ was.0, was.1)) (new_or_old n x is);
     added = λ n x g is loads. ap is_some (q.adds g) ∙ ⊎_elim (λ k. q.there g (ap (λ (z : Start). z.loads) k.1 ∙ loads)) (λ k. h.added n x g k.1 loads) (new_or_old n x is);
     loading = λ n x g is loads.
         ⊎_elim (λ k. ap (content (e ∷ past)) (sym (eqb-true f n k.0)) ∙ q.loading g (ap (λ (z : Start). z.loads) k.1 ∙ loads)) (λ k. q.puts n k.0 ∙ h.loading n x g k.1 loads) (new_or_old n x is);
@@ -162,23 +163,100 @@ module _ (past : List Entry) (e : Entry) (f : ℕ) (new : Start) (h : StartsApar
 
 -- ---- each entry
 
-apart_still : (k : Numbers) (past : List Entry) (actor : Actor) (event : Event) → RefusalRule k.frames past (entry_of actor event) → MovesRule k past (entry_of actor event) → Along FlatRule past → StartsApart past
+-- a page is added only into a frame that is not busy
+add_idle : (number : ℕ) (kind : Kind) (perm : Perm) (init : PageInit) (o : Option EnclaveSight) (is_added : Bool) (s : FrameSight) → NoneHolds (add_row number kind perm init o is_added s) → is_busy s ≡ false
+add_idle number kind perm init None is_added s row = let no : true ≡ false = row.1.0 in cc
+add_idle number kind perm init (Some enclave) is_added s row = row.1.1.1.1.1.1.0
+
+-- a page is loaded that was added
+is_added_flat : (past : List Entry) (g : Page) → Along FlatRule past → is_some ((flat past).pages g) ≡ true → is_some (added past g) ≡ true
+is_added_flat past g answers there = ap is_some (added_flat past answers g) ∙ by_value ((flat past).pages g) there
+  where
+    by_value : (o : Option FlatPage) → is_some o ≡ true → is_some (added_as o) ≡ true
+    by_value None h = h
+    by_value (Some x) h = refl
+
+-- a number that is not 0 is above it
+above_zero : (n : ℕ) → (n == 0) ≡ false → 0 < n
+above_zero zero h = let no : true ≡ false = h in absurd (false≢true (sym no))
+above_zero (suc n) h = omega arith
+
+-- an entry that keeps the rules leaves the starts apart
+starts_still : (k : Numbers) (past : List Entry) (actor : Actor) (event : Event) → RefusalRule k.frames past (entry_of actor event) → MovesRule k past (entry_of actor event) → Along FlatRule past → StartsApart past
     → StartsApart (entry_of actor event ∷ past)
-apart_still k past actor event refusal moves answers h = ?
+starts_still k past actor (Did (Epa f) answer) refusal moves answers h =
+    let row = none_holds (row_at k.frames past actor (Epa f)) refusal.0 in
+    kept_apart past (entry_of actor (Did (Epa f) answer)) (record { opens = λ n o. refl; busies = λ opened slot b. refl; versions = λ opened slot v. refl }) (λ g is. is)
+    (λ n loads. taken_idle k past f.0 n IsVa row.1.0 loads) h
+starts_still k past actor (Did (Create enclave f base size) answer) refusal moves answers h =
+    let row = none_holds (row_at k.frames past actor (Create enclave f base size)) refusal.0 in
+    kept_apart past (entry_of actor (Did (Create enclave f base size) answer)) (record { opens = λ n o. refl; busies = λ opened slot b. refl; versions = λ opened slot v. refl }) (λ g is. is)
+    (λ n loads. taken_idle k past f.0 n (SecsOf enclave) row.1.1.0 loads) h
+starts_still k past actor (Did (Add enclave number f kind perm init) answer) refusal moves answers h =
+    let row = none_holds (row_at k.frames past actor (Add enclave number f kind perm init)) refusal.0 in
+    let idle = add_idle number kind perm init (enclave_sight (flat past) enclave) (is_some ((flat past).pages (page_at enclave number))) (sight_at k.frames past f.0) row in
+    kept_apart past (entry_of actor (Did (Add enclave number f kind perm init) answer)) (record { opens = λ n o. refl; busies = λ opened slot b. refl; versions = λ opened slot v. refl })
+    (λ g is. more_added (same_page (page_at enclave number) g) (kind, perm) (added past g) is) (λ n loads. taken_idle k past f.0 n (Holds (page_at enclave number) kind perm) idle loads) h
+starts_still k past actor (Did (EwbStart f slot) answer) refusal moves answers h =
+    let row = none_holds (move_row_at k past (EwbStart f slot)) (moves tt).0 in
+    started_apart past (entry_of actor (Did (EwbStart f slot) answer)) f.0 (record { slot = slot; version = version_told answer; loads = None }) h
+    (record {
+      opens = λ n. refl;
+      busies = λ at. refl;
+      versions = λ at. refl;
+      adds = λ g. refl;
+      idle = (neither (is_busy (sight_at k.frames past f.0)) (is_slot_busy past slot) row.1.0).1;
+      found = λ g loads. cc;
+      there = λ g loads. cc;
+      loading = λ g loads. cc;
+      puts = λ n isnt. refl;
+      empty = λ writes. eqb-true (version_in past slot) 0 (not_false (version_in past slot == 0) row.1.1.1.1.1.1.0);
+    })
+starts_still k past actor (Did (EldStart f page slot) answer) refusal moves answers h =
+    let row = none_holds (move_row_at k past (EldStart f page slot)) (moves tt).0 in
+    let told : version_in past slot ≡ version_told answer = sym (ap version_told (moves tt).1) in
+    let low : 0 < version_in past slot = above_zero (version_in past slot) row.1.1.1.1.1.0 in
+    started_apart past (entry_of actor (Did (EldStart f page slot) answer)) f.0 (record { slot = slot; version = version_told answer; loads = Some page }) h
+    (record {
+      opens = λ n. refl;
+      busies = λ at. refl;
+      versions = λ at. refl;
+      adds = λ g. refl;
+      idle = (neither (is_busy (sight_at k.frames past f.0)) (is_slot_busy past slot) row.1.1.0).1;
+      found = λ g loads. (told, subst (λ v. 0 < v) told low);
+      there = λ g loads. let same : page ≡ g = cc in subst (λ q. is_some (added past q) ≡ true) same (is_added_flat past page answers (not_false (is_some ((flat past).pages page)) row.1.0));
+      loading = λ g loads. rw (eq-eqb f.0 f.0 refl) refl;
+      puts = λ n isnt. rw isnt refl;
+      empty = λ writes. cc;
+    })
+starts_still k past actor (Did (Ewb f) (Moved page version tag)) refusal moves answers h =
+    ended_apart past (entry_of actor (Did (Ewb f) (Moved page version tag))) f.0 h
+    (record { opens = λ n. refl; busies = λ slot isnt. rw isnt refl; versions = λ slot isnt. rw isnt refl; adds = λ g. refl; puts = λ n isnt. rw isnt refl })
+starts_still k past actor (Did (Ewb f) answer) refusal moves answers h =
+    ended_apart past (entry_of actor (Did (Ewb f) answer)) f.0 h
+    (record { opens = λ n. refl; busies = λ slot isnt. rw isnt refl; versions = λ slot isnt. refl; adds = λ g. refl; puts = λ n isnt. rw isnt refl })
+starts_still k past actor (Did (Eld f) (Moved page version tag)) refusal moves answers h =
+    ended_apart past (entry_of actor (Did (Eld f) (Moved page version tag))) f.0 h
+    (record { opens = λ n. refl; busies = λ slot isnt. rw isnt refl; versions = λ slot isnt. rw isnt refl; adds = λ g. refl; puts = λ n isnt. rw isnt refl })
+starts_still k past actor (Did (Eld f) answer) refusal moves answers h =
+    ended_apart past (entry_of actor (Did (Eld f) answer)) f.0 h
+    (record { opens = λ n. refl; busies = λ slot isnt. rw isnt refl; versions = λ slot isnt. rw isnt refl; adds = λ g. refl; puts = λ n isnt. refl })
+starts_still k past actor (Refused (Eld f) why) refusal moves answers h =
+    ended_apart past (entry_of actor (Refused (Eld f) why)) f.0 h
+    (record { opens = λ n. refl; busies = λ slot isnt. rw isnt refl; versions = λ slot isnt. refl; adds = λ g. refl; puts = λ n isnt. rw isnt refl })
+starts_still k past actor event refusal moves answers h =
+    kept_apart past (entry_of actor event) (record { opens = λ n o. refl; busies = λ opened slot b. refl; versions = λ opened slot v. refl }) (λ g is. is) (λ n is. is) h
 
 -- where the rules are kept, each open start has its slot for itself
 pub starts_apart : (k : Numbers) (past : List Entry) → KeepsMoves k past → StartsApart past
 starts_apart k [] h = record {
   busy = λ n x is. cc;
   alone = λ m n x y is too same. cc;
-  found = λ n x g is loads. let no : None ≡ Some x = is in absurd (no_start x no);
+  found = λ n x g is loads. cc;
   added = λ n x g is loads. cc;
   loading = λ n x g is loads. cc;
   empty = λ n x is writes. cc;
 }
-  where
-    no_start : (x : Start) → None ≡ Some x → ⊥
-    no_start x is = cc
 starts_apart k (e ∷ past) h =
-    apart_still k past e.actor e.event h.refusal.0 h.moves.0 h.flat.1
+    starts_still k past e.actor e.event h.refusal.0 h.moves.0 h.flat.1
     (starts_apart k past (record { refusal = h.refusal.1; flat = h.flat.1; moves = h.moves.1; evict = h.evict.1; fresh = h.fresh.1 }))
