@@ -1,7 +1,9 @@
 -- No page comes to stand in two frames, as long as each load is of a page that is away.
-use Rattle.std.proofs.Common.{◌≡◌, ℕ, ◌<◌, ◌≤◌, ◌==◌, ◌||◌, ◌⊎◌, inl, inr, not, Bool, true, false, cond, leb, ltb, refl, sym, ap, subst, ◌∙◌, Option, Some, None, IfSome, List, ◌∷◌, MatchOption, is_some}
+use Rattle.std.proofs.Common.{◌≡◌, ℕ, ◌<◌, ◌≤◌, ◌==◌, ◌||◌, ◌⊎◌, inl, inr, not, Bool, true, false, cond, leb, ltb, refl, sym, ap, subst, ◌∙◌, Option, Some, None, IfSome, List, [], ◌∷◌, MatchOption, is_some}
 use Rattle.std.proofs.lemmas.Bool.{cond_both, false≢true, eqb-true, eq-eqb, leb-false}
 use Rattle.sgx_types.specs.declared.entries.Entry.{Entry}
+use Rattle.sgx_types.specs.declared.entries.Event.{Event}
+use Rattle.sgx_types.specs.declared.entries.Event.TheVariants.{Did, Refused}
 use Rattle.sgx_types.specs.declared.entries.Actor.{Actor}
 use Rattle.sgx_types.specs.declared.entries.Actor.TheVariants as actors
 use Rattle.sgx_types.specs.declared.entries.Action.{Action}
@@ -17,8 +19,8 @@ use Rattle.sgx_types.specs.declared.names.SlotAt.{SlotAt}
 use Rattle.sgx_types.specs.declared.refusals.Refusal.{Refusal}
 use Rattle.sgx_types.specs.declared.refusals.Refusal.TheVariants as why
 use Rattle.sgx_types.specs.Frames.{Content, Free, IsVa, SecsOf, Holds, IsLoading, added, content, is_page, page_at, reloaded, same_page}
-use Rattle.sgx_types.specs.Starts.{Start, open_start, is_load_of, loads_page, version_told}
-use Rattle.sgx_types.specs.Rules.{FitsRule, LoadsAwayRule, NoPageTwice}
+use Rattle.sgx_types.specs.Starts.{Start, open_start, opened_by, is_load_of, loads_page, version_told}
+use Rattle.sgx_types.specs.Rules.{Along, FitsRule, LoadsAwayRule, NoPageTwice}
 use Rattle.sgx_types.specs.Table.{Case, EnclaveSight, FrameSight, is_busy, is_enclave, is_lawful, is_valid, is_loading, add_row, entry_row, fill_row, first_of_row}
 use Rattle.sgx_types.specs.Processors.{Seat}
 use Rattle.sgx_types.specs.Sealed.{Sealed}
@@ -187,26 +189,56 @@ add_fits s past a enclave number f kind perm init allowed guarded framed columns
     fits_more s.frames past _ (leb-false _ _ k.within, free_in s past columns f.0 k.idle k.empty)
     (put_apart (content past) (open_start past) f.0 (Holds g kind perm) (λ q here. rw (← same_pages g q here) away) (apart_in s.frames past h)) h
 
+-- a start names frames of the EPC
+pub ewbstart_names : (s : State) (a : Actor) (f : Frame) (slot : SlotAt) → first_of_row (row_of s a (EwbStart f slot)) ≡ None → (f.0 < s.frames) × (slot.frame.0 < s.frames)
+ewbstart_names s a f slot allowed =
+    let range = neither (leb s.frames f.0 || leb s.frames slot.frame.0) (ltb 511 slot.index) (none_holds (row_of s a (EwbStart f slot)) allowed).0 in
+    let frames = neither (leb s.frames f.0) (leb s.frames slot.frame.0) range.0 in
+    (leb-false _ _ frames.0, leb-false _ _ frames.1)
+
+pub eldstart_names : (s : State) (a : Actor) (f : Frame) (page : Page) (slot : SlotAt) → first_of_row (row_of s a (EldStart f page slot)) ≡ None → (f.0 < s.frames) × (slot.frame.0 < s.frames)
+eldstart_names s a f page slot allowed =
+    let range = neither (leb s.frames f.0 || leb s.frames slot.frame.0) (ltb 511 slot.index) (none_holds (row_of s a (EldStart f page slot)) allowed).0 in
+    let frames = neither (leb s.frames f.0) (leb s.frames slot.frame.0) range.0 in
+    (leb-false _ _ frames.0, leb-false _ _ frames.1)
+
+-- .. and one of a load takes a free frame
+pub eldstart_takes : (s : State) (past : List Entry) (a : Actor) (f : Frame) (page : Page) (slot : SlotAt) → first_of_row (row_of s a (EldStart f page slot)) ≡ None → HasColumns s past → content past f.0 ≡ Free
+eldstart_takes s past a f page slot allowed columns =
+    let none = none_holds (row_of s a (EldStart f page slot)) allowed in
+    let idle = neither (s.is_sealing f.0 || is_loading (s.content f.0)) (s.is_slot_busy slot) none.1.1.0 in
+    free_in s past columns f.0 idle.0 none.1.1.1.0
+
 ewbstart_fits : (s : State) (past : List Entry) (a : Actor) (f : Frame) (slot : SlotAt) (answer : Answer) → first_of_row (row_of s a (EwbStart f slot)) ≡ None
     → FitsApart s.frames past → FitsApart s.frames (did_by a (EwbStart f slot) answer ∷ past)
 ewbstart_fits s past a f slot answer allowed h =
-    let none = none_holds (row_of s a (EwbStart f slot)) allowed in
-    let range = neither (leb s.frames f.0 || leb s.frames slot.frame.0) (ltb 511 slot.index) none.0 in
-    let frames = neither (leb s.frames f.0) (leb s.frames slot.frame.0) range.0 in
-    fits_more s.frames past _ ((leb-false _ _ frames.0, leb-false _ _ frames.1), tt)
+    fits_more s.frames past _ (ewbstart_names s a f slot allowed, tt)
     (start_apart (content past) (open_start past) f.0 _ (λ g loads. cc) (apart_in s.frames past h)) h
 
 eldstart_fits : (s : State) (past : List Entry) (a : Actor) (f : Frame) (page : Page) (slot : SlotAt) (answer : Answer) → first_of_row (row_of s a (EldStart f page slot)) ≡ None
     → HasColumns s past → IsAway (content past) (open_start past) page → FitsApart s.frames past → FitsApart s.frames (did_by a (EldStart f page slot) answer ∷ past)
 eldstart_fits s past a f page slot answer allowed columns away h =
-    let none = none_holds (row_of s a (EldStart f page slot)) allowed in
-    let range = neither (leb s.frames f.0 || leb s.frames slot.frame.0) (ltb 511 slot.index) none.0 in
-    let frames = neither (leb s.frames f.0) (leb s.frames slot.frame.0) range.0 in
-    let idle = neither (s.is_sealing f.0 || is_loading (s.content f.0)) (s.is_slot_busy slot) none.1.1.0 in
     let started = start_apart (content past) (open_start past) f.0 (Some (record { slot = slot; version = version_told answer; loads = Some page })) (λ g loads. rw (← same_pages page g loads) away) (apart_in s.frames past h) in
-    fits_more s.frames past _ ((leb-false _ _ frames.0, leb-false _ _ frames.1), free_in s past columns f.0 idle.0 none.1.1.1.0) (put_apart (content past) _ f.0 IsLoading (λ g held. cc) started) h
+    fits_more s.frames past _ (eldstart_names s a f page slot allowed, eldstart_takes s past a f page slot allowed columns) (put_apart (content past) _ f.0 IsLoading (λ g held. cc) started) h
 
 -- ---- the commits
+
+-- an open start is one of a frame of the EPC
+pub open_below : (frames : ℕ) (past : List Entry) (n : ℕ) → Along (FitsRule frames) past → is_some (open_start past n) ≡ true → n < frames
+open_below frames [] n rules is = absurd (false≢true is)
+open_below frames (e ∷ past) n rules is = by_event e.event rules.0 (open_below frames past n rules.1) is
+  where
+    by_start : (f : ℕ) (o : Option Start) → f < frames → (is_some (open_start past n) ≡ true → n < frames) → is_some (cond (f == n) o (open_start past n)) ≡ true → n < frames
+    by_start f o below before = cond_both (f == n) o (open_start past n) (λ v. is_some v ≡ true → n < frames) (λ here is. rw (← eqb-true f n here) below) (λ _ is. before is)
+
+    by_event : (v : Event) → FitsRule frames past (record { actor = e.actor; event = v }) → (is_some (open_start past n) ≡ true → n < frames) → is_some (opened_by v n (open_start past n)) ≡ true → n < frames
+    by_event (Did (EwbStart f slot) answer) rule before is = by_start f.0 _ rule.0.0 before is
+    by_event (Did (EldStart f page slot) answer) rule before is = by_start f.0 _ rule.0.0 before is
+    by_event (Did (Ewb f) answer) rule before is = by_start f.0 _ rule.0 before is
+    by_event (Did (Eld f) answer) rule before is = by_start f.0 _ rule.0 before is
+    by_event (Refused (Eld f) refusal) rule before is =
+        cond_both (f.0 == n) None (open_start past n) (λ v. is_some v ≡ true → n < frames) (λ _ there. absurd (false≢true there)) (λ _ there. before there) is
+    by_event _ rule before is = before is
 
 ewb_fits : (frames : ℕ) (past : List Entry) (a : Actor) (f : Frame) (answer : Answer) → f.0 < frames → FitsApart frames past → FitsApart frames (did_by a (Ewb f) answer ∷ past)
 ewb_fits frames past a f answer below h =

@@ -33,3 +33,4 @@ pub mod FollowLaws
 pub mod OutsideLaws
 pub mod MoveSights
 pub mod ReloadLaws
+pub mod MoveLaws

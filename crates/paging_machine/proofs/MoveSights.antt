@@ -219,7 +219,7 @@ abbrev IsSame : Option (Kind × Perm) → Option (Kind × Perm) → Type 0
 IsSame o o' = o ≡ o'
 
 -- a value that is there is one
-same_value : {X : Type 0} (x y : X) → Some x ≡ Some y → x ≡ y
+pub same_value : {X : Type 0} (x y : X) → Some x ≡ Some y → x ≡ y
 same_value {X} x y e = cc
 
 -- a page has one header by flat memory
