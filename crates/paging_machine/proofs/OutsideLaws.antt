@@ -20,13 +20,12 @@ use Rattle.sgx_types.specs.declared.names.Kind.TheVariants as kinds
 use Rattle.sgx_types.specs.declared.names.Page.{Page}
 use Rattle.sgx_types.specs.declared.names.Perm.{Perm}
 use Rattle.sgx_types.specs.declared.names.SlotAt.{SlotAt}
-use Rattle.sgx_types.specs.declared.record.Header.{Header}
 use Rattle.sgx_types.specs.declared.refusals.Refusal.{Refusal}
 use Rattle.sgx_types.specs.declared.refusals.Refusal.TheVariants as why
 use Rattle.sgx_types.specs.Frames.{Holds, content, is_page, page_at, same_page}
 use Rattle.sgx_types.specs.Processors.{Stay, stay}
 use Rattle.sgx_types.specs.Table.{TcsSight, first_of_row, allows_update, allows_write}
-use Rattle.sgx_types.specs.Flat.{FlatEnclave, FlatMemory, FlatPage, Inside, accepts, at_offset, fields_in, first_words, flat, left, memory_after, page_words, saved, stored, sum_of, tcs_fields, with_cssa, with_page, with_words, word_seen, words_of}
+use Rattle.sgx_types.specs.Flat.{FlatMemory, FlatPage, accepts, fields_in, flat, memory_after, page_words, saved, stored, sum_of, tcs_fields, with_cssa, with_words, word_seen, words_of}
 use Rattle.sgx_types.specs.Sealed.{Sealed, header_of}
 use Rattle.sgx_types.specs.Sights.{seat_of}
 use Rattle.sgx_types.specs.Starts.{Start, open_start}
@@ -35,13 +34,14 @@ use Rattle.seal_record.specs.Records.{Made}
 use Rattle.epcm_entry.specs.Words.{bytes_of}
 use Rattle.epcm_entry.specs.Words.{words_of as words_in}
 use Rattle.page_history.specs.Copies.{Copy, InFrame, InSlot, OneLiveCopy, copy, in_slot}
+use Rattle.page_history.specs.Moves.{IsMove}
 use Rattle.page_history.specs.Once.{IsMade}
-use Rattle.page_history.specs.Records.{IsSealed, SealedRule, made_by, made_with, more_made, page_bytes, record_by, record_in}
+use Rattle.page_history.specs.Records.{SealedRule, made_by, made_with, more_made, page_bytes, record_by, record_in}
 use Rattle.paging_machine.specs.Histories.{HasBytes, OutsideBytes, given_out}
-use Rattle.paging_machine.specs.Shape.{Follows, HasColumns, Making, making_of}
-use Rattle.paging_machine.specs.Stands.{IsSound, Stands, Upholds, inside_of_stay, next_save, seat_of_stay}
+use Rattle.paging_machine.specs.Shape.{Follows, Making}
+use Rattle.paging_machine.specs.Stands.{IsSound, Stands, inside_of_stay, next_save, seat_of_stay}
 use Rattle.paging_machine.specs.State.{State, enter_sight, row_of, after_eld, after_failed_eld, after_init}
-use Rattle.paging_machine.specs.Steps.{CanApply, IsComing, IsDone, IsHeaderIn, IsJudged, IsLeaving, IsReloaded, IsStep, IsWrittenOut, answer_of, commit_row, did_by, refused_by}
+use Rattle.paging_machine.specs.Steps.{CanApply, IsDone, IsJudged, IsLeaving, IsReloaded, IsStep, IsWrittenOut, answer_of, commit_row, did_by, refused_by}
 use Rattle.measure_log.specs.Rule.{IsExpected, IsOther}
 use Rattle.paging_machine.proofs.AccessLaws.{Reads, access_allowed}
 use Rattle.paging_machine.proofs.Carry.{same_page-refl, seat_at}
@@ -51,7 +51,7 @@ use Rattle.paging_machine.proofs.Tools.{not_false, same_pages}
 
 -- ---- entries that make no record
 
--- the commit of a write-out
+-- the commit of a write-out, and no other instruction
 abbrev pub is_ewb : Action → Bool
 is_ewb (Ewb f) = true
 is_ewb _ = false
@@ -70,14 +70,16 @@ outside_more key past e keeps outside g slot v there = still (outside g slot v (
     same = sym (keeps.words g slot v there)
 
     still : (one : Made) × HasBytes key past g v one → (one : Made) × HasBytes key (e ∷ past) g v one
-    still (one, has) =
-        (one, record {
-          made = subst (λ all. Any (λ other. other ≡ one) all) (sym (keeps.made key)) has.made;
-          version = has.version;
-          cipher = has.cipher ∙ ap (λ words. cipher key v (page_bytes words)) same;
-          size = ap (λ words. length (page_bytes words)) (sym same) ∙ has.size;
-          back = ap (λ words. words_in (page_bytes words)) (sym same) ∙ has.back ∙ same;
-        })
+    still (one, has) = (
+      one,
+      record {
+        made = subst (λ all. Any (λ other. other ≡ one) all) (sym (keeps.made key)) has.made;
+        version = has.version;
+        cipher = has.cipher ∙ ap (λ words. cipher key v (page_bytes words)) same;
+        size = ap (λ words. length (page_bytes words)) (sym same) ∙ has.size;
+        back = ap (λ words. words_in (page_bytes words)) (sym same) ∙ has.back ∙ same;
+      },
+    )
 
 -- a refusal
 pub refused_keeps : (past : List Entry) (a : Actor) (action : Action) (r : Refusal) → KeepsOutside past (refused_by a action r)
@@ -88,6 +90,7 @@ not_framed : (b : Bool) (n : ℕ) (o : Option Copy) (slot : SlotAt) (v : ℕ) �
 not_framed true n o slot v there = cc
 not_framed false n o slot v there = there
 
+-- a done instruction, but for an `ewb`, brings no page outside
 pub did_stays : (past : List Entry) (a : Actor) (action : Action) (answer : Answer) → is_ewb action ≡ false
     → (g : Page) (slot : SlotAt) (v : ℕ) → copy (did_by a action answer ∷ past) g ≡ Some (InSlot slot v) → copy past g ≡ Some (InSlot slot v)
 did_stays past a (Ewb f) answer other g slot v there = cc
@@ -95,10 +98,12 @@ did_stays past a (Add enclave number f kind perm init) answer other g slot v the
 did_stays past a (Eld f) (answers.Moved page version tag) other g slot v there = not_framed (same_page page g) f.0 (copy past g) slot v there
 did_stays past a action answer other g slot v there = there
 
+-- it makes no record
 pub did_made : (key : List ℕ) (past : List Entry) (a : Actor) (action : Action) (answer : Answer) → is_ewb action ≡ false → made_by key (did_by a action answer ∷ past) ≡ made_by key past
 did_made key past a (Ewb f) answer other = cc
 did_made key past a action answer other = refl
 
+-- .. and the rule Sealed has nothing to say of it
 pub did_sealed : (key : List ℕ) (past : List Entry) (a : Actor) (action : Action) (answer : Answer) → is_ewb action ≡ false → SealedRule key past (did_by a action answer)
 did_sealed key past a (Ewb f) answer other = cc
 did_sealed key past a action answer other = tt
@@ -200,7 +205,7 @@ aex_words s past p acc sound stands one g slot v there = by_stay (stay past p) r
 keeps_as : (past : List Entry) (e e' : Entry) → e ≡ e' → KeepsOutside past e' → KeepsOutside past e
 keeps_as past e e' same k = subst (λ x. KeepsOutside past x) (sym same) k
 
--- a row allows an instruction, or refuses it
+-- a row allows an instruction, or refuses it, which keeps what is outside
 keeps_cases : (o : Option Refusal) (Done : Type 0) (s t : State) (past : List Entry) (e : Entry) (a : Actor) (action : Action)
     → (o ≡ None → Done → KeepsOutside past e) → MatchOption o Done (λ r. (e ≡ refused_by a action r) × (t ≡ s)) → KeepsOutside past e
 keeps_cases None Done s t past e a action f k = f refl k
@@ -297,14 +302,64 @@ pub outside_step : (key : List ℕ) (s t : State) (past : List Entry) (cpus : �
     → OutsideBytes key past → OutsideBytes key (e ∷ past)
 outside_step key s t past cpus a action e can sound k stands one outside = outside_more key past e (step_keeps s t past cpus a action e can sound k stands one) outside
 
+-- ---- moves
+
+-- an entry that leaves every copy, all of flat memory and the records
+pub record LeavesAll (past : List Entry) (e : Entry) : Type 0 where
+  pub copies : (g : Page) → copy (e ∷ past) g ≡ copy past g
+  pub memory : flat (e ∷ past) ≡ flat past
+  pub made : (key : List ℕ) → made_by key (e ∷ past) ≡ made_by key past
+
+-- a block, a track or a start, where it is done
+pub move_leaves : (past : List Entry) (a : Actor) (action : Action) (answer : Answer) → IsMove action → LeavesAll past (did_by a action answer)
+move_leaves past a action answer moves = record { copies = copies action moves; memory = memory action moves; made = made action moves }
+  where
+    copies : (x : Action) → IsMove x → (g : Page) → copy (did_by a x answer ∷ past) g ≡ copy past g
+    copies (Block f) is g = refl
+    copies (Track enclave) is g = refl
+    copies (EwbStart f slot) is g = refl
+    copies (EldStart f page slot) is g = refl
+    copies x is g = absurd is
+
+    either : (b : Bool) → cond b (flat past) (flat past) ≡ flat past
+    either true = refl
+    either false = refl
+
+    memory : (x : Action) → IsMove x → flat (did_by a x answer ∷ past) ≡ flat past
+    memory (Block f) is = either (accepts (flat past) a (Block f))
+    memory (Track enclave) is = either (accepts (flat past) a (Track enclave))
+    memory (EwbStart f slot) is = either (accepts (flat past) a (EwbStart f slot))
+    memory (EldStart f page slot) is = either (accepts (flat past) a (EldStart f page slot))
+    memory x is = absurd is
+
+    made : (x : Action) → IsMove x → (key : List ℕ) → made_by key (did_by a x answer ∷ past) ≡ made_by key past
+    made (Block f) is key = refl
+    made (Track enclave) is key = refl
+    made (EwbStart f slot) is key = refl
+    made (EldStart f page slot) is key = refl
+    made x is key = absurd is
+
+-- .. and a refusal of any instruction
+pub refused_leaves : (past : List Entry) (a : Actor) (action : Action) (r : Refusal) → LeavesAll past (refused_by a action r)
+refused_leaves past a action r = record { copies = λ g. refl; memory = refl; made = λ key. refl }
+
+-- .. leaves what is outside
+pub outside_move : (key : List ℕ) (past : List Entry) (e : Entry) → LeavesAll past e → OutsideBytes key past → OutsideBytes key (e ∷ past)
+outside_move key past e leaves outside =
+    outside_more key past e (record { made = leaves.made; stays = λ g slot v there. sym (leaves.copies g) ∙ there; words = λ g slot v there. ap (λ m. words_of m g) leaves.memory }) outside
+
+-- ---- what a step makes
+
 -- the entry of a step is of its instruction, done or refused
 abbrev pub IsEntryOf : Actor → Action → Entry → Type 0
 IsEntryOf a action e = ((answer : Answer) × (e ≡ did_by a action answer)) ⊎ ((r : Refusal) × (e ≡ refused_by a action r))
 
+-- a row allows an instruction, or refuses it, and the entry is of it in both
 entry_cases : (o : Option Refusal) (Done : Type 0) (s t : State) (e : Entry) (a : Actor) (action : Action) → (Done → IsEntryOf a action e) → MatchOption o Done (λ r. (e ≡ refused_by a action r) × (t ≡ s)) → IsEntryOf a action e
 entry_cases None Done s t e a action f k = f k
 entry_cases (Some r) Done s t e a action f k = inr (r, k.0)
 
+-- the entry of each instruction
 pub step_entry : (s t : State) (a : Actor) (action : Action) (e : Entry) → IsStep s a action e t → IsEntryOf a action e
 step_entry s t a (Create enclave f base size) e k =
     entry_cases _ (IsDone s a (Create enclave f base size) e t) s t e a (Create enclave f base size) (λ done. inl (answers.Plain, done.0)) k
@@ -320,6 +375,7 @@ step_entry s t a (Init enclave expect) e k =
     ]) k
 step_entry s t a action e k = entry_cases _ (IsDone s a action e t) s t e a action (λ done. inl (answer_of s a action, done.0)) k
 
+-- no `ewb` is among the instructions that can be applied
 applies_no_ewb : (cpus : ℕ) (a : Actor) (action : Action) → CanApply cpus a action → is_ewb action ≡ false
 applies_no_ewb cpus a (Ewb f) can = absurd can
 applies_no_ewb cpus a action can = refl
@@ -363,12 +419,15 @@ reloaded_keeps s t past a f rec e back = by_entry (reloaded_entry s t a f rec e 
     by_entry (inl (answer, is)) = keeps_as past e _ is (did_keeps past a (Eld f) answer refl (λ g slot v there. refl))
     by_entry (inr (r, is)) = keeps_as past e _ is (refused_keeps past a (Eld f) r)
 
+-- .. so that what is outside goes on to have its bytes
 pub outside_reloaded : (key : List ℕ) (s t : State) (past : List Entry) (a : Actor) (f : Frame) (rec : Sealed) (e : Entry) → IsReloaded s a f rec e t → OutsideBytes key past → OutsideBytes key (e ∷ past)
 outside_reloaded key s t past a f rec e back outside = outside_more key past e (reloaded_keeps s t past a f rec e back) outside
 
+-- a reload makes no record
 pub made_same_eld : (key : List ℕ) (s t : State) (past : List Entry) (a : Actor) (f : Frame) (rec : Sealed) (e : Entry) → IsReloaded s a f rec e t → made_by key (e ∷ past) ≡ made_by key past
 made_same_eld key s t past a f rec e back = (reloaded_keeps s t past a f rec e back).made key
 
+-- .. and the rule Sealed has nothing to say of it
 pub sealed_quiet_eld : (key : List ℕ) (s t : State) (past : List Entry) (a : Actor) (f : Frame) (rec : Sealed) (e : Entry) → IsReloaded s a f rec e t → SealedRule key past e
 sealed_quiet_eld key s t past a f rec e back = by_entry (reloaded_entry s t a f rec e back)
   where
@@ -378,15 +437,18 @@ sealed_quiet_eld key s t past a f rec e back = by_entry (reloaded_entry s t a f 
 
 -- ---- the commit of a write-out
 
+-- what holds of one of a list holds of one of a longer list
 Any-front : {X : Type 0} (P : X → Type 0) (xs ys : List X) → Any P xs → Any P (xs ++ ys)
 Any-front P xs ys (k, x, low, here, holds) =
     let longer : k < length (xs ++ ys) = omega (arith, length-append xs ys) in
     (k, x, longer, get_or_append_left xs ys x k low ∙ here, holds)
 
+-- a word has 8 bytes
 bytes_length : (words : List ℕ) → length (page_bytes words) ≡ 8 * length words
 bytes_length [] = refl
 bytes_length (word ∷ words) = let eight : length (to_le_bytes w64 word) ≡ 8 = refl in length-append (to_le_bytes w64 word) (page_bytes words) ∙ omega (arith, eight, bytes_length words)
 
+-- .. and a page 4096
 page_size : (words : List ℕ) → length words ≡ 512 → length (page_bytes words) ≡ 4096
 page_size words sized = omega (arith, bytes_length words)
 
@@ -412,62 +474,74 @@ pub record GivesRecord (key : List ℕ) (past : List Entry) (e : Entry) (rec : S
   pub sealed : SealedRule key past e
   pub outside : OutsideBytes key past → OutsideBytes key (e ∷ past)
 
--- an `ewb` whose record is that of its page's flat bytes
-module _ (key : List ℕ) (past : List Entry) (a : Actor) (f : Frame) (page : Page) (start : Start) (header : Header) (words : List ℕ) (rec : Sealed)
-    (in_flat : record_in key start.version (flat past) page ≡ Some rec) (is : rec ≡ sealed key start.version header (page_bytes words)) (held : words_of (flat past) page ≡ words) (size : length (page_bytes words) ≡ 4096) (back : words_in (page_bytes words) ≡ words) (opened : open_start past f.0 ≡ Some start) where
-  ewb_made : made_by key (did_by a (Ewb f) (answers.Moved page start.version rec.tag) ∷ past) ≡ made_by key past ++ made_with start.version rec ∷ []
-  ewb_made = ap (λ o. more_made start.version o (made_by key past)) in_flat
+-- a record that goes out of a frame is that of its page's flat bytes
+record IsOfPage (key : List ℕ) (past : List Entry) (n : ℕ) (page : Page) (start : Start) (rec : Sealed) : Type 0 where
+  opened : open_start past n ≡ Some start
+  in_flat : record_in key start.version (flat past) page ≡ Some rec
+  has : rec.cipher ≡ cipher key start.version (page_bytes (words_of (flat past) page))
+  size : length (page_bytes (words_of (flat past) page)) ≡ 4096
+  back : words_in (page_bytes (words_of (flat past) page)) ≡ words_of (flat past) page
 
-  ewb_sealed : SealedRule key past (did_by a (Ewb f) (answers.Moved page start.version rec.tag))
-  ewb_sealed = record { rec = rec; made = in_flat; told = refl }
+-- a write-out that gives the record of its page's flat bytes
+gives : (key : List ℕ) (past : List Entry) (a : Actor) (f : Frame) (page : Page) (start : Start) (rec : Sealed) → IsOfPage key past f.0 page start rec
+    → GivesRecord key past (did_by a (Ewb f) (answers.Moved page start.version rec.tag)) rec
+gives key past a f page start rec k = record {
+  made = more;
+  sealed = record { rec = rec; made = k.in_flat; told = refl };
+  outside = λ outside g slot v there. by_page outside g slot v (same_page page g) refl there;
+}
+  where
+    e : Entry
+    e = did_by a (Ewb f) (answers.Moved page start.version rec.tag)
 
-  ewb_outside : OutsideBytes key past → OutsideBytes key (did_by a (Ewb f) (answers.Moved page start.version rec.tag) ∷ past)
-  ewb_outside outside g slot v there = by_page (same_page page g) refl there
-    where
-      e : Entry
-      e = did_by a (Ewb f) (answers.Moved page start.version rec.tag)
+    new : Made
+    new = made_with start.version rec
 
-      made_now : (one : Made) → Any (λ other. other ≡ one) (made_by key past ++ made_with start.version rec ∷ []) → IsMade key (e ∷ past) one
-      made_now one k = subst (λ all. Any (λ other. other ≡ one) all) (sym ewb_made) k
+    more : made_by key (e ∷ past) ≡ made_by key past ++ new ∷ []
+    more = ap (λ o. more_made start.version o (made_by key past)) k.in_flat
 
-      still : (one : Made) × HasBytes key past g v one → (one : Made) × HasBytes key (e ∷ past) g v one
-      still (one, has) =
-          (one, record { made = made_now one (Any-front (λ other. other ≡ one) (made_by key past) (made_with start.version rec ∷ []) has.made); version = has.version; cipher = has.cipher; size = has.size; back = has.back })
+    made_now : (one : Made) → Any (λ other. other ≡ one) (made_by key past ++ new ∷ []) → IsMade key (e ∷ past) one
+    made_now one is = subst (λ all. Any (λ other. other ≡ one) all) (sym more) is
 
-      goes : same_page page g ≡ true → start.version ≡ v → HasBytes key (e ∷ past) g v (made_with start.version rec)
-      goes same told =
-          let is_it : page ≡ g = same_pages page g same in
-          let here : words_of (flat past) g ≡ words = ap (words_of (flat past)) (sym is_it) ∙ held in
-          record {
-            made = made_now (made_with start.version rec) (Any-push (λ other. other ≡ made_with start.version rec) (made_by key past) (made_with start.version rec) refl);
-            version = told;
-            cipher =
-                ap (λ (x : Sealed). x.cipher) is ∙ ap (λ n. cipher key n (page_bytes words)) told ∙ ap (λ ws. cipher key v (page_bytes ws)) (sym here);
-            size = ap (λ ws. length (page_bytes ws)) here ∙ size;
-            back = ap (λ ws. words_in (page_bytes ws)) here ∙ back ∙ sym here;
-          }
+    still : (g : Page) (v : ℕ) → (one : Made) × HasBytes key past g v one → (one : Made) × HasBytes key (e ∷ past) g v one
+    still g v (one, has) = (
+      one,
+      record {
+        made = made_now one (Any-front (λ other. other ≡ one) (made_by key past) (new ∷ []) has.made);
+        version = has.version;
+        cipher = has.cipher;
+        size = has.size;
+        back = has.back;
+      },
+    )
 
-      by_page : (b : Bool) → same_page page g ≡ b → cond b (in_slot (open_start past f.0) start.version) (copy past g) ≡ Some (InSlot slot v) → (one : Made) × HasBytes key (e ∷ past) g v one
-      by_page true same k =
-          let slotted : Some (InSlot start.slot start.version) ≡ Some (InSlot slot v) = rw opened at k in
-          let told : start.version ≡ v = cc slotted in
-          (made_with start.version rec, goes same told)
-      by_page false other k = still (outside g slot v k)
+    goes : HasBytes key (e ∷ past) page start.version new
+    goes = record { made = made_now new (Any-push (λ other. other ≡ new) (made_by key past) new refl); version = refl; cipher = k.has; size = k.size; back = k.back }
 
-pub written : (s t : State) (made : Making) (past : List Entry) (a : Actor) (f : Frame) (e : Entry) (rec : Sealed) → IsWrittenOut s a f e rec t → IsSound s → Stands s past → Follows made s past → GivesRecord made.key past e rec
-written s t made past a f e rec out sound stands h =
+    by_page : OutsideBytes key past → (g : Page) (slot : SlotAt) (v : ℕ) (b : Bool) → same_page page g ≡ b → cond b (in_slot (open_start past f.0) start.version) (copy past g) ≡ Some (InSlot slot v)
+        → (one : Made) × HasBytes key (e ∷ past) g v one
+    by_page outside g slot v true same there =
+        let slotted : Some (InSlot start.slot start.version) ≡ Some (InSlot slot v) = rw k.opened at there in
+        let told : start.version ≡ v = cc slotted in
+        let is_it : page ≡ g = same_pages page g same in
+        (new, rw (← told, ← is_it) goes)
+    by_page outside g slot v false other there = still g v (outside g slot v there)
+
+-- the commit of a write-out gives the record of the page's flat bytes
+pub outside_written : (s t : State) (made : Making) (past : List Entry) (a : Actor) (f : Frame) (e : Entry) (rec : Sealed) → IsWrittenOut s a f e rec t → IsSound s → Stands s past → Follows made s past
+    → GivesRecord made.key past e rec
+outside_written s t made past a f e rec out sound stands h =
     let leaving = out.leaving in
     let head = leaving.page in
+    let v = leaving.start.version in
+    let words = s.words f.0 in
     let keyed : s.key ≡ made.key = ap (λ (k : Making). k.key) h.shape.making in
-    let in_flat : record_in made.key leaving.start.version (flat past) head.page ≡ Some rec = recorded s made past f.0 leaving stands h ∙ ap Some (sym out.sealed) in
-    let is : rec ≡ sealed made.key leaving.start.version leaving.header (page_bytes (s.words f.0)) =
-    out.sealed ∙ ap (λ k. sealed k leaving.start.version leaving.header (bytes_of (s.words f.0))) keyed in
-    let held : words_of (flat past) head.page ≡ s.words f.0 = ap page_words (stands.words f.0 head.page head.kind head.perm head.held) in
-    let size : length (page_bytes (s.words f.0)) ≡ 4096 = page_size (s.words f.0) (sound.sized f.0) in
-    let opened : open_start past f.0 ≡ Some leaving.start = sym (h.shape.columns.start f.0) ∙ leaving.opened in
+    let held : words ≡ words_of (flat past) head.page = sym (ap page_words (stands.words f.0 head.page head.kind head.perm head.held)) in
     subst (λ x. GivesRecord made.key past x rec) (sym out.entry)
-    (record {
-      made = ewb_made made.key past a f head.page leaving.start leaving.header (s.words f.0) rec in_flat is held size out.leaving.words opened;
-      sealed = ewb_sealed made.key past a f head.page leaving.start leaving.header (s.words f.0) rec in_flat is held size out.leaving.words opened;
-      outside = ewb_outside made.key past a f head.page leaving.start leaving.header (s.words f.0) rec in_flat is held size out.leaving.words opened;
-    })
+    (gives made.key past a f head.page leaving.start rec (record {
+      opened = sym (h.shape.columns.start f.0) ∙ leaving.opened;
+      in_flat = recorded s made past f.0 leaving stands h ∙ ap Some (sym out.sealed);
+      has = ap (λ (x : Sealed). x.cipher) out.sealed ∙ ap (λ key. cipher key v (bytes_of words)) keyed ∙ ap (λ xs. cipher made.key v (page_bytes xs)) held;
+      size = ap (λ xs. length (page_bytes xs)) (sym held) ∙ page_size words (sound.sized f.0);
+      back = ap (λ xs. words_in (page_bytes xs)) (sym held) ∙ leaving.words ∙ held;
+    }))
