@@ -34,3 +34,6 @@ pub mod OutsideLaws
 pub mod MoveSights
 pub mod ReloadLaws
 pub mod MoveLaws
+pub mod PagingSights
+pub mod PagingBridge
+pub mod CommitBridge
