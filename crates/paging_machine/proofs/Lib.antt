@@ -37,3 +37,4 @@ pub mod MoveLaws
 pub mod PagingSights
 pub mod PagingBridge
 pub mod CommitBridge
+pub mod WholeLaws
