@@ -1,24 +1,19 @@
 -- A load that its commit's row allows brings back what went out last: the page's version, its tag and its bytes.
-use Rattle.std.proofs.Common.{◌≡◌, ℕ, suc, ◌+◌, ◌*◌, ◌<◌, ◌≤◌, ◌==◌, ◌&&◌, not, Bool, true, false, cond, refl, sym, ap, subst, ◌∙◌, arith, Option, Some, None, List, [], ◌∷◌, ◌++◌, length, All, Any}
+use Rattle.std.proofs.Common.{◌≡◌, ℕ, ◌+◌, ◌*◌, ◌<◌, ◌≤◌, ◌==◌, ◌&&◌, true, refl, sym, ap, subst, ◌∙◌, arith, Some, None, List, [], ◌∷◌, ◌++◌, length, All, Any}
 use Rattle.std.proofs.lemmas.Bool.{eqb-true}
 use Rattle.std.proofs.lemmas.List.{get_or_default}
 use Rattle.std.proofs.lemmas.Slice.Eq.{bytes_eq-Decides}
-use Rattle.std.specs.Str.{bytes_eq}
 use Rattle.sgx_types.specs.declared.entries.Entry.{Entry}
-use Rattle.sgx_types.specs.declared.entries.Event.{Event}
-use Rattle.sgx_types.specs.declared.entries.Event.TheVariants.{Did, Refused}
 use Rattle.sgx_types.specs.declared.entries.Actor.{Actor}
-use Rattle.sgx_types.specs.declared.entries.Action.TheVariants.{Add, Ewb, Eld}
+use Rattle.sgx_types.specs.declared.entries.Action.TheVariants.{Eld}
 use Rattle.sgx_types.specs.declared.entries.Answer.TheVariants as answers
 use Rattle.sgx_types.specs.declared.names.Frame.{Frame}
 use Rattle.sgx_types.specs.declared.names.Kind.{Kind}
 use Rattle.sgx_types.specs.declared.names.Page.{Page}
 use Rattle.sgx_types.specs.declared.names.Perm.{Perm}
-use Rattle.sgx_types.specs.declared.names.SlotAt.{SlotAt}
 use Rattle.sgx_types.specs.declared.record.Header.{Header}
 use Rattle.sgx_types.specs.Flat.{FlatEnclave, flat}
 use Rattle.sgx_types.specs.Flat as memory
-use Rattle.sgx_types.specs.Frames.{page_at, same_page}
 use Rattle.sgx_types.specs.Rules.{Along, RefusalRule}
 use Rattle.sgx_types.specs.Sealed.{Sealed, header_of}
 use Rattle.sgx_types.specs.Slots.{version_in}
@@ -30,20 +25,20 @@ use Rattle.seal_record.specs.Cipher.{cipher, tag}
 use Rattle.seal_record.specs.Records.{Given, Made, Tagged, Unforged, given_of, made_of, tag_of}
 use Rattle.seal_record.proofs.CipherLaws.{cipher_twice}
 use Rattle.seal_record.proofs.RecordLaws.{fitting_made}
-use Rattle.page_history.specs.Copies.{Copy, InFrame, InSlot, copy, copy_after, in_slot}
-use Rattle.page_history.specs.Fresh.{IsLastOut, Out, ReloadRule, last_out, out_after}
+use Rattle.page_history.specs.Copies.{InSlot, copy}
+use Rattle.page_history.specs.Fresh.{IsLastOut, ReloadRule}
 use Rattle.page_history.specs.Moves.{Numbers}
-use Rattle.page_history.specs.Once.{DrawnOnce, Gone, IsGone, IsMade, IsOfPage, KeepsMoves, MadeOnce, StartsApart, gone, gone_after}
+use Rattle.page_history.specs.Once.{Gone, IsMade, IsOfPage, KeepsMoves, MadeOnce}
 use Rattle.page_history.specs.Records.{SealedRule, made_by, page_bytes}
 use Rattle.page_history.proofs.CopyLaws.{copy_is_last, live_copies, went_out}
 use Rattle.page_history.proofs.DrawnLaws.{drawn_once}
 use Rattle.page_history.proofs.RecordLaws.{made_once}
 use Rattle.page_history.proofs.StartLaws.{starts_apart}
-use Rattle.paging_machine.specs.Histories.{HasBytes, OutsideBytes, UpholdsAll, looked_at, looked_at_by, numbers_of}
+use Rattle.paging_machine.specs.Histories.{OutsideBytes, UpholdsAll, looked_at, looked_at_by, numbers_of}
 use Rattle.paging_machine.specs.Shape.{Making}
 use Rattle.paging_machine.specs.State.{State, after_eld}
 use Rattle.paging_machine.specs.Steps.{IsComing, IsReloaded, commit_row, did_by}
-use Rattle.paging_machine.proofs.Tools.{both_true, none_holds, not_false, same_pages}
+use Rattle.paging_machine.proofs.Tools.{both_true, none_holds, not_false}
 
 -- ---- the page of a header
 
@@ -114,14 +109,14 @@ module _ (k : Numbers) (key : List ℕ) (past : List Entry) (positive : 1 ≤ k.
           let its_cipher : one.cipher ≡ rec.cipher = ap (λ (x : Tagged). x.cipher) same in
           -- the record is the page's
           let its_page : own.page ≡ g =
-              header_page own.header.enclave.base headed.enclave.base own.page g own.header.page.kind headed.kind own.header.page.perm headed.perm
-              (λ in_one. one_base own.header.enclave headed.enclave (sym own.header.made ∙ ap (flat past).enclaves in_one ∙ headed.made)) (sym own.header.headed ∙ its_header ∙ headed.headed) in
+          header_page own.header.enclave.base headed.enclave.base own.page g own.header.page.kind headed.kind own.header.page.perm headed.perm
+          (λ in_one. one_base own.header.enclave headed.enclave (sym own.header.made ∙ ap (flat past).enclaves in_one ∙ headed.made)) (sym own.header.headed ∙ its_header ∙ headed.headed) in
           -- .. and so is the slot's version
           let filled = (live_copies k past positive rules).filled start.slot (rw found.0 found.1) in
           let there : copy past filled.0 ≡ Some (InSlot start.slot version) = filled.1 ∙ ap (λ v. Some (InSlot start.slot v)) found.0 in
           let alike = (drawn_once k past rules).once _ _ (went_out past filled.0 start.slot version there) own.gone (sym its_version) in
-          let same_page : filled.0 ≡ g = ap (λ (x : Gone). x.page) alike ∙ its_page in
-          let out : copy past g ≡ Some (InSlot start.slot version) = ap (copy past) (sym same_page) ∙ there in
+          let its_own : filled.0 ≡ g = ap (λ (x : Gone). x.page) alike ∙ its_page in
+          let out : copy past g ≡ Some (InSlot start.slot version) = ap (copy past) (sym its_own) ∙ there in
           -- the tag is that of the page's last write-out
           let under = copy_is_last past g start.slot version out in
           let last_made = once.last g _ under.1 in
@@ -135,7 +130,6 @@ module _ (k : Numbers) (key : List ℕ) (past : List Entry) (positive : 1 ≤ k.
             last = record { last = under.1 ∙ ap (λ t. Some (record { version = version; tag = t })) its_tag; slot = rw opened found.0 };
             words = ap (λ c. words_of (cipher key version c)) enciphered ∙ ap words_of (cipher_twice key version (page_bytes (memory.words_of (flat past) g)) bytes.1.size) ∙ bytes.1.back;
           }
-
 
 -- ---- the machine
 
@@ -188,7 +182,7 @@ reload_back made s past records given f coming rec allowed h unforged =
     let looked : looked_at s f records rec ≡ given_with (length records) coming.start.version rec ∷ [] = ap (λ o. looked_at_by o records rec) coming.opened in
     let last : Unforged made.key records (given ++ given_with (length records) coming.start.version rec ∷ []) = subst (λ more. Unforged made.key records (given ++ more)) looked unforged in
     let all : Unforged made.key (made_by made.key past) (given ++ given_with (length (made_by made.key past)) coming.start.version rec ∷ []) =
-        subst (λ (list : List Made). Unforged made.key list (given ++ given_with (length list) coming.start.version rec ∷ [])) h.records last in
+    subst (λ (list : List Made). Unforged made.key list (given ++ given_with (length list) coming.start.version rec ∷ [])) h.records last in
     brought_back (numbers_of made) made.key past h.positive (keeps_moves made s past records h) h.sealed h.outside f coming.start coming.page rec given opened coming.loads headed fits all
 
 -- its entry keeps the rule on reloads
@@ -196,7 +190,7 @@ pub reload_fresh : (made : Making) (s t : State) (past : List Entry) (records : 
     → first_of_row (commit_row s f.0 back.coming rec) ≡ None → UpholdsAll made s past records → Unforged made.key records (given ++ looked_at s f.0 records rec) → ReloadRule past e
 reload_fresh made s t past records given a f rec e back allowed h unforged =
     let row : (e ≡ did_by a (Eld f) (answers.Moved back.coming.page back.coming.start.version rec.tag)) × (t ≡ after_eld s f.0 back.coming.start back.coming.page back.coming.kind back.coming.perm (words_of (cipher s.key back.coming.start.version rec.cipher)))
-        = rw allowed at back.row in
+    = rw allowed at back.row in
     rw row.0 (reload_back made s past records given f.0 back.coming rec allowed h unforged).last
 
 -- and its words are the page's flat words

@@ -8,14 +8,13 @@ use Rattle.sgx_types.specs.declared.entries.Action.{Action}
 use Rattle.sgx_types.specs.declared.entries.Action.TheVariants.{Block, Track, EwbStart, Ewb, EldStart, Eld}
 use Rattle.sgx_types.specs.declared.entries.Answer.{Answer}
 use Rattle.sgx_types.specs.declared.names.Frame.{Frame}
-use Rattle.sgx_types.specs.declared.names.Page.{Page}
 use Rattle.sgx_types.specs.declared.refusals.Refusal.{Refusal}
-use Rattle.sgx_types.specs.Frames.{IsLoading, content, is_page}
+use Rattle.sgx_types.specs.Frames.{IsLoading}
 use Rattle.sgx_types.specs.Rules.{FlatRule, NoPageTwice, RefusalRule}
 use Rattle.sgx_types.specs.Sealed.{Sealed}
 use Rattle.sgx_types.specs.Table.{first_of_row}
 use Rattle.seal_record.specs.Records.{Given, Made, Unforged}
-use Rattle.page_history.specs.Copies.{InFrame, OneLiveCopy}
+use Rattle.page_history.specs.Copies.{InFrame}
 use Rattle.page_history.specs.Fresh.{ReloadRule}
 use Rattle.page_history.specs.Moves.{IsMove, MovesRule}
 use Rattle.page_history.specs.Once.{KeepsMoves}
