@@ -1,7 +1,6 @@
 -- Each version is drawn once, and is below the next.
-use Rattle.std.proofs.Common.{◌≡◌, ℕ, ◌+◌, ◌<◌, ◌≤◌, ◌==◌, Bool, true, false, cond, refl, sym, ap, ◌∙◌, subst, Option, Some, None, List, [], ◌∷◌, ◌⊎◌, inl, inr, ⊎_elim, Any, arith}
+use Rattle.std.proofs.Common.{◌≡◌, ℕ, ◌+◌, ◌<◌, ◌≤◌, ◌==◌, Bool, true, false, cond, refl, sym, ap, ◌∙◌, subst, Option, Some, None, List, [], ◌∷◌, ◌⊎◌, inl, inr, ⊎_elim, arith}
 use Rattle.std.proofs.lemmas.Bool.{eqb-true}
-use Rattle.sgx_types.specs.declared.entries.Action.{Action}
 use Rattle.sgx_types.specs.declared.entries.Action.TheVariants.{EwbStart, Ewb, EldStart, Eld}
 use Rattle.sgx_types.specs.declared.entries.Actor.{Actor}
 use Rattle.sgx_types.specs.declared.entries.Answer.{Answer}
@@ -12,7 +11,7 @@ use Rattle.sgx_types.specs.declared.entries.Event.TheVariants.{Did, Refused}
 use Rattle.sgx_types.specs.declared.names.Frame.{Frame}
 use Rattle.sgx_types.specs.declared.names.Page.{Page}
 use Rattle.sgx_types.specs.declared.names.SlotAt.{SlotAt}
-use Rattle.sgx_types.specs.Rules.{Along, EvictRule, RisingRule}
+use Rattle.sgx_types.specs.Rules.{EvictRule, RisingRule}
 use Rattle.sgx_types.specs.Slots.{is_draw, next_version}
 use Rattle.sgx_types.specs.Starts.{Start, open_start, version_told}
 use Rattle.page_history.specs.Moves.{Numbers}
@@ -60,6 +59,7 @@ module _ (first : ℕ) (past : List Entry) (actor : Actor) (f : Frame) (slot : S
     | inr k ↦ inr k.1
   ]
 
+  -- no two open starts have one version
   apart_still : (m n : ℕ) (x y : Start) → open_start later m ≡ Some x → open_start later n ≡ Some y → x.loads ≡ None → y.loads ≡ None → x.version ≡ y.version → m ≡ n
   apart_still m n x y is too writes also same = by_cases (new_or_old m x is) (new_or_old n y too)
     where
@@ -69,6 +69,7 @@ module _ (first : ℕ) (past : List Entry) (actor : Actor) (f : Frame) (slot : S
       by_cases (inr a) (inl b) = let low : x.version < next_version first past = h.started m x a writes in omega (arith, b.1)
       by_cases (inr a) (inr b) = h.apart m n x y a b writes also same
 
+  -- and so each version is drawn once still
   ewbstart_drawn : DrawnOnce first later
   ewbstart_drawn = record {
     from = λ n x is writes. ⊎_elim (λ k. let low : first ≤ next_version first past = first_below first past in omega (arith, k.1)) (λ old. h.from n x old writes) (new_or_old n x is);
@@ -91,9 +92,11 @@ module _ (first : ℕ) (past : List Entry) (actor : Actor) (f : Frame) (page : P
   abbrev after : List Entry
   after = entry_of actor (Did (Ewb f) (Moved page version tag)) ∷ past
 
+  -- the starts of the other frames are open still
   still_open : (n : ℕ) (x : Start) → open_start after n ≡ Some x → ((f.0 == n) ≡ false) × (open_start past n ≡ Some x)
   still_open n x is = ended_cases (f.0 == n) x (open_start past n) is
 
+  -- a page that went out is this one, or went out before
   out_or_before : (x : Gone) → IsGone after x → (out ≡ x) ⊎ IsGone past x
   out_or_before x is = any_cases (λ one. one ≡ x) out (gone past) is
 
@@ -101,6 +104,7 @@ module _ (first : ℕ) (past : List Entry) (actor : Actor) (f : Frame) (page : P
   not_before : (x : Gone) → IsGone past x → version ≡ x.version → ⊥
   not_before x went same = h.not_open f.0 its_start x opened refl went same
 
+  -- no page went out with the version of an open start
   not_open_still : (n : ℕ) (x : Start) (y : Gone) → open_start after n ≡ Some x → x.loads ≡ None → IsGone after y → x.version ≡ y.version → ⊥
   not_open_still n x y is writes went same = ⊎_elim this before (out_or_before y went)
     where
@@ -113,6 +117,7 @@ module _ (first : ℕ) (past : List Entry) (actor : Actor) (f : Frame) (page : P
       before : IsGone past y → ⊥
       before old = h.not_open n x y (still_open n x is).1 writes old same
 
+  -- no two pages went out with one version
   once_still : (x y : Gone) → IsGone after x → IsGone after y → x.version ≡ y.version → x ≡ y
   once_still x y is too same = by_cases (out_or_before x is) (out_or_before y too)
     where
@@ -122,6 +127,7 @@ module _ (first : ℕ) (past : List Entry) (actor : Actor) (f : Frame) (page : P
       by_cases (inr a) (inl b) = absurd (not_before x a (ap (λ (z : Gone). z.version) b ∙ sym same))
       by_cases (inr a) (inr b) = h.once x y a b same
 
+  -- and so each version is drawn once still
   ewb_drawn : DrawnOnce first after
   ewb_drawn = record {
     from = λ n x is writes. h.from n x (still_open n x is).1 writes;
@@ -145,6 +151,10 @@ drawn_still first past actor (Did (Eld f) answer) rising evict h = fewer_drawn f
 drawn_still first past actor (Refused (Eld f) why) rising evict h = fewer_drawn first past (entry_of actor (Refused (Eld f) why)) (λ n x is writes. (ended_cases (f.0 == n) x (open_start past n) is).1) (λ x is. is) refl h
 drawn_still first past actor event rising evict h = fewer_drawn first past (entry_of actor event) (λ n x is writes. is) (λ x is. is) refl h
 
+-- the rules were kept before the last entry
+pub keeps_before : (k : Numbers) (e : Entry) (past : List Entry) → KeepsMoves k (e ∷ past) → KeepsMoves k past
+keeps_before k e past h = record { refusal = h.refusal.1; flat = h.flat.1; moves = h.moves.1; evict = h.evict.1; fresh = h.fresh.1 }
+
 -- where the rules are kept, each version is drawn once
 pub drawn_once : (k : Numbers) (past : List Entry) → KeepsMoves k past → DrawnOnce k.first_version past
 drawn_once k [] h = record {
@@ -157,4 +167,4 @@ drawn_once k [] h = record {
 }
 drawn_once k (e ∷ past) h =
     drawn_still k.first_version past e.actor e.event h.fresh.0.rising h.evict.0
-    (drawn_once k past (record { refusal = h.refusal.1; flat = h.flat.1; moves = h.moves.1; evict = h.evict.1; fresh = h.fresh.1 }))
+    (drawn_once k past (keeps_before k e past h))

@@ -1,22 +1,21 @@
--- What stays of flat memory: where a page was added, and in which enclave.
-use Rattle.std.proofs.Common.{◌≡◌, ℕ, ◌+◌, ◌-◌, ◌==◌, ◌&&◌, Bool, true, false, cond, refl, sym, ap, ◌∙◌, Option, Some, None, option_map, is_some, is_none, List, [], ◌∷◌, slice_set}
+-- Flat memory has each page as it was added, and never changes an enclave's base or a page's kind and permissions.
+use Rattle.std.proofs.Common.{◌≡◌, ℕ, ◌+◌, ◌-◌, ◌==◌, Bool, true, false, cond, refl, sym, ap, ◌∙◌, Option, Some, None, is_some, is_none, List, [], ◌∷◌, slice_set}
 use Rattle.std.proofs.lemmas.Bool.{cond_both, eqb-true, false≢true}
 use Rattle.sgx_types.specs.declared.entries.Action.{Action}
-use Rattle.sgx_types.specs.declared.entries.Action.TheVariants.{Epa, Create, Add, Extend, Init, Enter, Resume, Exit, Aex, Fill, Load, Store, Xadd, Set, Plus, Pf, OutLoad, OutStore, Block, Track, EwbStart, Ewb, EldStart, Eld}
+use Rattle.sgx_types.specs.declared.entries.Action.TheVariants.{Create, Add, Init, Resume, Aex, Store, Xadd}
 use Rattle.sgx_types.specs.declared.entries.Actor.{Actor}
 use Rattle.sgx_types.specs.declared.entries.Actor.TheVariants as actors
 use Rattle.sgx_types.specs.declared.entries.Answer.{Answer}
 use Rattle.sgx_types.specs.declared.entries.Entry.{Entry}
 use Rattle.sgx_types.specs.declared.entries.Event.{Event}
-use Rattle.sgx_types.specs.declared.entries.Event.TheVariants.{Did, Refused}
+use Rattle.sgx_types.specs.declared.entries.Event.TheVariants.{Did}
 use Rattle.sgx_types.specs.declared.entries.PageInit.{PageInit}
-use Rattle.sgx_types.specs.declared.names.Frame.{Frame}
 use Rattle.sgx_types.specs.declared.names.Kind.{Kind}
 use Rattle.sgx_types.specs.declared.names.Page.{Page}
 use Rattle.sgx_types.specs.declared.names.Perm.{Perm}
 use Rattle.sgx_types.specs.declared.record.Header.{Header}
-use Rattle.sgx_types.specs.Flat.{build_after, enclave_sight, flat_build_row, marked, open_frame, FlatEnclave, FlatMemory, FlatPage, Inside, accepts, added_as, at_offset, cpu_after, event_after, fields_in, first_words, flat, memory_after, rewritten, saved, stored, sum_of, with_cssa, with_words, word_index, word_seen}
-use Rattle.sgx_types.specs.Frames.{added, added_by, page_at, same_page}
+use Rattle.sgx_types.specs.Flat.{FlatEnclave, FlatMemory, FlatPage, Inside, accepts, added_as, at_offset, build_after, cpu_after, enclave_sight, event_after, fields_in, first_words, flat, flat_build_row, marked, memory_after, open_frame, rewritten, saved, stored, sum_of, with_cssa, with_words, word_index, word_seen}
+use Rattle.sgx_types.specs.Frames.{added, page_at, same_page}
 use Rattle.sgx_types.specs.Rules.{Along, FlatRule}
 use Rattle.sgx_types.specs.Sealed.{header_of}
 use Rattle.sgx_types.specs.Table.{EnclaveSight, FrameSight, add_row, first_of_row}
@@ -29,7 +28,7 @@ rewritten_kind true change None = refl
 rewritten_kind true change (Some x) = refl
 rewritten_kind false change o = refl
 
--- .. and what an asynchronous exit saves, and a store
+-- what an asynchronous exit saves leaves each page's kind and permissions
 saved_kinds : (m : FlatMemory) (acc : ℕ) (inside : Option Inside) (g : Page) → added_as ((saved m acc inside).pages g) ≡ added_as (m.pages g)
 saved_kinds m acc None g = refl
 saved_kinds m acc (Some i) g =
@@ -38,6 +37,7 @@ saved_kinds m acc (Some i) g =
     rewritten_kind (same_page g (page_at i.enclave i.tcs)) (λ words. with_cssa words (fields.cssa + 1)) (first.pages g)
     ∙ rewritten_kind (same_page g (page_at i.enclave (fields.ossa + fields.cssa))) (λ words. slice_set words 0 acc) (m.pages g)
 
+-- .. and so does a store
 stored_kinds : (m : FlatMemory) (inside : Option Inside) (off value : ℕ) (g : Page) → added_as ((stored m inside off value).pages g) ≡ added_as (m.pages g)
 stored_kinds m None off value g = refl
 stored_kinds m (Some i) off value g = rewritten_kind (same_page g (at_offset i.enclave off)) (λ words. slice_set words (word_index off) value) (m.pages g)
@@ -50,6 +50,7 @@ cpu_kinds p (Store off value) m g = stored_kinds m (m.cpus p).inside off value g
 cpu_kinds p (Xadd off value) m g = stored_kinds m (m.cpus p).inside off (sum_of (word_seen m (m.cpus p).inside off) value) g
 cpu_kinds p _ m g = refl
 
+-- whether an instruction adds a page
 abbrev is_add : Action → Bool
 is_add (Add enclave number f kind perm init) = true
 is_add _ = false
@@ -65,9 +66,11 @@ memory_kinds actors.Reclaimer action m g h = refl
 event_kinds : (actor : Actor) (action : Action) (answer : Answer) (m : FlatMemory) (g : Page) → is_add action ≡ false → added_as ((event_after actor (Did action answer) m).pages g) ≡ added_as (m.pages g)
 event_kinds actor action answer m g h = cond_both (accepts m actor action) (memory_after actor action m) m (λ (now : FlatMemory). added_as (now.pages g) ≡ added_as (m.pages g)) (λ _. memory_kinds actor action m g h) (λ _. refl)
 
+-- two pages are the same either way round
 same_page-swap : (a b : Page) → same_page a b ≡ same_page b a
 same_page-swap a b = rw (eqb-swap a.enclave b.enclave, eqb-swap a.number b.number) refl
 
+-- the kind and permissions of one more page
 added_one : (b : Bool) (x : FlatPage) (o : Option FlatPage) → cond b (Some (x.kind, x.perm)) (added_as o) ≡ added_as (cond b (Some x) o)
 added_one true x o = refl
 added_one false x o = refl
@@ -93,6 +96,7 @@ abbrev base_of : Option FlatEnclave → Option ℕ
 base_of None = None
 base_of (Some x) = Some x.base
 
+-- nothing is there
 is_none-None : {X : Type 0} (o : Option X) → is_none o ≡ true → o ≡ None
 is_none-None None h = refl
 is_none-None (Some x) h = cc
@@ -172,6 +176,6 @@ pub header_still : (actor : Actor) (event : Event) (m : FlatMemory) (g : Page) (
 header_still actor (Did action answer) m g header is =
     cond_both (accepts m actor action) (memory_after actor action m) m (λ (now : FlatMemory). IsHeader now g header)
     (λ taken.
-        header_by m (memory_after actor action m) g header is (memory_bases actor action m g.enclave taken (ap is_some is.made) ∙ ap base_of is.made) (memory_pages actor action m g taken (ap is_some is.added) ∙ ap added_as is.added))
+    header_by m (memory_after actor action m) g header is (memory_bases actor action m g.enclave taken (ap is_some is.made) ∙ ap base_of is.made) (memory_pages actor action m g taken (ap is_some is.added) ∙ ap added_as is.added))
     (λ _. is)
 header_still actor event m g header is = is

@@ -1,8 +1,7 @@
--- Facts on tests, rows, lists and open starts.
-use Rattle.std.proofs.Common.{◌≡◌, ℕ, ◌<◌, ◌==◌, ◌&&◌, ◌||◌, not, Bool, true, false, cond, refl, sym, ap, ◌∙◌, Option, Some, None, option_map, is_some, List, [], ◌∷◌, ◌++◌, length, get_or, ◌⊎◌, inl, inr, ⊎_elim, subst, Any, zero, suc, arith}
+-- Facts on tests, rows and lists, and on the open start of a frame and its slot.
+use Rattle.std.proofs.Common.{◌≡◌, ℕ, ◌<◌, ◌==◌, ◌&&◌, ◌||◌, not, Bool, true, false, cond, refl, sym, ◌∙◌, Option, Some, None, option_map, List, [], ◌∷◌, ◌++◌, length, ◌⊎◌, inl, inr, ⊎_elim, subst, Any, zero, suc, arith}
 use Rattle.std.proofs.lemmas.Bool.{eqb-true, eq-eqb, false≢true}
-use Rattle.std.proofs.lemmas.List.{length-append, get_or_append_left, get_or_push}
-use Rattle.std.proofs.lemmas.List.Quantifiers.{Any-push}
+use Rattle.std.proofs.lemmas.List.{length-append, get_or_append_left}
 use Rattle.sgx_types.specs.declared.entries.Actor.{Actor}
 use Rattle.sgx_types.specs.declared.entries.Entry.{Entry}
 use Rattle.sgx_types.specs.declared.entries.Event.{Event}
@@ -35,24 +34,30 @@ none_holds (c ∷ cases) h = by_test c.holds h (none_holds cases)
     by_test true e more = cc
     by_test false e more = (refl, more e)
 
+-- where one of two or the other is false, each is
 pub neither : (a b : Bool) → (a || b) ≡ false → (a ≡ false) × (b ≡ false)
 neither true b h = cc
 neither false b h = (refl, h)
 
+-- where both of two are true, each is
 pub both_true : (a b : Bool) → (a && b) ≡ true → (a ≡ true) × (b ≡ true)
 both_true true b h = (refl, h)
 both_true false b h = cc
 
+-- what is not untrue is true
 pub not_false : (b : Bool) → not b ≡ false → b ≡ true
 not_false true h = refl
 not_false false h = cc
 
+-- pages that a test finds the same are equal
 pub same_pages : (a b : Page) → same_page a b ≡ true → a ≡ b
 same_pages a b h = let k = both_true (a.enclave == b.enclave) (a.number == b.number) h in λ i. record { enclave = eqb-true a.enclave b.enclave k.0 i; number = eqb-true a.number b.number k.1 i }
 
+-- .. and slots
 pub same_slots : (a b : SlotAt) → same_slot a b ≡ true → a ≡ b
 same_slots a b h = let k = both_true (a.frame.0 == b.frame.0) (a.index == b.index) h in λ i. record { frame = record a.frame { 0 = eqb-true a.frame.0 b.frame.0 k.0 i }; index = eqb-true a.index b.index k.1 i }
 
+-- a test of two numbers goes either way round
 pub eqb-swap : (a b : ℕ) → (a == b) ≡ (b == a)
 eqb-swap a b = by_test (a == b) refl
   where
@@ -71,10 +76,11 @@ pub any_cases : {X : Type 0} (P : X → Type 0) (x : X) (xs : List X) → Any P 
 any_cases P x xs (zero, y, low, here, p) = inl (subst P (sym here) p)
 any_cases P x xs (suc k, y, low, here, p) = inr (k, y, omega arith, here, p)
 
--- .. and the head is of it, and the rest
+-- the head is of it
 pub any_head : {X : Type 0} (P : X → Type 0) (x : X) (xs : List X) → P x → Any P (x ∷ xs)
 any_head P x xs p = (0, x, omega arith, refl, p)
 
+-- .. and so is what is of the rest
 pub any_rest : {X : Type 0} (P : X → Type 0) (x : X) (xs : List X) → Any P xs → Any P (x ∷ xs)
 any_rest P x xs (k, y, low, here, p) = (suc k, y, omega arith, here, p)
 
@@ -86,14 +92,11 @@ any_last P [] x any = inr (elim (any_cases P x [] any) as (λ _. P x) [ inl p �
     none_there (k, y, low, here, p) = omega arith
 any_last P (y ∷ xs) x any = ⊎_elim (λ p. inl (any_head P y xs p)) (λ more. ⊎_elim (λ inside. inl (any_rest P y xs inside)) inr (any_last P xs x more)) (any_cases P y (xs ++ x ∷ []) any)
 
+-- what is of a list is of a longer one
 pub any_front : {X : Type 0} (P : X → Type 0) (xs ys : List X) → Any P xs → Any P (xs ++ ys)
 any_front P xs ys (k, x, low, here, holds) =
     let longer : k < length (xs ++ ys) = omega (arith, length-append xs ys) in
     (k, x, longer, get_or_append_left xs ys x k low ∙ here, holds)
-
--- .. and the one more is of it
-pub any_push : {X : Type 0} (P : X → Type 0) (xs : List X) (x : X) → P x → Any P (xs ++ x ∷ [])
-any_push P xs x p = Any-push P xs x p
 
 -- ---- open starts
 

@@ -1,12 +1,12 @@
 -- Each record is of one page, and no two have one version.
-use Rattle.std.proofs.Common.{◌≡◌, ℕ, ◌==◌, Bool, true, false, cond, refl, sym, ap, ◌∙◌, subst, Option, Some, None, List, [], ◌∷◌, ◌++◌, ◌⊎◌, inl, inr, ⊎_elim, Any, arith}
+use Rattle.std.proofs.Common.{◌≡◌, ℕ, true, false, refl, sym, ap, ◌∙◌, subst, Option, Some, None, List, [], ◌∷◌, ◌++◌, ◌⊎◌, inl, inr, ⊎_elim, Any, arith}
+use Rattle.std.proofs.lemmas.List.Quantifiers.{Any-push}
 use Rattle.sgx_types.specs.declared.entries.Action.TheVariants.{Ewb, Eld}
 use Rattle.sgx_types.specs.declared.entries.Actor.{Actor}
-use Rattle.sgx_types.specs.declared.entries.Answer.{Answer}
 use Rattle.sgx_types.specs.declared.entries.Answer.TheVariants.{Moved}
 use Rattle.sgx_types.specs.declared.entries.Entry.{Entry}
 use Rattle.sgx_types.specs.declared.entries.Event.{Event}
-use Rattle.sgx_types.specs.declared.entries.Event.TheVariants.{Did, Refused}
+use Rattle.sgx_types.specs.declared.entries.Event.TheVariants.{Did}
 use Rattle.sgx_types.specs.declared.names.Frame.{Frame}
 use Rattle.sgx_types.specs.declared.names.Page.{Page}
 use Rattle.sgx_types.specs.declared.names.SlotAt.{SlotAt}
@@ -14,16 +14,16 @@ use Rattle.sgx_types.specs.Flat.{FlatEnclave, FlatMemory, FlatPage, flat}
 use Rattle.sgx_types.specs.Frames.{same_page}
 use Rattle.sgx_types.specs.Rules.{Along, EvictRule}
 use Rattle.sgx_types.specs.Sealed.{Sealed, header_of}
-use Rattle.sgx_types.specs.Starts.{Start, open_start}
+use Rattle.sgx_types.specs.Starts.{open_start}
 use Rattle.seal_record.specs.Cipher.{tag, sealed}
-use Rattle.seal_record.specs.Records.{Made, made_of, tag_of}
+use Rattle.seal_record.specs.Records.{Made}
 use Rattle.page_history.specs.Fresh.{Out, last_out}
 use Rattle.page_history.specs.Moves.{IsHeader, Numbers}
 use Rattle.page_history.specs.Once.{DrawnOnce, Gone, IsGone, IsLastMade, IsMade, IsOfPage, KeepsMoves, MadeOnce, gone}
 use Rattle.page_history.specs.Records.{IsSealed, SealedRule, made_by, made_with, more_made, page_bytes, record_by, record_in}
-use Rattle.page_history.proofs.DrawnLaws.{drawn_once}
+use Rattle.page_history.proofs.DrawnLaws.{drawn_once, keeps_before}
 use Rattle.page_history.proofs.FlatLaws.{header_still}
-use Rattle.page_history.proofs.OpenStarts.{any_front, any_head, any_last, any_push, any_rest, ended_cases, entry_of, opened_cases}
+use Rattle.page_history.proofs.OpenStarts.{any_front, any_head, any_last, any_rest, ended_cases, entry_of, opened_cases}
 
 -- a record of a page stays one, whatever is done
 still_of_page : (key : List ℕ) (past : List Entry) (actor : Actor) (event : Event) → ((x : Gone) → IsGone past x → IsGone (entry_of actor event ∷ past) x) → (one : Made) → IsOfPage key past one
@@ -50,6 +50,7 @@ record IsSealedOf (key : List ℕ) (version : ℕ) (m : FlatMemory) (g : Page) (
   pub header : IsHeader m g rec.header
   pub tagged : rec.tag ≡ tag key version rec.header rec.cipher
 
+-- the sealed record of a page has the page's header and its own tag
 sealed_of : (key : List ℕ) (version : ℕ) (m : FlatMemory) (g : Page) (rec : Sealed) → record_in key version m g ≡ Some rec → IsSealedOf key version m g rec
 sealed_of key version m g rec = by_values (m.enclaves g.enclave) (m.pages g) refl refl
   where
@@ -73,21 +74,27 @@ module _ (first : ℕ) (key : List ℕ) (past : List Entry) (actor : Actor) (f :
   abbrev new : Made
   new = made_with version its.rec
 
+  -- the made records are those from before and this one
   one_more : made_by key after ≡ made_by key past ++ new ∷ []
   one_more = ap (λ (o : Option Sealed). more_made version o (made_by key past)) its.made
 
+  -- a record that was made is one from before, or this one
   old_or_new : (one : Made) → IsMade key after one → IsMade key past one ⊎ (new ≡ one)
   old_or_new one is = any_last (λ other. other ≡ one) (made_by key past) new (subst (Any (λ other. other ≡ one)) one_more is)
 
+  -- what was made before is made still
   made_still : (one : Made) → IsMade key past one → IsMade key after one
   made_still one is = subst (Any (λ other. other ≡ one)) (sym one_more) (any_front (λ other. other ≡ one) (made_by key past) (new ∷ []) is)
 
+  -- .. and so is the new one
   new_made : IsMade key after new
-  new_made = subst (Any (λ other. other ≡ new)) (sym one_more) (any_push (λ other. other ≡ new) (made_by key past) new refl)
+  new_made = subst (Any (λ other. other ≡ new)) (sym one_more) (Any-push (λ other. other ≡ new) (made_by key past) new refl)
 
+  -- a page that went out before went out still
   goes_still : (x : Gone) → IsGone past x → IsGone after x
   goes_still x is = any_rest (λ one. one ≡ x) (record { page = page; version = version }) (gone past) is
 
+  -- the new record is of the page that went out
   new_of_page : IsOfPage key after new
   new_of_page =
       let k = sealed_of key version (flat past) page its.rec its.made in
@@ -104,6 +111,7 @@ module _ (first : ℕ) (key : List ℕ) (past : List Entry) (actor : Actor) (f :
       let own = h.own one is in
       drawn.not_open f.0 (record { slot = slot; version = version; loads = None }) (record { page = own.page; version = one.version }) opened refl own.gone same
 
+  -- no two records have one version
   once_still : (one other : Made) → IsMade key after one → IsMade key after other → one.version ≡ other.version → one ≡ other
   once_still one other is too same = by_cases (old_or_new one is) (old_or_new other too)
     where
@@ -116,6 +124,7 @@ module _ (first : ℕ) (key : List ℕ) (past : List Entry) (actor : Actor) (f :
   abbrev this : Out
   this = record { version = version; tag = digest }
 
+  -- the record of a page's last write-out is this one, where the page is this one
   last_still : (g : Page) (o : Out) → last_out after g ≡ Some o → (one : Made) × IsLastMade key after g o one
   last_still g o is = by_cases (opened_cases (same_page page g) (record { version = version; tag = digest }) o (last_out past g) is)
     where
@@ -123,6 +132,7 @@ module _ (first : ℕ) (key : List ℕ) (past : List Entry) (actor : Actor) (f :
       by_cases (inl a) = (new, record { made = new_made; version = ap (λ (z : Out). z.version) a.1; tag = sym its.told ∙ ap (λ (z : Out). z.tag) a.1 })
       by_cases (inr a) = let was = h.last g o a.1 in (was.0, record { made = made_still was.0 was.1.made; version = was.1.version; tag = was.1.tag })
 
+  -- each record is one page's still
   ewb_made : MadeOnce key after
   ewb_made = record {
     own = λ one is. ⊎_elim (λ old. still_of_page key past actor event_out goes_still one (h.own one old)) (λ this. subst (IsOfPage key after) this new_of_page) (old_or_new one is);
@@ -147,5 +157,5 @@ made_once k key [] h its = record {
   last = λ g o is. cc;
 }
 made_once k key (e ∷ past) h its =
-    let before : KeepsMoves k past = record { refusal = h.refusal.1; flat = h.flat.1; moves = h.moves.1; evict = h.evict.1; fresh = h.fresh.1 } in
+    let before : KeepsMoves k past = keeps_before k e past h in
     records_still k.first_version key past e.actor e.event h.evict.0 its.0 (drawn_once k past before) (made_once k key past before its.1)

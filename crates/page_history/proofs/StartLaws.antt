@@ -1,23 +1,19 @@
 -- Each open start has its slot for itself.
-use Rattle.std.proofs.Common.{◌≡◌, ℕ, zero, suc, ◌<◌, ◌==◌, ◌&&◌, Bool, true, false, cond, refl, sym, ap, ◌∙◌, subst, Option, Some, None, option_map, is_some, is_none, List, [], ◌∷◌, ◌⊎◌, inl, inr, ⊎_elim, arith}
+use Rattle.std.proofs.Common.{◌≡◌, ℕ, zero, suc, ◌<◌, ◌==◌, Bool, true, false, cond, refl, sym, ap, ◌∙◌, subst, Option, Some, None, option_map, is_some, List, [], ◌∷◌, ◌⊎◌, inl, inr, ⊎_elim, arith}
 use Rattle.std.proofs.lemmas.Bool.{cond_both, eqb-true, eq-eqb, false≢true}
-use Rattle.sgx_types.specs.declared.entries.Action.{Action}
-use Rattle.sgx_types.specs.declared.entries.Action.TheVariants.{Epa, Create, Add, Extend, Init, Enter, Resume, Exit, Aex, Fill, Load, Store, Xadd, Set, Plus, Pf, OutLoad, OutStore, Block, Track, EwbStart, Ewb, EldStart, Eld}
+use Rattle.sgx_types.specs.declared.entries.Action.TheVariants.{Epa, Create, Add, EwbStart, Ewb, EldStart, Eld}
 use Rattle.sgx_types.specs.declared.entries.Actor.{Actor}
-use Rattle.sgx_types.specs.declared.entries.Actor.TheVariants as actors
-use Rattle.sgx_types.specs.declared.entries.Answer.{Answer}
-use Rattle.sgx_types.specs.declared.entries.Answer.TheVariants.{Version, Moved}
+use Rattle.sgx_types.specs.declared.entries.Answer.TheVariants.{Moved}
 use Rattle.sgx_types.specs.declared.entries.Entry.{Entry}
 use Rattle.sgx_types.specs.declared.entries.Event.{Event}
 use Rattle.sgx_types.specs.declared.entries.Event.TheVariants.{Did, Refused}
 use Rattle.sgx_types.specs.declared.entries.PageInit.{PageInit}
-use Rattle.sgx_types.specs.declared.names.Frame.{Frame}
 use Rattle.sgx_types.specs.declared.names.Kind.{Kind}
 use Rattle.sgx_types.specs.declared.names.Page.{Page}
 use Rattle.sgx_types.specs.declared.names.Perm.{Perm}
 use Rattle.sgx_types.specs.declared.names.SlotAt.{SlotAt}
 use Rattle.sgx_types.specs.Flat.{FlatPage, added_as, enclave_sight, flat}
-use Rattle.sgx_types.specs.Frames.{Content, Holds, IsLoading, IsVa, SecsOf, added, added_by, content, page_at, put_by, held_after, same_page}
+use Rattle.sgx_types.specs.Frames.{Content, Holds, IsLoading, IsVa, SecsOf, added, content, page_at, same_page}
 use Rattle.sgx_types.specs.Rules.{Along, FlatRule, RefusalRule}
 use Rattle.sgx_types.specs.Sights.{row_at, sight_at}
 use Rattle.sgx_types.specs.Slots.{busy_after, is_slot_busy, names_slot, open_slot, same_slot, version_after, version_in}
@@ -25,8 +21,9 @@ use Rattle.sgx_types.specs.Starts.{Start, open_start, opened_by, version_told}
 use Rattle.sgx_types.specs.Table.{EnclaveSight, FrameSight, add_row, is_busy, is_loading}
 use Rattle.page_history.specs.Moves.{MovesRule, Numbers, move_row_at}
 use Rattle.page_history.specs.Once.{KeepsMoves, StartsApart}
+use Rattle.page_history.proofs.DrawnLaws.{keeps_before}
 use Rattle.page_history.proofs.FlatLaws.{added_flat}
-use Rattle.page_history.proofs.OpenStarts.{apart_frames, ended_cases, entry_of, neither, NoneHolds, none_holds, not_false, opened_cases, same_slots, slot_of_start}
+use Rattle.page_history.proofs.OpenStarts.{NoneHolds, apart_frames, ended_cases, entry_of, neither, none_holds, not_false, opened_cases, same_slots, slot_of_start}
 
 -- ---- entries that leave the starts
 
@@ -89,6 +86,7 @@ module _ (past : List Entry) (e : Entry) (f : ℕ) (h : StartsApart past) where
       by_start None there = refl
       by_start (Some y) there = by_test y (same_slot y.slot x.slot) there refl
 
+  -- and so the others are apart
   ended_apart : Ends → StartsApart (e ∷ past)
   ended_apart q = record {
     busy = λ n x is. let k = before n x is in q.busies x.slot (other_slot n x k.0 k.1) ∙ h.busy n x k.1;
@@ -109,6 +107,7 @@ more_busy : (b c : Bool) → c ≡ true → cond b true c ≡ true
 more_busy true c h = refl
 more_busy false c h = h
 
+-- .. where it is this one
 cond_same : (b c : Bool) → b ≡ true → cond b true c ≡ true
 cond_same b c h = rw h refl
 
@@ -118,6 +117,7 @@ slot_itself s = rw (eq-eqb s.frame.0 s.frame.0 refl, eq-eqb s.index s.index refl
 
 -- where a frame starts with a slot that is not busy, the starts are apart still
 module _ (past : List Entry) (e : Entry) (f : ℕ) (new : Start) (h : StartsApart past) where
+  -- what the start changes
   record Starts : Type 0 where
     pub opens : (n : ℕ) → open_start (e ∷ past) n ≡ cond (f == n) (Some new) (open_start past n)
     pub busies : (slot : SlotAt) → is_slot_busy (e ∷ past) slot ≡ cond (same_slot new.slot slot) true (is_slot_busy past slot)
@@ -134,12 +134,13 @@ module _ (past : List Entry) (e : Entry) (f : ℕ) (new : Start) (h : StartsApar
   other_slots : (n : ℕ) (x : Start) → is_slot_busy past new.slot ≡ false → open_start past n ≡ Some x → new.slot ≡ x.slot → ⊥
   other_slots n x idle is same = false≢true (sym idle ∙ ap (is_slot_busy past) same ∙ h.busy n x is)
 
+  -- and so it is apart from the others
   started_apart : Starts → StartsApart (e ∷ past)
   started_apart q = record {
     busy = λ n x is. q.busies x.slot ∙ ⊎_elim (λ k. cond_same (same_slot new.slot x.slot) (is_slot_busy past x.slot) (ap (λ (z : Start). same_slot new.slot z.slot) (sym k.1) ∙ slot_itself new.slot))
         (λ k. more_busy (same_slot new.slot x.slot) (is_slot_busy past x.slot) (h.busy n x k.1)) (new_or_old n x is);
     alone = alone_still;
-    found = λ n x g is loads. 
+    found = λ n x g is loads.
         ⊎_elim (λ k. subst (λ (z : Start). (version_in (e ∷ past) z.slot ≡ z.version) × (0 < z.version)) k.1 (let new_found = q.found g (ap (λ (z : Start). z.loads) k.1 ∙ loads) in (q.versions new.slot ∙ new_found.0, new_found.1)))
         (λ k. let was = h.found n x g k.1 loads in (q.versions x.slot ∙ was.0, was.1)) (new_or_old n x is);
     added = λ n x g is loads. ap is_some (q.adds g) ∙ ⊎_elim (λ k. q.there g (ap (λ (z : Start). z.loads) k.1 ∙ loads)) (λ k. h.added n x g k.1 loads) (new_or_old n x is);
@@ -259,4 +260,4 @@ starts_apart k [] h = record {
 }
 starts_apart k (e ∷ past) h =
     starts_still k past e.actor e.event h.refusal.0 h.moves.0 h.flat.1
-    (starts_apart k past (record { refusal = h.refusal.1; flat = h.flat.1; moves = h.moves.1; evict = h.evict.1; fresh = h.fresh.1 }))
+    (starts_apart k past (keeps_before k e past h))
