@@ -189,20 +189,21 @@ add_fits s past a enclave number f kind perm init allowed guarded framed columns
     fits_more s.frames past _ (leb-false _ _ k.within, free_in s past columns f.0 k.idle k.empty)
     (put_apart (content past) (open_start past) f.0 (Holds g kind perm) (λ q here. rw (← same_pages g q here) away) (apart_in s.frames past h)) h
 
--- a start names frames of the EPC
+-- the start of a write-out names frames of the EPC
 pub ewbstart_names : (s : State) (a : Actor) (f : Frame) (slot : SlotAt) → first_of_row (row_of s a (EwbStart f slot)) ≡ None → (f.0 < s.frames) × (slot.frame.0 < s.frames)
 ewbstart_names s a f slot allowed =
     let range = neither (leb s.frames f.0 || leb s.frames slot.frame.0) (ltb 511 slot.index) (none_holds (row_of s a (EwbStart f slot)) allowed).0 in
     let frames = neither (leb s.frames f.0) (leb s.frames slot.frame.0) range.0 in
     (leb-false _ _ frames.0, leb-false _ _ frames.1)
 
+-- .. and that of a load
 pub eldstart_names : (s : State) (a : Actor) (f : Frame) (page : Page) (slot : SlotAt) → first_of_row (row_of s a (EldStart f page slot)) ≡ None → (f.0 < s.frames) × (slot.frame.0 < s.frames)
 eldstart_names s a f page slot allowed =
     let range = neither (leb s.frames f.0 || leb s.frames slot.frame.0) (ltb 511 slot.index) (none_holds (row_of s a (EldStart f page slot)) allowed).0 in
     let frames = neither (leb s.frames f.0) (leb s.frames slot.frame.0) range.0 in
     (leb-false _ _ frames.0, leb-false _ _ frames.1)
 
--- .. and one of a load takes a free frame
+-- .. which takes a free frame
 pub eldstart_takes : (s : State) (past : List Entry) (a : Actor) (f : Frame) (page : Page) (slot : SlotAt) → first_of_row (row_of s a (EldStart f page slot)) ≡ None → HasColumns s past → content past f.0 ≡ Free
 eldstart_takes s past a f page slot allowed columns =
     let none = none_holds (row_of s a (EldStart f page slot)) allowed in

@@ -1,5 +1,5 @@
 -- Each instruction that moves pages takes a state that stands for its entries, and keeps the rules, on to one that does.
-use Rattle.std.proofs.Common.{◌≡◌, ℕ, ◌<◌, ◌==◌, Bool, true, false, cond, leb, refl, sym, ap, subst, ◌∙◌, Option, Some, None, MatchOption, is_some, List, ◌∷◌}
+use Rattle.std.proofs.Common.{◌≡◌, ℕ, ◌<◌, ◌==◌, Bool, true, false, cond, refl, sym, ap, subst, ◌∙◌, Option, Some, None, MatchOption, is_some, List, ◌∷◌}
 use Rattle.std.proofs.lemmas.Bool.{cond_both, false≢true, leb-false}
 use Rattle.sgx_types.specs.declared.entries.Entry.{Entry}
 use Rattle.sgx_types.specs.declared.entries.Actor.{Actor}
@@ -13,29 +13,30 @@ use Rattle.sgx_types.specs.declared.names.Kind.{Kind}
 use Rattle.sgx_types.specs.declared.names.Page.{Page}
 use Rattle.sgx_types.specs.declared.names.Perm.{Perm}
 use Rattle.sgx_types.specs.declared.refusals.Refusal.{Refusal}
-use Rattle.sgx_types.specs.Flat.{FlatMemory, FlatPage, added_as, flat, page_words}
+use Rattle.sgx_types.specs.Flat.{FlatEnclave, FlatMemory, FlatPage, added_as, flat, page_words}
 use Rattle.sgx_types.specs.Flat as flats
 use Rattle.sgx_types.specs.Frames.{Content, Free, Holds, IsLoading}
 use Rattle.sgx_types.specs.Processors.{stay}
 use Rattle.sgx_types.specs.Rules.{FitsRule, FlatRule, KeepsRules, NamesFrames, NoPageTwice, RefusalRule, TakesFree}
 use Rattle.sgx_types.specs.Sealed.{Sealed}
 use Rattle.sgx_types.specs.Sights.{row_at}
-use Rattle.sgx_types.specs.Starts.{Start, open_start}
+use Rattle.sgx_types.specs.Starts.{Start}
 use Rattle.sgx_types.specs.Table.{first_of_row}
 use Rattle.epcm_entry.specs.Words.{words_of, zero_words}
 use Rattle.seal_record.specs.Cipher.{cipher}
+use Rattle.measure_log.specs.declared.measure.Measure.{Measure}
 use Rattle.measure_log.specs.Rule.{log, MeasureRule}
 use Rattle.page_history.specs.Moves.{IsMove}
 use Rattle.paging_machine.specs.Guarded.{IsGuarded}
 use Rattle.paging_machine.specs.Shape.{Making, making_of, HasColumns, Follows}
-use Rattle.paging_machine.specs.Stands.{StandsBy, Stands, IsSound, Upholds, inside_of_stay}
-use Rattle.paging_machine.specs.State.{State, after_eld, after_failed_eld, row_of}
+use Rattle.paging_machine.specs.Stands.{IsMeasuring, StandsBy, Stands, IsSound, Upholds, inside_of_stay}
+use Rattle.paging_machine.specs.State.{State, row_of}
 use Rattle.paging_machine.specs.Steps.{IsComing, IsDone, IsReloaded, IsStep, IsWrittenOut, commit_row, did_by, refused_by}
 use Rattle.paging_machine.proofs.Tools.{none_holds}
 use Rattle.paging_machine.proofs.Carry.{upholds_more}
 use Rattle.paging_machine.proofs.FitLaws.{ewbstart_names, eldstart_names, eldstart_takes, open_below}
 use Rattle.paging_machine.proofs.ShapeLaws.{held_by}
-use Rattle.paging_machine.proofs.MoveSights.{has_block, same_value}
+use Rattle.paging_machine.proofs.MoveSights.{IsDoneBack, IsRefusedBack, has_block, same_value}
 
 -- ---- one entry more that flat memory does not see
 
@@ -45,14 +46,17 @@ record IsUnseen (past : List Entry) (e : Entry) : Type 0 where
   pub stays : (p : ℕ) → stay (e ∷ past) p ≡ stay past p
   pub logs : (n : ℕ) → log (e ∷ past) n ≡ log past n
 
--- .. and of the state, what is no column of the moves
-record IsBeside (s t : State) : Type 0 where
-  pub making : making_of t ≡ making_of s
-  pub enclaves : (e : ℕ) → t.enclaves e ≡ s.enclaves e
-  pub added : (g : Page) → t.added g ≡ s.added g
-  pub is_busy : (g : Page) → t.is_busy g ≡ s.is_busy g
-  pub measure : (e : ℕ) → t.measure e ≡ s.measure e
-  pub acc : (p : ℕ) → t.acc p ≡ s.acc p
+-- what of a state no instruction that moves pages changes
+record Rest : Type 0 where
+  pub making : Making
+  pub enclaves : ℕ → Option FlatEnclave
+  pub added : Page → Option (Kind × Perm)
+  pub is_busy : Page → Bool
+  pub measure : ℕ → Option Measure
+  pub acc : ℕ → ℕ
+
+abbrev rest_of : State → Rest
+rest_of s = record { making = making_of s; enclaves = s.enclaves; added = s.added; is_busy = s.is_busy; measure = s.measure; acc = s.acc }
 
 -- the frames that hold pages have their flat words
 abbrev HasWords : (ℕ → Content) → (ℕ → List ℕ) → (Page → Option FlatPage) → Type 0
@@ -65,30 +69,31 @@ record KeepsRule (frames : ℕ) (past : List Entry) (e : Entry) : Type 0 where
   pub fits : FitsRule frames past e
   pub measure : MeasureRule past e
 
-stands_more : (s t : State) (past : List Entry) (e : Entry) → IsUnseen past e → IsBeside s t → HasWords t.content t.words (flat past).pages → HasColumns t (e ∷ past) → Stands s past → Stands t (e ∷ past)
-stands_more s t past e unseen beside words h stands = subst (λ (m : FlatMemory). StandsBy t (e ∷ past) m) (sym unseen.memory) (record {
+-- a state that stands for one entry more
+stands_more : (s t : State) (past : List Entry) (e : Entry) → IsUnseen past e → rest_of t ≡ rest_of s → HasWords t.content t.words (flat past).pages → HasColumns t (e ∷ past) → Stands s past → Stands t (e ∷ past)
+stands_more s t past e unseen rest words h stands = subst (λ (m : FlatMemory). StandsBy t (e ∷ past) m) (sym unseen.memory) (record {
   content = h.content;
   is_blocked = λ n. ap is_some (h.blocked n) ∙ has_block t.first_epoch (e ∷ past) n;
   is_sealing = h.is_sealing;
-  enclaves = λ n. beside.enclaves n ∙ stands.enclaves n;
-  added = λ g. beside.added g ∙ stands.added g;
-  is_busy = λ g. beside.is_busy g ∙ stands.is_busy g;
-  measure = λ n. rw (beside.enclaves n, beside.measure n, unseen.logs n) (stands.measure n);
+  enclaves = λ n. ap (λ (x : Rest). x.enclaves n) rest ∙ stands.enclaves n;
+  added = λ g. ap (λ (x : Rest). x.added g) rest ∙ stands.added g;
+  is_busy = λ g. ap (λ (x : Rest). x.is_busy g) rest ∙ stands.is_busy g;
+  measure = λ n. subst (λ (x : Rest). IsMeasuring (x.enclaves n) (x.measure n) (log (e ∷ past) n)) (sym rest) (rw (unseen.logs n) (stands.measure n));
   inside = h.inside;
-  acc = λ p. beside.acc p ∙ stands.acc p;
+  acc = λ p. ap (λ (x : Rest). x.acc p) rest ∙ stands.acc p;
   cache = h.cache;
   words = words;
   flat_inside = λ p. stands.flat_inside p ∙ ap inside_of_stay (sym (unseen.stays p));
 })
 
 -- a state that follows its entries upholds the rules of one more
-upheld_more : (s t : State) (made : Making) (past : List Entry) (e : Entry) → IsUnseen past e → IsBeside s t → HasWords t.content t.words (flat past).pages → KeepsRule s.frames past e
+upheld_more : (s t : State) (made : Making) (past : List Entry) (e : Entry) → IsUnseen past e → rest_of t ≡ rest_of s → HasWords t.content t.words (flat past).pages → KeepsRule s.frames past e
     → IsSound t → Follows made t (e ∷ past) → Upholds s past → NoPageTwice (e ∷ past) → Upholds t (e ∷ past)
-upheld_more s t made past e unseen beside words rule sound follows h once =
+upheld_more s t made past e unseen rest words rule sound follows h once =
     upholds_more t past e (subst (λ (n : ℕ). KeepsRules n past) frames h.rules) h.measure
     (record {
       sound = sound;
-      stands = stands_more s t past e unseen beside words follows.shape.columns h.stands;
+      stands = stands_more s t past e unseen rest words follows.shape.columns h.stands;
       refusal = now.refusal;
       flat = now.flat;
       fits = now.fits;
@@ -99,7 +104,7 @@ upheld_more s t made past e unseen beside words rule sound follows h once =
     })
   where
     frames : s.frames ≡ t.frames
-    frames = ap (λ (m : Making). m.frames) (sym beside.making)
+    frames = ap (λ (x : Rest). x.making.frames) (sym rest)
 
     now : KeepsRule t.frames past e
     now = subst (λ (n : ℕ). KeepsRule n past e) frames rule
@@ -116,6 +121,7 @@ moves (EldStart f page slot) = true
 moves (Eld f) = true
 moves _ = false
 
+-- flat memory does not see one that is done
 did_unseen : (past : List Entry) (a : Actor) (action : Action) (answer : Answer) → moves action ≡ true → IsUnseen past (did_by a action answer)
 did_unseen past a (Block f) answer is = record { memory = refl; stays = λ p. refl; logs = λ n. refl }
 did_unseen past a (Track enclave) answer is = record { memory = refl; stays = λ p. refl; logs = λ n. refl }
@@ -125,6 +131,7 @@ did_unseen past a (EldStart f page slot) answer is = record { memory = refl; sta
 did_unseen past a (Eld f) answer is = record { memory = refl; stays = λ p. refl; logs = λ n. refl }
 did_unseen past a _ answer is = absurd (false≢true is)
 
+-- .. or any that is refused
 refused_unseen : (past : List Entry) (a : Actor) (action : Action) (r : Refusal) → IsUnseen past (refused_by a action r)
 refused_unseen past a action r = record { memory = refl; stays = λ p. refl; logs = λ n. refl }
 
@@ -144,6 +151,7 @@ no_row frames past a (EldStart f page slot) is = refl
 no_row frames past a (Eld f) is = refl
 no_row frames past a _ is = absurd (false≢true is)
 
+-- one that is done keeps the rules, where it takes frames as it must
 did_rule : (frames : ℕ) (past : List Entry) (a : Actor) (action : Action) (answer : Answer) → moves action ≡ true → NamesFrames frames action × TakesFree past action → KeepsRule frames past (did_by a action answer)
 did_rule frames past a (Block f) answer is fits = record { refusal = (no_row frames past a (Block f) refl, tt); flat = λ seen. absurd (false≢true seen); fits = fits; measure = tt }
 did_rule frames past a (Track enclave) answer is fits = record { refusal = (no_row frames past a (Track enclave) refl, tt); flat = λ seen. absurd (false≢true seen); fits = fits; measure = tt }
@@ -154,6 +162,7 @@ did_rule frames past a (EldStart f page slot) answer is fits =
 did_rule frames past a (Eld f) answer is fits = record { refusal = (no_row frames past a (Eld f) refl, tt); flat = λ seen. absurd (false≢true seen); fits = fits; measure = tt }
 did_rule frames past a _ answer is fits = absurd (false≢true is)
 
+-- .. and one that is refused does
 refused_rule : (frames : ℕ) (past : List Entry) (a : Actor) (action : Action) (r : Refusal) → moves action ≡ true → KeepsRule frames past (refused_by a action r)
 refused_rule frames past a (Block f) r is = record { refusal = tt; flat = tt; fits = tt; measure = tt }
 refused_rule frames past a (Track enclave) r is = record { refusal = tt; flat = tt; fits = tt; measure = tt }
@@ -195,21 +204,33 @@ back_words pages page kind perm words added same g kind' perm' e = as_held (by_p
         let allowed : perm ≡ perm' = cc in
         rw (← one, ← alike, ← allowed) is
 
+-- .. and a frame that is free has no page
+freed_words : (s : State) (past : List Entry) (f : ℕ) → Stands s past → HasWords (λ n. cond (f == n) Free (s.content n)) (λ n. cond (f == n) zero_words (s.words n)) (flat past).pages
+freed_words s past f stands = put_words s.content s.words (flat past).pages f Free zero_words (λ g kind perm held. cc) stands.words
+
+-- .. and neither has one that waits for its page
+waiting_words : (s : State) (past : List Entry) (f : ℕ) → Stands s past → HasWords (λ n. cond (f == n) IsLoading (s.content n)) s.words (flat past).pages
+waiting_words s past f stands n g kind perm =
+    cond_both (f == n) IsLoading (s.content n) (λ v. v ≡ Holds g kind perm → (flat past).pages g ≡ Some (record { kind = kind; perm = perm; words = s.words n }))
+    (λ _ held. cc) (λ _ held. stands.words n g kind perm held)
+
 -- ---- the instructions
+
+-- a frame whose start is open is one of the EPC
+below : (s : State) (past : List Entry) (f : ℕ) (start : Start) → HasColumns s past → Upholds s past → s.start f ≡ Some start → f < s.frames
+below s past f start columns h opened = open_below s.frames past f h.rules.fits.entries (ap is_some (sym (columns.start f) ∙ opened))
 
 module _ (s t : State) (made : Making) (past : List Entry) (a : Actor) (e : Entry) (sound : IsSound t) (before : Follows made s past) (after : Follows made t (e ∷ past)) (h : Upholds s past) (once : NoPageTwice (e ∷ past)) where
   -- a refused one changes nothing
   refused_upheld : (action : Action) (r : Refusal) → moves action ≡ true → e ≡ refused_by a action r → t ≡ s → Upholds t (e ∷ past)
   refused_upheld action r is told same =
-      upheld_more s t made past e (rw told (refused_unseen past a action r))
-      (rw same (record { making = refl; enclaves = λ n. refl; added = λ g. refl; is_busy = λ g. refl; measure = λ n. refl; acc = λ p. refl }))
-      (rw same h.stands.words) (rw told (refused_rule s.frames past a action r is)) sound after h once
+      upheld_more s t made past e (rw told (refused_unseen past a action r)) (rw same refl) (rw same h.stands.words) (rw told (refused_rule s.frames past a action r is)) sound after h once
 
   -- a done one changes what it names, and takes frames as it must
-  done_upheld : (action : Action) (answer : Answer) → moves action ≡ true → e ≡ did_by a action answer → IsBeside s t → HasWords t.content t.words (flat past).pages
+  done_upheld : (action : Action) (answer : Answer) → moves action ≡ true → e ≡ did_by a action answer → rest_of t ≡ rest_of s → HasWords t.content t.words (flat past).pages
       → NamesFrames s.frames action × TakesFree past action → Upholds t (e ∷ past)
-  done_upheld action answer is told beside words fits =
-      upheld_more s t made past e (rw told (did_unseen past a action answer is)) beside words (rw told (did_rule s.frames past a action answer is fits)) sound after h once
+  done_upheld action answer is told rest words fits =
+      upheld_more s t made past e (rw told (did_unseen past a action answer is)) rest words (rw told (did_rule s.frames past a action answer is fits)) sound after h once
 
   -- a row allows an instruction, or refuses it
   by_row : (action : Action) → moves action ≡ true → IsStep s a action e t → (first_of_row (row_of s a action) ≡ None → IsDone s a action e t → Upholds t (e ∷ past)) → Upholds t (e ∷ past)
@@ -219,43 +240,25 @@ module _ (s t : State) (made : Making) (past : List Entry) (a : Actor) (e : Entr
       by_refusal None f done = f refl done
       by_refusal (Some r) f refused = refused_upheld action r is refused.0 refused.1
 
+  -- what each does
   move_upheld : (action : Action) → IsMove action → IsStep s a action e t → Upholds t (e ∷ past)
   move_upheld (Block f) m k =
       by_row (Block f) refl k
       (λ allowed done.
-      done_upheld (Block f) answers.Plain refl done.0
-      (rw done.1 (record { making = refl; enclaves = λ n. refl; added = λ g. refl; is_busy = λ g. refl; measure = λ n. refl; acc = λ p. refl }))
-      (rw done.1 h.stands.words) (leb-false _ _ (none_holds (row_of s a (Block f)) allowed).0, tt))
+      done_upheld (Block f) answers.Plain refl done.0 (rw done.1 refl) (rw done.1 h.stands.words) (leb-false _ _ (none_holds (row_of s a (Block f)) allowed).0, tt))
   move_upheld (Track enclave) m k =
       by_row (Track enclave) refl k
       (λ allowed done.
-      done_upheld (Track enclave) answers.Plain refl done.0
-      (rw done.1 (record { making = refl; enclaves = λ n. refl; added = λ g. refl; is_busy = λ g. refl; measure = λ n. refl; acc = λ p. refl }))
-      (rw done.1 h.stands.words) (tt, tt))
+      done_upheld (Track enclave) answers.Plain refl done.0 (rw done.1 refl) (rw done.1 h.stands.words) (tt, tt))
   move_upheld (EwbStart f slot) m k =
       by_row (EwbStart f slot) refl k
       (λ allowed done.
-      done_upheld (EwbStart f slot) (answers.Version s.next_version) refl done.0
-      (rw done.1 (record { making = refl; enclaves = λ n. refl; added = λ g. refl; is_busy = λ g. refl; measure = λ n. refl; acc = λ p. refl }))
-      (rw done.1 h.stands.words) (ewbstart_names s a f slot allowed, tt))
+      done_upheld (EwbStart f slot) (answers.Version s.next_version) refl done.0 (rw done.1 refl) (rw done.1 h.stands.words) (ewbstart_names s a f slot allowed, tt))
   move_upheld (EldStart f page slot) m k =
       by_row (EldStart f page slot) refl k
       (λ allowed done.
-      done_upheld (EldStart f page slot) (answers.Version (s.version_in slot)) refl done.0
-      (rw done.1 (record { making = refl; enclaves = λ n. refl; added = λ g. refl; is_busy = λ g. refl; measure = λ n. refl; acc = λ p. refl }))
-      (rw done.1 waits) (eldstart_names s a f page slot allowed, eldstart_takes s past a f page slot allowed before.shape.columns))
-    where
-      waits : HasWords (λ n. cond (f.0 == n) IsLoading (s.content n)) s.words (flat past).pages
-      waits n g kind perm = cond_both (f.0 == n) IsLoading (s.content n) (λ v. v ≡ Holds g kind perm → (flat past).pages g ≡ Some (record { kind = kind; perm = perm; words = s.words n })) (λ _ held. cc) (λ _ held. h.stands.words n g kind perm held)
+      done_upheld (EldStart f page slot) (answers.Version (s.version_in slot)) refl done.0 (rw done.1 refl) (rw done.1 (waiting_words s past f.0 h.stands)) (eldstart_names s a f page slot allowed, eldstart_takes s past a f page slot allowed before.shape.columns))
   move_upheld _ m k = absurd m
-
-  -- a frame whose start is open is one of the EPC
-  below : (f : ℕ) (start : Start) → s.start f ≡ Some start → f < s.frames
-  below f start opened = open_below s.frames past f h.rules.fits.entries (ap is_some (sym (before.shape.columns.start f) ∙ opened))
-
-  -- a frame that is free has no page
-  freed_words : (f : ℕ) → HasWords (λ n. cond (f == n) Free (s.content n)) (λ n. cond (f == n) zero_words (s.words n)) (flat past).pages
-  freed_words f = put_words s.content s.words (flat past).pages f Free zero_words (λ g kind perm held. cc) h.stands.words
 
 -- an instruction that moves pages
 pub upheld_move : (s t : State) (made : Making) (past : List Entry) (a : Actor) (action : Action) (e : Entry) → IsMove action → IsStep s a action e t → IsSound s → IsGuarded s → IsSound t
@@ -266,32 +269,19 @@ upheld_move s t made past a action e m k sound guarded sound' before after h onc
 pub upheld_written : (s t : State) (made : Making) (past : List Entry) (a : Actor) (f : Frame) (e : Entry) (rec : Sealed) → s.is_sealing f.0 ≡ true → IsWrittenOut s a f e rec t → IsSound s → IsGuarded s → IsSound t
     → Follows made s past → Follows made t (e ∷ past) → Upholds s past → NoPageTwice (e ∷ past) → Upholds t (e ∷ past)
 upheld_written s t made past a f e rec sealing out sound guarded sound' before after h once =
-    done_upheld s t made past a e sound' before after h once (Ewb f) (answers.Moved out.leaving.page.page out.leaving.start.version rec.tag) refl out.entry
-    (rw out.state (record { making = refl; enclaves = λ n. refl; added = λ g. refl; is_busy = λ g. refl; measure = λ n. refl; acc = λ p. refl }))
-    (rw out.state (freed_words s t made past a e sound' before after h once f.0))
-    (below s t made past a e sound' before after h once f.0 out.leaving.start out.leaving.opened, tt)
-
--- what the commit of a load does where it is done
-abbrev pub IsDoneBack : (s : State) (a : Actor) (f : Frame) (rec : Sealed) (e : Entry) (t : State) → IsComing s f.0 → Type 0
-IsDoneBack s a f rec e t coming =
-    (e ≡ did_by a (Eld f) (answers.Moved coming.page coming.start.version rec.tag))
-    × (t ≡ after_eld s f.0 coming.start coming.page coming.kind coming.perm (words_of (cipher s.key coming.start.version rec.cipher)))
-
--- .. and where it is refused
-abbrev pub IsRefusedBack : (s : State) (a : Actor) (f : Frame) (e : Entry) (t : State) → IsComing s f.0 → Refusal → Type 0
-IsRefusedBack s a f e t coming r = (e ≡ refused_by a (Eld f) r) × (t ≡ after_failed_eld s f.0 coming.start)
+    done_upheld s t made past a e sound' before after h once (Ewb f) (answers.Moved out.leaving.page.page out.leaving.start.version rec.tag) refl out.entry (rw out.state refl) (rw out.state (freed_words s past f.0 h.stands))
+    (below s past f.0 out.leaving.start before.shape.columns h out.leaving.opened, tt)
 
 -- the commit of a load whose record gives the page its flat words
 pub upheld_reloaded : (s t : State) (made : Making) (past : List Entry) (a : Actor) (f : Frame) (rec : Sealed) (e : Entry) (back : IsReloaded s a f rec e t)
     → first_of_row (commit_row s f.0 back.coming rec) ≡ None → words_of (cipher s.key back.coming.start.version rec.cipher) ≡ flats.words_of (flat past) back.coming.page
     → IsSound s → IsGuarded s → IsSound t → Follows made s past → Follows made t (e ∷ past) → Upholds s past → NoPageTwice (e ∷ past) → Upholds t (e ∷ past)
 upheld_reloaded s t made past a f rec e back allowed same sound guarded sound' before after h once =
-    done_upheld s t made past a e sound' before after h once (Eld f) (answers.Moved coming.page coming.start.version rec.tag) refl done.0
-    (rw done.1 (record { making = refl; enclaves = λ n. refl; added = λ g. refl; is_busy = λ g. refl; measure = λ n. refl; acc = λ p. refl }))
+    done_upheld s t made past a e sound' before after h once (Eld f) (answers.Moved coming.page coming.start.version rec.tag) refl done.0 (rw done.1 refl)
     (rw done.1
     (put_words s.content s.words (flat past).pages f.0 (Holds coming.page coming.kind coming.perm) _
     (back_words (flat past).pages coming.page coming.kind coming.perm _ (sym (h.stands.added coming.page) ∙ coming.added) same) h.stands.words))
-    (below s t made past a e sound' before after h once f.0 coming.start coming.opened, tt)
+    (below s past f.0 coming.start before.shape.columns h coming.opened, tt)
   where
     coming : IsComing s f.0
     coming = back.coming
@@ -305,8 +295,7 @@ pub upheld_failed : (s t : State) (made : Making) (past : List Entry) (a : Actor
     → IsSound s → IsGuarded s → IsSound t → Follows made s past → Follows made t (e ∷ past) → Upholds s past → NoPageTwice (e ∷ past) → Upholds t (e ∷ past)
 upheld_failed s t made past a f rec e back r is sound guarded sound' before after h once =
     upheld_more s t made past e (rw refused.0 (refused_unseen past a (Eld f) r))
-    (rw refused.1 (record { making = refl; enclaves = λ n. refl; added = λ g. refl; is_busy = λ g. refl; measure = λ n. refl; acc = λ p. refl }))
-    (rw refused.1 (freed_words s t made past a e sound' before after h once f.0)) (rw refused.0 (refused_rule s.frames past a (Eld f) r refl)) sound' after h once
+    (rw refused.1 refl) (rw refused.1 (freed_words s past f.0 h.stands)) (rw refused.0 (refused_rule s.frames past a (Eld f) r refl)) sound' after h once
   where
     refused : IsRefusedBack s a f e t back.coming r
     refused = rw is at back.row

@@ -1,34 +1,30 @@
 -- What the rows of the instructions that move pages see in the state is what they see by the entries.
-use Rattle.std.proofs.Common.{◌≡◌, ℕ, ◌<◌, ◌≤◌, ◌==◌, ◌&&◌, ◌||◌, ◌⊎◌, inl, inr, not, Bool, true, false, cond, leb, refl, sym, ap, subst, ◌∙◌, Option, Some, None, MatchOption, is_some, List, [], ◌∷◌}
-use Rattle.std.proofs.lemmas.Bool.{cond_both, false≢true, eqb-true, eq-eqb}
+use Rattle.std.proofs.Common.{◌≡◌, ℕ, ◌==◌, ◌^◌, ◌&&◌, ◌||◌, ◌⊎◌, inl, inr, not, Bool, true, false, cond, leb, refl, sym, ap, subst, ◌∙◌, Option, Some, None, MatchOption, is_some, List, [], ◌∷◌}
+use Rattle.std.proofs.lemmas.Bool.{false≢true, eq-eqb}
 use Rattle.std.proofs.lemmas.Slice.Eq.{bytes_eq-Decides}
 use Rattle.std.specs.Str.{bytes_eq}
 use Rattle.sgx_types.specs.declared.entries.Entry.{Entry}
-use Rattle.sgx_types.specs.declared.entries.Event.{Event}
 use Rattle.sgx_types.specs.declared.entries.Actor.{Actor}
 use Rattle.sgx_types.specs.declared.entries.Actor.TheVariants as actors
 use Rattle.sgx_types.specs.declared.entries.Action.{Action}
-use Rattle.sgx_types.specs.declared.entries.Action.TheVariants.{Epa, Create, Add, Extend, Init, Enter, Resume, Exit, Aex, Fill, Load, Store, Xadd, Set, Plus, Pf, OutLoad, OutStore, Block, Track, EwbStart, Ewb, EldStart, Eld}
+use Rattle.sgx_types.specs.declared.entries.Action.TheVariants.{Create, Add, Extend, Init, Block, Track, EwbStart, Ewb, EldStart, Eld}
 use Rattle.sgx_types.specs.declared.entries.Answer.{Answer}
 use Rattle.sgx_types.specs.declared.entries.Answer.TheVariants as answers
 use Rattle.sgx_types.specs.declared.names.Frame.{Frame}
 use Rattle.sgx_types.specs.declared.names.Kind.{Kind}
-use Rattle.sgx_types.specs.declared.names.Page.{Page}
 use Rattle.sgx_types.specs.declared.names.Perm.{Perm}
 use Rattle.sgx_types.specs.declared.names.SlotAt.{SlotAt}
 use Rattle.sgx_types.specs.declared.record.Header.{Header}
 use Rattle.sgx_types.specs.declared.refusals.Refusal.{Refusal}
 use Rattle.sgx_types.specs.declared.refusals.Refusal.TheVariants as why
-use Rattle.sgx_types.specs.ByEpochs.{number_noting as number_noting_by, up_to_block}
-use Rattle.sgx_types.specs.Epochs.{block_epoch, epoch, epoch_in, epoch_of, older_at}
+use Rattle.sgx_types.specs.ByEpochs.{up_to_block}
+use Rattle.sgx_types.specs.Epochs.{block_epoch, epoch, epoch_in, epoch_of}
 use Rattle.sgx_types.specs.Eviction.{is_drained, kept_back}
-use Rattle.sgx_types.specs.Flat.{FlatEnclave, FlatPage, added_as, flat}
+use Rattle.sgx_types.specs.Flat.{FlatEnclave, added_as, flat}
 use Rattle.sgx_types.specs.Frames.{added, content, enclave_in, is_block, is_blocked, is_put, put_by}
 use Rattle.sgx_types.specs.Sealed.{Sealed, header_of}
-use Rattle.sgx_types.specs.Sights.{sight_at}
 use Rattle.sgx_types.specs.Slots.{is_slot_busy, next_version, version_in}
-use Rattle.sgx_types.specs.Starts.{Start, open_start}
-use Rattle.sgx_types.specs.Table.{Case, DrainSight, FrameSight, SlotSight, TrackSight, block_row, eldstart_row, ewbstart_row, first_of_row, track_row}
+use Rattle.sgx_types.specs.Table.{DrainSight, FrameSight, SlotSight, block_row, eldstart_row, ewbstart_row, first_of_row, track_row}
 use Rattle.sgx_types.proofs.Keystone.{epochs_tell}
 use Rattle.evict_reload.specs.Effects.{same_header}
 use Rattle.epcm_entry.specs.Words.{words_of}
@@ -39,11 +35,10 @@ use Rattle.paging_machine.specs.Guarded.{IsGuarded, WritesOut}
 use Rattle.paging_machine.specs.Histories.{numbers_of}
 use Rattle.paging_machine.specs.Shape.{Making, making_of, HasColumns}
 use Rattle.paging_machine.specs.Stands.{Stands}
-use Rattle.paging_machine.specs.State.{State, after_eld, after_failed_eld, after_init, drain_sight, number_up_to, row_of, sight, slot_sight, track_sight}
+use Rattle.paging_machine.specs.State.{State, after_eld, after_failed_eld, after_init, drain_sight, number_up_to, row_of, slot_sight, track_sight}
 use Rattle.paging_machine.specs.Steps.{CanApply, IsComing, IsDone, IsReloaded, IsStep, IsWrittenOut, commit_row, did_by, refused_by}
 use Rattle.paging_machine.proofs.BuildLaws.{is_some-added_as, sight_agrees}
 use Rattle.paging_machine.proofs.ShapeLaws.{drained_by, noting_agrees, older_agrees}
-use Rattle.paging_machine.proofs.Tools.{both_true, not_false}
 
 -- ---- what the rows see
 
@@ -88,6 +83,7 @@ epoch_by s past h n = rw (h.content n) (by_enclave (enclave_in (content past n))
 drain_sees : (s : State) (past : List Entry) → HasColumns s past → (n : ℕ) → drain_sight s n ≡ drain_sight_at s.first_epoch past n
 drain_sees s past h n i = record { epoch = epoch_by s past h n i; kept_back = kept_back_by s past h n i; is_drained = drained_by s past h n i }
 
+-- the rows of starts, where they see the same
 ewbstart_same : (v v' : FrameSight) (slot slot' : SlotSight) (drain drain' : DrainSight) (b b' : Bool) → v ≡ v' → slot ≡ slot' → drain ≡ drain' → b ≡ b'
     → first_of_row (ewbstart_row v slot drain b) ≡ first_of_row (ewbstart_row v' slot' drain' b')
 ewbstart_same v v' slot slot' drain drain' b b' e1 e2 e3 e4 i = first_of_row (ewbstart_row (e1 i) (e2 i) (e3 i) (e4 i))
@@ -101,7 +97,7 @@ pub move_row_same : (s : State) (past : List Entry) (a : Actor) (action : Action
 move_row_same s past a (Block f) m h stands = ap (λ v. first_of_row (block_row v)) (sight_agrees s past stands f.0)
 move_row_same s past a (Track enclave) m h stands = ap (λ v. first_of_row (track_row v)) (track_sees s past h stands enclave)
 move_row_same s past a (EwbStart f slot) m h stands =
-    ewbstart_same _ _ _ _ _ _ _ _ (sight_agrees s past stands f.0) (slot_sees s past h stands slot) (drain_sees s past h f.0) (ap (λ (n : ℕ). n == 18446744073709551616) h.next_version)
+    ewbstart_same _ _ _ _ _ _ _ _ (sight_agrees s past stands f.0) (slot_sees s past h stands slot) (drain_sees s past h f.0) (ap (λ (n : ℕ). n == 2 ^ 64) h.next_version)
 move_row_same s past a (EldStart f page slot) m h stands =
     eldstart_same _ _ _ _ _ _ (sight_agrees s past stands f.0) (ap is_some (stands.added page) ∙ is_some-added_as ((flat past).pages page)) (slot_sees s past h stands slot)
 move_row_same s past a _ m h stands = absurd m
@@ -141,6 +137,7 @@ module _ (s t : State) (past : List Entry) (a : Actor) (h : HasColumns s past) (
   abbrev numbers : Numbers
   numbers = numbers_of (making_of s)
 
+  -- one that its row allows
   done_keeps : (action : Action) (e : Entry) → is_end action ≡ false → first_of_row (row_of s a action) ≡ None → IsDone s a action e t → MovesRule numbers past e
   done_keeps (Create enclave f base size) e other allowed done = rw done.0 (λ m. absurd m)
   done_keeps (Add enclave number f kind perm init) e other allowed done = rw done.0 (λ m. absurd m)
@@ -161,6 +158,7 @@ module _ (s t : State) (past : List Entry) (a : Actor) (h : HasColumns s past) (
   done_keeps (Eld f) e other allowed done = absurd (false≢true (sym other))
   done_keeps _ e other allowed done = rw done.0 (λ m. absurd m)
 
+  -- .. and any other
   step_keeps : (cpus : ℕ) (action : Action) (e : Entry) → CanApply cpus a action → IsStep s a action e t → MovesRule numbers past e
   step_keeps cpus action e can k = by_row (first_of_row (row_of s a action)) refl k
     where
@@ -214,10 +212,6 @@ one_header a b is = rw is (itself b)
     itself : (x : Header) → same_header x x ≡ true
     itself x = rw (eq-eqb x.enclave x.enclave refl, eq-eqb x.address x.address refl, eq-eqb x.flags x.flags refl) refl
 
--- two pages were added alike
-abbrev IsSame : Option (Kind × Perm) → Option (Kind × Perm) → Type 0
-IsSame o o' = o ≡ o'
-
 -- a value that is there is one
 pub same_value : {X : Type 0} (x y : X) → Some x ≡ Some y → x ≡ y
 same_value {X} x y e = cc
@@ -232,7 +226,7 @@ header_is s past f header stands coming is =
     enclaves : Some coming.enclave ≡ Some is.enclave
     enclaves = sym coming.made ∙ stands.enclaves coming.page.enclave ∙ is.made
 
-    kinds : IsSame (Some (coming.kind, coming.perm)) (Some (is.page.kind, is.page.perm))
+    kinds : ◌≡◌ {A = Option (Kind × Perm)} (Some (coming.kind, coming.perm)) (Some (is.page.kind, is.page.perm))
     kinds = sym coming.added ∙ stands.added coming.page ∙ ap added_as is.added
 
     by_parts : (x y : FlatEnclave) → x ≡ y → (u v : Kind × Perm) → u ≡ v → header_of x.base coming.page u.0 u.1 ≡ header_of y.base coming.page v.0 v.1
@@ -265,16 +259,22 @@ moves_reloaded_refused s past f coming rec r h stands refused = record {
         let told : why.MacFail rec.tag computed ≡ r = cc in
         rw (← told) (λ (x : rec.tag ≡ computed). false≢true (sym is ∙ (bytes_eq-Decides rec.tag computed).1 x))
 
+-- what the commit of a load does where it is done
+abbrev pub IsDoneBack : (s : State) (a : Actor) (f : Frame) (rec : Sealed) (e : Entry) (t : State) → IsComing s f.0 → Type 0
+IsDoneBack s a f rec e t coming =
+    (e ≡ did_by a (Eld f) (answers.Moved coming.page coming.start.version rec.tag))
+    × (t ≡ after_eld s f.0 coming.start coming.page coming.kind coming.perm (words_of (cipher s.key coming.start.version rec.cipher)))
+
+-- .. and where it is refused
+abbrev pub IsRefusedBack : (s : State) (a : Actor) (f : Frame) (e : Entry) (t : State) → IsComing s f.0 → Refusal → Type 0
+IsRefusedBack s a f e t coming r = (e ≡ refused_by a (Eld f) r) × (t ≡ after_failed_eld s f.0 coming.start)
+
 -- the commit of a load keeps the rule of the moves, whatever record was brought
 pub moves_reloaded : (s t : State) (made : Making) (past : List Entry) (a : Actor) (f : Frame) (rec : Sealed) (e : Entry) → HasColumns s past → Stands s past
     → IsReloaded s a f rec e t → MovesRule (numbers_of made) past e
 moves_reloaded s t made past a f rec e h stands back = by_row (first_of_row (commit_row s f.0 back.coming rec)) refl back.row
   where
     by_row : (o : Option Refusal) → first_of_row (commit_row s f.0 back.coming rec) ≡ o
-        → MatchOption o
-        ((e ≡ did_by a (Eld f) (answers.Moved back.coming.page back.coming.start.version rec.tag))
-        × (t ≡ after_eld s f.0 back.coming.start back.coming.page back.coming.kind back.coming.perm (words_of (cipher s.key back.coming.start.version rec.cipher))))
-        (λ r. (e ≡ refused_by a (Eld f) r) × (t ≡ after_failed_eld s f.0 back.coming.start))
-        → MovesRule (numbers_of made) past e
+        → MatchOption o (IsDoneBack s a f rec e t back.coming) (IsRefusedBack s a f e t back.coming) → MovesRule (numbers_of made) past e
     by_row None is done = rw done.0 (moves_reloaded_done s past f.0 back.coming back.coming.start.version rec.tag h)
     by_row (Some r) is refused = rw refused.0 (moves_reloaded_refused s past f.0 back.coming rec r h stands is)
