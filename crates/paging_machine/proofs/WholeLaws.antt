@@ -24,12 +24,12 @@ use Rattle.paging_machine.specs.Guarded.{IsGuarded}
 use Rattle.paging_machine.specs.Histories.{OutsideBytes, UpholdsAll, given_out, looked_at, numbers_of}
 use Rattle.paging_machine.specs.Shape.{Follows, Making, making_of}
 use Rattle.paging_machine.specs.Stands.{IsSound, Upholds}
-use Rattle.paging_machine.specs.State.{State, fresh}
+use Rattle.paging_machine.specs.State.{State, after_failed_eld, fresh}
 use Rattle.paging_machine.specs.Steps.{CanApply, IsReloaded, IsStep, IsWrittenOut, MovesNoPage, commit_row, did_by, refused_by}
 use Rattle.paging_machine.proofs.ExtendLaws.{IsMade}
 use Rattle.paging_machine.proofs.FollowLaws.{fresh_follows, reloaded_follows, step_follows, written_follows}
 use Rattle.paging_machine.proofs.Fresh.{fresh_upheld}
-use Rattle.paging_machine.proofs.MoveLaws.{IsRefusedBack, moves, no_row, upheld_back, upheld_move, upheld_written}
+use Rattle.paging_machine.proofs.MoveLaws.{moves, no_row, upheld_back, upheld_move, upheld_written}
 use Rattle.paging_machine.proofs.MoveSights.{moves_reloaded, moves_rule, moves_written}
 use Rattle.paging_machine.proofs.OutsideLaws.{GivesRecord, IsEntryOf, made_same, made_same_eld, outside_reloaded, outside_step, outside_written, reloaded_entry, sealed_quiet, sealed_quiet_eld, step_entry}
 use Rattle.paging_machine.proofs.ReloadLaws.{keeps_moves, reload_fresh, reload_words}
@@ -193,7 +193,7 @@ reloaded_all s t made past records a f rec e sound guarded sound' guarded' loadi
         by_row : (o : Option Refusal) → first_of_row (commit_row s f.0 back.coming rec) ≡ o → ReloadRule past e
         by_row None allowed = reload_fresh made s t past records given a f rec e back allowed h unforged
         by_row (Some r) refused =
-            let row : IsRefusedBack s a f e t back.coming r = rw refused at back.row in
+            let row : (e ≡ refused_by a (Eld f) r) × (t ≡ after_failed_eld s f.0 back.coming.start) = rw refused at back.row in
             subst (λ x. ReloadRule past x) (sym row.0) tt
 
 -- a machine that has done nothing yet
