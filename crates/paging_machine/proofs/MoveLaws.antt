@@ -112,7 +112,7 @@ upheld_more s t made past e unseen rest words rule sound follows h once =
 -- ---- the entries of the moves
 
 -- an instruction that moves pages, or the end of one
-abbrev moves : Action → Bool
+abbrev pub moves : Action → Bool
 moves (Block f) = true
 moves (Track enclave) = true
 moves (EwbStart f slot) = true
@@ -136,7 +136,7 @@ refused_unseen : (past : List Entry) (a : Actor) (action : Action) (r : Refusal)
 refused_unseen past a action r = record { memory = refl; stays = λ p. refl; logs = λ n. refl }
 
 -- the rule on refusals has no row of them
-no_row : (frames : ℕ) (past : List Entry) (a : Actor) (action : Action) → moves action ≡ true → first_of_row (row_at frames past a action) ≡ None
+pub no_row : (frames : ℕ) (past : List Entry) (a : Actor) (action : Action) → moves action ≡ true → first_of_row (row_at frames past a action) ≡ None
 no_row frames past (actors.Cpu p) (Block f) is = refl
 no_row frames past (actors.Cpu p) (Track enclave) is = refl
 no_row frames past (actors.Cpu p) (EwbStart f slot) is = refl

@@ -1,5 +1,6 @@
 mod Blocks
+pub mod CipherLaws
 mod Enciphered
-mod RecordLaws
+pub mod RecordLaws
 mod Tagged
 mod Xor

@@ -1,11 +1,12 @@
-use Rattle.std.proofs.Common.{◌≡◌, ◌∙◌, ap, sym, true, false, is_some, List, ℕ}
+use Rattle.std.proofs.Common.{◌≡◌, ◌∙◌, ap, subst, sym, true, false, is_some, List, ℕ}
 use Rattle.std.proofs.lemmas.Bool.{not-false}
 use Rattle.std.proofs.lemmas.Slice.Eq.{bytes_eq-Decides}
 use Rattle.seal_record.specs.declared.seal.SealedWork.{SealedWork}
 use Rattle.paging_machine.specs.Whole.{parts_of}
 use Rattle.paging_machine.specs.Parts.{Parts, state_of}
 use Rattle.paging_machine.specs.Steps.{IsLeaving, SealsPage}
-use Rattle.epcm_entry.specs.Epc.{bytes_at}
+use Rattle.epcm_entry.specs.Epc.{bytes_at, words_at}
+use Rattle.epcm_entry.specs.Words.{words_of}
 use Rattle.paging_machine.proofs.PagingSights.{start_out, same_headers}
 use Rattle.paging_machine.proofs.machine.Machine.is_sealed.Goals as goal
 
@@ -18,7 +19,14 @@ start-start-requires c =
 pub returns : goal.returns
 returns c = λ same.
     let x = c.start-start.result in
-    let leaving : IsLeaving (state_of c.args.self.now) c.args.frame.0 = record { start = record { slot = x.slot; version = x.version; loads = x.loads }; opened = c.start-start.ensures; header = c.header-header.result; page = c.header-header.ensures } in
+    let words : words_of (bytes_at c.self.inside.epc c.args.frame.0) ≡ words_at c.self.inside.epc c.args.frame.0 = ap words_of (sym c.bytes.ensures.value) ∙ c.bytes.ensures.words in
+    let leaving : IsLeaving (state_of c.args.self.now) c.args.frame.0 = record {
+      start = record { slot = x.slot; version = x.version; loads = x.loads };
+      opened = c.start-start.ensures;
+      header = c.header-header.result;
+      page = c.header-header.ensures;
+      words = subst (λ (d : Parts). words_of (bytes_at d.epc c.args.frame.0) ≡ words_at d.epc c.args.frame.0) c.self.view_is words;
+    } in
     let key : c.args.work.now.key ≡ c.self.inside.key = ap (λ (w : SealedWork). w.key) (sym c.work.view_is) ∙ (bytes_eq-Decides _ c.self.inside.key).0 (not-false _ (sym c.if-ne.ensures)) in
     let version : c.args.work.now.version ≡ x.version = ap (λ (w : SealedWork). w.version) (sym c.work.view_is) ∙ c.if-work-start.false in
     let header : c.args.work.now.rec.header ≡ c.header-header.result = ap (λ (w : SealedWork). w.rec.header) (sym c.work.view_is) ∙ same_headers _ c.header-header.result (not-false _ (sym c.if-ne-2.ensures)) in

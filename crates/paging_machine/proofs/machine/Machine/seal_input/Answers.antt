@@ -1,7 +1,8 @@
-use Rattle.std.proofs.Common.{◌≡◌, ◌∙◌, true, refl, ap, is_some}
+use Rattle.std.proofs.Common.{◌≡◌, ◌∙◌, true, refl, ap, subst, sym, is_some}
 use Rattle.paging_machine.specs.Whole.{parts_of}
 use Rattle.paging_machine.specs.Parts.{Parts, state_of}
-use Rattle.epcm_entry.specs.Epc.{bytes_at}
+use Rattle.epcm_entry.specs.Epc.{bytes_at, words_at}
+use Rattle.epcm_entry.specs.Words.{words_of}
 use Rattle.paging_machine.specs.Steps.{IsLeaving, SealsPage}
 use Rattle.paging_machine.proofs.PagingSights.{start_out}
 use Rattle.paging_machine.proofs.machine.Machine.seal_input.Goals as goal
@@ -15,7 +16,14 @@ start-start-requires c =
 pub returns : goal.returns
 returns c =
     let x = c.start-start.result in
-    let leaving : IsLeaving (state_of c.args.self.now) c.args.frame.0 = record { start = record { slot = x.slot; version = x.version; loads = x.loads }; opened = c.start-start.ensures; header = c.header-header.result; page = c.header-header.ensures } in
+    let words : words_of (bytes_at c.self.inside.epc c.args.frame.0) ≡ words_at c.self.inside.epc c.args.frame.0 = ap words_of (sym c.bytes.ensures.value) ∙ c.bytes.ensures.words in
+    let leaving : IsLeaving (state_of c.args.self.now) c.args.frame.0 = record {
+      start = record { slot = x.slot; version = x.version; loads = x.loads };
+      opened = c.start-start.ensures;
+      header = c.header-header.result;
+      page = c.header-header.ensures;
+      words = subst (λ (d : Parts). words_of (bytes_at d.epc c.args.frame.0) ≡ words_at d.epc c.args.frame.0) c.self.view_is words;
+    } in
     let is : SealsPage (state_of c.args.self.now) c.args.frame.0 _ _ _ _ = record {
       leaving = leaving;
       key = ap (λ (d : Parts). d.key) c.self.view_is;
