@@ -36,11 +36,5 @@ pub mod CommitBridge
 pub mod MoveSights
 pub mod MoveLaws
 pub mod OutsideLaws
-pub mod OutsideLaws
-pub mod MoveSights
 pub mod ReloadLaws
-pub mod MoveLaws
-pub mod PagingSights
-pub mod PagingBridge
-pub mod CommitBridge
 pub mod WholeLaws
