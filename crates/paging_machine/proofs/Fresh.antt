@@ -100,9 +100,6 @@ fresh_upheld frames cpus key epoch version = record {
   measure = tt;
 }
 
-pub made_upheld : (frames cpus : ℕ) (key : List ℕ) (epoch version : ℕ) → Upholds (state_of (made frames cpus key epoch version)) []
-made_upheld frames cpus key epoch version = rw (made_state frames cpus key epoch version) (fresh_upheld frames cpus key epoch version)
-
 pub made_follows : (d : Parts) (frames cpus : ℕ) (key : List ℕ) (epoch version : ℕ) → d ≡ made frames cpus key epoch version → Follows (making_of (state_of d)) (state_of d) []
 made_follows d frames cpus key epoch version is = subst (λ s. Follows (making_of s) s []) (sym (ap state_of is ∙ made_state frames cpus key epoch version)) (fresh_follows frames cpus key epoch version)
 

@@ -17,7 +17,7 @@ use Rattle.sgx_types.specs.Rules.{case_of}
 use Rattle.paging_machine.specs.State.{State, row_of, sight, seat_enclave, after_init}
 use Rattle.paging_machine.specs.Stands.{IsSound, Upholds}
 use Rattle.measure_log.specs.Rule.{log, measurement, IsExpected, IsOther}
-use Rattle.paging_machine.specs.Steps.{CanApply, MovesNoPage, IsStep, IsJudged, did_by, refused_by, no_perm}
+use Rattle.paging_machine.specs.Steps.{CanApply, IsStep, IsJudged, did_by, refused_by, no_perm}
 use Rattle.paging_machine.proofs.MeasureLaws.{finished_as, quiet}
 use Rattle.paging_machine.proofs.BuildLaws.{epa_upheld, create_upheld, add_upheld, init_upheld, is_some-sight}
 use Rattle.paging_machine.proofs.Tools.{not_false}
@@ -27,6 +27,14 @@ use Rattle.paging_machine.proofs.AccessLaws.{fills, outside_refused, fill_upheld
 use Rattle.paging_machine.proofs.RegisterLaws.{set_upheld, plus_upheld, pf_upheld, outload_upheld, outstore_upheld}
 use Rattle.paging_machine.proofs.ExtendLaws.{IsMade, extend_upheld}
 use Rattle.paging_machine.proofs.Refused.{epa_refused, create_refused, add_refused, extend_refused, init_refused, enter_refused, resume_refused, exit_refused, aex_refused, fill_refused, load_refused, store_refused, xadd_refused, set_refused, plus_refused, pf_refused, outload_refused, outstore_refused}
+
+-- the instructions that move no page
+abbrev pub MovesNoPage : Action → Type 0
+MovesNoPage (Block f) = ⊥
+MovesNoPage (Track enclave) = ⊥
+MovesNoPage (EwbStart f slot) = ⊥
+MovesNoPage (EldStart f page slot) = ⊥
+MovesNoPage _ = Unit {0}
 
 -- a row allows an instruction, or refuses it
 step_cases : (o : Option Refusal) (Done : Type 0) (made : Refusal → Entry) (e : Entry) (s t : State) (past : List Entry)

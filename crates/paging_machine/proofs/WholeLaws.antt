@@ -25,15 +25,16 @@ use Rattle.paging_machine.specs.Histories.{OutsideBytes, UpholdsAll, given_out, 
 use Rattle.paging_machine.specs.Shape.{Follows, Making, making_of}
 use Rattle.paging_machine.specs.Stands.{IsSound, Upholds}
 use Rattle.paging_machine.specs.State.{State, after_failed_eld, fresh}
-use Rattle.paging_machine.specs.Steps.{CanApply, IsReloaded, IsStep, IsWrittenOut, MovesNoPage, commit_row, did_by, refused_by}
+use Rattle.paging_machine.specs.Steps.{CanApply, IsReloaded, IsStep, IsWrittenOut, commit_row, did_by, refused_by}
 use Rattle.paging_machine.proofs.ExtendLaws.{IsMade}
 use Rattle.paging_machine.proofs.FollowLaws.{fresh_follows, reloaded_follows, step_follows, written_follows}
-use Rattle.paging_machine.proofs.Fresh.{fresh_upheld}
+use Rattle.paging_machine.specs.Parts.{Parts, made, state_of}
+use Rattle.paging_machine.proofs.Fresh.{fresh_upheld, made_state}
 use Rattle.paging_machine.proofs.MoveLaws.{moves, no_row, upheld_back, upheld_move, upheld_written}
 use Rattle.paging_machine.proofs.MoveSights.{moves_reloaded, moves_rule, moves_written}
 use Rattle.paging_machine.proofs.OutsideLaws.{GivesRecord, IsEntryOf, made_same, made_same_eld, outside_reloaded, outside_step, outside_written, reloaded_entry, sealed_quiet, sealed_quiet_eld, step_entry}
 use Rattle.paging_machine.proofs.ReloadLaws.{keeps_moves, reload_fresh, reload_words}
-use Rattle.paging_machine.proofs.StepLaws.{step_upheld}
+use Rattle.paging_machine.proofs.StepLaws.{MovesNoPage, step_upheld}
 
 -- ---- the rules of one entry more
 
@@ -209,3 +210,7 @@ fresh_all frames cpus key first_epoch first_version low = record {
   records = refl;
   outside = λ g slot v there. cc;
 }
+
+-- .. as it is made
+pub made_all : (d : Parts) (frames cpus : ℕ) (key : List ℕ) (epoch version : ℕ) → 1 ≤ version → d ≡ made frames cpus key epoch version → UpholdsAll (making_of (state_of d)) (state_of d) [] []
+made_all d frames cpus key epoch version low is = subst (λ s. UpholdsAll (making_of s) s [] []) (sym (ap state_of is ∙ made_state frames cpus key epoch version)) (fresh_all frames cpus key epoch version low)

@@ -71,14 +71,6 @@ MayNeedMemory (Epa f) = Unit {0}
 MayNeedMemory (Create enclave f base size) = Unit {0}
 MayNeedMemory _ = ⊥
 
--- the instructions of which the law of whole traces speaks yet: those that move no page
-abbrev pub MovesNoPage : Action → Type 0
-MovesNoPage (Block f) = ⊥
-MovesNoPage (Track enclave) = ⊥
-MovesNoPage (EwbStart f slot) = ⊥
-MovesNoPage (EldStart f page slot) = ⊥
-MovesNoPage _ = Unit {0}
-
 abbrev pub no_perm : Perm
 no_perm = record { r = false; w = false; x = false }
 

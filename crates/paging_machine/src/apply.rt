@@ -3,8 +3,9 @@ ghost use Rattle.sgx_types.specs.declared.entries.Entry.{Entry};
 ghost use Rattle.paging_machine.specs.Parts.{state_of};
 ghost use Rattle.sgx_types.specs.Rules.{LoadsAwayRule};
 ghost use Rattle.paging_machine.specs.Shape.{Making, Follows, FitsApart};
-ghost use Rattle.paging_machine.specs.Stands.{Upholds};
-ghost use Rattle.paging_machine.specs.Steps.{IsStep, CanApply, MayNeedMemory, MovesNoPage, did_by, refused_by};
+ghost use Rattle.seal_record.specs.Records.{Made};
+ghost use Rattle.paging_machine.specs.Histories.{UpholdsAll};
+ghost use Rattle.paging_machine.specs.Steps.{IsStep, CanApply, MayNeedMemory, did_by, refused_by};
 
 use crate::machine::Machine;
 use sgx_types::entries::{Action, Actor, Answer, Entry, Event};
@@ -22,8 +23,8 @@ impl Machine {
         ensures shape { IfOk result (λ e. (making : Making) (past : List Entry) → Follows making (state_of self.old) past → Follows making (state_of self.new) (e ∷ past)) }
         ensures fits { IfOk result (λ e. (making : Making) (past : List Entry) → Follows making (state_of self.old) past → LoadsAwayRule past e →
             FitsApart making.frames past → FitsApart making.frames (e ∷ past)) }
-        // The instructions that move no page keep all rules, whatever the pages hold.
-        ensures history { MovesNoPage action → IfOk result (λ e. (past : List Entry) → Upholds (state_of self.old) past → Upholds (state_of self.new) (e ∷ past)) }
+        ensures history { IfOk result (λ e. (making : Making) (past : List Entry) (records : List Made) →
+            UpholdsAll making (state_of self.old) past records → UpholdsAll making (state_of self.new) (e ∷ past) records) }
         ensures memory { OnErr result (MayNeedMemory action) }
         ensures refused { OnErr result (self.new ≡ self.old) }
         ensures cpus { length self.new.cpus ≡ length self.old.cpus }

@@ -1,8 +1,9 @@
-ghost use Rattle.std.specs.Prelude.{◌≡◌, ◌∷◌, true, Some, length, List, is_some};
+ghost use Rattle.std.specs.Prelude.{◌≡◌, ◌∷◌, ◌++◌, true, Some, length, List, is_some};
 ghost use Rattle.std.specs.Option.{IsSomeAnd};
 ghost use Rattle.sgx_types.specs.declared.entries.Entry.{Entry};
 ghost use Rattle.sgx_types.specs.Frames.{IsLoading};
-ghost use Rattle.sgx_types.specs.Rules.{LoadsAwayRule};
+ghost use Rattle.seal_record.specs.Records.{Given, Made, Unforged};
+ghost use Rattle.paging_machine.specs.Histories.{UpholdsAll, given_out, looked_at};
 ghost use Rattle.paging_machine.specs.Parts.{start_of, state_of};
 ghost use Rattle.paging_machine.specs.Shape.{Making, Follows, FitsApart};
 ghost use Rattle.paging_machine.specs.Steps.{IsHeaderIn, IsReloaded, IsWrittenOut, SealsPage};
@@ -73,6 +74,8 @@ impl Machine {
         ensures shape { (making : Making) (past : List Entry) → Follows making (state_of self.old) past → Follows making (state_of self.new) (result.0 ∷ past) }
         ensures fits { (making : Making) (past : List Entry) → Follows making (state_of self.old) past →
             FitsApart making.frames past → FitsApart making.frames (result.0 ∷ past) }
+        ensures history { (making : Making) (past : List Entry) (records : List Made) → UpholdsAll making (state_of self.old) past records →
+            UpholdsAll making (state_of self.new) (result.0 ∷ past) (records ++ given_out result.0.event result.1) }
         ensures cpus { length self.new.cpus ≡ length self.old.cpus }
     {
         let work = self.sealed(frame, work);
@@ -98,6 +101,10 @@ impl Machine {
         ensures shape { (making : Making) (past : List Entry) → Follows making (state_of self.old) past → Follows making (state_of self.new) (result ∷ past) }
         ensures fits { (making : Making) (past : List Entry) → Follows making (state_of self.old) past →
             FitsApart making.frames past → FitsApart making.frames (result ∷ past) }
+        ensures history { (making : Making) (past : List Entry) (records : List Made) (given : List Given) →
+            UpholdsAll making (state_of self.old) past records →
+            Unforged making.key records (given ++ looked_at (state_of self.old) frame.0 records work.rec) →
+            UpholdsAll making (state_of self.new) (result ∷ past) records }
         ensures cpus { length self.new.cpus ≡ length self.old.cpus }
     {
         let work = self.opened(frame, work);

@@ -1,7 +1,7 @@
 ghost use Rattle.std.specs.Prelude.{◌≡◌, ◌≤◌, [], IfOk, None, replicate};
 ghost use Rattle.paging_machine.specs.Parts.{idle, made, state_of};
 ghost use Rattle.paging_machine.specs.Shape.{Follows, making_of};
-ghost use Rattle.paging_machine.specs.Stands.{Upholds};
+ghost use Rattle.paging_machine.specs.Histories.{UpholdsAll};
 ghost use Rattle.track_epoch.specs.declared.track.TheConstants.{LAST_EPOCH};
 
 use crate::machine::Machine;
@@ -21,8 +21,7 @@ const PLACES: usize = 9;
 
 impl Machine {
     /// A machine with at most 4096 free frames and at most 16 processors outside. It seals with a key, and counts
-    /// tracking epochs, of which 2^40 - 1 is the last, and versions from the given numbers on.
-    #[tactic(auto, using(crate::proofs::Fresh::made_upheld))]
+    /// tracking epochs, of which 2^40 - 1 is the last, and versions from the given numbers on, which are at least 1.
     pub fn new(
         alloc: Global,
         frames: u32,
@@ -35,9 +34,10 @@ impl Machine {
         requires cpus { cpus ≤ 16 }
         requires first_epoch { 1 ≤ start_epoch }
         requires last_epoch { start_epoch ≤ LAST_EPOCH }
+        requires first_version { 1 ≤ start_version }
         ensures value { IfOk result (λ m. m ≡ made frames cpus key start_epoch start_version) }
         ensures shape { IfOk result (λ m. Follows (making_of (state_of m)) (state_of m) []) }
-        ensures history { IfOk result (λ m. Upholds (state_of m) []) }
+        ensures history { IfOk result (λ m. UpholdsAll (making_of (state_of m)) (state_of m) [] []) }
     {
         Ok(Machine {
             epc: Epc::new(alloc, frames)?,

@@ -6,22 +6,19 @@ use Rattle.sgx_types.specs.Rules.{LoadsAwayRule}
 use Rattle.paging_machine.specs.declared.machine.Machine.TheInside.{Inside}
 use Rattle.paging_machine.specs.Parts.{Parts, state_of}
 use Rattle.paging_machine.specs.Shape.{Making, Follows, FitsApart}
-use Rattle.paging_machine.specs.Stands.{Upholds}
+use Rattle.seal_record.specs.Records.{Made}
+use Rattle.paging_machine.specs.Histories.{UpholdsAll}
 use Rattle.paging_machine.specs.State.{State}
-use Rattle.paging_machine.specs.Steps.{IsStep, CanApply, MovesNoPage}
+use Rattle.paging_machine.specs.Steps.{IsStep, CanApply}
 use Rattle.paging_machine.specs.Whole.{IsWhole, parts_of}
 use Rattle.paging_machine.proofs.ExtendLaws.{pages_made}
 use Rattle.paging_machine.proofs.FitLaws.{step_fits}
 use Rattle.paging_machine.proofs.FollowLaws.{step_follows}
-use Rattle.paging_machine.proofs.StepLaws.{step_upheld}
+use Rattle.paging_machine.proofs.WholeLaws.{step_all}
 use Rattle.paging_machine.proofs.machine.Machine.apply.Goals as goal
 
 -- what every machine keeps is all that a step's laws ask
 module _ (m : Inside) (now : Parts) (a : Actor) (action : Action) (e : Entry) (is : parts_of m ≡ now) (whole : IsWhole m) (can : CanApply (length now.cpus) a action) where
-  upheld : (t : State) → IsStep (state_of now) a action e t → MovesNoPage action → (past : List Entry) → Upholds (state_of now) past → Upholds t (e ∷ past)
-  upheld t step moves past h =
-      step_upheld (state_of now) t past (length now.cpus) a action e (rw (← is) whole.processors) can moves (rw (← is) whole.sound) (rw (← is) (pages_made (parts_of m) whole.framed)) step h
-
   fits : (t : State) → IsStep (state_of now) a action e t → (made : Making) (past : List Entry) → Follows made (state_of now) past → LoadsAwayRule past e → FitsApart made.frames past → FitsApart made.frames (e ∷ past)
   fits t step made past h away k =
       step_fits (state_of now) t made past (length now.cpus) a action e (rw (← is) whole.processors) can (rw (← is) whole.sound) (rw (← is) whole.guarded) (rw (← is) whole.framed) step h away k
@@ -29,6 +26,11 @@ module _ (m : Inside) (now : Parts) (a : Actor) (action : Action) (e : Entry) (i
   follows : (m' : Inside) (next : Parts) → parts_of m' ≡ next → IsWhole m' → IsStep (state_of now) a action e (state_of next) → (made : Making) (past : List Entry) → Follows made (state_of now) past → Follows made (state_of next) (e ∷ past)
   follows m' next is' whole' step made past h =
       step_follows (state_of now) (state_of next) made past (length now.cpus) a action e (rw (← is) whole.processors) can (rw (← is) whole.sound) (rw (← is) whole.guarded) (rw (← is') whole'.sound) (rw (← is') whole'.guarded) step h
+
+  all : (m' : Inside) (next : Parts) → parts_of m' ≡ next → IsWhole m' → IsStep (state_of now) a action e (state_of next) → (made : Making) (past : List Entry) (records : List Made) → UpholdsAll made (state_of now) past records → UpholdsAll made (state_of next) (e ∷ past) records
+  all m' next is' whole' step made past records h =
+      step_all (state_of now) (state_of next) made past records (length now.cpus) a action e (rw (← is) whole.processors) can (rw (← is) whole.sound) (rw (← is) whole.guarded) (rw (← is) (pages_made (parts_of m) whole.framed))
+      (rw (← is') whole'.sound) (rw (← is') whole'.guarded) step h
 
 pub returns-clause-shape : goal.returns-clause-shape
 returns-clause-shape c =
@@ -38,4 +40,5 @@ pub returns-clause-fits : goal.returns-clause-fits
 returns-clause-fits c = fits c.self.inside c.args.self.now c.args.actor c.args.action c.in_ok-entry.entry c.self.view_is c.self.invariant c.requires (state_of c.row.new.self) (c.in_ok-entry.ensures {u = tt}).step
 
 pub returns-clause-history : goal.returns-clause-history
-returns-clause-history c = upheld c.self.inside c.args.self.now c.args.actor c.args.action c.in_ok-entry.entry c.self.view_is c.self.invariant c.requires (state_of c.row.new.self) (c.in_ok-entry.ensures {u = tt}).step
+returns-clause-history c =
+    all c.self.inside c.args.self.now c.args.actor c.args.action c.in_ok-entry.entry c.self.view_is c.self.invariant c.requires c.self-2.inside c.row.new.self c.self-2.view_is c.self-2.invariant (c.in_ok-entry.ensures {u = tt}).step

@@ -10,6 +10,7 @@ use Rattle.paging_machine.proofs.CommitBridge.{Ended, IsOpened, ended_back, ende
 use Rattle.paging_machine.proofs.FitLaws.{reloaded_fits}
 use Rattle.paging_machine.proofs.FollowLaws.{reloaded_follows}
 use Rattle.paging_machine.proofs.Keeping.{kept_as}
+use Rattle.paging_machine.proofs.WholeLaws.{reloaded_all}
 use Rattle.paging_machine.proofs.Wholes.{whole}
 use Rattle.paging_machine.proofs.machine.Machine.eld_commit.Goals as goal
 
@@ -55,6 +56,14 @@ returns-in-Ok-clause-fits c = λ making past follows fits.
     let k = is_back c in
     reloaded_fits (state_of d) _ making past c.args.actor c.args.frame c.args.work.rec c.done.result h.sound h.guarded comes (low_in d c.args.frame.0 comes) k.back (rw (← c.self.view_is) at follows) fits
 
+pub returns-in-Ok-clause-history : goal.returns-in-Ok-clause-history
+returns-in-Ok-clause-history c = λ making past records given upholds unforged.
+    let h = c.self.invariant in
+    let k = is_back c in
+    let t = kept_as _ _ k.leaves.state k.leaves.kept in
+    reloaded_all (state_of (parts_of c.self.inside)) _ making past records c.args.actor c.args.frame c.args.work.rec c.done.result h.sound h.guarded t.sound t.guarded (rw (← c.self.view_is) at c.requires) k.back (rw (← c.self.view_is) at upholds) given
+    (rw (← c.self.view_is) at unforged)
+
 pub invariant_of-self-2 : goal.invariant_of-self-2
 invariant_of-self-2 c = let k = is_refused c in whole _ _ k.leaves
 
@@ -75,3 +84,11 @@ returns-clause-fits c = λ making past follows fits.
     let comes : (state_of d).content c.args.frame.0 ≡ IsLoading = rw (← c.self.view_is) at c.requires in
     let k = is_refused c in
     reloaded_fits (state_of d) _ making past c.args.actor c.args.frame c.args.work.rec c.refused.result h.sound h.guarded comes (low_in d c.args.frame.0 comes) k.back (rw (← c.self.view_is) at follows) fits
+
+pub returns-clause-history : goal.returns-clause-history
+returns-clause-history c = λ making past records given upholds unforged.
+    let h = c.self.invariant in
+    let k = is_refused c in
+    let t = kept_as _ _ k.leaves.state k.leaves.kept in
+    reloaded_all (state_of (parts_of c.self.inside)) _ making past records c.args.actor c.args.frame c.args.work.rec c.refused.result h.sound h.guarded t.sound t.guarded (rw (← c.self.view_is) at c.requires) k.back (rw (← c.self.view_is) at upholds) given
+    (rw (← c.self.view_is) at unforged)

@@ -9,6 +9,7 @@ use Rattle.paging_machine.proofs.CommitBridge.{Written, written, low_out}
 use Rattle.paging_machine.proofs.FitLaws.{written_fits}
 use Rattle.paging_machine.proofs.FollowLaws.{written_follows}
 use Rattle.paging_machine.proofs.Keeping.{kept_as}
+use Rattle.paging_machine.proofs.WholeLaws.{written_all}
 use Rattle.paging_machine.proofs.Wholes.{whole}
 use Rattle.paging_machine.proofs.machine.Machine.ewb_commit.Goals as goal
 
@@ -41,3 +42,11 @@ returns-clause-fits c = λ making past follows fits.
     let leaves : (state_of d).is_sealing c.args.frame.0 ≡ true = rw (← c.self.view_is) at c.requires in
     let k = is_written c in
     written_fits (state_of d) _ making past c.args.actor c.args.frame c.done.result c.sealed-work.result.rec h.sound h.guarded leaves (low_out d c.args.frame.0 leaves) k.out (rw (← c.self.view_is) at follows) fits
+
+pub returns-clause-history : goal.returns-clause-history
+returns-clause-history c = λ making past records upholds.
+    let s = state_of (parts_of c.self.inside) in
+    let h = c.self.invariant in
+    let k = is_written c in
+    let t = kept_as _ _ k.leaves.state k.leaves.kept in
+    written_all s _ making past records c.args.actor c.args.frame c.done.result c.sealed-work.result.rec h.sound h.guarded t.sound t.guarded (rw (← c.self.view_is) at c.requires) k.out (rw (← c.self.view_is) at upholds)
