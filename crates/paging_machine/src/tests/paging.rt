@@ -135,30 +135,37 @@ fn end_out(rt: &impl Abort, machine: &mut Machine, work: SealedWork) -> Record {
     rec
 }
 
-// Ends the load of frame 5 with a record.
+// Page 2 goes out of frame 4, which it has started.
+fn go_out(rt: &impl Abort, alloc: Global, machine: &mut Machine) -> Result<Record, Memory> {
+    let work = input(rt, alloc, machine, Frame(4))?;
+    Ok(end_out(rt, machine, seal(work)))
+}
+
+// Ends the load of frame 5 with the record of page 2 under version 1.
 fn end_in(
     rt: &impl Abort,
     alloc: Global,
     machine: &mut Machine,
     rec: Record,
-    want: Result<Answer, Refusal>,
+    want: Result<(), Refusal>,
 ) -> Result<(), Memory> {
     let frame = Frame(5);
+    let tag = rec.tag;
     assert!(rt; is_coming(machine, frame));
     let work = machine.unseal_input(frame, UnsealWork::new(alloc, rec)?);
     let entry = machine.eld_commit(FIRST, frame, unseal(work));
     let action = Action::Eld { frame };
+    let answer = Answer::Moved {
+        page: page(2),
+        version: 1,
+        tag,
+    };
     let event = match want {
-        Ok(answer) => Event::Did { action, answer },
+        Ok(()) => Event::Did { action, answer },
         Err(why) => Event::Refused { action, why },
     };
-    assert_eq!(rt;
-        entry,
-        Entry {
-            actor: FIRST,
-            event
-        }
-    );
+    let actor = FIRST;
+    assert_eq!(rt; entry, Entry { actor, event });
     Ok(())
 }
 
@@ -201,17 +208,10 @@ fn a_word_is_in_the_page_that_comes_back(rt: HostRuntime) -> Result<(), Fail> {
         (Actor::Reclaimer, start_out(4), Ok(Answer::Version(1))),
     ];
     run(&rt, rt.alloc(), &mut machine, &rows)?;
-    let work = input(&rt, rt.alloc(), &machine, Frame(4))?;
-    let rec = end_out(&rt, &mut machine, seal(work));
-    let tag = rec.tag;
-    let back = Answer::Moved {
-        page: page(2),
-        version: 1,
-        tag,
-    };
+    let rec = go_out(&rt, rt.alloc(), &mut machine)?;
     let start = [(FIRST, start_in(2, 0), Ok(Answer::Version(1)))];
     run(&rt, rt.alloc(), &mut machine, &start)?;
-    end_in(&rt, rt.alloc(), &mut machine, rec, Ok(back))?;
+    end_in(&rt, rt.alloc(), &mut machine, rec, Ok(()))?;
     let rows = [
         (FIRST, resume(2, 3), Ok(Answer::Value(0))),
         (FIRST, fill(2, 5), DONE),
@@ -258,8 +258,7 @@ fn a_start_is_busy_until_its_end(rt: HostRuntime) -> Result<(), Fail> {
         (FIRST, start_in(2, 0), Err(Refusal::Conflict)),
     ];
     run(&rt, rt.alloc(), &mut machine, &rows)?;
-    let work = input(&rt, rt.alloc(), &machine, Frame(4))?;
-    let rec = end_out(&rt, &mut machine, seal(work));
+    let rec = go_out(&rt, rt.alloc(), &mut machine)?;
     let occupied = Refusal::SlotOccupied { version: 1 };
     let rows = [
         (Actor::Reclaimer, start_out(3), Err(occupied)),
@@ -276,21 +275,24 @@ fn a_start_is_busy_until_its_end(rt: HostRuntime) -> Result<(), Fail> {
     Ok(())
 }
 
+// What a started write-out of frame 4 would seal, but for one byte.
+fn other_work(rt: &impl Abort, alloc: Global, machine: &Machine) -> Result<SealedWork, Memory> {
+    let mut work = input(rt, alloc, machine, Frame(4))?;
+    work.plain[0] = 8;
+    Ok(seal(work))
+}
+
 // Work of other bytes is done anew: the tag is that of the page's own.
 #[test]
 fn the_page_in_the_frame_is_what_is_sealed(rt: HostRuntime) -> Result<(), Fail> {
     let mut machine = leaving(&rt, rt.alloc())?;
-    let mut work = input(&rt, rt.alloc(), &machine, Frame(4))?;
-    work.plain[0] = 8;
-    let work = seal(work);
-    assert!(rt; work.rec.tag != TAG);
-    let rec = end_out(&rt, &mut machine, work);
-    assert_eq!(rt; rec.tag, TAG);
+    let rec = go_out(&rt, rt.alloc(), &mut machine)?;
+    assert!(rt; rec.tag == TAG);
 
     let mut machine = leaving(&rt, rt.alloc())?;
-    let work = seal(input(&rt, rt.alloc(), &machine, Frame(4))?);
-    assert_eq!(rt; work.rec.tag, TAG);
+    let work = other_work(&rt, rt.alloc(), &machine)?;
+    assert!(rt; work.rec.tag != TAG);
     let rec = end_out(&rt, &mut machine, work);
-    assert_eq!(rt; rec.tag, TAG);
+    assert!(rt; rec.tag == TAG);
     Ok(())
 }
