@@ -222,8 +222,7 @@ module _ (j : JobView) (cpu : Cpu) (o : Op) (op : AccessOp) (off : ℕ) (action 
       (let same = page_number off page.number number (offset b ready) in
       let still : enclave_of_stay (stay m.past cpu.0) ≡ Some page.enclave = rw (fills.rests.idle cpu.0).stays inside in
       let added = added_on page b m (added_as ((flat b.past).pages page)) calm fills.rests.goes refl lawful in
-      let held = fills.held inside in
-      (
+      let held = fills.held inside in (
         access.due j m.past cpu.0 ∙ inner_due m.past cpu.0 page.enclave op off action (stay m.past cpu.0) still ∙ rw (same, added, lawful, held) refl,
         fills.script j o ready (asks page b inside same lawful),
         access.roomy j m.past,

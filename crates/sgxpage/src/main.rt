@@ -20,6 +20,8 @@ mod two_enclaves;
 mod words;
 #[cfg(test)]
 mod worked;
+#[cfg(test)]
+mod worked_runs;
 
 use crate::command::{Status, path_of, sgxpage};
 use io_edges::failed_edges::FailedSink;

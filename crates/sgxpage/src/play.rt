@@ -84,14 +84,7 @@ fn play(alloc: Global, book: &mut Book, job: &Job, cpu: Cpu, op: &Op) -> Result<
                 cause: Cause::Timer,
             },
         ),
-        Op::Load { off } => access(
-            alloc,
-            book,
-            cpu,
-            AccessOp::Load,
-            off,
-            Action::Load { off },
-        ),
+        Op::Load { off } => access(alloc, book, cpu, AccessOp::Load, off, Action::Load { off }),
         Op::Store { off, value } => access(
             alloc,
             book,
