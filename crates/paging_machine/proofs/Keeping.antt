@@ -11,6 +11,7 @@ use Rattle.sgx_types.specs.Flat.{FlatEnclave, marked}
 use Rattle.measure_log.specs.declared.measure.Measure.{Measure}
 use Rattle.paging_machine.specs.State.{State, with_content, after_create, after_add, after_extend, after_init}
 use Rattle.paging_machine.specs.Stands.{IsSound}
+use Rattle.paging_machine.specs.Guarded.{IsGuarded}
 use Rattle.paging_machine.specs.Whole.{IsMeasured, IsFramed, IsWithin}
 use Rattle.paging_machine.proofs.Carry.{same_page-refl}
 use Rattle.paging_machine.proofs.SoundLaws.{sound-put}
@@ -21,6 +22,7 @@ pub record IsKept (s : State) : Type 0 where
   pub framed : IsFramed s
   pub within : IsWithin s
   pub sound : IsSound s
+  pub guarded : IsGuarded s
 
 pub kept_as : (s t : State) → s ≡ t → IsKept t → IsKept s
 kept_as s t e h = subst IsKept (sym e) h

@@ -3,3 +3,5 @@ pub mod Stands
 pub mod Parts
 pub mod Whole
 pub mod Steps
+pub mod Guarded
+pub mod Shape

@@ -17,15 +17,23 @@ use Rattle.cached_translations.specs.declared.processor.Mode.{Mode}
 use Rattle.cached_translations.specs.declared.processor.Mode.TheVariants.{Outside, Inside}
 use Rattle.measure_log.specs.declared.measure.Measure.{Measure}
 use Rattle.track_epoch.specs.Tracking.{Tracking, starting_at}
+use Rattle.track_epoch.specs.Tracks.{track_of}
+use Rattle.version_array.specs.declared.va_page.VaSlot.{VaSlot}
+use Rattle.version_array.specs.Slots.{is_busy_at as is_slot_busy_at, version_in}
+use Rattle.sgx_types.specs.Starts.{Start}
+use Rattle.paging_machine.specs.declared.starts.Start as starts
 use Rattle.paging_machine.specs.State.{State}
 
--- the EPC, the state of each enclave, their running measurements by the enclave's number, their tracks, the processors, and
--- the numbers of the making
+-- the EPC, the state of each enclave, their running measurements by the enclave's number, their tracks, the version array
+-- pages, the next version, the open start of each frame, the processors, and the numbers of the making
 pub record Parts : Type 0 where
   pub epc : List EpcFrame
   pub secs : List (Option SecsState)
   pub measures : List (Option Measure)
   pub tracks : List Tracking
+  pub va : List (Option (List VaSlot))
+  pub versions : ℕ
+  pub starts : List (Option starts.Start)
   pub cpus : List Processor
   pub key : List ℕ
   pub start_epoch : ℕ
@@ -60,10 +68,26 @@ abbrev pub seat_of_mode : Mode → Option Seat
 seat_of_mode Outside = None
 seat_of_mode (Inside enclave tcs tf sf epoch) = Some (record { enclave = enclave; tcs = tcs; tcs_frame = tf.0; ssa_frame = sf.0 })
 
+-- the epoch that it noted, 0 outside
+abbrev pub noted_by : Mode → ℕ
+noted_by Outside = 0
+noted_by (Inside enclave tcs tf sf epoch) = epoch
+
 -- a processor inside an enclave, which noted an epoch that passes a test
 abbrev pub is_noted : ℕ → (ℕ → Bool) → Mode → Bool
 is_noted e test Outside = false
 is_noted e test (Inside enclave tcs tf sf epoch) = (enclave == e) && test epoch
+
+-- ---- tracks and starts
+
+-- an enclave's epoch, the first one where there is no such enclave
+abbrev pub epoch_from : ℕ → Option Tracking → ℕ
+epoch_from first None = first
+epoch_from first (Some t) = t.epoch
+
+abbrev pub start_of : Option starts.Start → Option Start
+start_of None = None
+start_of (Some x) = Some (record { slot = x.slot; version = x.version; loads = x.loads })
 
 -- ---- the making
 
@@ -74,6 +98,9 @@ made frames cpus key start_epoch start_version = record {
   secs = empty_table;
   measures = replicate 9 None;
   tracks = replicate 8 (starting_at start_epoch);
+  va = [];
+  versions = start_version;
+  starts = replicate frames None;
   cpus = replicate cpus idle;
   key = key;
   start_epoch = start_epoch;
@@ -86,7 +113,7 @@ abbrev pub state_of : Parts → State
 state_of d = record {
   frames = length d.epc;
   content = λ n. held (entry_at d.epc n);
-  is_blocked = λ n. is_some (block_of (entry_at d.epc n));
+  blocked = λ n. block_of (entry_at d.epc n);
   is_sealing = λ n. goes_out (entry_at d.epc n);
   words = λ n. words_at d.epc n;
   enclaves = λ e. enclave_of (enclave_at d.secs e);
@@ -96,6 +123,16 @@ state_of d = record {
   inside = λ p. seat_of_mode (cpu_at d p).mode;
   acc = λ p. (cpu_at d p).acc;
   cache = λ p. (cpu_at d p).cache;
+  noted = λ p. noted_by (cpu_at d p).mode;
+  epoch = λ e. epoch_from d.start_epoch (track_of d.tracks e);
+  version_in = λ slot. version_in d.va slot;
+  is_slot_busy = λ slot. is_slot_busy_at d.va slot;
+  next_version = d.versions;
+  start = λ n. start_of (slice_index_or d.starts n None);
+  cpus = length d.cpus;
+  key = d.key;
+  first_epoch = d.start_epoch;
+  first_version = d.start_version;
 }
 
 -- ---- what readers answer

@@ -1,6 +1,6 @@
 -- The machine's state is what the entries make it, column by column and without a bound: beyond the last frame, enclave
 -- or processor there is nothing on either side.
-use Rattle.std.specs.Prelude.{ℕ, ◌≡◌, ◌+◌, Bool, true, false, List, [], Option, Some, None, IfSome, length, map}
+use Rattle.std.specs.Prelude.{ℕ, ◌≡◌, ◌+◌, Bool, true, false, List, [], Option, Some, None, IfSome, is_some, length, map}
 use Rattle.std.specs.List.{All}
 use Rattle.std.specs.Option.{IsSomeAnd}
 use Rattle.sgx_types.specs.declared.entries.Entry.{Entry}
@@ -38,7 +38,7 @@ IsMeasuring (Some x) measure log = IsSomeAnd measure (λ m. HoldsLog m log)
 -- .. with the flat memory that the entries make
 pub record StandsBy (s : State) (past : List Entry) (m : FlatMemory) : Type 0 where
   pub content : (n : ℕ) → s.content n ≡ content past n
-  pub is_blocked : (n : ℕ) → s.is_blocked n ≡ is_blocked past n
+  pub is_blocked : (n : ℕ) → is_some (s.blocked n) ≡ is_blocked past n
   pub is_sealing : (n : ℕ) → s.is_sealing n ≡ is_sealing past n
   pub enclaves : (e : ℕ) → s.enclaves e ≡ m.enclaves e
   pub added : (g : Page) → s.added g ≡ added_as (m.pages g)

@@ -10,6 +10,9 @@ use Rattle.track_epoch.specs.Tracking.{Tracking}
 use Rattle.track_epoch.specs.Tracks.{track_of}
 use Rattle.cached_translations.specs.declared.processor.Processor.{Processor}
 use Rattle.enclave_access.specs.Access.{LeadsBelow}
+use Rattle.evict_reload.specs.Sights.{AreVaPages}
+use Rattle.version_array.specs.Slots.{IsVaTable}
+use Rattle.paging_machine.specs.Guarded.{IsGuarded}
 use Rattle.paging_machine.specs.declared.machine.Machine.TheInside.{Inside}
 use Rattle.paging_machine.specs.Parts.{Parts, is_noted, state_of}
 use Rattle.paging_machine.specs.State.{State}
@@ -21,6 +24,9 @@ parts_of m = record {
   secs = m.secs;
   measures = m.measures.items;
   tracks = m.tracks;
+  va = m.va;
+  versions = m.versions;
+  starts = m.starts.items;
   cpus = m.cpus.items;
   key = m.key;
   start_epoch = m.start_epoch;
@@ -59,7 +65,11 @@ pub record IsWhole (m : Inside) : Type 0 where
   pub table : IsTable m.secs
   pub track_places : length m.tracks ≡ 8
   pub tracked : IsTracked m.tracks m.cpus.items
+  pub slots : IsVaTable m.va
+  pub pages : AreVaPages m.epc m.va
+  pub start_places : length m.starts.items ≡ length m.epc
   pub measured : IsMeasured (state_of (parts_of m))
   pub framed : IsFramed (state_of (parts_of m))
   pub within : IsWithin (state_of (parts_of m))
   pub sound : IsSound (state_of (parts_of m))
+  pub guarded : IsGuarded (state_of (parts_of m))

@@ -1,8 +1,10 @@
 ghost use Rattle.std.specs.Prelude.{◌≡◌, IfOk, OnErr, length, List, ◌∷◌};
 ghost use Rattle.sgx_types.specs.declared.entries.Entry.{Entry};
 ghost use Rattle.paging_machine.specs.Parts.{state_of};
+ghost use Rattle.sgx_types.specs.Rules.{LoadsAwayRule};
+ghost use Rattle.paging_machine.specs.Shape.{Making, Follows, FitsApart};
 ghost use Rattle.paging_machine.specs.Stands.{Upholds};
-ghost use Rattle.paging_machine.specs.Steps.{IsStep, CanApply, MayNeedMemory, did_by, refused_by};
+ghost use Rattle.paging_machine.specs.Steps.{IsStep, CanApply, MayNeedMemory, MovesNoPage, did_by, refused_by};
 
 use crate::machine::Machine;
 use sgx_types::entries::{Action, Actor, Answer, Entry, Event};
@@ -11,13 +13,17 @@ use sgx_types::refusals::Refusal;
 use std::alloc::Global;
 
 impl Machine {
-    /// One instruction: its entry says whether it was done, with its answer, or refused, with the first case of its row
+    /// One instruction but the commits of EWB and ELDU: its entry says whether it was done, with its answer, or refused, with the first case of its row
     /// in this project's instruction table that holds. A refusal changes nothing. Memory may be refused to `epa` and
     /// `create` alone.
     pub fn apply(&mut self, alloc: Global, actor: Actor, action: Action) -> Result<Entry, Memory>
         requires { CanApply (length self.old.cpus) actor action }
         ensures step { IfOk result (λ e. IsStep (state_of self.old) actor action e (state_of self.new)) }
-        ensures history { IfOk result (λ e. (past : List Entry) → Upholds (state_of self.old) past → Upholds (state_of self.new) (e ∷ past)) }
+        ensures shape { IfOk result (λ e. (making : Making) (past : List Entry) → Follows making (state_of self.old) past → Follows making (state_of self.new) (e ∷ past)) }
+        ensures fits { IfOk result (λ e. (making : Making) (past : List Entry) → Follows making (state_of self.old) past → LoadsAwayRule past e →
+            FitsApart making.frames past → FitsApart making.frames (e ∷ past)) }
+        // The instructions that move no page keep all rules, whatever the pages hold.
+        ensures history { MovesNoPage action → IfOk result (λ e. (past : List Entry) → Upholds (state_of self.old) past → Upholds (state_of self.new) (e ∷ past)) }
         ensures memory { OnErr result (MayNeedMemory action) }
         ensures refused { OnErr result (self.new ≡ self.old) }
         ensures cpus { length self.new.cpus ≡ length self.old.cpus }
@@ -25,7 +31,7 @@ impl Machine {
         // The proof takes from here what is true of every machine.
         let _ = &self.epc;
         let entry = match (actor, action) {
-            (_, Action::Epa { frame }) => self.epa(actor, frame),
+            (_, Action::Epa { frame }) => self.epa(alloc, actor, frame)?,
             (
                 _,
                 Action::Create {
@@ -48,6 +54,10 @@ impl Machine {
             ) => { self.add(actor, Page { enclave, number }, frame, kind, perm, init) }
             (_, Action::Extend { frame, chunk }) => self.extend(actor, frame, chunk),
             (_, Action::Init { enclave, expect }) => self.init(actor, enclave, expect),
+            (_, Action::Block { frame }) => self.block(actor, frame),
+            (_, Action::Track { enclave }) => self.track(actor, enclave),
+            (_, Action::EwbStart { frame, slot }) => self.ewb_start(actor, frame, slot),
+            (_, Action::EldStart { frame, page, slot }) => self.eld_start(actor, frame, page, slot),
             (
                 Actor::Cpu(cpu),
                 Action::Enter {

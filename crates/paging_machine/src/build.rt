@@ -1,4 +1,4 @@
-ghost use Rattle.std.specs.Prelude.{◌≡◌, true, None, Some, IfOk, OnErr, is_some, length};
+ghost use Rattle.std.specs.Prelude.{◌≡◌, true, None, Some, IfOk, OnOk, OnErr, is_some, length};
 ghost use Rattle.sgx_types.specs.Table.{first_of_row, when, ◌otherwise◌, allowed, epa_row};
 ghost use Rattle.sgx_types.specs.declared.refusals.Refusal.TheVariants as why;
 ghost use Rattle.epcm_entry.specs.Sights.{sight_in};
@@ -22,16 +22,17 @@ use std::alloc::Global;
 
 impl Machine {
     /// A free frame becomes a version array page (Intel SDM volume 3D, EPA).
-    pub(crate) fn epa(&mut self, actor: Actor, frame: Frame) -> Entry
-        ensures step { IsStep (state_of self.old) actor (actions.Epa frame) result (state_of self.new) }
+    pub(crate) fn epa(&mut self, alloc: Global, actor: Actor, frame: Frame) -> Result<Entry, Memory>
+        ensures step { IfOk result (λ e. IsStep (state_of self.old) actor (actions.Epa frame) e (state_of self.new)) }
+        ensures refused { OnErr result (self.new ≡ self.old) }
         ensures cpus { length self.new.cpus ≡ length self.old.cpus }
     {
         let action = Action::Epa { frame };
         if let Some(refusal) = self.epa_refusal(frame) {
-            return refused(actor, action, refusal);
+            return Ok(refused(actor, action, refusal));
         }
-        self.set_va(frame);
-        done(actor, action, Answer::Plain)
+        self.set_va(alloc, frame)?;
+        Ok(done(actor, action, Answer::Plain))
     }
 
     /// The first case that holds of the row of `epa`.
@@ -52,13 +53,16 @@ impl Machine {
         None
     }
 
-    /// Makes a free frame a version array page.
-    fn set_va(&mut self, frame: Frame)
+    /// Makes a free frame a version array page, with 512 empty slots.
+    fn set_va(&mut self, alloc: Global, frame: Frame) -> Result<(), Memory>
         requires { first_of_row (epa_row (sight (state_of self.old) frame.0)) ≡ None }
-        ensures done { state_of self.new ≡ after_epa (state_of self.old) frame.0 }
+        ensures done { OnOk result (state_of self.new ≡ after_epa (state_of self.old) frame.0) }
+        ensures refused { OnErr result (self.new ≡ self.old) }
         ensures cpus { length self.new.cpus ≡ length self.old.cpus }
     {
+        self.va.epa(alloc, frame)?;
         self.epc.set(frame, NO_PAGE, Kind::Va, NO_PERM);
+        Ok(())
     }
 
     /// A free frame becomes the SECS of a new enclave, whose measurement begins (ECREATE).

@@ -4,10 +4,13 @@
 mod access;
 mod apply;
 mod build;
+mod commits;
 mod entry;
 mod extend;
 pub mod machine;
 mod making;
+mod paging;
 mod register;
+pub mod starts;
 #[cfg(test)]
 mod tests;

@@ -1,4 +1,4 @@
-ghost use Rattle.std.specs.Prelude.{◌≡◌, ◌<◌, ◌^◌, ◌%◌, ◌/◌, count_by, length, is_some};
+ghost use Rattle.std.specs.Prelude.{◌≡◌, ◌<◌, ◌≤◌, ◌^◌, ◌%◌, ◌/◌, count_by, length, is_some, nat_le};
 ghost use Rattle.std.specs.Option.{option_map};
 ghost use Rattle.sgx_types.specs.Frames.{least_free, page_at};
 ghost use Rattle.sgx_types.specs.Table.{allows, is_lawful_access, is_ready};
@@ -7,7 +7,9 @@ ghost use Rattle.epcm_entry.specs.Epc.{is_free_frame};
 ghost use Rattle.cached_translations.specs.Translations.{translation_of};
 ghost use Rattle.paging_machine.specs.Parts.{state_of, cpu_at, tcs_of};
 ghost use Rattle.paging_machine.specs.Stands.{IsSound};
+ghost use Rattle.paging_machine.specs.State.{number_noting};
 
+use crate::starts::Start;
 use cached_translations::processor::{Mode, Processor};
 use epcm_entry::epc::Epc;
 use measure_log::measure::Measure;
@@ -18,6 +20,8 @@ use sgx_types::names::{Cpu, Frame, Kind, Page, Perm};
 use std::alloc::Global;
 use std::marker::Model;
 use track_epoch::tracks::Tracks;
+use version_array::va_table::VaTable;
+use version_array::versions::Versions;
 
 /// SGX1's instructions over one EPC, with up to 16 processors and enclaves from 1 to 8.
 #[derive(Drop)]
@@ -27,6 +31,10 @@ pub struct Machine {
     // By the enclave's number; place 0 stays empty.
     pub(crate) measures: Vec<Option<Measure>>,
     pub(crate) tracks: Tracks,
+    pub(crate) va: VaTable,
+    pub(crate) versions: Versions,
+    // By the frame's number.
+    pub(crate) starts: Vec<Option<Start>>,
     pub(crate) cpus: Vec<Processor>,
     pub(crate) key: [u8; 32],
     pub(crate) start_epoch: u64,
@@ -68,6 +76,15 @@ impl Machine {
         ensures { result ≡ is_some (translation_of (cpu_at self.now cpu.0).cache number) }
     {
         self.cpus[usize::from(cpu.0)].cache.find(number).is_some()
+    }
+
+    /// How many processors are inside an enclave, from 1 to 8, with an epoch at or below one.
+    pub fn older(&self, enclave: u16, block: u64) -> u32
+        requires first { 1 ≤ enclave }
+        requires last { enclave ≤ 8 }
+        ensures { result ≡ number_noting (state_of self.now) enclave (λ m. nat_le m block) }
+    {
+        self.tracks.get(enclave).at_or_below(block)
     }
 
     /// Whether an enclave was created and initialised.

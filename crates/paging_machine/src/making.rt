@@ -1,9 +1,11 @@
 ghost use Rattle.std.specs.Prelude.{◌≡◌, ◌≤◌, [], IfOk, None, replicate};
 ghost use Rattle.paging_machine.specs.Parts.{idle, made, state_of};
+ghost use Rattle.paging_machine.specs.Shape.{Follows, making_of};
 ghost use Rattle.paging_machine.specs.Stands.{Upholds};
 ghost use Rattle.track_epoch.specs.declared.track.TheConstants.{LAST_EPOCH};
 
 use crate::machine::Machine;
+use crate::starts::Start;
 use cached_translations::processor::Processor;
 use epcm_entry::epc::Epc;
 use measure_log::measure::Measure;
@@ -11,6 +13,8 @@ use secs_state::table::SecsTable;
 use sgx_types::names::Memory;
 use std::alloc::Global;
 use track_epoch::tracks::Tracks;
+use version_array::va_table::VaTable;
+use version_array::versions::Versions;
 
 // One place for each enclave from 1 to 8; place 0 stays empty.
 const PLACES: usize = 9;
@@ -32,6 +36,7 @@ impl Machine {
         requires first_epoch { 1 ≤ start_epoch }
         requires last_epoch { start_epoch ≤ LAST_EPOCH }
         ensures value { IfOk result (λ m. m ≡ made frames cpus key start_epoch start_version) }
+        ensures shape { IfOk result (λ m. Follows (making_of (state_of m)) (state_of m) []) }
         ensures history { IfOk result (λ m. Upholds (state_of m) []) }
     {
         Ok(Machine {
@@ -39,6 +44,9 @@ impl Machine {
             secs: SecsTable::new(),
             measures: no_measures(alloc)?,
             tracks: Tracks::new(start_epoch),
+            va: VaTable::new(),
+            versions: Versions::new(start_version),
+            starts: no_starts(alloc, frames)?,
             cpus: idle_processors(alloc, cpus)?,
             key,
             start_epoch,
@@ -56,6 +64,17 @@ fn no_measures(alloc: Global) -> Result<Vec<Option<Measure>>, Memory>
         measures.push(None)?;
     }
     Ok(measures)
+}
+
+#[tactic(auto, using(crate::proofs::Fresh::replicate_more))]
+fn no_starts(alloc: Global, frames: u32) -> Result<Vec<Option<Start>>, Memory>
+    ensures { IfOk result (λ starts. starts.items ≡ replicate frames None) }
+{
+    let mut starts = Vec::with_capacity(alloc, frames as usize)?;
+    for _ in 0..frames {
+        starts.push(None)?;
+    }
+    Ok(starts)
 }
 
 #[tactic(auto, using(crate::proofs::Fresh::replicate_more))]

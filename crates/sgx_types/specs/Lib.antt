@@ -12,3 +12,5 @@ pub mod Epochs
 pub mod Eviction
 pub mod Slots
 pub mod ByEpochs
+pub mod Starts
+pub mod Enclaves

@@ -8,7 +8,7 @@ use Rattle.sgx_types.specs.declared.entries.Event.TheVariants.{Did, Refused}
 use Rattle.sgx_types.specs.declared.entries.Actor.{Actor}
 use Rattle.sgx_types.specs.declared.entries.Actor.TheVariants as actors
 use Rattle.sgx_types.specs.declared.entries.Action.{Action}
-use Rattle.sgx_types.specs.declared.entries.Action.TheVariants.{Epa, Create, Add, Extend, Init, Enter, Resume, Exit, Aex, Fill, Load, Store, Xadd, Set, Plus, Pf, OutLoad, OutStore}
+use Rattle.sgx_types.specs.declared.entries.Action.TheVariants.{Epa, Create, Add, Extend, Init, Enter, Resume, Exit, Aex, Fill, Load, Store, Xadd, Set, Plus, Pf, OutLoad, OutStore, Block, EwbStart, Ewb, EldStart, Eld}
 use Rattle.sgx_types.specs.declared.entries.Answer.{Answer}
 use Rattle.sgx_types.specs.declared.entries.Answer.TheVariants as answers
 use Rattle.sgx_types.specs.declared.entries.PfWhy.{PfWhy}
@@ -17,7 +17,11 @@ use Rattle.sgx_types.specs.declared.refusals.Refusal.{Refusal}
 use Rattle.sgx_types.specs.declared.refusals.Refusal.TheVariants as why
 use Rattle.sgx_types.specs.Frames.{Content, Free, content, is_sealing, is_page, page_at}
 use Rattle.sgx_types.specs.Processors.{Stay, stay, Pair, holds_number, translations}
+use Rattle.sgx_types.specs.declared.names.SlotAt.{SlotAt}
 use Rattle.sgx_types.specs.Table.{first_of_row}
+use Rattle.sgx_types.specs.Eviction.{is_drained}
+use Rattle.sgx_types.specs.Slots.{next_version}
+use Rattle.sgx_types.specs.Starts.{Start, open_start, is_load_of}
 use Rattle.sgx_types.specs.Flat.{FlatMemory, flat, accepts, flat_answer, is_visible}
 use Rattle.sgx_types.specs.Sights.{row_at}
 
@@ -97,6 +101,11 @@ NamesFrames frames (Extend f chunk) = f.0 < frames
 NamesFrames frames (Enter enclave tcs tf sf) = (tf.0 < frames) × (sf.0 < frames)
 NamesFrames frames (Resume enclave tcs tf sf) = (tf.0 < frames) × (sf.0 < frames)
 NamesFrames frames (Fill number f) = f.0 < frames
+NamesFrames frames (Block f) = f.0 < frames
+NamesFrames frames (EwbStart f slot) = (f.0 < frames) × (slot.frame.0 < frames)
+NamesFrames frames (Ewb f) = f.0 < frames
+NamesFrames frames (EldStart f page slot) = (f.0 < frames) × (slot.frame.0 < frames)
+NamesFrames frames (Eld f) = f.0 < frames
 NamesFrames frames _ = Unit {0}
 
 -- what takes a frame takes a free one
@@ -104,6 +113,7 @@ abbrev pub TakesFree : List Entry → Action → Type 0
 TakesFree past (Epa f) = content past f.0 ≡ Free
 TakesFree past (Create enclave f base size) = content past f.0 ≡ Free
 TakesFree past (Add enclave number f kind perm init) = content past f.0 ≡ Free
+TakesFree past (EldStart f page slot) = content past f.0 ≡ Free
 TakesFree past _ = Unit {0}
 
 abbrev pub FitsRule : ℕ → List Entry → Entry → Type 0
@@ -160,6 +170,46 @@ StaleRule past e = by_event e.event
 pub record Stale (past : List Entry) : Type 0 where
   pub entries : Along StaleRule past
   pub places : AtEachPlace NoneStale past
+
+-- ---- Evict: only drained pages go out
+
+-- the open start of a frame is one of EWB with this version
+pub record EndsWriteOut (o : Option Start) (version : ℕ) : Type 0 where
+  pub slot : SlotAt
+  pub opened : o ≡ Some (record { slot = slot; version = version; loads = None })
+
+-- a page that starts to go out is drained, and what ends is the one open start of its frame, with the version of it
+abbrev pub EvictRule : List Entry → Entry → Type 0
+EvictRule past e = by_event e.event
+  where
+    by_end : ℕ → Answer → Type 0
+    by_end n (answers.Moved page version tag) = EndsWriteOut (open_start past n) version
+    by_end n _ = ⊥
+
+    by_event : Event → Type 0
+    by_event (Did (EwbStart f slot) answer) = is_drained past f.0 ≡ true
+    by_event (Did (Ewb f) answer) = by_end f.0 answer
+    by_event _ = Unit {0}
+
+-- ---- Rising: the first part of the rule Fresh
+
+-- the versions that EWB draws are the first one and the numbers after it, in order
+abbrev pub RisingRule : ℕ → List Entry → Entry → Type 0
+RisingRule first past e = by_event e.event
+  where
+    by_event : Event → Type 0
+    by_event (Did (EwbStart f slot) answer) = answer ≡ answers.Version (next_version first past)
+    by_event _ = Unit {0}
+
+-- ---- what a driver keeps so that no page stands in two frames
+
+-- an ELDU that starts loads a page that no frame holds and that no other loads
+abbrev pub LoadsAwayRule : List Entry → Entry → Type 0
+LoadsAwayRule past e = by_event e.event
+  where
+    by_event : Event → Type 0
+    by_event (Did (EldStart f page slot) answer) = (n : ℕ) → (is_page (content past n) page ≡ false) × (is_load_of (open_start past n) page ≡ false)
+    by_event _ = Unit {0}
 
 -- ---- the rules of the machine together
 

@@ -1,0 +1,195 @@
+ghost use Rattle.std.specs.Prelude.{◌≡◌, ◌∷◌, true, Some, length, List, is_some};
+ghost use Rattle.std.specs.Option.{IsSomeAnd};
+ghost use Rattle.sgx_types.specs.declared.entries.Entry.{Entry};
+ghost use Rattle.sgx_types.specs.Frames.{IsLoading};
+ghost use Rattle.sgx_types.specs.Rules.{LoadsAwayRule};
+ghost use Rattle.paging_machine.specs.Parts.{start_of, state_of};
+ghost use Rattle.paging_machine.specs.Shape.{Making, Follows, FitsApart};
+ghost use Rattle.paging_machine.specs.Steps.{IsHeaderIn, IsReloaded, IsWrittenOut, SealsPage};
+
+use crate::apply::{done, refused};
+use crate::machine::Machine;
+use crate::starts::Start;
+use epcm_entry::entry_view::EntryView;
+use evict_reload::reload::eld_commit;
+use evict_reload::write_out::ewb_commit;
+use seal_record::seal::{SealWork, SealedWork, seal};
+use seal_record::unseal::{UnsealWork, UnsealedWork, unseal};
+use sgx_types::entries::{Action, Actor, Answer, Entry};
+use sgx_types::layouts::flags;
+use sgx_types::names::Frame;
+use sgx_types::record::{Header, Record};
+
+// The second halves of EWB and ELDU. What is sealed or opened between the halves is not trusted: a work of another input is
+// done anew, in its own buffers.
+impl Machine {
+    /// Fills in what the started EWB of a frame seals: the machine's key, the version that was drawn, and the header and
+    /// the bytes of the page.
+    pub fn seal_input(&self, frame: Frame, work: SealWork) -> SealWork
+        requires { (state_of self.now).is_sealing frame.0 ≡ true }
+        ensures { SealsPage (state_of self.now) frame.0 result.key result.version result.header result.plain.items }
+    {
+        let start = self.start(frame);
+        let header = self.header(frame);
+        let SealWork {
+            mut plain, space, ..
+        } = work;
+        plain.copy_from_slice(self.epc.bytes(frame));
+        let key = self.key;
+        SealWork {
+            key,
+            version: start.version,
+            header,
+            plain,
+            space,
+        }
+    }
+
+    /// Fills in under what the started ELDU of a frame opens its record: the machine's key, and the version that was found.
+    pub fn unseal_input(&self, frame: Frame, work: UnsealWork) -> UnsealWork
+        requires { (state_of self.now).content frame.0 ≡ IsLoading }
+        ensures key { result.key ≡ (state_of self.now).key }
+        ensures version { IsSomeAnd ((state_of self.now).start frame.0) (λ start. result.version ≡ start.version) }
+        ensures rec { result.rec ≡ work.rec }
+    {
+        let start = self.start(frame);
+        let UnsealWork { rec, space, .. } = work;
+        let key = self.key;
+        UnsealWork {
+            key,
+            version: start.version,
+            rec,
+            space,
+        }
+    }
+
+    /// The commit of EWB (Intel SDM volume 3D): the page is out of its frame, its version stands in the slot of the start,
+    /// and its record is given out. Never refused.
+    pub fn ewb_commit(&mut self, actor: Actor, frame: Frame, work: SealedWork) -> (Entry, Record)
+        requires { (state_of self.old).is_sealing frame.0 ≡ true }
+        ensures step { IsWrittenOut (state_of self.old) actor frame result.0 result.1 (state_of self.new) }
+        ensures shape { (making : Making) (past : List Entry) → Follows making (state_of self.old) past → Follows making (state_of self.new) (result.0 ∷ past) }
+        ensures fits { (making : Making) (past : List Entry) → Follows making (state_of self.old) past →
+            FitsApart making.frames past → FitsApart making.frames (result.0 ∷ past) }
+        ensures cpus { length self.new.cpus ≡ length self.old.cpus }
+    {
+        let work = self.sealed(frame, work);
+        let start = self.start(frame);
+        let page = ewb_commit(&mut self.epc, &mut self.va, start.slot, frame, &work);
+        self.starts[frame.0 as usize] = None;
+        let rec = work.rec;
+        let tag = rec.tag;
+        let version = start.version;
+        let answer = Answer::Moved { page, version, tag };
+        (done(actor, Action::Ewb { frame }, answer), rec)
+    }
+
+    /// The commit of ELDU (Intel SDM volume 3D): the page is back in the frame of the start with the bytes of its record,
+    /// and the slot is empty.
+    ///
+    /// Refused, in this order, as MacFail where the record's tag is not the one of its header and cipher under the
+    /// version that the start found, with both tags; and as BadHeader where its header is not the page's, with the record's
+    /// numbers. After either the frame is free, and the slot keeps its version.
+    pub fn eld_commit(&mut self, actor: Actor, frame: Frame, work: UnsealedWork) -> Entry
+        requires { (state_of self.old).content frame.0 ≡ IsLoading }
+        ensures step { IsReloaded (state_of self.old) actor frame work.rec result (state_of self.new) }
+        ensures shape { (making : Making) (past : List Entry) → Follows making (state_of self.old) past → Follows making (state_of self.new) (result ∷ past) }
+        ensures fits { (making : Making) (past : List Entry) → Follows making (state_of self.old) past →
+            FitsApart making.frames past → FitsApart making.frames (result ∷ past) }
+        ensures cpus { length self.new.cpus ≡ length self.old.cpus }
+    {
+        let work = self.opened(frame, work);
+        let start = self.start(frame);
+        let page = start.loads.unwrap();
+        let ended = eld_commit(
+            &mut self.epc,
+            &self.secs,
+            &mut self.va,
+            start.slot,
+            frame,
+            page,
+            &work,
+        );
+        self.starts[frame.0 as usize] = None;
+        let action = Action::Eld { frame };
+        match ended {
+            Ok(()) => {
+                let tag = work.rec.tag;
+                let version = start.version;
+                done(actor, action, Answer::Moved { page, version, tag })
+            }
+            Err(refusal) => refused(actor, action, refusal),
+        }
+    }
+
+    // The open start of a frame.
+    fn start(&self, frame: Frame) -> Start
+        requires { is_some ((state_of self.now).start frame.0) ≡ true }
+        ensures { (state_of self.now).start frame.0 ≡ start_of (Some result) }
+    {
+        self.starts[frame.0 as usize].unwrap()
+    }
+
+    // The header of the page that starts to go out of a frame.
+    fn header(&self, frame: Frame) -> Header
+        requires { (state_of self.now).is_sealing frame.0 ≡ true }
+        ensures { IsHeaderIn (state_of self.now) frame.0 result }
+    {
+        let EntryView::Valid { page, kind, perm, .. } = self.epc.entry(frame) else {
+            unreachable!();
+        };
+        let secs = self.secs.get(page.enclave).unwrap();
+        Header {
+            enclave: u64::from(page.enclave),
+            address: secs.address(page.number),
+            flags: flags(kind, perm),
+        }
+    }
+
+    // The sealed work of the started EWB of a frame.
+    fn sealed(&self, frame: Frame, work: SealedWork) -> SealedWork
+        requires { (state_of self.now).is_sealing frame.0 ≡ true }
+        ensures { SealsPage (state_of self.now) frame.0 result.key result.version result.rec.header result.plain.items }
+    {
+        let start = self.start(frame);
+        let header = self.header(frame);
+        let is_input = work.key == self.key
+            && work.version == start.version
+            && work.rec.header == header
+            && work.plain.as_slice() == self.epc.bytes(frame).as_slice();
+        if is_input {
+            return work;
+        }
+        let SealedWork { plain, rec, .. } = work;
+        let key = self.key;
+        let anew = SealWork {
+            key,
+            version: start.version,
+            header,
+            plain,
+            space: rec.cipher,
+        };
+        seal(self.seal_input(frame, anew))
+    }
+
+    // The opened work of the started ELDU of a frame.
+    fn opened(&self, frame: Frame, work: UnsealedWork) -> UnsealedWork
+        requires { (state_of self.now).content frame.0 ≡ IsLoading }
+        ensures key { result.key ≡ (state_of self.now).key }
+        ensures version { IsSomeAnd ((state_of self.now).start frame.0) (λ start. result.version ≡ start.version) }
+        ensures rec { result.rec ≡ work.rec }
+    {
+        if work.key == self.key && work.version == self.start(frame).version {
+            return work;
+        }
+        let UnsealedWork { rec, plain, .. } = work;
+        let key = self.key;
+        let anew = UnsealWork {
+            key,
+            version: 0,
+            rec,
+            space: plain,
+        };
+        unseal(self.unseal_input(frame, anew))
+    }
+}

@@ -1,0 +1,27 @@
+-- The enclaves by the entries before a place: which were created and initialised, and by which TCS pages processors are
+-- inside.
+use Rattle.std.specs.Prelude.{ℕ, ◌≡◌, ◌==◌, false, if◌then◌else◌, List, [], ◌∷◌, Option, Some, None}
+use Rattle.std.specs.Option.{IsSomeAnd}
+use Rattle.sgx_types.specs.declared.entries.Entry.{Entry}
+use Rattle.sgx_types.specs.declared.entries.Event.{Event}
+use Rattle.sgx_types.specs.declared.entries.Event.TheVariants.{Did}
+use Rattle.sgx_types.specs.declared.entries.Action.TheVariants.{Create, Init}
+use Rattle.sgx_types.specs.declared.names.Page.{Page}
+use Rattle.sgx_types.specs.Flat.{FlatEnclave, marked}
+use Rattle.sgx_types.specs.Frames.{page_at}
+use Rattle.sgx_types.specs.Processors.{stay}
+
+abbrev pub created_by : Event → ℕ → Option FlatEnclave → Option FlatEnclave
+created_by (Did (Create enclave f base size) answer) n before = if n == enclave then Some (record { base = base; size = size; is_init = false }) else before
+created_by (Did (Init enclave expect) answer) n before = if n == enclave then marked before else before
+created_by _ n before = before
+
+-- the range of an enclave that was created, and whether it was initialised
+abbrev pub created : List Entry → ℕ → Option FlatEnclave
+created [] n = None
+created (e ∷ past) n = created_by e.event n (created past n)
+
+-- a processor is inside by this TCS page
+pub record IsTaken (past : List Entry) (g : Page) : Type 0 where
+  pub cpu : ℕ
+  pub by : IsSomeAnd (stay past cpu) (λ t. page_at t.seat.enclave t.seat.tcs ≡ g)

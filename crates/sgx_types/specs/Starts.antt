@@ -1,0 +1,50 @@
+-- The starts of EWB and ELDU that have not ended, by the entries before a place.
+use Rattle.std.specs.Prelude.{ℕ, ◌≡◌, ◌==◌, Bool, true, false, if◌then◌else◌, List, [], ◌∷◌, Option, Some, None}
+use Rattle.sgx_types.specs.declared.entries.Answer.{Answer}
+use Rattle.sgx_types.specs.declared.entries.Answer.TheVariants.{Version}
+use Rattle.sgx_types.specs.declared.entries.Entry.{Entry}
+use Rattle.sgx_types.specs.declared.entries.Event.{Event}
+use Rattle.sgx_types.specs.declared.entries.Event.TheVariants.{Did, Refused}
+use Rattle.sgx_types.specs.declared.entries.Action.TheVariants.{EwbStart, Ewb, EldStart, Eld}
+use Rattle.sgx_types.specs.declared.names.Page.{Page}
+use Rattle.sgx_types.specs.declared.names.SlotAt.{SlotAt}
+use Rattle.sgx_types.specs.Frames.{content, is_page, same_page}
+
+-- the slot that a start named, the version that an EWB drew or an ELDU found in the slot, and the page that an ELDU loads;
+-- an EWB takes the page in its frame
+pub record Start : Type 0 where
+  pub slot : SlotAt
+  pub version : ℕ
+  pub loads : Option Page
+
+-- the version that a start answers
+abbrev pub version_told : Answer → ℕ
+version_told (Version version) = version
+version_told _ = 0
+
+abbrev pub opened_by : Event → ℕ → Option Start → Option Start
+opened_by (Did (EwbStart f slot) answer) n before = if f.0 == n then Some (record { slot = slot; version = version_told answer; loads = None }) else before
+opened_by (Did (EldStart f page slot) answer) n before = if f.0 == n then Some (record { slot = slot; version = version_told answer; loads = Some page }) else before
+opened_by (Did (Ewb f) answer) n before = if f.0 == n then None else before
+opened_by (Did (Eld f) answer) n before = if f.0 == n then None else before
+opened_by (Refused (Eld f) why) n before = if f.0 == n then None else before
+opened_by _ n before = before
+
+-- the open start of a frame
+abbrev pub open_start : List Entry → ℕ → Option Start
+open_start [] n = None
+open_start (e ∷ past) n = opened_by e.event n (open_start past n)
+
+abbrev pub loads_page : Option Page → Page → Bool
+loads_page None g = false
+loads_page (Some page) g = same_page page g
+
+-- a start loads this page
+abbrev pub is_load_of : Option Start → Page → Bool
+is_load_of None g = false
+is_load_of (Some start) g = loads_page start.loads g
+
+-- no frame holds a page that is being loaded, and no page is loaded twice
+pub record LoadsAreApart (past : List Entry) : Type 0 where
+  pub frames : (m n : ℕ) (g : Page) → is_load_of (open_start past m) g ≡ true → is_page (content past n) g ≡ false
+  pub loads : (m n : ℕ) (g : Page) → is_load_of (open_start past m) g ≡ true → is_load_of (open_start past n) g ≡ true → m ≡ n
