@@ -19,7 +19,8 @@ use Rattle.sgx_types.specs.Table.{create_row, first_of_row, init_row, is_ready, 
 use Rattle.sgx_types.specs.Flat.{FlatEnclave, FlatMemory, Inside, accepts, enclave_sight_of, flat, initialised, marked, memory_after, open_frame, saved, stored, with_enclave}
 use Rattle.sgx_types.specs.Rules.{KeepsRules}
 use Rattle.job_grammar.specs.Script.{action_of, is_init_of, is_initialised}
-use Rattle.paging_machine.specs.Steps.{CanApply, did_by, refused_by}
+use Rattle.paging_machine.specs.Steps.{did_by, refused_by}
+use Rattle.sgxpage.specs.Asking.{CanAsk}
 use Rattle.paging_machine.proofs.Tools.{eqb-swap, neither, none_holds, none_there, not_false}
 use Rattle.paging_machine.proofs.Carry.{flat_done}
 use Rattle.sgxpage.specs.Books.{IsCalm, IsLawful}
@@ -118,7 +119,7 @@ stored_enclaves : (m : FlatMemory) (o : Option Inside) (off value : ℕ) (x : �
 stored_enclaves m None off value x = refl
 stored_enclaves m (Some i) off value x = refl
 
-calm_did : (cpus frames : ℕ) (a : Actor) (action : Action) (ans : Answer) (past : List Entry) → CanApply cpus a action → KeepsRules frames (did_by a action ans ∷ past)
+calm_did : (cpus frames : ℕ) (a : Actor) (action : Action) (ans : Answer) (past : List Entry) → CanAsk cpus a action → KeepsRules frames (did_by a action ans ∷ past)
     → PagesStay past (did_by a action ans) → IsCalm past → IsCalm (did_by a action ans ∷ past)
 calm_did cpus frames a (Epa f) ans past can rules stay h =
     calm_left past (did_by a (Epa f) ans) (record { settled = λ n. refl; unblocked = λ n. refl; no_init = λ x. refl; enclaves = left_did past a (Epa f) ans (λ x. refl) }) stay h
@@ -160,7 +161,7 @@ calm_refused : (a : Actor) (action : Action) (why : Refusal) (past : List Entry)
 calm_refused a action why past stay h =
     calm_left past (refused_by a action why) (record { settled = λ n. refl; unblocked = λ n. refl; no_init = λ x. refl; enclaves = λ x. refl }) stay h
 
-pub calm_more : (cpus frames : ℕ) (a : Actor) (action : Action) (event : Event) (past : List Entry) → CanApply cpus a action → action_of event ≡ Some action
+pub calm_more : (cpus frames : ℕ) (a : Actor) (action : Action) (event : Event) (past : List Entry) → CanAsk cpus a action → action_of event ≡ Some action
     → KeepsRules frames ((let e : Entry = record { actor = a; event = event } in e) ∷ past) → PagesStay past (record { actor = a; event = event }) → IsCalm past
     → IsCalm ((let e : Entry = record { actor = a; event = event } in e) ∷ past)
 calm_more cpus frames a action (events.Did act ans) past can is rules stay h = calm_did cpus frames a act ans past (rw (some_same act action is) can) rules stay h

@@ -27,7 +27,8 @@ use Rattle.sgx_types.specs.Flat.{FlatEnclave, enclave_sight_of, flat}
 use Rattle.sgx_types.specs.Rules.{KeepsRules}
 use Rattle.job_grammar.specs.Script.{action_of, frame_at, leaves_by, saved}
 use Rattle.job_grammar.specs.Script.{saved_after as saved_by}
-use Rattle.paging_machine.specs.Steps.{CanApply, did_by}
+use Rattle.paging_machine.specs.Steps.{did_by}
+use Rattle.sgxpage.specs.Asking.{CanAsk}
 use Rattle.paging_machine.proofs.Tools.{both_true, none_holds, not_false, same_pages}
 use Rattle.sgxpage.specs.declared.homes.Home.{Home}
 use Rattle.sgxpage.specs.Books.{IsCalm, IsLawful}
@@ -108,7 +109,7 @@ left_home p cause ans past cpu g before after (Some s) at is h =
     more_home past (did_by (actors.Cpu cpu) (Aex cause) ans) g before after (home_after page with_more g before) is h (frame_after page g with_more before (λ x. refl)) refl
     (λ has is_saved. rw at (saved_after page g with_more (λ n. n + 1) before (saved past g) (λ x. refl) has is_saved))
 
-homes_did : (cpus frames : ℕ) (a : Actor) (act : Action) (ans : Answer) (past : List Entry) (home home' : Page → Home) → CanApply cpus a act
+homes_did : (cpus frames : ℕ) (a : Actor) (act : Action) (ans : Answer) (past : List Entry) (home home' : Page → Home) → CanAsk cpus a act
     → KeepsRules frames (did_by a act ans ∷ past) → IsCalm past → AreHomes home past → ((g : Page) → home' g ≡ home_by (events.Did act ans) (page_left a act past) g (home g)) → AreHomes home' (did_by a act ans ∷ past)
 homes_did cpus frames a (Epa f) ans past home home' can rules calm h more g = same_home past (did_by a (Epa f) ans) g (home g) (home' g) (more g) (h g) refl refl
 homes_did cpus frames a (Create enclave f base size) ans past home home' can rules calm h more g = same_home past (did_by a (Create enclave f base size) ans) g (home g) (home' g) (more g) (h g) refl refl
@@ -146,7 +147,7 @@ homes_did cpus frames (actors.Cpu p) (OutLoad enclave off) ans past home home' c
 homes_did cpus frames (actors.Cpu p) (OutStore enclave off value) ans past home home' can rules calm h more g = same_home past (did_by (actors.Cpu p) (OutStore enclave off value) ans) g (home g) (home' g) (more g) (h g) refl refl
 homes_did cpus frames a action ans past home home' can rules calm h more g = absurd can
 
-pub homes_more : (cpus frames : ℕ) (a : Actor) (action : Action) (event : Event) (past : List Entry) (home home' : Page → Home) → CanApply cpus a action
+pub homes_more : (cpus frames : ℕ) (a : Actor) (action : Action) (event : Event) (past : List Entry) (home home' : Page → Home) → CanAsk cpus a action
     → action_of event ≡ Some action → KeepsRules frames ((let e : Entry = record { actor = a; event = event } in e) ∷ past) → IsCalm past → AreHomes home past
     → ((g : Page) → home' g ≡ home_by event (page_left a action past) g (home g)) → AreHomes home' ((let e : Entry = record { actor = a; event = event } in e) ∷ past)
 homes_more cpus frames a action (events.Did act ans) past home home' can is rules calm h more =

@@ -3,6 +3,7 @@ pub mod Digits
 pub mod LineLaws
 pub mod EntryLaws
 pub mod NumberLaws
+pub mod AskLaws
 pub mod BookLaws
 pub mod OptionLaws
 pub mod PlacedLaws

@@ -21,7 +21,8 @@ use Rattle.sgx_types.specs.Table.{EnclaveSight, add_row, first_of_row}
 use Rattle.sgx_types.specs.Flat.{FlatMemory, Inside, accepts, added_as, enclave_sight, fields_in, first_words, flat, memory_after, open_frame, saved, stored, with_cssa, with_page, with_words}
 use Rattle.sgx_types.specs.Rules.{KeepsRules}
 use Rattle.job_grammar.specs.Script.{action_of}
-use Rattle.paging_machine.specs.Steps.{CanApply, did_by, refused_by}
+use Rattle.paging_machine.specs.Steps.{did_by, refused_by}
+use Rattle.sgxpage.specs.Asking.{CanAsk}
 use Rattle.paging_machine.proofs.Tools.{apart, none_holds, none_there, same_pages}
 use Rattle.paging_machine.proofs.Carry.{flat_done, same_page-refl}
 use Rattle.paging_machine.proofs.WordLaws.{added-changed}
@@ -153,7 +154,7 @@ stored_added : (m : FlatMemory) (o : Option Inside) (off value : ℕ) (g : Page)
 stored_added m None off value g = refl
 stored_added m (Some i) off value g = added-changed m _ _ g
 
-stay_did : (cpus frames : ℕ) (a : Actor) (action : Action) (ans : Answer) (past : List Entry) → CanApply cpus a action → KeepsRules frames (did_by a action ans ∷ past) → PagesStay past (did_by a action ans)
+stay_did : (cpus frames : ℕ) (a : Actor) (action : Action) (ans : Answer) (past : List Entry) → CanAsk cpus a action → KeepsRules frames (did_by a action ans ∷ past) → PagesStay past (did_by a action ans)
 stay_did cpus frames a (Epa f) ans past can rules =
     stay_put past (did_by a (Epa f) ans) f.0 IsVa (record { frame_of = λ g. refl; added = added_did past a (Epa f) ans (λ g. refl) }) rules.fits.entries.0.1 (λ n. refl)
 stay_did cpus frames a (Create enclave f base size) ans past can rules =
@@ -191,10 +192,10 @@ stay_did cpus frames (actors.Cpu p) (OutStore enclave off value) ans past can ru
     stay_same past (did_by (actors.Cpu p) (OutStore enclave off value) ans) (record { frame_of = λ g. refl; added = added_did past (actors.Cpu p) (OutStore enclave off value) ans (λ g. refl) }) (λ n. refl)
 stay_did cpus frames a action ans past can rules = absurd can
 
-stay_refused : (cpus : ℕ) (a : Actor) (action : Action) (why : Refusal) (past : List Entry) → CanApply cpus a action → PagesStay past (refused_by a action why)
+stay_refused : (cpus : ℕ) (a : Actor) (action : Action) (why : Refusal) (past : List Entry) → CanAsk cpus a action → PagesStay past (refused_by a action why)
 stay_refused cpus a action why past can = stay_same past (refused_by a action why) (record { frame_of = λ g. refl; added = λ g. refl }) (by_action a action can)
   where
-    by_action : (a : Actor) (action : Action) → CanApply cpus a action → (n : ℕ) → content (refused_by a action why ∷ past) n ≡ content past n
+    by_action : (a : Actor) (action : Action) → CanAsk cpus a action → (n : ℕ) → content (refused_by a action why ∷ past) n ≡ content past n
     by_action a (Epa f) can n = refl
     by_action a (Create enclave f base size) can n = refl
     by_action a (Add enclave number f kind perm init) can n = refl
@@ -215,7 +216,7 @@ stay_refused cpus a action why past can = stay_same past (refused_by a action wh
     by_action (actors.Cpu p) (OutStore enclave off value) can n = refl
     by_action a action can n = absurd can
 
-pub pages_stay : (cpus frames : ℕ) (a : Actor) (action : Action) (event : Event) (past : List Entry) → CanApply cpus a action → action_of event ≡ Some action
+pub pages_stay : (cpus frames : ℕ) (a : Actor) (action : Action) (event : Event) (past : List Entry) → CanAsk cpus a action → action_of event ≡ Some action
     → KeepsRules frames ((let e : Entry = record { actor = a; event = event } in e) ∷ past) → PagesStay past (record { actor = a; event = event })
 pages_stay cpus frames a action (events.Did act ans) past can is rules = stay_did cpus frames a act ans past (rw (some_same act action is) can) rules
 pages_stay cpus frames a action (events.Refused act why) past can is rules = stay_refused cpus a act why past (rw (some_same act action is) can)

@@ -6,6 +6,7 @@ pub mod Ending
 pub mod Homes
 pub mod Places
 pub mod Saves
+pub mod Asking
 pub mod Books
 pub mod Kept
 pub mod Building

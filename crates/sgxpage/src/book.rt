@@ -10,7 +10,7 @@ ghost use Rattle.sgx_types.specs.declared.names.Page.{Page};
 ghost use Rattle.job_grammar.specs.Script.{frame_at, saved};
 ghost use Rattle.paging_machine.specs.Parts.{seat_of_mode, state_of};
 ghost use Rattle.paging_machine.specs.Stands.{Upholds, seat_of_stay};
-ghost use Rattle.paging_machine.specs.Steps.{CanApply};
+ghost use Rattle.sgxpage.specs.Asking.{CanAsk};
 ghost use Rattle.sgxpage.specs.Books.{BookView, IsCalm, IsNext};
 ghost use Rattle.sgxpage.specs.Homes.{has_home, home_by, home_in, home_left};
 ghost use Rattle.sgxpage.specs.Places.{page_left, page_of_stay};
@@ -60,7 +60,7 @@ impl Book {
 
     /// One instruction, and its entry.
     pub fn apply(&mut self, alloc: Global, actor: Actor, action: Action) -> Result<(), Memory>
-        requires { CanApply self.old.cpus actor action }
+        requires { CanAsk self.old.cpus actor action }
         ensures done { OnOk result (IsNext actor action self.old self.new) }
         ensures refused { OnErr result (self.new ≡ self.old) }
     {
@@ -74,7 +74,7 @@ impl Book {
 
     // The TCS page by which a processor is inside that leaves asynchronously by this action, if it is done.
     fn page_left(&self, actor: Actor, action: Action) -> Option<Page>
-        requires { CanApply self.now.cpus actor action }
+        requires { CanAsk self.now.cpus actor action }
         ensures { result ≡ page_left actor action self.now.past }
     {
         match (actor, action) {

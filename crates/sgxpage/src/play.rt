@@ -5,7 +5,7 @@ ghost use Rattle.sgx_types.specs.Rules.{Along};
 ghost use Rattle.job_grammar.specs.declared.jobs.Op.{Op};
 ghost use Rattle.job_grammar.specs.Jobs.{JobView};
 ghost use Rattle.job_grammar.specs.Script.{IsEnded, ScriptRule};
-ghost use Rattle.paging_machine.specs.Steps.{CanApply};
+ghost use Rattle.sgxpage.specs.Asking.{CanAsk};
 ghost use Rattle.sgxpage.specs.Books.{BookView, IsCalm};
 ghost use Rattle.sgxpage.specs.Playing.{Fills, Finishes, IsAccess, IsBuilt, IsQuiet, IsReg, Plays, plain_action};
 
@@ -123,7 +123,7 @@ fn play(alloc: Global, book: &mut Book, job: &Job, cpu: Cpu, op: &Op) -> Result<
 
 // An operation that is nothing but one instruction.
 fn make(alloc: Global, book: &mut Book, cpu: Cpu, action: Action) -> Result<(), Memory>
-    requires able { CanApply book.old.cpus (actors.Cpu cpu) action }
+    requires able { CanAsk book.old.cpus (actors.Cpu cpu) action }
     requires calm { IsCalm book.old.past }
     ensures { OnOk result ((j : JobView) (op : Op) → plain_action op ≡ Some action → Plays j cpu.0 (op ∷ []) book.old book.new) }
 {
@@ -185,7 +185,7 @@ fn access(
     action: Action,
 ) -> Result<(), Memory>
     requires cpu { cpu.0 < book.old.cpus }
-    requires able { CanApply book.old.cpus (actors.Cpu cpu) action }
+    requires able { CanAsk book.old.cpus (actors.Cpu cpu) action }
     requires calm { IsCalm book.old.past }
     ensures { OnOk result ((j : JobView) (o : Op) → IsAccess o op off action → Plays j cpu.0 (o ∷ []) book.old book.new) }
 {

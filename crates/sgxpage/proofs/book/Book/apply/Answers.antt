@@ -4,10 +4,12 @@ use Rattle.sgx_types.specs.declared.entries.Entry.{Entry}
 use Rattle.sgx_types.specs.Frames.{Free, content}
 use Rattle.paging_machine.specs.Parts.{Parts, state_of}
 use Rattle.paging_machine.specs.Stands.{Upholds}
-use Rattle.paging_machine.specs.Steps.{CanApply}
+use Rattle.sgxpage.specs.Asking.{CanAsk}
+use Rattle.paging_machine.specs.Steps.{MovesNoPage}
 use Rattle.paging_machine.proofs.ProcessorBridge.{free_past}
 use Rattle.sgxpage.specs.Homes.{home_by, home_in}
 use Rattle.sgxpage.specs.Places.{page_left}
+use Rattle.sgxpage.proofs.AskLaws.{can_do}
 use Rattle.sgxpage.proofs.BookLaws.{step_of}
 use Rattle.sgxpage.proofs.CalmLaws.{calm_more}
 use Rattle.sgxpage.proofs.HomeLaws.{home_small, homes_more}
@@ -18,6 +20,9 @@ use Rattle.sgxpage.proofs.book.Book.apply.Goals as goal
 none_beyond : (d : Parts) (past : List Entry) → Upholds (state_of d) past → (n : ℕ) → length d.epc ≤ n → content past n ≡ Free
 none_beyond d past upheld n le = sym (upheld.stands.content n) ∙ free_past d n le
 
+pub apply-requires : goal.apply-requires
+apply-requires c = rw (← c.self.view_is) (can_do c.args.self.now.cpus c.args.actor c.args.action c.requires).able
+
 pub note_home-requires : goal.note_home-requires
 note_home-requires c = λ g. (let entries = c.self.inside.entries in home_small c.self.inside.homes entries.items g c.self.invariant.homes (omega (arith, entries.ok.0)))
 
@@ -26,8 +31,9 @@ returns-clause-done c =
     let step = step_of (state_of c.self.inside.machine) (state_of c.apply.new.self) c.args.actor c.args.action c.in_ok-entry.entry c.in_ok-entry.ensures.step in
     let past : reverse c.push_reserved.new.self.items ≡ c.in_ok-entry.entry ∷ reverse c.self.inside.entries.items =
     rw (c.push_reserved.ensures.items, c.reserve.ensures.items) (reverse-append c.self.inside.entries.items (c.in_ok-entry.entry ∷ [])) in
-    let upheld = c.in_ok-entry.ensures.history (reverse c.self.inside.entries.items) c.self.invariant.upheld in
-    let can : CanApply c.args.self.now.cpus c.in_ok-entry.entry.actor c.args.action = rw step.actor_is c.requires in
+    let still : MovesNoPage c.args.action = (can_do c.args.self.now.cpus c.args.actor c.args.action c.requires).still in
+    let upheld = c.in_ok-entry.ensures.history still (reverse c.self.inside.entries.items) c.self.invariant.upheld in
+    let can : CanAsk c.args.self.now.cpus c.in_ok-entry.entry.actor c.args.action = rw step.actor_is c.requires in
     let stay = pages_stay c.args.self.now.cpus _ c.in_ok-entry.entry.actor c.args.action c.in_ok-entry.entry.event (reverse c.self.inside.entries.items) can step.action_is upheld.rules in
     record {
       goes = record {
@@ -48,8 +54,9 @@ invariant_of-self-2 c =
     let step = step_of (state_of c.self.inside.machine) (state_of c.apply.new.self) c.args.actor c.args.action c.in_ok-entry.entry c.in_ok-entry.ensures.step in
     let past : reverse c.push_reserved.new.self.items ≡ c.in_ok-entry.entry ∷ reverse c.self.inside.entries.items =
     rw (c.push_reserved.ensures.items, c.reserve.ensures.items) (reverse-append c.self.inside.entries.items (c.in_ok-entry.entry ∷ [])) in
-    let upheld = c.in_ok-entry.ensures.history (reverse c.self.inside.entries.items) c.self.invariant.upheld in
-    let can : CanApply c.args.self.now.cpus c.in_ok-entry.entry.actor c.args.action = rw step.actor_is c.requires in
+    let still : MovesNoPage c.args.action = (can_do c.args.self.now.cpus c.args.actor c.args.action c.requires).still in
+    let upheld = c.in_ok-entry.ensures.history still (reverse c.self.inside.entries.items) c.self.invariant.upheld in
+    let can : CanAsk c.args.self.now.cpus c.in_ok-entry.entry.actor c.args.action = rw step.actor_is c.requires in
     let stay = pages_stay c.args.self.now.cpus _ c.in_ok-entry.entry.actor c.args.action c.in_ok-entry.entry.event (reverse c.self.inside.entries.items) can step.action_is upheld.rules in
     let left : c.page_left-left.result ≡ page_left c.in_ok-entry.entry.actor c.args.action (reverse c.self.inside.entries.items) = c.page_left-left.ensures ∙ rw (step.actor_is, ← c.self.view_is) refl in
     record {
