@@ -1,21 +1,26 @@
--- What the rows that build keep of a state: created enclaves have measurements, pages in frames were added, translations
--- lead to frames, and processors inside stand on pages of their enclave.
-use Rattle.std.proofs.Common.{◌≡◌, ℕ, ◌==◌, Bool, true, false, cond, refl, subst, sym, Option, Some, None, is_some}
+-- What the rows that build, and those that move pages, keep of a state: created enclaves have measurements, pages in frames
+-- were added, translations lead to frames, processors inside stand on pages of their enclave, and only drained pages go out.
+use Rattle.std.proofs.Common.{◌≡◌, ℕ, ◌==◌, Bool, true, false, cond, refl, subst, sym, List, length, Option, Some, None, is_some}
 use Rattle.std.proofs.lemmas.Bool.{cond_both}
 use Rattle.sgx_types.specs.declared.entries.PageInit.{PageInit}
 use Rattle.sgx_types.specs.declared.names.Page.{Page}
 use Rattle.sgx_types.specs.declared.names.Kind.{Kind}
 use Rattle.sgx_types.specs.declared.names.Perm.{Perm}
-use Rattle.sgx_types.specs.Frames.{Content, Free, SecsOf, Holds, same_page}
+use Rattle.sgx_types.specs.declared.names.SlotAt.{SlotAt}
+use Rattle.sgx_types.specs.Frames.{Content, Free, SecsOf, Holds, IsLoading, same_page}
 use Rattle.sgx_types.specs.Flat.{FlatEnclave, marked}
+use Rattle.sgx_types.specs.Starts.{Start}
+use Rattle.sgx_types.specs.Table.{block_row, track_row, ewbstart_row, eldstart_row, first_of_row}
 use Rattle.measure_log.specs.declared.measure.Measure.{Measure}
-use Rattle.paging_machine.specs.State.{State, with_content, after_create, after_add, after_extend, after_init}
+use Rattle.paging_machine.specs.State.{State, sight, track_sight, slot_sight, drain_sight, is_version_spent, with_content, after_create, after_add, after_extend, after_init, after_block, after_track, after_ewbstart, after_eldstart, after_ewb, after_eld, after_failed_eld}
 use Rattle.paging_machine.specs.Stands.{IsSound}
-use Rattle.paging_machine.specs.Guarded.{IsGuarded}
+use Rattle.paging_machine.specs.Guarded.{IsPaged, IsGuarded}
 use Rattle.paging_machine.specs.Whole.{IsMeasured, IsFramed, IsWithin}
 use Rattle.paging_machine.proofs.Carry.{same_page-refl}
 use Rattle.paging_machine.proofs.SoundLaws.{sound-put}
 use Rattle.paging_machine.proofs.BuildLaws.{sound_add}
+use Rattle.paging_machine.proofs.GuardLaws.{guarded_put, guarded_create, guarded_add, guarded_extend, guarded_init, guarded_block, guarded_track, guarded_ewbstart, guarded_eldstart, guarded_ewb, guarded_eld, guarded_failed_eld}
+use Rattle.paging_machine.proofs.PagingSound.{sound_block, sound_track, sound_ewbstart, sound_eldstart, sound_ewb, sound_eld, sound_failed_eld}
 
 pub record IsKept (s : State) : Type 0 where
   pub measured : IsMeasured s
@@ -31,8 +36,14 @@ kept_as s t e h = subst IsKept (sym e) h
 framed_put : (s : State) (f : ℕ) (c : Content) → ((g : Page) (kind : Kind) (perm : Perm) → c ≡ Holds g kind perm → ⊥) → IsFramed s → IsFramed (with_content s f c)
 framed_put s f c none h n g kind perm = cond_both (f == n) c (s.content n) (λ v. v ≡ Holds g kind perm → is_some (s.added g) ≡ true) (λ _ at. absurd (none g kind perm at)) (λ _. h n g kind perm)
 
-pub kept_put : (s : State) (f : ℕ) (c : Content) → ((g : Page) (kind : Kind) (perm : Perm) → c ≡ Holds g kind perm → ⊥) → s.content f ≡ Free → IsKept s → IsKept (with_content s f c)
-kept_put s f c none free h = record { measured = h.measured; framed = framed_put s f c none h.framed; within = h.within; sound = sound-put s f c s.words h.sound free (λ n other. refl) h.sound.sized }
+pub kept_put : (s : State) (f : ℕ) (c : Content) → ((g : Page) (kind : Kind) (perm : Perm) → c ≡ Holds g kind perm → ⊥) → (c ≡ IsLoading → ⊥) → s.content f ≡ Free → IsKept s → IsKept (with_content s f c)
+kept_put s f c none settled free h = record {
+  measured = h.measured;
+  framed = framed_put s f c none h.framed;
+  within = h.within;
+  sound = sound-put s f c s.words h.sound free (λ n other. refl) h.sound.sized;
+  guarded = guarded_put s f c s.words h.guarded free settled;
+}
 
 pub kept_create : (s : State) (e f base size : ℕ) (begun : Measure) → s.content f ≡ Free → IsKept s → IsKept (after_create s e f base size begun)
 kept_create s e f base size begun free h = record {
@@ -40,6 +51,7 @@ kept_create s e f base size begun free h = record {
   framed = framed_put s f (SecsOf e) (λ g kind perm at. cc at) h.framed;
   within = h.within;
   sound = let k = sound-put s f (SecsOf e) s.words h.sound free (λ n other. refl) h.sound.sized in record { seated = k.seated; busy = k.busy; apart = k.apart; sized = k.sized };
+  guarded = guarded_create s e f base size begun h.guarded free;
 }
   where
     by_enclave : (k : ℕ) (b : Bool) → is_some (cond b (Some (let x : FlatEnclave = record { base = base; size = size; is_init = false } in x)) (s.enclaves k)) ≡ true → is_some (cond b (Some begun) (s.measure k)) ≡ true
@@ -51,10 +63,16 @@ measured_longer : (s : State) (e : ℕ) (longer : Measure) → IsMeasured s → 
 measured_longer s e longer h k made = cond_both (k == e) (Some longer) (s.measure k) (λ v. is_some v ≡ true) (λ _. refl) (λ _. h k made)
 
 pub kept_extend : (s : State) (e : ℕ) (longer : Measure) → IsKept s → IsKept (after_extend s e longer)
-kept_extend s e longer h = record { measured = measured_longer s e longer h.measured; framed = h.framed; within = h.within; sound = record { seated = h.sound.seated; busy = h.sound.busy; apart = h.sound.apart; sized = h.sound.sized } }
+kept_extend s e longer h = record {
+  measured = measured_longer s e longer h.measured;
+  framed = h.framed;
+  within = h.within;
+  sound = record { seated = h.sound.seated; busy = h.sound.busy; apart = h.sound.apart; sized = h.sound.sized };
+  guarded = guarded_extend s e longer h.guarded;
+}
 
-pub kept_add : (s : State) (g : Page) (f : ℕ) (kind : Kind) (perm : Perm) (init : PageInit) (longer : Measure) → s.content f ≡ Free → IsKept s → IsKept (after_add s g f kind perm init longer)
-kept_add s g f kind perm init longer free h = record {
+pub kept_add : (s : State) (g : Page) (f : ℕ) (kind : Kind) (perm : Perm) (init : PageInit) (longer : Measure) → s.content f ≡ Free → IsPaged kind → IsKept s → IsKept (after_add s g f kind perm init longer)
+kept_add s g f kind perm init longer free paged h = record {
   measured = measured_longer s g.enclave longer h.measured;
   framed = λ n q k p.
       cond_both (f == n) (Holds g kind perm) (s.content n) (λ v. v ≡ Holds q k p → is_some (cond (same_page q g) (Some (kind, perm)) (s.added q)) ≡ true)
@@ -62,12 +80,75 @@ kept_add s g f kind perm init longer free h = record {
       (λ _ at. cond_both (same_page q g) (Some (kind, perm)) (s.added q) (λ v. is_some v ≡ true) (λ _. refl) (λ _. h.framed n q k p at));
   within = h.within;
   sound = sound_add s g f kind perm init longer h.sound free;
+  guarded = guarded_add s g f kind perm init longer h.guarded free paged;
 }
 
 pub kept_init : (s : State) (e : ℕ) → IsKept s → IsKept (after_init s e)
-kept_init s e h = record { measured = λ k made. h.measured k (by_mark (k == e) (s.enclaves k) made); framed = h.framed; within = h.within; sound = record { seated = h.sound.seated; busy = h.sound.busy; apart = h.sound.apart; sized = h.sound.sized } }
+kept_init s e h = record {
+  measured = λ k made. h.measured k (by_mark (k == e) (s.enclaves k) made);
+  framed = h.framed;
+  within = h.within;
+  sound = record { seated = h.sound.seated; busy = h.sound.busy; apart = h.sound.apart; sized = h.sound.sized };
+  guarded = guarded_init s e h.guarded;
+}
   where
     by_mark : (b : Bool) (o : Option FlatEnclave) → is_some (cond b (marked o) o) ≡ true → is_some o ≡ true
     by_mark true None made = cc made
     by_mark true (Some x) made = refl
     by_mark false o made = made
+
+-- ---- block, track, write-out and reload
+
+pub kept_block : (s : State) (f : ℕ) → first_of_row (block_row (sight s f)) ≡ None → IsKept s → IsKept (after_block s f)
+kept_block s f allowed h = record { measured = h.measured; framed = h.framed; within = h.within; sound = sound_block s f h.sound; guarded = guarded_block s f allowed h.sound h.guarded }
+
+pub kept_track : (s : State) (enclave : ℕ) → first_of_row (track_row (track_sight s enclave)) ≡ None → IsKept s → IsKept (after_track s enclave)
+kept_track s enclave allowed h = record { measured = h.measured; framed = h.framed; within = h.within; sound = sound_track s enclave h.sound; guarded = guarded_track s enclave allowed h.guarded }
+
+pub kept_ewbstart : (s : State) (f : ℕ) (slot : SlotAt) → first_of_row (ewbstart_row (sight s f) (slot_sight s slot) (drain_sight s f) (is_version_spent s)) ≡ None → IsKept s → IsKept (after_ewbstart s f slot)
+kept_ewbstart s f slot allowed h = record {
+  measured = h.measured;
+  framed = h.framed;
+  within = h.within;
+  sound = sound_ewbstart s f slot allowed h.guarded h.sound;
+  guarded = guarded_ewbstart s f slot allowed h.guarded;
+}
+
+pub kept_eldstart : (s : State) (f : ℕ) (page : Page) (slot : SlotAt) → first_of_row (eldstart_row (sight s f) (is_some (s.added page)) (slot_sight s slot)) ≡ None → IsKept s → IsKept (after_eldstart s f page slot)
+kept_eldstart s f page slot allowed h = record {
+  measured = h.measured;
+  framed = framed_put s f IsLoading (λ g kind perm at. cc at) h.framed;
+  within = h.within;
+  sound = sound_eldstart s f page slot allowed h.sound;
+  guarded = guarded_eldstart s f page slot allowed h.guarded;
+}
+
+pub kept_ewb : (s : State) (f : ℕ) (start : Start) → s.is_sealing f ≡ true → IsKept s → IsKept (after_ewb s f start)
+kept_ewb s f start leaving h = record {
+  measured = h.measured;
+  framed = framed_put s f Free (λ g kind perm at. cc at) h.framed;
+  within = h.within;
+  sound = sound_ewb s f start leaving h.sound;
+  guarded = guarded_ewb s f start leaving h.guarded;
+}
+
+pub kept_eld : (s : State) (f : ℕ) (start : Start) (page : Page) (kind : Kind) (perm : Perm) (words : List ℕ) → s.content f ≡ IsLoading → s.added page ≡ Some (kind, perm) → length words ≡ 512 → IsKept s
+    → IsKept (after_eld s f start page kind perm words)
+kept_eld s f start page kind perm words waits added long h = record {
+  measured = h.measured;
+  framed = λ n g k p.
+      cond_both (f == n) (Holds page kind perm) (s.content n) (λ v. v ≡ Holds g k p → is_some (s.added g) ≡ true)
+      (λ _ at. let same : page ≡ g = cc at in rw (← same, added) refl) (λ _. h.framed n g k p);
+  within = h.within;
+  sound = sound_eld s f start page kind perm words waits long h.sound;
+  guarded = guarded_eld s f start page kind perm words waits h.guarded;
+}
+
+pub kept_failed_eld : (s : State) (f : ℕ) (start : Start) → s.content f ≡ IsLoading → IsKept s → IsKept (after_failed_eld s f start)
+kept_failed_eld s f start waits h = record {
+  measured = h.measured;
+  framed = framed_put s f Free (λ g kind perm at. cc at) h.framed;
+  within = h.within;
+  sound = sound_failed_eld s f start waits h.sound;
+  guarded = guarded_failed_eld s f start waits h.guarded;
+}

@@ -1,4 +1,5 @@
 pub mod Tools
+pub mod FitLaws
 pub mod MeasureLaws
 pub mod Carry
 pub mod Contents
@@ -23,4 +24,9 @@ pub mod ExtendLaws
 pub mod StepLaws
 pub mod EntryBridge
 pub mod AccessBridge
+pub mod GuardLaws
+pub mod PagingSound
 pub mod Fresh
+pub mod ShapeColumns
+pub mod ShapeLaws
+pub mod FollowLaws

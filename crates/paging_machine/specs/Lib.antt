@@ -5,3 +5,4 @@ pub mod Whole
 pub mod Steps
 pub mod Guarded
 pub mod Shape
+pub mod Runs

@@ -8,7 +8,7 @@ use Rattle.sgx_types.specs.declared.entries.Event.TheVariants.{Did, Refused}
 use Rattle.sgx_types.specs.declared.entries.Actor.{Actor}
 use Rattle.sgx_types.specs.declared.entries.Actor.TheVariants as actors
 use Rattle.sgx_types.specs.declared.entries.Action.{Action}
-use Rattle.sgx_types.specs.declared.entries.Action.TheVariants.{Epa, Create, Add, Extend, Init, Enter, Resume, Exit, Aex, Fill, Load, Store, Xadd, Set, Plus, Pf, OutLoad, OutStore, Block, EwbStart, Ewb, EldStart, Eld}
+use Rattle.sgx_types.specs.declared.entries.Action.TheVariants.{Epa, Create, Add, Extend, Init, Enter, Resume, Exit, Aex, Fill, Load, Store, Xadd, Set, Plus, Pf, OutLoad, OutStore, Block, Track, EwbStart, Ewb, EldStart, Eld}
 use Rattle.sgx_types.specs.declared.entries.Answer.{Answer}
 use Rattle.sgx_types.specs.declared.entries.Answer.TheVariants as answers
 use Rattle.sgx_types.specs.declared.entries.PfWhy.{PfWhy}
@@ -35,7 +35,8 @@ abbrev pub AtEachPlace : (List Entry → Type 0) → List Entry → Type 0
 AtEachPlace P [] = P []
 AtEachPlace P (e ∷ past) = P (e ∷ past) × AtEachPlace P past
 
--- ---- Refusal: an instruction is done exactly where no case of its row holds, and else refused by the first that holds
+-- ---- Refusal: an instruction is done exactly where no case of its row holds, and else refused by the first that holds. Of the
+-- instructions that move pages the rule says nothing
 
 -- the form of answer that each row gives
 abbrev pub HasForm : Action → Answer → Type 0
@@ -69,6 +70,12 @@ RefusalRule frames past e = by_event e.event
   where
     by_event : Event → Type 0
     by_event (Did action answer) = (first_of_row (row_at frames past e.actor action) ≡ None) × HasForm action answer
+    by_event (Refused (Block f) refusal) = Unit {0}
+    by_event (Refused (Track enclave) refusal) = Unit {0}
+    by_event (Refused (EwbStart f slot) refusal) = Unit {0}
+    by_event (Refused (Ewb f) refusal) = Unit {0}
+    by_event (Refused (EldStart f page slot) refusal) = Unit {0}
+    by_event (Refused (Eld f) refusal) = Unit {0}
     by_event (Refused action refusal) = first_of_row (row_at frames past e.actor action) ≡ case_of action refusal
     by_event _ = Unit {0}
 
