@@ -10,6 +10,8 @@ use Rattle.sgx_types.specs.Table.{access_row, inside_row, fill_row, is_reg, perm
 use Rattle.sgx_types.specs.Flat.{word_index}
 use Rattle.epcm_entry.specs.Epc.{EpcFrame}
 use Rattle.epcm_entry.specs.Sights.{sight_in}
+use Rattle.epcm_entry.proofs.Columns.{length-with_words}
+use Rattle.evict_reload.proofs.PageLaws.{pages-with_words}
 use Rattle.cached_translations.specs.declared.cache.Translation.{Translation}
 use Rattle.cached_translations.specs.declared.processor.Processor.{Processor}
 use Rattle.cached_translations.specs.declared.processor.Mode.{Mode}
@@ -30,6 +32,7 @@ use Rattle.paging_machine.proofs.SoundLaws.{sound-written}
 use Rattle.paging_machine.proofs.AccessLaws.{All-with_translation, fill_within, found_there, sound-fill}
 use Rattle.paging_machine.proofs.RegisterLaws.{sound-acc}
 use Rattle.paging_machine.proofs.StepLaws.{fill_perm}
+use Rattle.paging_machine.proofs.GuardLaws.{guarded_fill, guarded_acc, guarded_words}
 use Rattle.paging_machine.proofs.Keeping.{IsKept}
 use Rattle.paging_machine.proofs.ProcessorBridge.{is_some-mode, enclave-mode, words_state, fill_state, acc_state}
 use Rattle.paging_machine.proofs.TrackLaws.{tracked_same}
@@ -42,10 +45,10 @@ filled s p t low h q =
     cond_both (p == q) (with_translation (s.cache q) t) (s.cache q) (λ xs. LeadsBelow xs s.frames) (λ _. All-with_translation (λ (x : Translation). x.frame.0 < s.frames) (s.cache q) t (h q) low) (λ _. h q)
 
 kept_fill : (s : State) (p : ℕ) (t : Translation) → first_of_row (fill_row t.number (seat_enclave (s.inside p)) (sight s t.frame.0)) ≡ None → perm_in (s.content t.frame.0) ≡ Some t.perm → IsKept s → IsKept (after_fill s p t)
-kept_fill s p t allowed perm h = record { measured = h.measured; framed = h.framed; within = filled s p t (fill_within s p t.number t.frame.0 allowed) h.within; sound = sound-fill s p t allowed perm h.sound }
+kept_fill s p t allowed perm h = record { measured = h.measured; framed = h.framed; within = filled s p t (fill_within s p t.number t.frame.0 allowed) h.within; sound = sound-fill s p t allowed perm h.sound; guarded = guarded_fill s p t allowed h.guarded }
 
 kept_acc : (s : State) (p acc : ℕ) → IsKept s → IsKept (with_acc s p acc)
-kept_acc s p acc h = record { measured = h.measured; framed = h.framed; within = h.within; sound = sound-acc s p acc h.sound }
+kept_acc s p acc h = record { measured = h.measured; framed = h.framed; within = h.within; sound = sound-acc s p acc h.sound; guarded = guarded_acc s p acc h.guarded }
 
 -- the translation through which an access goes that its row allows
 pub record Through (s : State) (p off : ℕ) : Type 0 where
@@ -72,7 +75,7 @@ store_as s p off value k = ap (λ o. record s { words = rewritten s.words (frame
 kept_store : (s : State) (p off value : ℕ) → Through s p off → IsKept s → IsKept (after_store s p off value)
 kept_store s p off value k h =
     rw (store_as s p off value k)
-    (record { measured = h.measured; framed = h.framed; within = h.within; sound = sound-written s k.found.frame.0 (λ words. slice_set words (word_index off) value) h.sound k.reg (λ words. length-set words (word_index off) value) })
+    (record { measured = h.measured; framed = h.framed; within = h.within; sound = sound-written s k.found.frame.0 (λ words. slice_set words (word_index off) value) h.sound k.reg (λ words. length-set words (word_index off) value); guarded = guarded_words s _ h.guarded })
 
 -- ---- what an access sees of a processor
 
@@ -116,6 +119,9 @@ cpu_leaves m h p v v' s low new mode state kept =
       table = h.table;
       track_places = h.track_places;
       tracked = tracked_same m.tracks m.cpus.items p v low mode h.tracked;
+      slots = h.slots;
+      pages = h.pages;
+      start_places = h.start_places;
     })
 
 pub acc_leaves : (m : Inside) (h : IsWhole m) (p acc : ℕ) (v v' : Processor) → p < length m.cpus.items → v ≡ cpu_at (parts_of m) p → v' ≡ record v { acc = acc } → Leaves (record (parts_of m) { cpus = set m.cpus.items p v' }) (with_acc (state_of (parts_of m)) p acc)
@@ -151,4 +157,7 @@ store_leaves m h p off value v epc there k new =
       table = h.table;
       track_places = h.track_places;
       tracked = h.tracked;
+      slots = h.slots;
+      pages = rw stored (pages-with_words d.epc d.va k.found.frame.0 _ h.pages);
+      start_places = h.start_places ∙ sym (ap length stored ∙ length-with_words d.epc k.found.frame.0 _);
     }

@@ -1,6 +1,7 @@
 -- The machine's parts after a row that builds an enclave, and the state that they make.
 use Rattle.std.proofs.Common.{◌≡◌, ℕ, ◌/◌, ◌<◌, ◌≤◌, ◌==◌, ◌||◌, Bool, true, false, not, cond, leb, refl, sym, ap, ◌∙◌, Option, Some, None, List, length, set, is_some, length-set}
-use Rattle.std.proofs.lemmas.Bool.{eqb-true, leb-false, leb-true, ltb-true}
+use Rattle.std.specs.Prelude.{slice_index_or}
+use Rattle.std.proofs.lemmas.Bool.{cond_both, eqb-true, leb-false, leb-true, ltb-true}
 use Rattle.std.proofs.lemmas.List.{length-replicate}
 use Rattle.sgx_types.specs.declared.entries.PageInit.{PageInit}
 use Rattle.sgx_types.specs.declared.entries.PageInit.TheVariants as inits
@@ -8,10 +9,11 @@ use Rattle.sgx_types.specs.declared.names.Page.{Page}
 use Rattle.sgx_types.specs.declared.names.Kind.{Kind}
 use Rattle.sgx_types.specs.declared.names.Kind.TheVariants as kinds
 use Rattle.sgx_types.specs.declared.names.Perm.{Perm}
+use Rattle.sgx_types.specs.declared.names.SlotAt.{SlotAt}
 use Rattle.sgx_types.specs.Frames.{Free, Holds, page_at}
 use Rattle.sgx_types.specs.Table as table
-use Rattle.sgx_types.specs.Table.{EnclaveSight, FrameSight, epa_row, create_row, add_row, first_of_row}
-use Rattle.sgx_types.specs.Flat.{marked}
+use Rattle.sgx_types.specs.Table.{epa_row, create_row, add_row, first_of_row}
+use Rattle.sgx_types.specs.Flat.{first_words, marked}
 use Rattle.epcm_entry.specs.declared.entry_view.EntryView.{EntryView}
 use Rattle.epcm_entry.specs.declared.entry_view.EntryView.TheVariants as views
 use Rattle.epcm_entry.specs.EntryView.{is_valid, holding, block_of, goes_out}
@@ -26,10 +28,17 @@ use Rattle.secs_state.proofs.Columns.{added_at-with_page}
 use Rattle.measure_log.specs.declared.measure.Measure.{Measure}
 use Rattle.enclave_build.specs.Build.{with_secs, with_added, with_resident}
 use Rattle.enclave_build.proofs.Columns.{length-with_secs, entry_at-with_secs, words_at-with_secs, length-with_added, entry_at-with_added, words_at-with_added}
-use Rattle.paging_machine.specs.State.{with_content, after_create, after_add, after_extend, after_init}
+use Rattle.version_array.specs.declared.va_page.VaSlot.{VaSlot}
+use Rattle.version_array.specs.Slots.{empty_slot, page_slots, slot_in, version_in, is_busy_at}
+use Rattle.version_array.specs.Slots.{page_at as page_at_va, with_page as with_va_page}
+use Rattle.version_array.proofs.TableLaws.{version_in-with_page, is_busy_at-with_page}
+use Rattle.evict_reload.specs.Sights.{AreVaPages}
+use Rattle.evict_reload.proofs.PageLaws.{pages-with_entry, pages-with_words}
+use Rattle.paging_machine.specs.Guarded.{IsPaged}
+use Rattle.paging_machine.specs.State.{after_epa, after_create, after_add, after_extend, after_init}
 use Rattle.paging_machine.specs.Parts.{Parts, enclave_of, added_in, is_busy_in, state_of}
 use Rattle.paging_machine.specs.Whole.{IsSecsOf, IsTable}
-use Rattle.paging_machine.proofs.Tools.{none_holds, neither, not_false, both_true}
+use Rattle.paging_machine.proofs.Tools.{none_holds, neither, not_false, both_true, none_there}
 use Rattle.paging_machine.proofs.Columns.{like, through, same_at, numbered, enclave_column, enclave_kept, page_column, measure_set}
 use Rattle.paging_machine.proofs.BuildLaws.{is_free_frame}
 
@@ -62,8 +71,8 @@ module _ (epc epc' : List EpcFrame) (f : ℕ) (page : Page) (kind : Kind) (perm 
   put_content : (n : ℕ) → held (entry_at epc' n) ≡ cond (f == n) (content_of page kind perm) (held (entry_at epc n))
   put_content n = ap held (entries n) ∙ through held (f == n) (holding page kind perm) (entry_at epc n)
 
-  put_blocked : (n : ℕ) → is_some (block_of (entry_at epc' n)) ≡ cond (f == n) false (is_some (block_of (entry_at epc n)))
-  put_blocked n = ap (λ v. is_some (block_of v)) (entries n) ∙ through (λ v. is_some (block_of v)) (f == n) (holding page kind perm) (entry_at epc n)
+  put_blocked : (n : ℕ) → block_of (entry_at epc' n) ≡ cond (f == n) None (block_of (entry_at epc n))
+  put_blocked n = ap block_of (entries n) ∙ through block_of (f == n) (holding page kind perm) (entry_at epc n)
 
   put_sealing : (n : ℕ) → goes_out (entry_at epc' n) ≡ goes_out (entry_at epc n)
   put_sealing n =
@@ -75,16 +84,40 @@ module _ (epc epc' : List EpcFrame) (f : ℕ) (page : Page) (kind : Kind) (perm 
 pub takes-epa : (d : Parts) (f : ℕ) → first_of_row (epa_row (sight_in d.epc f)) ≡ None → Takes d.epc f
 takes-epa d f allowed = let none = none_holds (epa_row (sight_in d.epc f)) allowed in takes d.epc f none.0 none.1.0 none.1.1.0
 
-pub epa_state : (d : Parts) (f : ℕ) (page : Page) (kind : Kind) (perm : Perm) → Takes d.epc f → state_of (record d { epc = with_page d.epc f page kind perm }) ≡ with_content (state_of d) f (content_of page kind perm)
-epa_state d f page kind perm k =
-    let v = holding page kind perm in
-    let entries : (n : ℕ) → entry_at (with_page d.epc f page kind perm) n ≡ cond (f == n) v (entry_at d.epc n) = λ n. entry_at-with_entry d.epc f n v k.low in
-    λ i. record (with_content (state_of d) f (content_of page kind perm)) {
+-- a frame that holds no version array page has no slot
+no_page : (epc : List EpcFrame) (va : List (Option (List VaSlot))) (f : ℕ) → AreVaPages epc va → Takes epc f → page_at_va va f ≡ None
+no_page epc va f pages k = none_there (page_at_va va f) (pages f ∙ ap table.is_va k.free)
+
+no_slot : (va : List (Option (List VaSlot))) (slot : SlotAt) → page_at_va va slot.frame.0 ≡ None → slot_in va slot ≡ empty_slot
+no_slot va slot none = ap (λ page. slice_index_or (page_slots page) slot.index empty_slot) none
+
+-- a new page has no version and no mark, as the frame had none before it
+version_kept : (va : List (Option (List VaSlot))) (f : ℕ) (slot : SlotAt) → page_at_va va f ≡ None → version_in (with_va_page va f) slot ≡ version_in va slot
+version_kept va f slot none =
+    version_in-with_page va f slot
+    ∙ cond_both (f == slot.frame.0) 0 (version_in va slot) (λ v. v ≡ version_in va slot)
+    (λ e. sym (ap (λ (x : VaSlot). x.version) (no_slot va slot (ap (page_at_va va) (sym (eqb-true f slot.frame.0 e)) ∙ none)))) (λ _. refl)
+
+busy_kept : (va : List (Option (List VaSlot))) (f : ℕ) (slot : SlotAt) → page_at_va va f ≡ None → is_busy_at (with_va_page va f) slot ≡ is_busy_at va slot
+busy_kept va f slot none =
+    is_busy_at-with_page va f slot
+    ∙ cond_both (f == slot.frame.0) false (is_busy_at va slot) (λ v. v ≡ is_busy_at va slot)
+    (λ e. sym (ap (λ (x : VaSlot). x.busy) (no_slot va slot (ap (page_at_va va) (sym (eqb-true f slot.frame.0 e)) ∙ none)))) (λ _. refl)
+
+pub epa_state : (d : Parts) (f : ℕ) (page : Page) (perm : Perm) → AreVaPages d.epc d.va → Takes d.epc f
+    → state_of (record d { epc = with_page d.epc f page kinds.Va perm; va = with_va_page d.va f }) ≡ after_epa (state_of d) f
+epa_state d f page perm pages k =
+    let v = holding page kinds.Va perm in
+    let none = no_page d.epc d.va f pages k in
+    let entries : (n : ℕ) → entry_at (with_page d.epc f page kinds.Va perm) n ≡ cond (f == n) v (entry_at d.epc n) = λ n. entry_at-with_entry d.epc f n v k.low in
+    λ i. record (after_epa (state_of d) f) {
       frames = length-with_entry d.epc f v i;
-      content = λ n. put_content d.epc (with_page d.epc f page kind perm) f page kind perm k entries n i;
-      is_blocked = λ n. put_blocked d.epc (with_page d.epc f page kind perm) f page kind perm k entries n i;
-      is_sealing = λ n. put_sealing d.epc (with_page d.epc f page kind perm) f page kind perm k entries n i;
+      content = λ n. put_content d.epc (with_page d.epc f page kinds.Va perm) f page kinds.Va perm k entries n i;
+      blocked = λ n. put_blocked d.epc (with_page d.epc f page kinds.Va perm) f page kinds.Va perm k entries n i;
+      is_sealing = λ n. put_sealing d.epc (with_page d.epc f page kinds.Va perm) f page kinds.Va perm k entries n i;
       words = λ n. words_at-with_entry d.epc f n v i;
+      version_in = λ slot. version_kept d.va f slot none i;
+      is_slot_busy = λ slot. busy_kept d.va f slot none i;
     }
 
 -- ---- create
@@ -120,7 +153,7 @@ create_state d e f base size begun k new is there =
     λ i. record (after_create (state_of d) e f base size begun) {
       frames = length-with_secs d.epc f e i;
       content = λ n. put_content d.epc (with_secs d.epc f e) f (page_at e 0) kinds.Secs no_perm k.takes entries n i;
-      is_blocked = λ n. put_blocked d.epc (with_secs d.epc f e) f (page_at e 0) kinds.Secs no_perm k.takes entries n i;
+      blocked = λ n. put_blocked d.epc (with_secs d.epc f e) f (page_at e 0) kinds.Secs no_perm k.takes entries n i;
       is_sealing = λ n. put_sealing d.epc (with_secs d.epc f e) f (page_at e 0) kinds.Secs no_perm k.takes entries n i;
       words = λ n. words_at-with_secs d.epc f e n i;
       enclaves = λ n. enclave_column d.secs e (created e base size) is.places k.first k.last enclave_of n i;
@@ -128,6 +161,10 @@ create_state d e f base size begun k new is there =
       is_busy = λ q. enclave_kept d.secs e (created e base size) is.places k.first k.last (λ o. is_busy_in o q.number) q.enclave (like (page_count size) q.number false ∙ ap (λ o. is_busy_in o q.number) (sym new)) i;
       measure = λ n. measure_set d.measures e n begun there i;
     }
+
+-- the frame of a new SECS held no version array page, and holds none
+pub create_pages : (d : Parts) (f e : ℕ) → AreVaPages d.epc d.va → Takes d.epc f → AreVaPages (with_secs d.epc f e) d.va
+create_pages d f e pages k = pages-with_entry d.epc d.va f _ pages k.low (sym (ap table.is_va k.free))
 
 -- an enclave that is not there
 pub no_enclave : (o : Option SecsState) → is_some (enclave_of o) ≡ false → o ≡ None
@@ -162,6 +199,19 @@ holds_added g kinds.Reg perm init h = refl
 holds_added g kinds.Secs perm init h = cc
 holds_added g kinds.Va perm init h = cc
 
+-- a page that can be added is a TCS or a REG page
+pub paged : (kind : Kind) (init : PageInit) → table.is_addable kind init ≡ true → IsPaged kind
+paged kinds.Tcs init h = tt
+paged kinds.Reg init h = tt
+paged kinds.Secs init h = cc
+paged kinds.Va init h = cc
+
+-- the frame of a new page held no version array page, and holds none
+pub add_pages : (d : Parts) (g : Page) (f : ℕ) (kind : Kind) (perm : Perm) (init : PageInit) (x : SecsState) → AreVaPages d.epc d.va → Adds d.epc f g.number kind init x → AreVaPages (with_added d.epc f g kind perm init) d.va
+add_pages d g f kind perm init x pages k =
+    pages-with_words (with_page d.epc f g kind perm) d.va f (first_words init)
+    (pages-with_entry d.epc d.va f (holding g kind perm) pages k.takes.low (ap table.is_va (holds_added g kind perm init k.addable) ∙ sym (ap table.is_va k.takes.free)))
+
 pub added_own : (e number : ℕ) (kind : Kind) (perm : Perm) (x : SecsState) → IsSecsOf e x → IsSecsOf e (with_resident x number kind perm)
 added_own e number kind perm x own = record { number = own.number; sound = record { lawful = own.sound.lawful; pages = rw length-set own.sound.pages; busy = own.sound.busy } }
 
@@ -174,7 +224,7 @@ add_state d g f kind perm init x longer k found is there =
     λ i. record (after_add (state_of d) g f kind perm init longer) {
       frames = length-with_added d.epc f g kind perm init i;
       content = λ n. (put_content d.epc (with_added d.epc f g kind perm init) f g kind perm k.takes entries n ∙ ap (λ c. cond (f == n) c (held (entry_at d.epc n))) (holds_added g kind perm init k.addable)) i;
-      is_blocked = λ n. put_blocked d.epc (with_added d.epc f g kind perm init) f g kind perm k.takes entries n i;
+      blocked = λ n. put_blocked d.epc (with_added d.epc f g kind perm init) f g kind perm k.takes entries n i;
       is_sealing = λ n. put_sealing d.epc (with_added d.epc f g kind perm init) f g kind perm k.takes entries n i;
       words = λ n. words_at-with_added d.epc f n g kind perm init k.takes.low i;
       enclaves = λ n. enclave_kept d.secs g.enclave y is.places number.0 number.1 enclave_of n (ap enclave_of (sym found)) i;

@@ -71,8 +71,8 @@ once-put past f c none once m n g =
     cond_both (f == n) c (content past n) (λ v. is_page v g ≡ true → m ≡ n)
     (λ _ at. absurd (false≢true (sym (none g) ∙ at))) (λ _. once m n g here))
 
-pub blocked-put : (s : State) (past : List Entry) → Stands s past → (f n : ℕ) → cond (f == n) false (s.is_blocked n) ≡ (not (f == n) && is_blocked past n)
-blocked-put s past h f n = elim (f == n) as (λ b. cond b false (s.is_blocked n) ≡ (not b && is_blocked past n)) [ true ↦ refl | false ↦ h.is_blocked n ]
+pub blocked-put : (s : State) (past : List Entry) → Stands s past → (f n : ℕ) → is_some (cond (f == n) None (s.blocked n)) ≡ (not (f == n) && is_blocked past n)
+blocked-put s past h f n = elim (f == n) as (λ b. is_some (cond b None (s.blocked n)) ≡ (not b && is_blocked past n)) [ true ↦ refl | false ↦ h.is_blocked n ]
 
 -- ---- epa
 

@@ -8,14 +8,16 @@ use Rattle.sgx_types.specs.declared.entries.PageInit.{PageInit}
 use Rattle.sgx_types.specs.declared.names.Frame.{Frame}
 use Rattle.sgx_types.specs.declared.names.Page.{Page}
 use Rattle.sgx_types.specs.declared.names.Kind.{Kind}
+use Rattle.sgx_types.specs.declared.names.Kind.TheVariants as kinds
 use Rattle.sgx_types.specs.declared.names.Perm.{Perm}
 use Rattle.sgx_types.specs.declared.refusals.Refusal.{Refusal}
 use Rattle.sgx_types.specs.declared.refusals.Refusal.TheVariants as why
 use Rattle.sgx_types.specs.Frames.{Content, Free, IsVa, SecsOf, Holds, IsLoading, enclave_in, page_at}
 use Rattle.sgx_types.specs.Table.{EnclaveSight, add_row, extend_row, init_row, first_of_row}
 use Rattle.sgx_types.specs.Flat.{enclave_sight_of}
-use Rattle.epcm_entry.specs.Epc.{EpcFrame, entry_at, bytes_at}
+use Rattle.epcm_entry.specs.Epc.{EpcFrame, entry_at, bytes_at, with_page}
 use Rattle.epcm_entry.specs.Sights.{held, sight_in}
+use Rattle.epcm_entry.proofs.Columns.{length-with_entry}
 use Rattle.secs_state.specs.Secs.{SecsState, added_at}
 use Rattle.secs_state.specs.Table.{enclave_at, with_enclave}
 use Rattle.secs_state.specs.Sights.{sight_of}
@@ -24,13 +26,19 @@ use Rattle.measure_log.specs.Blocks.{eextend_block, chunk_of}
 use Rattle.measure_log.specs.Measure.{HoldsLog, measurement_of}
 use Rattle.measure_log.specs.Rule.{page_held, IsOther}
 use Rattle.enclave_build.specs.Build.{Appends, with_added, with_resident, block_in, chunk_block, is_expected, measured_row, unless_measured}
-use Rattle.paging_machine.specs.State.{State, row_of, is_closed, after_add}
+use Rattle.version_array.specs.declared.va_page.VaSlot.{VaSlot}
+use Rattle.version_array.specs.Slots.{with_page as with_va_page}
+use Rattle.version_array.proofs.TableLaws.{IsVaTable-with_page}
+use Rattle.evict_reload.proofs.PageLaws.{pages-with_va}
+use Rattle.paging_machine.specs.declared.machine.Machine.TheInside.{Inside}
+use Rattle.paging_machine.specs.State.{State, row_of, is_closed, after_epa, after_add}
 use Rattle.paging_machine.specs.Parts.{Parts, enclave_of, added_in, state_of}
-use Rattle.paging_machine.specs.Whole.{IsTable}
+use Rattle.paging_machine.specs.Whole.{IsTable, IsWhole, parts_of}
 use Rattle.paging_machine.specs.Steps.{IsStep, IsExtended, IsJudged, refused_by}
 use Rattle.paging_machine.proofs.Columns.{get_or-default, numbered}
-use Rattle.paging_machine.proofs.BuildBridge.{adds, add_state, extend_state}
-use Rattle.paging_machine.proofs.Wholes.{done_step, refused_step}
+use Rattle.paging_machine.proofs.Keeping.{kept_put}
+use Rattle.paging_machine.proofs.BuildBridge.{Takes, epa_state, adds, add_state, extend_state}
+use Rattle.paging_machine.proofs.Wholes.{Leaves, kept_of, done_step, refused_step}
 
 -- an enclave that is there has a place for its measurement
 pub measure_place : (d : Parts) (e : ℕ) (x : SecsState) → IsTable d.secs → enclave_at d.secs e ≡ Some x → length d.measures ≡ 9 → e < length d.measures
@@ -39,6 +47,26 @@ measure_place d e x table found nine = let number = numbered d.secs e x table.pl
 -- a measurement that was read from its place
 pub measure_there : (measures : List (Option Measure)) (e : ℕ) (read : Option Measure) (y : Measure) → e < length measures → read ≡ get_or measures e read → Some y ≡ read → get_or measures e None ≡ Some y
 measure_there measures e read y low at is = get_or-default measures e None read low ∙ sym at ∙ sym is
+
+-- ---- epa
+
+-- a version array page is put into a frame, and into the table
+pub epa_leaves : (m : Inside) → IsWhole m → (f : ℕ) (page : Page) (perm : Perm) (epc : List EpcFrame) (va : List (Option (List VaSlot))) → Takes m.epc f → epc ≡ with_page m.epc f page kinds.Va perm → va ≡ with_va_page m.va f
+    → Leaves (record (parts_of m) { epc = epc; va = va }) (after_epa (state_of (parts_of m)) f)
+epa_leaves m h f page perm epc va k put paged =
+    rw (put, paged)
+    (record {
+      state = epa_state (parts_of m) f page perm h.pages k;
+      kept = kept_put (state_of (parts_of m)) f IsVa (λ g kind perm at. cc at) (λ at. cc at) k.free (kept_of m h);
+      processors = h.processors;
+      places = h.places;
+      table = h.table;
+      track_places = h.track_places;
+      tracked = h.tracked;
+      slots = IsVaTable-with_page m.va f h.slots;
+      pages = pages-with_va m.epc m.va f page perm h.pages k.low;
+      start_places = h.start_places ∙ sym (length-with_entry m.epc f _);
+    })
 
 -- ---- add
 

@@ -1,5 +1,5 @@
 -- What the rows that take a processor into an enclave and out of it leave of the machine.
-use Rattle.std.proofs.Common.{◌≡◌, ℕ, ◌+◌, ◌-◌, ◌<◌, ◌≤◌, ◌==◌, true, false, cond, refl, sym, ap, ◌∙◌, ◌⊎◌, inl, inr, Some, None, List, [], length, set, is_some, length-set}
+use Rattle.std.proofs.Common.{◌≡◌, ℕ, ◌+◌, ◌-◌, ◌<◌, ◌≤◌, ◌==◌, true, false, cond, refl, sym, ap, ◌∙◌, arith, ◌⊎◌, inl, inr, Some, None, List, [], length, set, is_some, length-set}
 use Rattle.std.specs.Prelude.{slice_set}
 use Rattle.std.proofs.lemmas.Bool.{cond_both, cases_lt, leb-false}
 use Rattle.std.proofs.lemmas.List.Elements.{All-nil}
@@ -27,6 +27,9 @@ use Rattle.entry_exit.specs.Entry.{enter_sight as seen_sight}
 use Rattle.paging_machine.specs.declared.machine.Machine.TheInside.{Inside}
 use Rattle.paging_machine.specs.State.{State, enter_sight, with_inside, rewritten, cssa_in, after_enter, after_resume, after_exit, after_aex}
 use Rattle.paging_machine.specs.State.{with_saved as state_saved}
+use Rattle.evict_reload.specs.Sights.{AreVaPages}
+use Rattle.evict_reload.proofs.PageLaws.{pages-with_words}
+use Rattle.paging_machine.specs.Guarded.{IsGuarded}
 use Rattle.paging_machine.specs.Stands.{IsUsable, IsSound}
 use Rattle.paging_machine.specs.Parts.{Parts, cpu_at, enclave_of, is_busy_in, seat_of_mode, state_of}
 use Rattle.paging_machine.specs.Whole.{IsWithin, IsWhole, parts_of}
@@ -35,6 +38,7 @@ use Rattle.paging_machine.proofs.Carry.{seat_at}
 use Rattle.paging_machine.proofs.Columns.{numbered, table_written}
 use Rattle.paging_machine.proofs.EntryLaws.{enters, enter_saves, enter_saved, resume_saves, resume_saved, sound-enter, sound-resume}
 use Rattle.paging_machine.proofs.ExitLaws.{sound-exit, sound-aex}
+use Rattle.paging_machine.proofs.GuardLaws.{guarded_enter, guarded_resume, guarded_exit, guarded_aex}
 use Rattle.paging_machine.proofs.Keeping.{IsKept}
 use Rattle.paging_machine.proofs.ProcessorBridge.{is_some-mode, free_past, page_added, added_there, seat_added, words_state, inside_state, exit_state, marked_own}
 use Rattle.paging_machine.proofs.TrackLaws.{tracked_entered, tracked_left, counted}
@@ -45,19 +49,20 @@ use Rattle.paging_machine.proofs.Wholes.{Leaves, kept_of}
 emptied : (s : State) (p : ℕ) → IsWithin s → (q : ℕ) → LeadsBelow (cond (p == q) [] (s.cache q)) s.frames
 emptied s p h q = cond_both (p == q) [] (s.cache q) (λ xs. LeadsBelow xs s.frames) (λ _. All-nil (λ (t : Translation). t.frame.0 < s.frames)) (λ _. h q)
 
-kept_enter : (s : State) (p : ℕ) (seat : Seat) → first_of_row (enter_row seat.enclave seat.tcs (enter_sight s p seat)) ≡ None → IsKept s → IsKept (after_enter s p seat)
-kept_enter s p seat allowed h = record { measured = h.measured; framed = h.framed; within = emptied s p h.within; sound = sound-enter s p seat allowed h.sound }
+kept_enter : (s : State) (p : ℕ) (seat : Seat) → p < 16 → first_of_row (enter_row seat.enclave seat.tcs (enter_sight s p seat)) ≡ None → IsKept s → IsKept (after_enter s p seat)
+kept_enter s p seat few allowed h = record { measured = h.measured; framed = h.framed; within = emptied s p h.within; sound = sound-enter s p seat allowed h.sound; guarded = guarded_enter s p seat allowed few h.guarded }
 
-kept_resume : (s : State) (p : ℕ) (seat : Seat) → first_of_row (resume_row seat.enclave seat.tcs (enter_sight s p seat)) ≡ None → IsKept s → IsKept (after_resume s p seat)
-kept_resume s p seat allowed h = record { measured = h.measured; framed = h.framed; within = emptied s p h.within; sound = sound-resume s p seat allowed h.sound }
+kept_resume : (s : State) (p : ℕ) (seat : Seat) → p < 16 → first_of_row (resume_row seat.enclave seat.tcs (enter_sight s p seat)) ≡ None → IsKept s → IsKept (after_resume s p seat)
+kept_resume s p seat few allowed h = record { measured = h.measured; framed = h.framed; within = emptied s p h.within; sound = sound-resume s p seat allowed h.sound; guarded = guarded_resume s p seat allowed few h.guarded }
 
 kept_exit : (s : State) (p : ℕ) → IsKept s → IsKept (after_exit s p)
-kept_exit s p h = record { measured = h.measured; framed = h.framed; within = emptied s p h.within; sound = sound-exit s p h.sound }
+kept_exit s p h = record { measured = h.measured; framed = h.framed; within = emptied s p h.within; sound = sound-exit s p h.sound; guarded = guarded_exit s p h.guarded }
 
 kept_aex : (s : State) (p : ℕ) (seat : Seat) → s.inside p ≡ Some seat → IsKept s → IsKept (after_exit (state_saved s (s.acc p) (Some seat)) p)
 kept_aex s p seat is h =
     let sound : IsSound (after_exit (state_saved s (s.acc p) (Some seat)) p) = rw is at (sound-aex s p seat is h.sound) in
-    record { measured = h.measured; framed = h.framed; within = emptied s p h.within; sound = sound }
+    let guarded : IsGuarded (after_exit (state_saved s (s.acc p) (Some seat)) p) = rw is at (guarded_aex s p h.guarded) in
+    record { measured = h.measured; framed = h.framed; within = emptied s p h.within; sound = sound; guarded = guarded }
 
 -- ---- where a processor is inside
 
@@ -124,39 +129,48 @@ module _ (m : Inside) (h : IsWhole m) (p e : ℕ) (x : SecsState) (t : Tracking)
   number : (1 ≤ e) × (e ≤ 8)
   number = numbered d.secs e x h.table.places found
 
+  few : p < 16
+  few = omega (arith, low, h.processors)
+
   ours : x.enclave ≡ e
   ours = (h.table.own e x found).number
 
   -- a processor comes inside, and the words of frames may change with it
-  entered_leaves : (epc : List EpcFrame) (s : State) (tcs : ℕ) (tf sf : Frame) (acc : ℕ) (x' : SecsState) (t' : Tracking) (v' : Processor) → state_of (record d { epc = epc }) ≡ s → IsKept (with_inside s p (seat_of e tcs tf.0 sf.0) acc)
+  entered_leaves : (epc : List EpcFrame) (s : State) (tcs : ℕ) (tf sf : Frame) (acc : ℕ) (x' : SecsState) (t' : Tracking) (v' : Processor) → state_of (record d { epc = epc }) ≡ s → s.frames ≡ length d.epc → AreVaPages epc d.va → IsKept (with_inside s p (seat_of e tcs tf.0 sf.0) acc)
       → is_inside (cpu_at d p).mode ≡ false → is_some (added_at x tcs) ≡ true → x' ≡ with_busy x tcs true → t' ≡ entered t → v' ≡ with_entered x.enclave tcs tf sf t.epoch acc
       → Leaves (parts_written epc x' t' v') (with_inside s p (seat_of e tcs tf.0 sf.0) acc)
-  entered_leaves epc s tcs tf sf acc x' t' v' words kept out added new_secs new_track new_cpu =
+  entered_leaves epc s tcs tf sf acc x' t' v' words frames pages kept out added new_secs new_track new_cpu =
       let cpu : v' ≡ with_entered e tcs tf sf t.epoch acc = new_cpu ∙ ap (λ n. with_entered n tcs tf sf t.epoch acc) ours in
       rw (new_secs, new_track, cpu)
       (record {
-        state = inside_state (record d { epc = epc }) p e tcs tf sf t.epoch acc x low h.table found added ∙ ap (λ s. with_inside s p (seat_of e tcs tf.0 sf.0) acc) words;
+        state = inside_state (record d { epc = epc }) p e tcs tf sf acc x t low h.track_places track h.table found added ∙ ap (λ s. with_inside s p (seat_of e tcs tf.0 sf.0) acc) words;
         kept = kept;
         processors = rw length-set h.processors;
         places = h.places;
         table = table_written d.secs e _ h.table.places number.0 number.1 h.table (marked_own e tcs x true (h.table.own e x found));
         track_places = length-with_track d.tracks e _ ∙ h.track_places;
         tracked = tracked_entered d.tracks d.cpus p e t _ h.track_places number.0 number.1 low track h.tracked tcs tf sf out refl;
+        slots = h.slots;
+        pages = pages;
+        start_places = h.start_places ∙ sym (ap (λ (s : State). s.frames) words ∙ frames);
       })
 
   -- a processor leaves, and the words of frames may change with it
-  left_leaves : (epc : List EpcFrame) (s : State) (tcs : ℕ) (tf sf : Frame) (epoch : ℕ) (x' : SecsState) (t' : Tracking) (v' : Processor) → state_of (record d { epc = epc }) ≡ s → IsKept (after_exit s p)
+  left_leaves : (epc : List EpcFrame) (s : State) (tcs : ℕ) (tf sf : Frame) (epoch : ℕ) (x' : SecsState) (t' : Tracking) (v' : Processor) → state_of (record d { epc = epc }) ≡ s → s.frames ≡ length d.epc → AreVaPages epc d.va → IsKept (after_exit s p)
       → (cpu_at d p).mode ≡ modes.Inside e tcs tf sf epoch → is_some (added_at x tcs) ≡ true → x' ≡ with_busy x tcs false → t' ≡ left t epoch → v' ≡ outside (cpu_at d p) → Leaves (parts_written epc x' t' v') (after_exit s p)
-  left_leaves epc s tcs tf sf epoch x' t' v' words kept was added new_secs new_track new_cpu =
+  left_leaves epc s tcs tf sf epoch x' t' v' words frames pages kept was added new_secs new_track new_cpu =
       rw (new_secs, new_track, new_cpu)
       (record {
-        state = exit_state (record d { epc = epc }) p e tcs tf sf epoch x was low h.table found added ∙ ap (λ s. after_exit s p) words;
+        state = exit_state (record d { epc = epc }) p e tcs tf sf epoch x t was low h.track_places track h.table found added ∙ ap (λ s. after_exit s p) words;
         kept = kept;
         processors = rw length-set h.processors;
         places = h.places;
         table = table_written d.secs e _ h.table.places number.0 number.1 h.table (marked_own e tcs x false (h.table.own e x found));
         track_places = length-with_track d.tracks e _ ∙ h.track_places;
         tracked = tracked_left d.tracks d.cpus p e t _ h.track_places number.0 number.1 low track h.tracked tcs tf sf epoch was refl (counted d.tracks d.cpus p e tcs tf sf epoch t low track was h.tracked);
+        slots = h.slots;
+        pages = pages;
+        start_places = h.start_places ∙ sym (ap (λ (s : State). s.frames) words ∙ frames);
       })
 
   module _ (v : Processor) (there : v ≡ cpu_at d p) (tcs : ℕ) (tf sf : Frame) where
@@ -186,7 +200,7 @@ module _ (m : Inside) (h : IsWhole m) (p e : ℕ) (x : SecsState) (t : Tracking)
         let f : TcsSight = fields_at d.epc tf.0 in
         let k = enters e tcs (enter_sight (state_of d) p seat) (enter_saves f) (enter_saved f) allowed in
         let added = added_there d.secs e tcs x (page_added (state_of d) h.framed tf.0 (page_at e tcs) (not_false _ k.tcs_page)) found in
-        entered_leaves d.epc (state_of d) tcs tf sf f.cssa x' t' v' refl (kept_enter (state_of d) p seat allowed (kept_of m h)) (sym (is_some-mode (cpu_at d p).mode) ∙ k.outside) added
+        entered_leaves d.epc (state_of d) tcs tf sf f.cssa x' t' v' refl refl h.pages (kept_enter (state_of d) p seat few allowed (kept_of m h)) (sym (is_some-mode (cpu_at d p).mode) ∙ k.outside) added
 
     -- what `resume` leaves
     pub resume_leaves : (epc : List EpcFrame) (x' : SecsState) (t' : Tracking) (v' : Processor) → None ≡ first_of_row (resume_row x.enclave tcs (seen_sight d.epc x v.mode tcs tf.0 sf.0)) → epc ≡ with_resumed d.epc tf.0 → x' ≡ with_busy x tcs true
@@ -200,7 +214,7 @@ module _ (m : Inside) (h : IsWhole m) (p e : ℕ) (x : SecsState) (t : Tracking)
         let added = added_there d.secs e tcs x (page_added s h.framed tf.0 (page_at e tcs) (not_false _ k.tcs_page)) found in
         let change : List ℕ → List ℕ = λ words. with_cssa words (cssa_in s tf.0 - 1) in
         let words : state_of (record d { epc = epc }) ≡ record s { words = rewritten s.words tf.0 change } = ap (λ epc. state_of (record d { epc = epc })) new_epc ∙ words_state d tf.0 change (leb-false _ _ k.tcs_within) in
-        entered_leaves epc (record s { words = rewritten s.words tf.0 change }) tcs tf sf (word_at d.epc sf.0 0) x' t' v' words (kept_resume s p seat allowed (kept_of m h)) (sym (is_some-mode (cpu_at d p).mode) ∙ k.outside) added
+        entered_leaves epc (record s { words = rewritten s.words tf.0 change }) tcs tf sf (word_at d.epc sf.0 0) x' t' v' words refl (rw new_epc (pages-with_words d.epc d.va tf.0 _ h.pages)) (kept_resume s p seat few allowed (kept_of m h)) (sym (is_some-mode (cpu_at d p).mode) ∙ k.outside) added
 
   module _ (v : Processor) (there : v ≡ cpu_at d p) (k : IsInsideAt (cpu_at d p).mode e) where
     abbrev mine : Seat
@@ -212,7 +226,7 @@ module _ (m : Inside) (h : IsWhole m) (p e : ℕ) (x : SecsState) (t : Tracking)
     -- what `exit` leaves
     pub exit_leaves : (x' : SecsState) (t' : Tracking) (v' : Processor) → x' ≡ with_tcs_left x v.mode → t' ≡ with_left t v.mode → v' ≡ outside v → Leaves (parts_written d.epc x' t' v') (after_exit (state_of d) p)
     exit_leaves x' t' v' new_secs new_track new_cpu =
-        left_leaves d.epc (state_of d) k.tcs k.tcs_frame k.ssa_frame k.epoch x' t' v' refl (kept_exit (state_of d) p (kept_of m h)) k.is (seat_tcs m h p e x k found) (new_secs ∙ ap (with_tcs_left x) mode) (new_track ∙ ap (with_left t) mode)
+        left_leaves d.epc (state_of d) k.tcs k.tcs_frame k.ssa_frame k.epoch x' t' v' refl refl h.pages (kept_exit (state_of d) p (kept_of m h)) k.is (seat_tcs m h p e x k found) (new_secs ∙ ap (with_tcs_left x) mode) (new_track ∙ ap (with_left t) mode)
         (new_cpu ∙ ap outside there)
 
     -- what `aex` leaves
@@ -237,5 +251,5 @@ module _ (m : Inside) (h : IsWhole m) (p e : ℕ) (x : SecsState) (t : Tracking)
         ap (λ epc. state_of (record d { epc = epc })) epc_is ∙ two ∙ ap (λ (s' : State). record s' { words = rewritten s'.words tf change }) one in
         let after : after_exit (state_saved s acc (Some mine)) p ≡ after_aex s p = ap (λ o. after_exit (state_saved s acc o) p) (sym is) in
         rw (← after)
-        (left_leaves epc (state_saved s acc (Some mine)) k.tcs k.tcs_frame k.ssa_frame k.epoch x' t' v' words (kept_aex s p mine is (kept_of m h)) k.is (seat_tcs m h p e x k found) (new_secs ∙ ap (with_tcs_left x) mode)
+        (left_leaves epc (state_saved s acc (Some mine)) k.tcs k.tcs_frame k.ssa_frame k.epoch x' t' v' words refl (rw epc_is (pages-with_words mid.epc d.va tf _ (pages-with_words d.epc d.va sf _ h.pages))) (kept_aex s p mine is (kept_of m h)) k.is (seat_tcs m h p e x k found) (new_secs ∙ ap (with_tcs_left x) mode)
         (new_track ∙ ap (with_left t) mode) (new_cpu ∙ ap outside there))

@@ -1,5 +1,5 @@
 -- A machine that has done nothing yet stands for no entry.
-use Rattle.std.proofs.Common.{ℕ, zero, suc, ◌≡◌, ◌==◌, ◌-◌, ◌≤◌, ◌+◌, refl, sym, ap, subst, ◌∙◌, true, false, cond, mul-zero, ◌<◌, List, [], ◌∷◌, ◌++◌, Option, Some, None, length, replicate, get_or, is_some}
+use Rattle.std.proofs.Common.{ℕ, zero, suc, ◌≡◌, ◌==◌, ◌-◌, ◌≤◌, ◌+◌, refl, sym, ap, subst, ◌∙◌, true, false, cond, mul-zero, ◌<◌, List, [], ◌∷◌, ◌++◌, Option, Some, None, length, replicate, get_or}
 use Rattle.std.specs.Prelude.{Bool, count_by}
 use Rattle.std.proofs.lemmas.Bool.{cond_both}
 use Rattle.std.proofs.lemmas.List.{length-replicate, replicate-append-replicate}
@@ -16,12 +16,21 @@ use Rattle.track_epoch.specs.Tracking.{Tracking, starting_at}
 use Rattle.measure_log.specs.declared.measure.Measure.{Measure}
 use Rattle.secs_state.specs.Secs.{SecsState}
 use Rattle.secs_state.specs.Table.{empty_table, enclave_at}
+use Rattle.track_epoch.specs.Tracks.{track_of}
+use Rattle.version_array.specs.Slots.{IsVaTable}
+use Rattle.version_array.proofs.TableLaws.{IsVaTable-none}
+use Rattle.evict_reload.specs.Sights.{AreVaPages}
+use Rattle.evict_reload.proofs.PageLaws.{pages-none}
+use Rattle.paging_machine.specs.declared.starts.Start as starts
+use Rattle.paging_machine.specs.Guarded.{IsGuarded}
+use Rattle.paging_machine.specs.Shape.{making_of, Follows}
 use Rattle.paging_machine.specs.State.{fresh}
 use Rattle.paging_machine.specs.Stands.{IsSound, Upholds}
-use Rattle.paging_machine.specs.Parts.{Parts, made, idle, is_noted, state_of, enclave_of, added_in, is_busy_in, seat_of_mode}
+use Rattle.paging_machine.specs.Parts.{Parts, made, idle, is_noted, state_of, enclave_of, added_in, is_busy_in, seat_of_mode, noted_by, epoch_from, start_of}
 use Rattle.paging_machine.specs.Whole.{IsTable, IsMeasured, IsFramed, IsWithin, IsTracked, IsWhole, parts_of}
 use Rattle.paging_machine.specs.declared.machine.Machine.TheInside.{Inside}
 use Rattle.paging_machine.proofs.Columns.{like}
+use Rattle.paging_machine.proofs.FollowLaws.{fresh_follows}
 
 -- one item more
 pub replicate_more : {X : Type 0} (n : ℕ) (x : X) → replicate n x ++ x ∷ [] ≡ replicate (n + 1) x
@@ -30,11 +39,21 @@ replicate_more n x = replicate-append-replicate n 1 x
 no_enclave : (e : ℕ) → enclave_at empty_table e ≡ None
 no_enclave e = cond_both (e == 0) None (get_or empty_table (e - 1) None) (λ (v : Option SecsState). v ≡ None) (λ _. refl) (λ _. like {X = Option SecsState} 8 (e - 1) None)
 
-pub made_state : (frames cpus : ℕ) (key : List ℕ) (epoch version : ℕ) → state_of (made frames cpus key epoch version) ≡ fresh frames
+-- each enclave is at the first epoch
+epochs_from : (n k epoch : ℕ) → epoch_from epoch (slice_get (replicate n (starting_at epoch)) k) ≡ epoch
+epochs_from zero k epoch = refl
+epochs_from (suc n) zero epoch = refl
+epochs_from (suc n) (suc k) epoch = epochs_from n k epoch
+
+first_epochs : (epoch e : ℕ) → epoch_from epoch (track_of (replicate 8 (starting_at epoch)) e) ≡ epoch
+first_epochs epoch e =
+    cond_both (e == 0) None (slice_get (replicate 8 (starting_at epoch)) (e - 1)) (λ (o : Option Tracking). epoch_from epoch o ≡ epoch) (λ _. refl) (λ _. epochs_from 8 (e - 1) epoch)
+
+pub made_state : (frames cpus : ℕ) (key : List ℕ) (epoch version : ℕ) → state_of (made frames cpus key epoch version) ≡ fresh frames cpus key epoch version
 made_state frames cpus key epoch version = λ i. record {
   frames = length-replicate frames free_frame i;
   content = λ n. ap (λ (x : EpcFrame). held x.entry) (like frames n free_frame) i;
-  is_blocked = λ n. ap (λ (x : EpcFrame). is_some (block_of x.entry)) (like frames n free_frame) i;
+  blocked = λ n. ap (λ (x : EpcFrame). block_of x.entry) (like frames n free_frame) i;
   is_sealing = λ n. ap (λ (x : EpcFrame). goes_out x.entry) (like frames n free_frame) i;
   words = λ n. ap (λ (x : EpcFrame). x.words) (like frames n free_frame) i;
   enclaves = λ e. ap enclave_of (no_enclave e) i;
@@ -44,10 +63,20 @@ made_state frames cpus key epoch version = λ i. record {
   inside = λ p. ap (λ x. seat_of_mode x.mode) (like cpus p idle) i;
   acc = λ p. ap (λ x. x.acc) (like cpus p idle) i;
   cache = λ p. ap (λ x. x.cache) (like cpus p idle) i;
+  noted = λ p. ap (λ x. noted_by x.mode) (like cpus p idle) i;
+  epoch = λ e. first_epochs epoch e i;
+  version_in = λ slot. 0;
+  is_slot_busy = λ slot. false;
+  next_version = version;
+  start = λ n. ap start_of (like {X = Option starts.Start} frames n None) i;
+  cpus = length-replicate cpus idle i;
+  key = key;
+  first_epoch = epoch;
+  first_version = version;
 }
 
-pub fresh_upheld : (frames : ℕ) → Upholds (fresh frames) []
-fresh_upheld frames = record {
+pub fresh_upheld : (frames cpus : ℕ) (key : List ℕ) (epoch version : ℕ) → Upholds (fresh frames cpus key epoch version) []
+fresh_upheld frames cpus key epoch version = record {
   stands = record {
     content = λ n. refl;
     is_blocked = λ n. refl;
@@ -72,7 +101,10 @@ fresh_upheld frames = record {
 }
 
 pub made_upheld : (frames cpus : ℕ) (key : List ℕ) (epoch version : ℕ) → Upholds (state_of (made frames cpus key epoch version)) []
-made_upheld frames cpus key epoch version = rw (made_state frames cpus key epoch version) (fresh_upheld frames)
+made_upheld frames cpus key epoch version = rw (made_state frames cpus key epoch version) (fresh_upheld frames cpus key epoch version)
+
+pub made_follows : (d : Parts) (frames cpus : ℕ) (key : List ℕ) (epoch version : ℕ) → d ≡ made frames cpus key epoch version → Follows (making_of (state_of d)) (state_of d) []
+made_follows d frames cpus key epoch version is = subst (λ s. Follows (making_of s) s []) (sym (ap state_of is ∙ made_state frames cpus key epoch version)) (fresh_follows frames cpus key epoch version)
 
 zero_sized : length zero_words ≡ 512
 unfolding zero_words
@@ -80,6 +112,22 @@ zero_sized = length-replicate {A = ℕ} 512 0
 
 pub sound_made : (frames cpus : ℕ) (key : List ℕ) (epoch version : ℕ) → IsSound (state_of (made frames cpus key epoch version))
 sound_made frames cpus key epoch version = rw (made_state frames cpus key epoch version) (record { seated = λ p. tt; busy = λ p. tt; apart = λ p q one other is. cc is; sized = λ n. zero_sized })
+
+guarded_made : (frames cpus : ℕ) (key : List ℕ) (epoch version : ℕ) → IsGuarded (state_of (made frames cpus key epoch version))
+guarded_made frames cpus key epoch version =
+    subst IsGuarded (sym (made_state frames cpus key epoch version))
+    (record {
+      few = λ p past. refl;
+      noted = λ p. tt;
+      blocks = λ n. tt;
+      sealing = λ n is. cc;
+      taken = λ g is. cc is;
+      opened = λ n. tt;
+      written = λ n is. cc is;
+      loaded = λ n is. cc is;
+      kinds = λ g. tt;
+      goes_out = λ n is. cc is;
+    })
 
 -- .. and keeps what every machine keeps
 table_made : IsTable empty_table
@@ -123,5 +171,9 @@ whole_made m frames cpus key epoch version is few =
       within = subst (λ (d : Parts). IsWithin (state_of d)) (sym is) (within_made frames cpus key epoch version);
       track_places = ap (λ (d : Parts). length d.tracks) is ∙ length-replicate 8 (starting_at epoch);
       tracked = subst (λ (d : Parts). IsTracked d.tracks d.cpus) (sym is) (tracked_made cpus epoch);
+      slots = subst (λ (d : Parts). IsVaTable d.va) (sym is) IsVaTable-none;
+      pages = subst (λ (d : Parts). AreVaPages d.epc d.va) (sym is) (pages-none frames);
+      start_places = ap (λ (d : Parts). length d.starts) is ∙ length-replicate {A = Option starts.Start} frames None ∙ sym (ap (λ (d : Parts). length d.epc) is ∙ length-replicate frames free_frame);
       sound = subst (λ (d : Parts). IsSound (state_of d)) (sym is) (sound_made frames cpus key epoch version);
+      guarded = subst (λ (d : Parts). IsGuarded (state_of d)) (sym is) (guarded_made frames cpus key epoch version);
     }

@@ -21,9 +21,12 @@ use Rattle.cached_translations.specs.declared.processor.Mode.{Mode}
 use Rattle.cached_translations.specs.declared.processor.Mode.TheVariants as modes
 use Rattle.cached_translations.specs.Modes.{is_inside, enclave_inside}
 use Rattle.cached_translations.specs.Translations.{with_translation}
+use Rattle.track_epoch.specs.Tracking.{Tracking, entered, left}
+use Rattle.track_epoch.specs.Tracks.{track_of, with_track}
+use Rattle.track_epoch.proofs.TracksLaws.{track_of-with_track}
 use Rattle.entry_exit.specs.Entry.{IsAdded}
 use Rattle.paging_machine.specs.State.{State, seat_enclave, is_seated_by, rewritten, with_inside, with_acc, after_exit, after_fill}
-use Rattle.paging_machine.specs.Parts.{Parts, added_in, enclave_of, is_busy_in, idle, cpu_at, seat_of_mode, state_of}
+use Rattle.paging_machine.specs.Parts.{Parts, added_in, enclave_of, epoch_from, is_busy_in, idle, cpu_at, noted_by, seat_of_mode, state_of}
 use Rattle.paging_machine.specs.Whole.{IsSecsOf, IsTable, IsFramed}
 use Rattle.paging_machine.specs.Stands.{IsSound}
 use Rattle.paging_machine.proofs.Columns.{get_or-set_if, get_or-default, same_at, numbered, enclave_kept, page_column}
@@ -122,7 +125,7 @@ words_state d f change low =
     λ i. record (state_of d) {
       frames = length-with_words d.epc f ws i;
       content = λ n. ap held (entry_at-with_words d.epc f n ws) i;
-      is_blocked = λ n. ap (λ v. is_some (block_of v)) (entry_at-with_words d.epc f n ws) i;
+      blocked = λ n. ap block_of (entry_at-with_words d.epc f n ws) i;
       is_sealing = λ n. ap goes_out (entry_at-with_words d.epc f n ws) i;
       words = λ n. (words_at-with_words d.epc f n ws low ∙ by_frame n) i;
     }
@@ -130,12 +133,21 @@ words_state d f change low =
     by_frame : (n : ℕ) → cond (f == n) (change (words_at d.epc f)) (words_at d.epc n) ≡ rewritten (state_of d).words f change n
     by_frame n = cond_both (f == n) (change (words_at d.epc f)) (words_at d.epc n) (λ ws. ws ≡ cond (f == n) (change (words_at d.epc n)) (words_at d.epc n)) (λ e. rw e (ap (λ m. change (words_at d.epc m)) (eqb-true f n e))) (λ e. rw e refl)
 
+-- an enclave's track that is written, where its epoch stays: each enclave's epoch stays
+pub epoch_kept : (d : Parts) (e k : ℕ) (t t' : Tracking) → length d.tracks ≡ 8 → 1 ≤ e → e ≤ 8 → track_of d.tracks e ≡ Some t → t'.epoch ≡ t.epoch → epoch_from d.start_epoch (track_of (with_track d.tracks e t') k) ≡ (state_of d).epoch k
+epoch_kept d e k t t' eight first last track same =
+    ap (epoch_from d.start_epoch) (track_of-with_track d.tracks e k t' first (rw eight last))
+    ∙ cond_both (e == k) (Some t') (track_of d.tracks k) (λ o. epoch_from d.start_epoch o ≡ (state_of d).epoch k)
+    (λ is. same ∙ sym (ap (epoch_from d.start_epoch) (ap (track_of d.tracks) (sym (eqb-true e k is)) ∙ track))) (λ _. refl)
+
 -- a processor that comes inside
-pub inside_state : (d : Parts) (p enclave tcs : ℕ) (tf sf : Frame) (epoch acc : ℕ) (x : SecsState) → p < length d.cpus → IsTable d.secs → enclave_at d.secs enclave ≡ Some x → is_some (added_at x tcs) ≡ true
-    → state_of (record d { secs = with_enclave d.secs enclave (with_busy x tcs true); cpus = set d.cpus p (record { mode = modes.Inside enclave tcs tf sf epoch; acc = acc; cache = [] }) })
+pub inside_state : (d : Parts) (p enclave tcs : ℕ) (tf sf : Frame) (acc : ℕ) (x : SecsState) (t : Tracking) → p < length d.cpus → length d.tracks ≡ 8 → track_of d.tracks enclave ≡ Some t → IsTable d.secs → enclave_at d.secs enclave ≡ Some x
+    → is_some (added_at x tcs) ≡ true
+    → state_of (record d { secs = with_enclave d.secs enclave (with_busy x tcs true); tracks = with_track d.tracks enclave (entered t); cpus = set d.cpus p (record { mode = modes.Inside enclave tcs tf sf t.epoch; acc = acc; cache = [] }) })
     ≡ with_inside (state_of d) p (seat_of enclave tcs tf.0 sf.0) acc
-inside_state d p enclave tcs tf sf epoch acc x cpu_in table found added =
-    let v : Processor = record { mode = modes.Inside enclave tcs tf sf epoch; acc = acc; cache = [] } in
+inside_state d p enclave tcs tf sf acc x t cpu_in eight track table found added =
+    let v : Processor = record { mode = modes.Inside enclave tcs tf sf t.epoch; acc = acc; cache = [] } in
+    let number = numbered d.secs enclave x table.places found in
     λ i. record (with_inside (state_of d) p (seat_of enclave tcs tf.0 sf.0) acc) {
       enclaves = λ k. marked_enclaves d enclave tcs x true table found added k i;
       added = λ q. marked_added d enclave tcs x true table found added q i;
@@ -143,14 +155,19 @@ inside_state d p enclave tcs tf sf epoch acc x cpu_in table found added =
       inside = λ q. cpu_column (λ v. seat_of_mode v.mode) d p q v cpu_in i;
       acc = λ q. cpu_column (λ v. v.acc) d p q v cpu_in i;
       cache = λ q. cpu_column (λ v. v.cache) d p q v cpu_in i;
+      noted = λ q. (cpu_column (λ v. noted_by v.mode) d p q v cpu_in ∙ ap (λ n. cond (p == q) n ((state_of d).noted q)) (sym (ap (epoch_from d.start_epoch) track))) i;
+      epoch = λ k. epoch_kept d enclave k t (entered t) eight number.0 number.1 track refl i;
+      cpus = length-set d.cpus p v i;
     }
 
 -- a processor that leaves
-pub exit_state : (d : Parts) (p enclave tcs : ℕ) (tf sf : Frame) (epoch : ℕ) (x : SecsState) → (cpu_at d p).mode ≡ modes.Inside enclave tcs tf sf epoch → p < length d.cpus → IsTable d.secs → enclave_at d.secs enclave ≡ Some x → is_some (added_at x tcs) ≡ true
-    → state_of (record d { secs = with_enclave d.secs enclave (with_busy x tcs false); cpus = set d.cpus p (record { mode = modes.Outside; acc = (cpu_at d p).acc; cache = [] }) })
+pub exit_state : (d : Parts) (p enclave tcs : ℕ) (tf sf : Frame) (epoch : ℕ) (x : SecsState) (t : Tracking) → (cpu_at d p).mode ≡ modes.Inside enclave tcs tf sf epoch → p < length d.cpus → length d.tracks ≡ 8 → track_of d.tracks enclave ≡ Some t
+    → IsTable d.secs → enclave_at d.secs enclave ≡ Some x → is_some (added_at x tcs) ≡ true
+    → state_of (record d { secs = with_enclave d.secs enclave (with_busy x tcs false); tracks = with_track d.tracks enclave (left t epoch); cpus = set d.cpus p (record { mode = modes.Outside; acc = (cpu_at d p).acc; cache = [] }) })
     ≡ after_exit (state_of d) p
-exit_state d p enclave tcs tf sf epoch x is cpu_in table found added =
+exit_state d p enclave tcs tf sf epoch x t is cpu_in eight track table found added =
     let v : Processor = record { mode = modes.Outside; acc = (cpu_at d p).acc; cache = [] } in
+    let number = numbered d.secs enclave x table.places found in
     λ i. record (after_exit (state_of d) p) {
       enclaves = λ k. marked_enclaves d enclave tcs x false table found added k i;
       added = λ q. marked_added d enclave tcs x false table found added q i;
@@ -158,6 +175,9 @@ exit_state d p enclave tcs tf sf epoch x is cpu_in table found added =
       inside = λ q. cpu_column (λ v. seat_of_mode v.mode) d p q v cpu_in i;
       acc = λ q. (cpu_column (λ v. v.acc) d p q v cpu_in ∙ same_at (λ k. (cpu_at d k).acc) p q) i;
       cache = λ q. cpu_column (λ v. v.cache) d p q v cpu_in i;
+      noted = λ q. cpu_column (λ v. noted_by v.mode) d p q v cpu_in i;
+      epoch = λ k. epoch_kept d enclave k t (left t epoch) eight number.0 number.1 track refl i;
+      cpus = length-set d.cpus p v i;
     }
 
 pub fill_state : (d : Parts) (p : ℕ) (t : Translation) → p < length d.cpus
@@ -170,6 +190,8 @@ fill_state d p t cpu_in =
       cache = λ q. (cpu_column (λ x. x.cache) d p q v cpu_in
           ∙ cond_both (p == q) (with_translation (cpu_at d p).cache t) (cpu_at d q).cache (λ xs. xs ≡ cond (p == q) (with_translation (cpu_at d q).cache t) (cpu_at d q).cache)
           (λ e. rw e (ap (λ k. with_translation (cpu_at d k).cache t) (eqb-true p q e))) (λ e. rw e refl)) i;
+      noted = λ q. (cpu_column (λ x. noted_by x.mode) d p q v cpu_in ∙ same_at (λ k. noted_by (cpu_at d k).mode) p q) i;
+      cpus = length-set d.cpus p v i;
     }
 
 pub acc_state : (d : Parts) (p acc : ℕ) → p < length d.cpus → state_of (record d { cpus = set d.cpus p (record (cpu_at d p) { acc = acc }) }) ≡ with_acc (state_of d) p acc
@@ -179,4 +201,6 @@ acc_state d p acc cpu_in =
       inside = λ q. (cpu_column (λ x. seat_of_mode x.mode) d p q v cpu_in ∙ same_at (λ k. seat_of_mode (cpu_at d k).mode) p q) i;
       acc = λ q. cpu_column (λ x. x.acc) d p q v cpu_in i;
       cache = λ q. (cpu_column (λ x. x.cache) d p q v cpu_in ∙ same_at (λ k. (cpu_at d k).cache) p q) i;
+      noted = λ q. (cpu_column (λ x. noted_by x.mode) d p q v cpu_in ∙ same_at (λ k. noted_by (cpu_at d k).mode) p q) i;
+      cpus = length-set d.cpus p v i;
     }

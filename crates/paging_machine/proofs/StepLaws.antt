@@ -1,10 +1,10 @@
--- A step takes a state that stands for its entries, and keeps the rules, on to one that does.
+-- A step that moves no page takes a state that stands for its entries, and keeps the rules, on to one that does.
 use Rattle.std.proofs.Common.{ℕ, ◌≡◌, ◌≤◌, refl, ap, arith, ◌⊎◌, inl, inr, Option, Some, None, List, ◌∷◌, cond, Bool, true, false, MatchOption, unwrap_or, is_some}
 use Rattle.sgx_types.specs.declared.entries.Entry.{Entry}
 use Rattle.sgx_types.specs.declared.entries.Actor.{Actor}
 use Rattle.sgx_types.specs.declared.entries.Actor.TheVariants as actors
 use Rattle.sgx_types.specs.declared.entries.Action.{Action}
-use Rattle.sgx_types.specs.declared.entries.Action.TheVariants.{Epa, Create, Add, Extend, Init, Enter, Resume, Exit, Aex, Fill, Load, Store, Xadd, Set, Plus, Pf, OutLoad, OutStore}
+use Rattle.sgx_types.specs.declared.entries.Action.TheVariants.{Epa, Create, Add, Extend, Init, Enter, Resume, Exit, Aex, Fill, Load, Store, Xadd, Set, Plus, Pf, OutLoad, OutStore, Block, Track, EwbStart, EldStart}
 use Rattle.sgx_types.specs.declared.entries.Answer.TheVariants as answers
 use Rattle.sgx_types.specs.declared.names.Perm.{Perm}
 use Rattle.sgx_types.specs.declared.refusals.Refusal.{Refusal}
@@ -17,7 +17,7 @@ use Rattle.sgx_types.specs.Rules.{case_of}
 use Rattle.paging_machine.specs.State.{State, row_of, sight, seat_enclave, after_init}
 use Rattle.paging_machine.specs.Stands.{IsSound, Upholds}
 use Rattle.measure_log.specs.Rule.{log, measurement, IsExpected, IsOther}
-use Rattle.paging_machine.specs.Steps.{CanApply, IsStep, IsJudged, did_by, refused_by, no_perm}
+use Rattle.paging_machine.specs.Steps.{CanApply, MovesNoPage, IsStep, IsJudged, did_by, refused_by, no_perm}
 use Rattle.paging_machine.proofs.MeasureLaws.{finished_as, quiet}
 use Rattle.paging_machine.proofs.BuildLaws.{epa_upheld, create_upheld, add_upheld, init_upheld, is_some-sight}
 use Rattle.paging_machine.proofs.Tools.{not_false}
@@ -74,20 +74,20 @@ fill_perm s p number f allowed = by_perm (perm_in (s.content f)) (fill_some s p 
     by_perm None k = cc
     by_perm (Some x) k = refl
 
-pub step_upheld : (s t : State) (past : List Entry) (cpus : ℕ) (a : Actor) (action : Action) (e : Entry) → cpus ≤ 16 → CanApply cpus a action → IsSound s → IsMade s
+pub step_upheld : (s t : State) (past : List Entry) (cpus : ℕ) (a : Actor) (action : Action) (e : Entry) → cpus ≤ 16 → CanApply cpus a action → MovesNoPage action → IsSound s → IsMade s
     → IsStep s a action e t → Upholds s past → Upholds t (e ∷ past)
-step_upheld s t past cpus a (Epa f) e few can sound made k h =
+step_upheld s t past cpus a (Epa f) e few can moves sound made k h =
     step_cases _ _ _ e s t past (λ allowed done. rw (done.0, done.1) (epa_upheld s past a f allowed sound h)) (λ r refused. epa_refused s past a f r refused sound h) k
-step_upheld s t past cpus a (Create enclave f base size) e few can sound made k h =
+step_upheld s t past cpus a (Create enclave f base size) e few can moves sound made k h =
     step_cases _ _ _ e s t past (λ allowed done. rw (done.0, done.1.state) (create_upheld s past a enclave f base size done.1.begun allowed done.1.log sound h))
     (λ r refused. create_refused s past a enclave f base size r refused sound h) k
-step_upheld s t past cpus a (Add enclave number f kind perm init) e few can sound made k h =
+step_upheld s t past cpus a (Add enclave number f kind perm init) e few can moves sound made k h =
     step_cases _ _ _ e s t past (λ allowed done. rw (done.0, done.1.state) (add_upheld s past a enclave number f kind perm init done.1.longer allowed done.1.log sound h))
     (λ r refused. add_refused s past a enclave number f kind perm init r refused sound h) k
-step_upheld s t past cpus a (Extend f chunk) e few can sound made k h =
+step_upheld s t past cpus a (Extend f chunk) e few can moves sound made k h =
     step_cases _ _ _ e s t past (λ allowed done. rw (done.0, done.1.state) (extend_upheld s past a f chunk done.1.page done.1.longer allowed done.1.held done.1.log made sound h))
     (λ r refused. extend_refused s past a f chunk r refused sound h) k
-step_upheld s t past cpus a (Init enclave expect) e few can sound made k h =
+step_upheld s t past cpus a (Init enclave expect) e few can moves sound made k h =
     step_cases _ _ _ e s t past by_measure
     (λ r refused. init_refused s past a enclave expect r (rw (init_case _ enclave expect r refused) refused) (quiet _ past a enclave expect r refused) sound h) k
   where
@@ -103,34 +103,38 @@ step_upheld s t past cpus a (Init enclave expect) e few can sound made k h =
     by_measure allowed done =
         by_judgement done.digest allowed
         (finished_as (s.enclaves enclave) (s.measure enclave) done.digest (log past enclave) (is_some-sight (s.enclaves enclave) (init_made _ allowed)) (h.stands.measure enclave) done.finished) done.judged
-step_upheld s t past cpus (actors.Cpu p) (Enter enclave tcs tf sf) e few can sound made k h =
+step_upheld s t past cpus (actors.Cpu p) (Enter enclave tcs tf sf) e few can moves sound made k h =
     step_cases _ _ _ e s t past (λ allowed done. rw (done.0, done.1) (enter_upheld s past p enclave tcs tf sf (omega arith) allowed sound h))
     (λ r refused. enter_refused s past p enclave tcs tf sf r refused sound h) k
-step_upheld s t past cpus (actors.Cpu p) (Resume enclave tcs tf sf) e few can sound made k h =
+step_upheld s t past cpus (actors.Cpu p) (Resume enclave tcs tf sf) e few can moves sound made k h =
     step_cases _ _ _ e s t past (λ allowed done. rw (done.0, done.1) (resume_upheld s past p enclave tcs tf sf (omega arith) allowed sound h)) (λ r refused. resume_refused s past p enclave tcs tf sf r refused sound h) k
-step_upheld s t past cpus (actors.Cpu p) Exit e few can sound made k h =
+step_upheld s t past cpus (actors.Cpu p) Exit e few can moves sound made k h =
     step_cases _ _ _ e s t past (λ allowed done. rw (done.0, done.1) (exit_upheld s past p (omega arith) allowed sound h)) (λ r refused. exit_refused s past p r refused sound h) k
-step_upheld s t past cpus (actors.Cpu p) (Aex cause) e few can sound made k h =
+step_upheld s t past cpus (actors.Cpu p) (Aex cause) e few can moves sound made k h =
     step_cases _ _ _ e s t past (λ allowed done. rw (done.0, done.1) (aex_upheld s past p cause (omega arith) allowed sound h)) (λ r refused. aex_refused s past p cause r refused sound h) k
-step_upheld s t past cpus (actors.Cpu p) (Fill number f) e few can sound made k h =
+step_upheld s t past cpus (actors.Cpu p) (Fill number f) e few can moves sound made k h =
     step_cases _ _ _ e s t past
     (λ allowed done. rw (done.0, done.1)
     (fill_upheld s past p (record { number = number; frame = f; perm = unwrap_or (perm_in (s.content f.0)) no_perm }) (omega arith) allowed (fill_perm s p.0 number f.0 allowed) sound h))
     (λ r refused. fill_refused s past p number f r refused sound h) k
-step_upheld s t past cpus (actors.Cpu p) (Load off) e few can sound made k h =
+step_upheld s t past cpus (actors.Cpu p) (Load off) e few can moves sound made k h =
     step_cases _ _ _ e s t past (λ allowed done. rw (done.0, done.1) (load_upheld s past p off (omega arith) allowed sound h)) (λ r refused. load_refused s past p off r refused sound h) k
-step_upheld s t past cpus (actors.Cpu p) (Store off value) e few can sound made k h =
+step_upheld s t past cpus (actors.Cpu p) (Store off value) e few can moves sound made k h =
     step_cases _ _ _ e s t past (λ allowed done. rw (done.0, done.1) (store_upheld s past p off value (omega arith) allowed sound h)) (λ r refused. store_refused s past p off value r refused sound h) k
-step_upheld s t past cpus (actors.Cpu p) (Xadd off value) e few can sound made k h =
+step_upheld s t past cpus (actors.Cpu p) (Xadd off value) e few can moves sound made k h =
     step_cases _ _ _ e s t past (λ allowed done. rw (done.0, done.1) (xadd_upheld s past p off value (omega arith) allowed sound h)) (λ r refused. xadd_refused s past p off value r refused sound h) k
-step_upheld s t past cpus (actors.Cpu p) (Set value) e few can sound made k h =
+step_upheld s t past cpus (actors.Cpu p) (Set value) e few can moves sound made k h =
     step_cases _ _ _ e s t past (λ allowed done. rw (done.0, done.1) (set_upheld s past p value (omega arith) allowed sound h)) (λ r refused. set_refused s past p value r refused sound h) k
-step_upheld s t past cpus (actors.Cpu p) (Plus value) e few can sound made k h =
+step_upheld s t past cpus (actors.Cpu p) (Plus value) e few can moves sound made k h =
     step_cases _ _ _ e s t past (λ allowed done. rw (done.0, done.1) (plus_upheld s past p value (omega arith) allowed sound h)) (λ r refused. plus_refused s past p value r refused sound h) k
-step_upheld s t past cpus (actors.Cpu p) (Pf op off) e few can sound made k h =
+step_upheld s t past cpus (actors.Cpu p) (Pf op off) e few can moves sound made k h =
     step_cases _ _ _ e s t past (λ allowed done. rw (done.0, done.1) (pf_upheld s past p op off (omega arith) allowed sound h)) (λ r refused. pf_refused s past p op off r refused sound h) k
-step_upheld s t past cpus (actors.Cpu p) (OutLoad enclave off) e few can sound made k h =
+step_upheld s t past cpus (actors.Cpu p) (OutLoad enclave off) e few can moves sound made k h =
     step_cases _ _ _ e s t past (λ allowed done. rw (done.0, done.1) (outload_upheld s past p enclave off (omega arith) allowed sound h)) (λ r refused. outload_refused s past p enclave off r refused sound h) k
-step_upheld s t past cpus (actors.Cpu p) (OutStore enclave off value) e few can sound made k h =
+step_upheld s t past cpus (actors.Cpu p) (OutStore enclave off value) e few can moves sound made k h =
     step_cases _ _ _ e s t past (λ allowed done. rw (done.0, done.1) (outstore_upheld s past p enclave off value (omega arith) allowed sound h)) (λ r refused. outstore_refused s past p enclave off value r refused sound h) k
-step_upheld s t past cpus a action e few can sound made k h = absurd can
+step_upheld s t past cpus a (Block f) e few can moves sound made k h = absurd moves
+step_upheld s t past cpus a (Track enclave) e few can moves sound made k h = absurd moves
+step_upheld s t past cpus a (EwbStart f slot) e few can moves sound made k h = absurd moves
+step_upheld s t past cpus a (EldStart f page slot) e few can moves sound made k h = absurd moves
+step_upheld s t past cpus a action e few can moves sound made k h = absurd can

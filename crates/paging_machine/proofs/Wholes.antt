@@ -15,6 +15,9 @@ use Rattle.cached_translations.specs.declared.processor.Processor.{Processor}
 use Rattle.track_epoch.specs.Tracking.{Tracking}
 use Rattle.track_epoch.specs.Tracks.{track_of, with_track}
 use Rattle.track_epoch.proofs.TracksLaws.{with_track-track_of}
+use Rattle.version_array.specs.Slots.{IsVaTable}
+use Rattle.evict_reload.specs.Sights.{AreVaPages}
+use Rattle.paging_machine.specs.Guarded.{IsGuarded}
 use Rattle.paging_machine.specs.Parts.{Parts, idle, cpu_at, state_of}
 use Rattle.paging_machine.specs.Stands.{IsSound}
 use Rattle.paging_machine.specs.Steps.{IsStep}
@@ -23,7 +26,7 @@ use Rattle.paging_machine.proofs.Columns.{enclave_same, numbered}
 use Rattle.paging_machine.proofs.Keeping.{IsKept, kept_as}
 
 pub kept_of : (m : Inside) → IsWhole m → IsKept (state_of (parts_of m))
-kept_of m h = record { measured = h.measured; framed = h.framed; within = h.within; sound = h.sound }
+kept_of m h = record { measured = h.measured; framed = h.framed; within = h.within; sound = h.sound; guarded = h.guarded }
 
 -- what a row leaves of the parts, where it is done: the state after it, and what each machine keeps beside its state
 pub record Leaves (d : Parts) (s : State) : Type 0 where
@@ -34,16 +37,44 @@ pub record Leaves (d : Parts) (s : State) : Type 0 where
   pub table : IsTable d.secs
   pub track_places : length d.tracks ≡ 8
   pub tracked : IsTracked d.tracks d.cpus
+  pub slots : IsVaTable d.va
+  pub pages : AreVaPages d.epc d.va
+  pub start_places : length d.starts ≡ length d.epc
 
 pub whole : (m : Inside) (s : State) → Leaves (parts_of m) s → IsWhole m
 whole m s h =
     let k = kept_as (state_of (parts_of m)) s h.state h.kept in
-    record { processors = h.processors; places = h.places; table = h.table; track_places = h.track_places; tracked = h.tracked; measured = k.measured; framed = k.framed; within = k.within; sound = k.sound }
+    record {
+      processors = h.processors;
+      places = h.places;
+      table = h.table;
+      track_places = h.track_places;
+      tracked = h.tracked;
+      slots = h.slots;
+      pages = h.pages;
+      start_places = h.start_places;
+      measured = k.measured;
+      framed = k.framed;
+      within = k.within;
+      sound = k.sound;
+      guarded = k.guarded;
+    }
 
--- a row that builds changes no track and no processor
+-- a row that builds changes no track, no slot and no processor
 pub builds : (m : Inside) → IsWhole m → (epc : List EpcFrame) (secs : List (Option SecsState)) (measures : List (Option Measure)) (s : State) → state_of (record (parts_of m) { epc = epc; secs = secs; measures = measures }) ≡ s → IsKept s
-    → length measures ≡ 9 → IsTable secs → Leaves (record (parts_of m) { epc = epc; secs = secs; measures = measures }) s
-builds m h epc secs measures s state kept places table = record { state = state; kept = kept; processors = h.processors; places = places; table = table; track_places = h.track_places; tracked = h.tracked }
+    → length measures ≡ 9 → IsTable secs → AreVaPages epc m.va → length epc ≡ length m.epc → Leaves (record (parts_of m) { epc = epc; secs = secs; measures = measures }) s
+builds m h epc secs measures s state kept places table pages frames = record {
+  state = state;
+  kept = kept;
+  processors = h.processors;
+  places = places;
+  table = table;
+  track_places = h.track_places;
+  tracked = h.tracked;
+  slots = h.slots;
+  pages = pages;
+  start_places = h.start_places ∙ sym frames;
+}
 
 -- parts that are written as they were
 pub measures_same : (d : Parts) (e : ℕ) (y y' : Measure) → get_or d.measures e None ≡ Some y → y' ≡ y → record d { measures = set d.measures e (Some y') } ≡ d
@@ -84,10 +115,14 @@ whole_same m m' e h = record {
   table = subst (λ (d : Parts). IsTable d.secs) (sym e) h.table;
   track_places = subst (λ (d : Parts). length d.tracks ≡ 8) (sym e) h.track_places;
   tracked = subst (λ (d : Parts). IsTracked d.tracks d.cpus) (sym e) h.tracked;
+  slots = subst (λ (d : Parts). IsVaTable d.va) (sym e) h.slots;
+  pages = subst (λ (d : Parts). AreVaPages d.epc d.va) (sym e) h.pages;
+  start_places = subst (λ (d : Parts). length d.starts ≡ length d.epc) (sym e) h.start_places;
   measured = subst (λ (d : Parts). IsMeasured (state_of d)) (sym e) h.measured;
   framed = subst (λ (d : Parts). IsFramed (state_of d)) (sym e) h.framed;
   within = subst (λ (d : Parts). IsWithin (state_of d)) (sym e) h.within;
   sound = subst (λ (d : Parts). IsSound (state_of d)) (sym e) h.sound;
+  guarded = subst (λ (d : Parts). IsGuarded (state_of d)) (sym e) h.guarded;
 }
 
 -- ---- an instruction that its row allows, and one that it refuses

@@ -13,9 +13,9 @@ use sgx_types::refusals::Refusal;
 use std::alloc::Global;
 
 impl Machine {
-    /// One instruction but the commits of EWB and ELDU: its entry says whether it was done, with its answer, or refused, with the first case of its row
-    /// in this project's instruction table that holds. A refusal changes nothing. Memory may be refused to `epa` and
-    /// `create` alone.
+    /// One instruction but the commits of EWB and ELDU: its entry says whether it was done, with its answer, or refused,
+    /// with the first case of its row in this project's instruction table that holds. A refusal changes nothing. Memory
+    /// may be refused to `epa` and `create` alone.
     pub fn apply(&mut self, alloc: Global, actor: Actor, action: Action) -> Result<Entry, Memory>
         requires { CanApply (length self.old.cpus) actor action }
         ensures step { IfOk result (λ e. IsStep (state_of self.old) actor action e (state_of self.new)) }
@@ -28,8 +28,21 @@ impl Machine {
         ensures refused { OnErr result (self.new ≡ self.old) }
         ensures cpus { length self.new.cpus ≡ length self.old.cpus }
     {
-        // The proof takes from here what is true of every machine.
+        // The proof takes from here what is true of every machine, before the instruction and after it.
         let _ = &self.epc;
+        let entry = self.row(alloc, actor, action)?;
+        let _ = &self.epc;
+        Ok(entry)
+    }
+
+    /// The instruction by its row.
+    fn row(&mut self, alloc: Global, actor: Actor, action: Action) -> Result<Entry, Memory>
+        requires { CanApply (length self.old.cpus) actor action }
+        ensures step { IfOk result (λ e. IsStep (state_of self.old) actor action e (state_of self.new)) }
+        ensures memory { OnErr result (MayNeedMemory action) }
+        ensures refused { OnErr result (self.new ≡ self.old) }
+        ensures cpus { length self.new.cpus ≡ length self.old.cpus }
+    {
         let entry = match (actor, action) {
             (_, Action::Epa { frame }) => self.epa(alloc, actor, frame)?,
             (

@@ -1,6 +1,7 @@
 use Rattle.std.proofs.Common.{◌≡◌, ◌<◌, ◌∙◌, sym, arith, None, is_some, length, length-set}
 use Rattle.sgx_types.specs.Table.{create_row, first_of_row}
 use Rattle.epcm_entry.specs.Sights.{sight_in}
+use Rattle.enclave_build.proofs.Columns.{length-with_secs}
 use Rattle.secs_state.specs.Secs.{created}
 use Rattle.secs_state.specs.Table.{enclave_at}
 use Rattle.paging_machine.specs.Whole.{parts_of}
@@ -8,7 +9,7 @@ use Rattle.paging_machine.specs.Parts.{state_of}
 use Rattle.paging_machine.specs.State.{after_create}
 use Rattle.paging_machine.proofs.Tools.{none_holds}
 use Rattle.paging_machine.proofs.Columns.{table_written}
-use Rattle.paging_machine.proofs.BuildBridge.{creates, created_own, no_enclave, create_state}
+use Rattle.paging_machine.proofs.BuildBridge.{creates, created_own, no_enclave, create_state, create_pages}
 use Rattle.paging_machine.proofs.Keeping.{kept_create}
 use Rattle.paging_machine.proofs.Wholes.{kept_of, whole, builds, done_step}
 use Rattle.paging_machine.proofs.machine.Machine.create.Goals as goal
@@ -26,7 +27,8 @@ invariant_of-self c =
     rw (c.insert.ensures, c.in-Ok.ensures.secs, c.in-Ok.ensures.done, c.from.ensures)
     (whole _ (after_create (state_of d) e c.args.frame.0 c.args.base c.args.size c.in-Ok.measure) (builds m h _ _ _ _ (create_state d e c.args.frame.0 c.args.base c.args.size c.in-Ok.measure k new h.table there)
     (kept_create (state_of d) e c.args.frame.0 c.args.base c.args.size c.in-Ok.measure k.takes.free (kept_of m h)) (length-set d.measures _ _ ∙ h.places)
-    (table_written d.secs e (created e c.args.base c.args.size) h.table.places k.first k.last h.table (created_own e c.args.base c.args.size k.lawful))))
+    (table_written d.secs e (created e c.args.base c.args.size) h.table.places k.first k.last h.table (created_own e c.args.base c.args.size k.lawful))
+    (create_pages d c.args.frame.0 e h.pages k.takes) (length-with_secs d.epc c.args.frame.0 e)))
 
 pub invariant_of-self-in-Err-Refused : goal.invariant_of-self-in-Err-Refused
 invariant_of-self-in-Err-Refused c = rw c.in-Err-Refused.ensures.refused c.self.invariant
@@ -42,3 +44,6 @@ returns-in-Ok-clause-step c =
     let there : e < length d.measures = omega (arith, k.last, h.places) in
     rw (c.insert.ensures, c.in-Ok.ensures.secs, c.in-Ok.ensures.done, c.from.ensures, ← c.self.view_is)
     (done_step _ _ _ allowed (c.done.ensures, record { begun = c.in-Ok.measure; log = c.in-Ok.ensures.log; state = create_state d e c.args.frame.0 c.args.base c.args.size c.in-Ok.measure k new h.table there }))
+
+pub invariant_of-self-in-Err-Memory : goal.invariant_of-self-in-Err-Memory
+invariant_of-self-in-Err-Memory c = rw c.in-Err-Memory.ensures.refused c.self.invariant

@@ -1,4 +1,4 @@
-use Rattle.std.proofs.Common.{◌≡◌, ◌∙◌, sym, ap, Some, length-set}
+use Rattle.std.proofs.Common.{◌≡◌, ◌∙◌, refl, sym, ap, Some, length-set}
 use Rattle.epcm_entry.specs.Epc.{entry_at}
 use Rattle.epcm_entry.specs.Sights.{held}
 use Rattle.secs_state.specs.Table.{enclave_at}
@@ -37,7 +37,7 @@ invariant_of-self c =
     elim c.match-eextend.branch [
       | in-Ok w ↦
           rw c.from.ensures
-          (whole _ (after_extend (state_of d) g.enclave c.eextend.new.log) (builds m h _ _ _ _ (extend_state d g.enclave c.eextend.new.log low) (kept_extend (state_of d) g.enclave c.eextend.new.log (kept_of m h)) (length-set d.measures _ _ ∙ h.places) h.table))
+          (whole _ (after_extend (state_of d) g.enclave c.eextend.new.log) (builds m h _ _ _ _ (extend_state d g.enclave c.eextend.new.log low) (kept_extend (state_of d) g.enclave c.eextend.new.log (kept_of m h)) (length-set d.measures _ _ ∙ h.places) h.table h.pages refl))
       | in-Err w ↦ rw c.from.ensures (whole_same m _ (measures_same d g.enclave y c.eextend.new.log there w.in-Err.ensures.refused) h)
     ]
 

@@ -1,4 +1,4 @@
-use Rattle.std.proofs.Common.{◌≡◌, ◌∙◌, sym, ap, inl, Some}
+use Rattle.std.proofs.Common.{◌≡◌, ◌∙◌, refl, sym, ap, inl, Some}
 use Rattle.secs_state.specs.Table.{enclave_at}
 use Rattle.secs_state.specs.Sights.{sight_of}
 use Rattle.paging_machine.specs.Whole.{parts_of}
@@ -26,7 +26,7 @@ invariant_of-self-2 c =
           (let number = numbered d.secs e x h.table.places found in
           rw w.in-Ok.ensures.done
           (whole _ (after_init (state_of d) e) (builds m h _ _ _ _ (init_state d e x found h.table) (kept_init (state_of d) e (kept_of m h)) h.places
-          (table_written d.secs e _ h.table.places number.0 number.1 h.table (initialised_own e x (h.table.own e x found))))))
+          (table_written d.secs e _ h.table.places number.0 number.1 h.table (initialised_own e x (h.table.own e x found))) h.pages refl)))
       | in-Err w ↦ whole_same m _ (secs_same d e x c.einit.new.secs h.table found w.in-Err.ensures.refused) h
     ]
 

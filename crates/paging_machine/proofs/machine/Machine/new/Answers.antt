@@ -1,7 +1,13 @@
 use Rattle.std.proofs.Common.{refl}
-use Rattle.paging_machine.proofs.Fresh.{whole_made}
+use Rattle.paging_machine.proofs.Fresh.{whole_made, made_follows}
 use Rattle.paging_machine.proofs.machine.Machine.new.Goals as goal
 
 pub invariant_of-result : goal.invariant_of-result
 invariant_of-result c =
-    whole_made _ c.args.frames c.args.cpus c.args.key c.args.start_epoch c.args.start_version (rw (c.in_ok-new.ensures, c.new-2.ensures, c.new-4.ensures, c.in_ok-no_measures.ensures, c.in_ok-idle_processors.ensures) refl) c.requires.cpus
+    whole_made _ c.args.frames c.args.cpus c.args.key c.args.start_epoch c.args.start_version
+    (rw (c.in_ok-new.ensures, c.new-2.ensures, c.new-4.ensures, c.new-5.ensures, c.new-6.ensures, c.in_ok-no_measures.ensures, c.in_ok-no_starts.ensures, c.in_ok-idle_processors.ensures) refl) c.requires.cpus
+
+pub returns-clause-shape : goal.returns-clause-shape
+returns-clause-shape c =
+    made_follows _ c.args.frames c.args.cpus c.args.key c.args.start_epoch c.args.start_version
+    (rw (c.in_ok-new.ensures, c.new-2.ensures, c.new-4.ensures, c.new-5.ensures, c.new-6.ensures, c.in_ok-no_measures.ensures, c.in_ok-no_starts.ensures, c.in_ok-idle_processors.ensures) refl)
