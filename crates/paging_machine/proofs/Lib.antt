@@ -30,3 +30,6 @@ pub mod Fresh
 pub mod ShapeColumns
 pub mod ShapeLaws
 pub mod FollowLaws
+pub mod PagingSights
+pub mod PagingBridge
+pub mod CommitBridge

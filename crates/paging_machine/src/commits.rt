@@ -29,13 +29,15 @@ impl Machine {
         requires { (state_of self.now).is_sealing frame.0 ≡ true }
         ensures { SealsPage (state_of self.now) frame.0 result.key result.version result.header result.plain.items }
     {
-        let start = self.start(frame);
-        let header = self.header(frame);
         let SealWork {
-            mut plain, space, ..
+            mut plain,
+            space,
+            ..
         } = work;
         plain.copy_from_slice(self.epc.bytes(frame));
         let key = self.key;
+        let start = self.start(frame);
+        let header = self.header(frame);
         SealWork {
             key,
             version: start.version,
@@ -52,9 +54,9 @@ impl Machine {
         ensures version { IsSomeAnd ((state_of self.now).start frame.0) (λ start. result.version ≡ start.version) }
         ensures rec { result.rec ≡ work.rec }
     {
-        let start = self.start(frame);
         let UnsealWork { rec, space, .. } = work;
         let key = self.key;
+        let start = self.start(frame);
         UnsealWork {
             key,
             version: start.version,
@@ -135,7 +137,13 @@ impl Machine {
         requires { (state_of self.now).is_sealing frame.0 ≡ true }
         ensures { IsHeaderIn (state_of self.now) frame.0 result }
     {
-        let EntryView::Valid { page, kind, perm, .. } = self.epc.entry(frame) else {
+        let EntryView::Valid {
+            page,
+            kind,
+            perm,
+            ..
+        } = self.epc.entry(frame)
+        else {
             unreachable!();
         };
         let secs = self.secs.get(page.enclave).unwrap();
@@ -151,25 +159,40 @@ impl Machine {
         requires { (state_of self.now).is_sealing frame.0 ≡ true }
         ensures { SealsPage (state_of self.now) frame.0 result.key result.version result.rec.header result.plain.items }
     {
-        let start = self.start(frame);
-        let header = self.header(frame);
-        let is_input = work.key == self.key
-            && work.version == start.version
-            && work.rec.header == header
-            && work.plain.as_slice() == self.epc.bytes(frame).as_slice();
-        if is_input {
+        if self.is_sealed(frame, &work) {
             return work;
         }
-        let SealedWork { plain, rec, .. } = work;
         let key = self.key;
+        let header = self.header(frame);
+        let SealedWork { plain, rec, .. } = work;
         let anew = SealWork {
             key,
-            version: start.version,
+            version: 0,
             header,
             plain,
             space: rec.cipher,
         };
         seal(self.seal_input(frame, anew))
+    }
+
+    // Whether a work is that of the started EWB of a frame.
+    fn is_sealed(&self, frame: Frame, work: &SealedWork) -> bool
+        requires { (state_of self.now).is_sealing frame.0 ≡ true }
+        ensures { result ≡ true → SealsPage (state_of self.now) frame.0 work.now.key work.now.version work.now.rec.header work.now.plain.items }
+    {
+        let key = self.key;
+        let start = self.start(frame);
+        let header = self.header(frame);
+        if work.key != key {
+            return false;
+        }
+        if work.version != start.version {
+            return false;
+        }
+        if work.rec.header != header {
+            return false;
+        }
+        work.plain.as_slice() == self.epc.bytes(frame).as_slice()
     }
 
     // The opened work of the started ELDU of a frame.
@@ -179,14 +202,15 @@ impl Machine {
         ensures version { IsSomeAnd ((state_of self.now).start frame.0) (λ start. result.version ≡ start.version) }
         ensures rec { result.rec ≡ work.rec }
     {
-        if work.key == self.key && work.version == self.start(frame).version {
+        let key = self.key;
+        let start = self.start(frame);
+        if work.key == key && work.version == start.version {
             return work;
         }
         let UnsealedWork { rec, plain, .. } = work;
-        let key = self.key;
         let anew = UnsealWork {
             key,
-            version: 0,
+            version: start.version,
             rec,
             space: plain,
         };

@@ -1,0 +1,232 @@
+-- What the rows of block, track, write-out and reload see of the machine's parts is what they see of the state.
+use Rattle.std.proofs.Common.{◌≡◌, ℕ, zero, suc, ◌+◌, ◌-◌, ◌<◌, ◌≤◌, ◌==◌, ◌&&◌, Bool, true, false, cond, refl, sym, ap, ◌∙◌, arith, Option, Some, None, IfSome, is_some, List, [], ◌∷◌, length, get_or}
+use Rattle.std.specs.Prelude.{count_by, nat_lt, nat_le, slice_get}
+use Rattle.std.specs.Option.{option_and_then, IsSomeAnd}
+use Rattle.std.proofs.lemmas.Bool.{ne_eqb, eqb-true, false≢true}
+use Rattle.std.proofs.lemmas.List.Sums.{sum_by-cons}
+use Rattle.sgx_types.specs.declared.names.Page.{Page}
+use Rattle.sgx_types.specs.declared.names.SlotAt.{SlotAt}
+use Rattle.sgx_types.specs.declared.names.Kind.{Kind}
+use Rattle.sgx_types.specs.declared.names.Kind.TheVariants as kinds
+use Rattle.sgx_types.specs.declared.names.Perm.{Perm}
+use Rattle.sgx_types.specs.declared.record.Header.{Header}
+use Rattle.sgx_types.specs.declared.refusals.Refusal.{Refusal}
+use Rattle.sgx_types.specs.Counts.{count_below}
+use Rattle.sgx_types.specs.Epochs.{epoch_of}
+use Rattle.sgx_types.specs.Frames.{Content, Free, IsVa, SecsOf, Holds, IsLoading, enclave_in}
+use Rattle.sgx_types.specs.Table.{DrainSight, SlotSight, first_of_row, track_row, ewbstart_row, eldstart_row}
+use Rattle.sgx_types.proofs.CountLaws.{count_below-agrees}
+use Rattle.epcm_entry.specs.declared.entry_view.EntryView.{EntryView}
+use Rattle.epcm_entry.specs.declared.entry_view.EntryView.TheVariants as views
+use Rattle.epcm_entry.specs.Epc.{entry_at}
+use Rattle.epcm_entry.specs.EntryView.{block_of, goes_out}
+use Rattle.epcm_entry.specs.Sights.{held, content_of, sight_in}
+use Rattle.cached_translations.specs.declared.processor.Processor.{Processor}
+use Rattle.cached_translations.specs.declared.processor.Mode.{Mode}
+use Rattle.cached_translations.specs.declared.processor.Mode.TheVariants as modes
+use Rattle.secs_state.specs.Secs.{SecsState, added_at, page_count}
+use Rattle.secs_state.specs.Table.{enclave_at}
+use Rattle.secs_state.proofs.Columns.{added_below}
+use Rattle.sgx_types.specs.Starts.{Start}
+use Rattle.paging_machine.specs.Guarded.{IsGuarded, WritesOut, Loads}
+use Rattle.track_epoch.specs.Tracking.{Tracking}
+use Rattle.track_epoch.specs.Tracks.{track_of}
+use Rattle.version_array.specs.Versions.{is_spent_at}
+use Rattle.evict_reload.specs.Sights as parts
+use Rattle.evict_reload.specs.Sights.{IsNumbered, drain_of}
+use Rattle.evict_reload.specs.Effects as effects
+use Rattle.paging_machine.specs.State.{State, sight, is_noting, number_noting, epoch_in, number_up_to, has_passed, track_sight, slot_sight, drain_sight, is_version_spent}
+use Rattle.paging_machine.specs.Parts.{Parts, idle, cpu_at, seat_of_mode, noted_by, is_noted, added_in, enclave_of, state_of}
+use Rattle.paging_machine.specs.Whole.{IsFramed, IsTable, IsTracked}
+use Rattle.paging_machine.proofs.Columns.{numbered}
+use Rattle.paging_machine.proofs.Tools.{both_true}
+
+-- ---- counts
+
+-- a count below a number, of which the least is counted apart
+count_first : (test : ℕ → Bool) (n : ℕ) → count_below test (suc n) ≡ cond (test 0) 1 0 + count_below (λ p. test (suc p)) n
+unfolding count_below
+count_first test zero = refl
+count_first test (suc n) = omega (arith, count_first test n)
+
+count_none : (test : ℕ → Bool) → ((p : ℕ) → test p ≡ false) → (n : ℕ) → count_below test n ≡ 0
+unfolding count_below
+count_none test h zero = refl
+count_none test h (suc n) = rw (h n) (omega (arith, count_none test h n))
+
+-- the items of a list that pass, counted by their places
+pub count_places : {X : Type 0} (test : X → Bool) (d : X) → test d ≡ false → (xs : List X) (n : ℕ) → length xs ≤ n → count_by test xs ≡ count_below (λ p. test (get_or xs p d)) n
+count_places test d fails [] n few = sym (count_none (λ p. test (get_or [] p d)) (λ p. fails) n)
+count_places test d fails (x ∷ xs) zero few = absurd (omega arith)
+count_places {X} test d fails (x ∷ xs) (suc n) few =
+    let rest : count_by test xs ≡ count_below (λ p. test (get_or xs p d)) n = count_places test d fails xs n (omega (arith, few)) in
+    let first : count_below (λ p. test (get_or (x ∷ xs) p d)) (suc n) ≡ cond (test x) 1 0 + count_below (λ p. test (get_or xs p d)) n = count_first (λ p. test (get_or (x ∷ xs) p d)) n in
+    sum_by-cons {X = X} (λ y. cond (test y) 1 0) x xs ∙ ap (λ k. cond (test x) 1 0 + k) rest ∙ sym first
+
+noting_same : (e : ℕ) (test : ℕ → Bool) (mode : Mode) → is_noted e test mode ≡ is_noting e test (seat_of_mode mode) (noted_by mode)
+noting_same e test modes.Outside = refl
+noting_same e test (modes.Inside enclave tcs tf sf epoch) = refl
+
+-- the processors inside an enclave with an epoch that passes are those that its track notes
+pub number_seen : (d : Parts) (e : ℕ) (t : Tracking) (test : ℕ → Bool) → length d.cpus ≤ 16 → IsTracked d.tracks d.cpus → track_of d.tracks e ≡ Some t → count_by test t.noted ≡ number_noting (state_of d) e test
+number_seen d e t test few tracked found =
+    tracked e t found test
+    ∙ count_places (λ (c : Processor). is_noted e test c.mode) idle refl d.cpus 16 few
+    ∙ count_below-agrees (λ p. is_noted e test (cpu_at d p).mode) (λ p. is_noting e test ((state_of d).inside p) ((state_of d).noted p)) (λ p. noting_same e test (cpu_at d p).mode) 16
+
+-- ---- tracks
+
+-- an enclave from 1 to 8 has a track
+abbrev pub HasTrack : Parts → ℕ → Type 0
+HasTrack d e = (t : Tracking) × (track_of d.tracks e ≡ Some t)
+
+item_there : (tracks : List Tracking) (i : ℕ) → i < length tracks → (t : Tracking) × (slice_get tracks i ≡ Some t)
+item_there [] i low = absurd (omega arith)
+item_there (t ∷ tracks) zero low = (t, refl)
+item_there (t ∷ tracks) (suc i) low = item_there tracks i (omega arith)
+
+pub track_there : (d : Parts) (e : ℕ) → length d.tracks ≡ 8 → 1 ≤ e → e ≤ 8 → HasTrack d e
+track_there d e eight first last =
+    let k = item_there d.tracks (e - 1) (omega (arith, eight, first, last)) in
+    (k.0, rw (ne_eqb e 0 (λ none. omega (arith, first, none))) k.1)
+
+-- ---- pages in frames
+
+-- an enclave to which a page was added has a number from 1 to 8
+pub added_numbered : (table : List (Option SecsState)) (g : Page) → length table ≡ 8 → is_some (added_in (enclave_at table g.enclave) g.number) ≡ true → (1 ≤ g.enclave) × (g.enclave ≤ 8)
+added_numbered table g eight is = by_state (enclave_at table g.enclave) refl is
+  where
+    by_state : (o : Option SecsState) → enclave_at table g.enclave ≡ o → is_some (added_in o g.number) ≡ true → (1 ≤ g.enclave) × (g.enclave ≤ 8)
+    by_state None at k = cc k
+    by_state (Some x) at k = numbered table g.enclave x eight at
+
+-- a page in a frame is of an enclave from 1 to 8
+pub frame_numbered : (d : Parts) (f : ℕ) → length d.secs ≡ 8 → IsFramed (state_of d) → IsNumbered ((state_of d).content f)
+frame_numbered d f eight framed = by_content ((state_of d).content f) (framed f)
+  where
+    by_content : (c : Content) → ((g : Page) (kind : Kind) (perm : Perm) → c ≡ Holds g kind perm → is_some ((state_of d).added g) ≡ true) → IsNumbered c
+    by_content Free h = tt
+    by_content IsVa h = tt
+    by_content (SecsOf enclave) h = tt
+    by_content (Holds page kind perm) h = added_numbered d.secs page eight (h page kind perm refl)
+    by_content IsLoading h = tt
+
+-- what a page was added as, by either name
+pub added_same : (table : List (Option SecsState)) (g : Page) → parts.added_in table g ≡ added_in (enclave_at table g.enclave) g.number
+added_same table g = by_state (enclave_at table g.enclave)
+  where
+    by_state : (o : Option SecsState) → option_and_then (λ (x : SecsState). added_at x g.number) o ≡ added_in o g.number
+    by_state None = refl
+    by_state (Some x) = refl
+
+-- the epoch at which the page in a frame is blocked
+pub epoch_seen : (d : Parts) (f : ℕ) → length d.tracks ≡ 8 → IsNumbered ((state_of d).content f) → effects.epoch_of d.tracks (enclave_in ((state_of d).content f)) ≡ epoch_in (state_of d) f
+epoch_seen d f eight numbered = by_enclave (enclave_in ((state_of d).content f)) numbered
+  where
+    by_enclave : (o : Option ℕ) → IfSome o (λ e. (1 ≤ e) × (e ≤ 8)) → effects.epoch_of d.tracks o ≡ epoch_of (state_of d).epoch o
+    by_enclave None h = refl
+    by_enclave (Some e) h = let t = track_there d e eight h.0 h.1 in rw t.1 refl
+
+-- ---- the rows
+
+-- the row of a track
+pub track_row_at : (d : Parts) (e : ℕ) → length d.secs ≡ 8 → length d.tracks ≡ 8 → length d.cpus ≤ 16 → IsTracked d.tracks d.cpus → first_of_row (track_row (parts.track_sight d.secs d.tracks e)) ≡ first_of_row (track_row (track_sight (state_of d) e))
+track_row_at d e eight places few tracked = by_state (enclave_at d.secs e) refl
+  where
+    absent : (o : Option Tracking) → first_of_row (track_row (parts.track_seen false o)) ≡ first_of_row (track_row (record (track_sight (state_of d) e) { is_created = false }))
+    absent None = refl
+    absent (Some t) = refl
+
+    by_state : (o : Option SecsState) → enclave_at d.secs e ≡ o → first_of_row (track_row (parts.track_seen (is_some o) (track_of d.tracks e))) ≡ first_of_row (track_row (record (track_sight (state_of d) e) { is_created = is_some (enclave_of o) }))
+    by_state None at = absent (track_of d.tracks e)
+    by_state (Some x) at =
+        let number = numbered d.secs e x eight at in
+        let t = track_there d e places number.0 number.1 in
+        let older = number_seen d e t.0 (λ n. nat_lt n t.0.epoch) few tracked t.1 in
+        rw (t.1, older) refl
+
+-- the tracking of a blocked page, by its enclave's track
+drain_at : (d : Parts) (page : Page) (b : ℕ) → length d.tracks ≡ 8 → length d.cpus ≤ 16 → IsTracked d.tracks d.cpus → (1 ≤ page.enclave) × (page.enclave ≤ 8)
+    → parts.drain_from b (track_of d.tracks page.enclave) ≡ record { epoch = (state_of d).epoch page.enclave; kept_back = number_up_to (state_of d) (Some page.enclave) (Some b); is_drained = has_passed (state_of d) (Some page.enclave) (Some b) }
+drain_at d page b places few tracked number =
+    let t = track_there d page.enclave places number.0 number.1 in
+    rw (t.1, number_seen d page.enclave t.0 (λ m. nat_le m b) few tracked t.1) refl
+
+-- what the start of EWB sees of a frame, by its entry
+abbrev ewbstart_by : Bool → EntryView → SlotSight → DrainSight → Bool → Option Refusal
+ewbstart_by beyond v slot drain spent = first_of_row (ewbstart_row (record { is_beyond = beyond; content = held v; is_sealing = goes_out v; is_blocked = is_some (block_of v) }) slot drain spent)
+
+abbrev drain_by : State → EntryView → DrainSight
+drain_by s v = record { epoch = epoch_of s.epoch (enclave_in (held v)); kept_back = number_up_to s (enclave_in (held v)) (block_of v); is_drained = has_passed s (enclave_in (held v)) (block_of v) }
+
+-- the row of the start of EWB: of a frame that holds no blocked page it does not see the tracking
+pub ewbstart_row_at : (d : Parts) (f : ℕ) (slot : SlotAt) → length d.tracks ≡ 8 → length d.cpus ≤ 16 → IsTracked d.tracks d.cpus → IsNumbered ((state_of d).content f)
+    → first_of_row (ewbstart_row (sight_in d.epc f) (parts.slot_sight d.epc d.va slot) (parts.drain_sight d.epc d.tracks f) (is_spent_at d.versions)) ≡ first_of_row (ewbstart_row (sight (state_of d) f) (slot_sight (state_of d) slot) (drain_sight (state_of d) f) (is_version_spent (state_of d)))
+ewbstart_row_at d f slot places few tracked numbered = by_entry (entry_at d.epc f) numbered
+  where
+    by_kind : (page : Page) (kind : Kind) (perm : Perm) (b : ℕ) (sealing : Bool) → IsNumbered (held (views.Valid page kind perm (Some b) sealing))
+        → ewbstart_by (nat_le (length d.epc) f) (views.Valid page kind perm (Some b) sealing) (slot_sight (state_of d) slot) (parts.drain_from b (track_of d.tracks page.enclave)) (is_spent_at d.versions)
+        ≡ ewbstart_by (nat_le (length d.epc) f) (views.Valid page kind perm (Some b) sealing) (slot_sight (state_of d) slot) (drain_by (state_of d) (views.Valid page kind perm (Some b) sealing)) (is_spent_at d.versions)
+    by_kind page kinds.Secs perm b sealing h = refl
+    by_kind page kinds.Va perm b sealing h = refl
+    by_kind page kinds.Tcs perm b sealing h = ap (λ drain. ewbstart_by (nat_le (length d.epc) f) (views.Valid page kinds.Tcs perm (Some b) sealing) (slot_sight (state_of d) slot) drain (is_spent_at d.versions)) (drain_at d page b places few tracked h)
+    by_kind page kinds.Reg perm b sealing h = ap (λ drain. ewbstart_by (nat_le (length d.epc) f) (views.Valid page kinds.Reg perm (Some b) sealing) (slot_sight (state_of d) slot) drain (is_spent_at d.versions)) (drain_at d page b places few tracked h)
+
+    by_free : (page : Page) (kind : Kind) (perm : Perm) (sealing : Bool)
+        → ewbstart_by (nat_le (length d.epc) f) (views.Valid page kind perm None sealing) (slot_sight (state_of d) slot) (drain_of d.tracks (views.Valid page kind perm None sealing)) (is_spent_at d.versions)
+        ≡ ewbstart_by (nat_le (length d.epc) f) (views.Valid page kind perm None sealing) (slot_sight (state_of d) slot) (drain_by (state_of d) (views.Valid page kind perm None sealing)) (is_spent_at d.versions)
+    by_free page kinds.Secs perm sealing = refl
+    by_free page kinds.Va perm sealing = refl
+    by_free page kinds.Tcs perm sealing = refl
+    by_free page kinds.Reg perm sealing = refl
+
+    by_entry : (v : EntryView) → IsNumbered (held v)
+        → ewbstart_by (nat_le (length d.epc) f) v (slot_sight (state_of d) slot) (drain_of d.tracks v) (is_spent_at d.versions) ≡ ewbstart_by (nat_le (length d.epc) f) v (slot_sight (state_of d) slot) (drain_by (state_of d) v) (is_spent_at d.versions)
+    by_entry views.Free h = refl
+    by_entry views.Loading h = refl
+    by_entry (views.Valid page kind perm None sealing) h = by_free page kind perm sealing
+    by_entry (views.Valid page kind perm (Some b) sealing) h = by_kind page kind perm b sealing h
+
+-- the row of the start of ELDU
+pub eldstart_row_at : (d : Parts) (f : ℕ) (page : Page) (slot : SlotAt)
+    → first_of_row (eldstart_row (sight_in d.epc f) (parts.is_added d.secs page) (parts.slot_sight d.epc d.va slot)) ≡ first_of_row (eldstart_row (sight (state_of d) f) (is_some ((state_of d).added page)) (slot_sight (state_of d) slot))
+eldstart_row_at d f page slot = ap (λ o. first_of_row (eldstart_row (sight_in d.epc f) (is_some o) (parts.slot_sight d.epc d.va slot))) (added_same d.secs page)
+
+-- ---- the page that goes out of a frame
+
+holds_page : (page : Page) (kind : Kind) (perm : Perm) → is_some (enclave_in (content_of page kind perm)) ≡ true → content_of page kind perm ≡ Holds page kind perm
+holds_page page kinds.Secs perm is = cc is
+holds_page page kinds.Tcs perm is = refl
+holds_page page kinds.Reg perm is = refl
+holds_page page kinds.Va perm is = cc is
+
+-- a frame whose page goes out holds that page
+pub leaving_held : (d : Parts) (f : ℕ) (page : Page) (kind : Kind) (perm : Perm) (blocked : Option ℕ) (sealing : Bool) → IsGuarded (state_of d) → entry_at d.epc f ≡ views.Valid page kind perm blocked sealing → (state_of d).is_sealing f ≡ true
+    → (state_of d).content f ≡ Holds page kind perm
+leaving_held d f page kind perm blocked sealing guarded at leaves =
+    let here : (state_of d).content f ≡ content_of page kind perm = ap held at in
+    here ∙ holds_page page kind perm (ap (λ c. is_some (enclave_in c)) (sym here) ∙ guarded.goes_out f leaves)
+
+-- a page that was added has a number of its enclave
+pub page_below : (d : Parts) (g : Page) (x : SecsState) → IsTable d.secs → enclave_at d.secs g.enclave ≡ Some x → is_some ((state_of d).added g) ≡ true → g.number < page_count x.size
+page_below d g x table found added =
+    let there : is_some (added_at x g.number) ≡ true = ap (λ o. is_some (added_in o g.number)) (sym found) ∙ added in
+    added_below x g.number (table.own g.enclave x found).sound (λ none. false≢true (ap is_some (sym none) ∙ there))
+
+some_there : (o : Option Start) (P : Start → Type 0) → IsSomeAnd o P → is_some o ≡ true
+some_there None P h = absurd h
+some_there (Some x) P h = refl
+
+-- a frame whose page goes out, and one that loads, has a start
+pub start_out : (s : State) (f : ℕ) → IsGuarded s → s.is_sealing f ≡ true → is_some (s.start f) ≡ true
+start_out s f guarded leaves = some_there (s.start f) WritesOut (guarded.written f leaves)
+
+pub start_in : (s : State) (f : ℕ) → IsGuarded s → s.content f ≡ IsLoading → is_some (s.start f) ≡ true
+start_in s f guarded loads = some_there (s.start f) Loads (guarded.loaded f loads)
+
+-- two headers that a test finds alike
+pub same_headers : (a b : Header) → ((a.enclave == b.enclave) && ((a.address == b.address) && (a.flags == b.flags))) ≡ true → a ≡ b
+same_headers a b h =
+    let first = both_true (a.enclave == b.enclave) ((a.address == b.address) && (a.flags == b.flags)) h in
+    let rest = both_true (a.address == b.address) (a.flags == b.flags) first.1 in
+    λ i. record { enclave = eqb-true a.enclave b.enclave first.0 i; address = eqb-true a.address b.address rest.0 i; flags = eqb-true a.flags b.flags rest.1 i }

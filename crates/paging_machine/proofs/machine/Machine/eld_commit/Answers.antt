@@ -1,0 +1,77 @@
+use Rattle.std.proofs.Common.{◌≡◌, ◌∙◌, ap, None, set}
+use Rattle.sgx_types.specs.Frames.{IsLoading}
+use Rattle.seal_record.specs.declared.unseal.UnsealedWork.{UnsealedWork}
+use Rattle.sgx_types.specs.declared.entries.Action.TheVariants.{Eld}
+use Rattle.sgx_types.specs.declared.entries.Answer.TheVariants.{Moved}
+use Rattle.paging_machine.specs.Whole.{parts_of}
+use Rattle.paging_machine.specs.Parts.{state_of}
+use Rattle.paging_machine.specs.Steps.{did_by}
+use Rattle.paging_machine.proofs.CommitBridge.{Ended, IsOpened, ended_back, ended_refused, low_in}
+use Rattle.paging_machine.proofs.FitLaws.{reloaded_fits}
+use Rattle.paging_machine.proofs.FollowLaws.{reloaded_follows}
+use Rattle.paging_machine.proofs.Keeping.{kept_as}
+use Rattle.paging_machine.proofs.Wholes.{whole}
+use Rattle.paging_machine.proofs.machine.Machine.eld_commit.Goals as goal
+
+-- what the commit leaves and answers where it is done
+is_back : (c : goal.After-drop-work-inside-in-Ok)
+    → Ended c.self.inside c.args.actor c.args.frame c.done.result c.args.work.rec (record (parts_of c.self.inside) { epc = c.eld_commit-ended.new.epc; va = c.eld_commit-ended.new.va; starts = set c.self.inside.starts.items c.args.frame.0 None })
+is_back c =
+    let work = c.opened-work.result in
+    let ends = c.in-Ok.ensures {u = tt} in
+    let is : IsOpened (state_of (parts_of c.self.inside)) c.args.frame.0 work c.args.work.rec = record { key = rw (← c.self.view_is) at c.opened-work.ensures.key; version = rw (← c.self.view_is) at c.opened-work.ensures.version; rec_is = c.opened-work.ensures.rec } in
+    ended_back c.self.inside c.self.invariant c.args.actor c.args.frame work c.args.work.rec c.start-start.result c.unwrap-page.result c.eld_commit-ended.new.epc c.eld_commit-ended.new.va (rw (← c.self.view_is) at c.requires) is
+    (rw (← c.self.view_is) at c.start-start.ensures) c.unwrap-page.ensures c.done.result ends.row ends.epc ends.va
+    (c.done.ensures ∙ ap (λ (o : UnsealedWork). did_by c.args.actor (Eld c.args.frame) (Moved c.unwrap-page.result c.start-start.result.version o.rec.tag)) c.work.view_is)
+
+-- .. and where it is refused
+is_refused : (c : goal.After-drop-work-inside-3)
+    → Ended c.self.inside c.args.actor c.args.frame c.refused.result c.args.work.rec (record (parts_of c.self.inside) { epc = c.eld_commit-ended.new.epc; va = c.eld_commit-ended.new.va; starts = set c.self.inside.starts.items c.args.frame.0 None })
+is_refused c =
+    let work = c.opened-work.result in
+    let ends = c.in-Err.ensures {u = tt} in
+    let is : IsOpened (state_of (parts_of c.self.inside)) c.args.frame.0 work c.args.work.rec = record { key = rw (← c.self.view_is) at c.opened-work.ensures.key; version = rw (← c.self.view_is) at c.opened-work.ensures.version; rec_is = c.opened-work.ensures.rec } in
+    ended_refused c.self.inside c.self.invariant c.args.actor c.args.frame work c.args.work.rec c.start-start.result c.unwrap-page.result c.eld_commit-ended.new.epc c.eld_commit-ended.new.va (rw (← c.self.view_is) at c.requires) is
+    (rw (← c.self.view_is) at c.start-start.ensures) c.unwrap-page.ensures c.refused.result c.in-Err.refusal ends.row ends.refused.0 ends.refused.1 c.refused.ensures
+
+pub invariant_of-self : goal.invariant_of-self
+invariant_of-self c = let k = is_back c in whole _ _ k.leaves
+
+pub returns-in-Ok-clause-step : goal.returns-in-Ok-clause-step
+returns-in-Ok-clause-step c = let k = is_back c in rw (← c.self.view_is) k.back
+
+pub returns-in-Ok-clause-shape : goal.returns-in-Ok-clause-shape
+returns-in-Ok-clause-shape c = λ making past follows.
+    let h = c.self.invariant in
+    let k = is_back c in
+    let t = kept_as _ _ k.leaves.state k.leaves.kept in
+    reloaded_follows (state_of (parts_of c.self.inside)) _ making past c.args.actor c.args.frame c.done.result c.args.work.rec h.sound h.guarded t.sound t.guarded (rw (← c.self.view_is) at c.requires) k.back (rw (← c.self.view_is) at follows)
+
+pub returns-in-Ok-clause-fits : goal.returns-in-Ok-clause-fits
+returns-in-Ok-clause-fits c = λ making past follows fits.
+    let d = parts_of c.self.inside in
+    let h = c.self.invariant in
+    let comes : (state_of d).content c.args.frame.0 ≡ IsLoading = rw (← c.self.view_is) at c.requires in
+    let k = is_back c in
+    reloaded_fits (state_of d) _ making past c.args.actor c.args.frame c.args.work.rec c.done.result h.sound h.guarded comes (low_in d c.args.frame.0 comes) k.back (rw (← c.self.view_is) at follows) fits
+
+pub invariant_of-self-2 : goal.invariant_of-self-2
+invariant_of-self-2 c = let k = is_refused c in whole _ _ k.leaves
+
+pub returns-clause-step : goal.returns-clause-step
+returns-clause-step c = let k = is_refused c in rw (← c.self.view_is) k.back
+
+pub returns-clause-shape : goal.returns-clause-shape
+returns-clause-shape c = λ making past follows.
+    let h = c.self.invariant in
+    let k = is_refused c in
+    let t = kept_as _ _ k.leaves.state k.leaves.kept in
+    reloaded_follows (state_of (parts_of c.self.inside)) _ making past c.args.actor c.args.frame c.refused.result c.args.work.rec h.sound h.guarded t.sound t.guarded (rw (← c.self.view_is) at c.requires) k.back (rw (← c.self.view_is) at follows)
+
+pub returns-clause-fits : goal.returns-clause-fits
+returns-clause-fits c = λ making past follows fits.
+    let d = parts_of c.self.inside in
+    let h = c.self.invariant in
+    let comes : (state_of d).content c.args.frame.0 ≡ IsLoading = rw (← c.self.view_is) at c.requires in
+    let k = is_refused c in
+    reloaded_fits (state_of d) _ making past c.args.actor c.args.frame c.args.work.rec c.refused.result h.sound h.guarded comes (low_in d c.args.frame.0 comes) k.back (rw (← c.self.view_is) at follows) fits

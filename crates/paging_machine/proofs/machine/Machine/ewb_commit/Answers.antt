@@ -1,0 +1,43 @@
+use Rattle.std.proofs.Common.{◌≡◌, ◌∙◌, true, ap, None, set}
+use Rattle.sgx_types.specs.declared.entries.Action.TheVariants.{Ewb}
+use Rattle.sgx_types.specs.declared.entries.Answer.TheVariants.{Moved}
+use Rattle.sgx_types.specs.Sealed.{Sealed}
+use Rattle.paging_machine.specs.Steps.{did_by}
+use Rattle.paging_machine.specs.Whole.{parts_of}
+use Rattle.paging_machine.specs.Parts.{state_of}
+use Rattle.paging_machine.proofs.CommitBridge.{Written, written, low_out}
+use Rattle.paging_machine.proofs.FitLaws.{written_fits}
+use Rattle.paging_machine.proofs.FollowLaws.{written_follows}
+use Rattle.paging_machine.proofs.Keeping.{kept_as}
+use Rattle.paging_machine.proofs.Wholes.{whole}
+use Rattle.paging_machine.proofs.machine.Machine.ewb_commit.Goals as goal
+
+-- what the commit leaves and answers
+is_written : (c : goal.After-drop-work)
+    → Written c.self.inside c.args.actor c.args.frame c.done.result c.sealed-work.result.rec (record (parts_of c.self.inside) { epc = c.ewb_commit-page.new.epc; va = c.ewb_commit-page.new.va; starts = set c.self.inside.starts.items c.args.frame.0 None })
+is_written c =
+    written c.self.inside c.self.invariant c.args.actor c.args.frame c.done.result c.sealed-work.result c.start-start.result c.ewb_commit-page.result c.ewb_commit-page.new.epc c.ewb_commit-page.new.va
+    (rw (← c.self.view_is) at c.requires) (rw (← c.self.view_is) at c.sealed-work.ensures) (rw (← c.self.view_is) at c.start-start.ensures) c.ewb_commit-page.ensures.answer c.ewb_commit-page.ensures.epc c.ewb_commit-page.ensures.va
+    (c.done.ensures ∙ ap (λ (r : Sealed). did_by c.args.actor (Ewb c.args.frame) (Moved c.ewb_commit-page.result c.start-start.result.version r.tag)) c.rec.view_is)
+
+pub invariant_of-self : goal.invariant_of-self
+invariant_of-self c = let k = is_written c in whole _ _ k.leaves
+
+pub returns-clause-step : goal.returns-clause-step
+returns-clause-step c = let k = is_written c in rw (← c.self.view_is) k.out
+
+pub returns-clause-shape : goal.returns-clause-shape
+returns-clause-shape c = λ making past follows.
+    let s = state_of (parts_of c.self.inside) in
+    let h = c.self.invariant in
+    let k = is_written c in
+    let t = kept_as _ _ k.leaves.state k.leaves.kept in
+    written_follows s _ making past c.args.actor c.args.frame c.done.result c.sealed-work.result.rec h.sound h.guarded t.sound t.guarded (rw (← c.self.view_is) at c.requires) k.out (rw (← c.self.view_is) at follows)
+
+pub returns-clause-fits : goal.returns-clause-fits
+returns-clause-fits c = λ making past follows fits.
+    let d = parts_of c.self.inside in
+    let h = c.self.invariant in
+    let leaves : (state_of d).is_sealing c.args.frame.0 ≡ true = rw (← c.self.view_is) at c.requires in
+    let k = is_written c in
+    written_fits (state_of d) _ making past c.args.actor c.args.frame c.done.result c.sealed-work.result.rec h.sound h.guarded leaves (low_out d c.args.frame.0 leaves) k.out (rw (← c.self.view_is) at follows) fits

@@ -1,0 +1,26 @@
+use Rattle.std.proofs.Common.{◌≡◌, ◌∙◌, true, refl, ap, is_some}
+use Rattle.paging_machine.specs.Whole.{parts_of}
+use Rattle.paging_machine.specs.Parts.{Parts, state_of}
+use Rattle.epcm_entry.specs.Epc.{bytes_at}
+use Rattle.paging_machine.specs.Steps.{IsLeaving, SealsPage}
+use Rattle.paging_machine.proofs.PagingSights.{start_out}
+use Rattle.paging_machine.proofs.machine.Machine.seal_input.Goals as goal
+
+pub start-start-requires : goal.start-start-requires
+start-start-requires c =
+    let s = state_of (parts_of c.self.inside) in
+    let open_start : is_some (s.start c.args.frame.0) ≡ true = start_out s c.args.frame.0 c.self.invariant.guarded (rw (← c.self.view_is) at c.requires) in
+    rw (← c.self.view_is) open_start
+
+pub returns : goal.returns
+returns c =
+    let x = c.start-start.result in
+    let leaving : IsLeaving (state_of c.args.self.now) c.args.frame.0 = record { start = record { slot = x.slot; version = x.version; loads = x.loads }; opened = c.start-start.ensures; header = c.header-header.result; page = c.header-header.ensures } in
+    let is : SealsPage (state_of c.args.self.now) c.args.frame.0 _ _ _ _ = record {
+      leaving = leaving;
+      key = ap (λ (d : Parts). d.key) c.self.view_is;
+      version = refl;
+      header = refl;
+      plain = c.copy_from_slice.ensures.items ∙ c.bytes.ensures.value ∙ ap (λ (d : Parts). bytes_at d.epc c.args.frame.0) c.self.view_is;
+    } in
+    is
