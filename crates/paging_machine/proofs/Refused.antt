@@ -21,7 +21,7 @@ use Rattle.sgx_types.specs.Flat.{FlatEnclave, flat, enclave_sight_of, tcs_fields
 use Rattle.sgx_types.specs.Sights.{row_at, seat_of}
 use Rattle.sgx_types.specs.Sights as sights
 use Rattle.sgx_types.specs.Sights.{enter_sight_at}
-use Rattle.sgx_types.specs.Rules.{NoPageTwice, case_of}
+use Rattle.sgx_types.specs.Rules.{NoPageTwice, case_of, RefusalRule}
 use Rattle.measure_log.specs.Rule.{log, MeasureRule}
 use Rattle.sgx_types.specs.declared.entries.AccessOp.{AccessOp}
 use Rattle.sgx_types.specs.declared.entries.Cause.{Cause}
@@ -41,7 +41,7 @@ refused_by actor action refusal = record { actor = actor; event = Refused action
 
 -- an entry that leaves every column as it was
 pub refused_upheld : (s : State) (past : List Entry) (a : Actor) (action : Action) (refusal : Refusal) → Stands s (refused_by a action refusal ∷ past) → NoPageTwice (refused_by a action refusal ∷ past)
-    → IsHeld (refused_by a action refusal ∷ past) → first_of_row (row_at s.frames past a action) ≡ case_of action refusal → MeasureRule past (refused_by a action refusal) → IsSound s
+    → IsHeld (refused_by a action refusal ∷ past) → RefusalRule s.frames past (refused_by a action refusal) → MeasureRule past (refused_by a action refusal) → IsSound s
     → Upholds s past → Upholds s (refused_by a action refusal ∷ past)
 refused_upheld s past a action refusal stands once held refused measure sound h =
     upholds_more s past _ h.rules h.measure (record { sound = sound; stands = stands; refusal = refused; flat = tt; fits = tt; once = once; access = tt; held = held; measure = measure })
