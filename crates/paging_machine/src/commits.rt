@@ -29,15 +29,15 @@ impl Machine {
         requires { (state_of self.now).is_sealing frame.0 ≡ true }
         ensures { SealsPage (state_of self.now) frame.0 result.key result.version result.header result.plain.items }
     {
+        let key = self.key;
+        let start = self.start(frame);
+        let header = self.header(frame);
         let SealWork {
             mut plain,
             space,
             ..
         } = work;
         plain.copy_from_slice(self.epc.bytes(frame));
-        let key = self.key;
-        let start = self.start(frame);
-        let header = self.header(frame);
         SealWork {
             key,
             version: start.version,
@@ -54,9 +54,9 @@ impl Machine {
         ensures version { IsSomeAnd ((state_of self.now).start frame.0) (λ start. result.version ≡ start.version) }
         ensures rec { result.rec ≡ work.rec }
     {
-        let UnsealWork { rec, space, .. } = work;
         let key = self.key;
         let start = self.start(frame);
+        let UnsealWork { rec, space, .. } = work;
         UnsealWork {
             key,
             version: start.version,

@@ -2,6 +2,7 @@ ghost use Rattle.std.specs.Prelude.{IsTrue};
 ghost use Rattle.paging_machine.specs.Steps.{CanApply};
 
 mod building;
+mod paging;
 mod running;
 
 use crate::machine::Machine;
@@ -58,6 +59,8 @@ const OTHER: [u8; 32] = [
     0x6f, 0x6e, 0x67, 0xb5, 0xac, 0xda, 0x1f, 0x8a, 0x01, 0x91, 0xa3, 0xca, 0x31, 0xf1, 0xe1, 0xb2,
 ];
 
+type Row = (Actor, Action, Result<Answer, Refusal>);
+
 fn epa(frame: u32) -> Action {
     Action::Epa {
         frame: Frame(frame),
@@ -112,6 +115,15 @@ fn enter(tcs_frame: u32, ssa_frame: u32) -> Action {
     }
 }
 
+fn resume(tcs_frame: u32, ssa_frame: u32) -> Action {
+    Action::Resume {
+        enclave: 1,
+        tcs: 0,
+        tcs_frame: Frame(tcs_frame),
+        ssa_frame: Frame(ssa_frame),
+    }
+}
+
 fn fill(number: u32, frame: u32) -> Action {
     Action::Fill {
         number,
@@ -123,8 +135,12 @@ fn load(off: u64) -> Action {
     Action::Load { off }
 }
 
-fn can_apply(actor: Actor, action: Action) -> bool
-    ensures { IsTrue result → CanApply CPUS actor action }
+fn store(off: u64, value: u64) -> Action {
+    Action::Store { off, value }
+}
+
+fn can_apply(cpus: usize, actor: Actor, action: Action) -> bool
+    ensures { IsTrue result → CanApply cpus actor action }
 {
     match (actor, action) {
         (
@@ -133,7 +149,11 @@ fn can_apply(actor: Actor, action: Action) -> bool
             | Action::Create { .. }
             | Action::Add { .. }
             | Action::Extend { .. }
-            | Action::Init { .. },
+            | Action::Init { .. }
+            | Action::Block { .. }
+            | Action::Track { .. }
+            | Action::EwbStart { .. }
+            | Action::EldStart { .. },
         ) => true,
         (
             Actor::Cpu(cpu),
@@ -150,7 +170,7 @@ fn can_apply(actor: Actor, action: Action) -> bool
             | Action::Pf { .. }
             | Action::OutLoad { .. }
             | Action::OutStore { .. },
-        ) => cpu.0 < CPUS,
+        ) => usize::from(cpu.0) < cpus,
         _ => false,
     }
 }
@@ -164,14 +184,47 @@ fn step(
     action: Action,
     want: Result<Answer, Refusal>,
 ) -> Result<(), Memory> {
-    assert_eq!(rt; machine.cpus.len(), usize::from(CPUS));
-    assert!(rt; can_apply(actor, action));
+    assert!(rt; can_apply(machine.cpus.len(), actor, action));
     let entry = machine.apply(alloc, actor, action)?;
     let event = match want {
         Ok(answer) => Event::Did { action, answer },
         Err(why) => Event::Refused { action, why },
     };
     assert_eq!(rt; entry, Entry { actor, event });
+    Ok(())
+}
+
+fn build(
+    rt: &impl Abort,
+    alloc: Global,
+    machine: &mut Machine,
+    actions: &[Action],
+    digest: [u8; 32],
+) -> Result<(), Memory> {
+    for action in actions {
+        step(
+            rt,
+            alloc,
+            machine,
+            Actor::Builder,
+            *action,
+            Ok(Answer::Plain),
+        )?;
+    }
+    step(
+        rt,
+        alloc,
+        machine,
+        Actor::Builder,
+        init(None),
+        Ok(Answer::Hash(digest)),
+    )
+}
+
+fn run(rt: &impl Abort, alloc: Global, machine: &mut Machine, rows: &[Row]) -> Result<(), Memory> {
+    for (actor, action, want) in rows {
+        step(rt, alloc, machine, *actor, *action, *want)?;
+    }
     Ok(())
 }
 

@@ -1,6 +1,6 @@
 use super::{
-    CPUS, FIRST, NONE, READ_WRITE, SECOND, THREE_PAGES, add, add_reg, add_tcs, create, enter, fill,
-    holds, init, load, step,
+    CPUS, FIRST, NONE, READ_WRITE, SECOND, THREE_PAGES, add, add_reg, add_tcs, build, create,
+    enter, fill, holds, load, resume, run, step, store,
 };
 use crate::machine::Machine;
 use sgx_types::entries::{AccessOp, Action, Actor, Answer, Cause, PageInit, PfWhy};
@@ -40,21 +40,6 @@ const TIMER: Action = Action::Aex {
     cause: Cause::Timer,
 };
 
-type Row = (Actor, Action, Result<Answer, Refusal>);
-
-fn resume(tcs_frame: u32, ssa_frame: u32) -> Action {
-    Action::Resume {
-        enclave: 1,
-        tcs: 0,
-        tcs_frame: Frame(tcs_frame),
-        ssa_frame: Frame(ssa_frame),
-    }
-}
-
-fn store(off: u64, value: u64) -> Action {
-    Action::Store { off, value }
-}
-
 fn xadd(off: u64, value: u64) -> Action {
     Action::Xadd { off, value }
 }
@@ -81,40 +66,6 @@ fn outstore(off: u64, value: u64) -> Action {
         off,
         value,
     }
-}
-
-fn build(
-    rt: &impl Abort,
-    alloc: Global,
-    machine: &mut Machine,
-    actions: &[Action],
-    digest: [u8; 32],
-) -> Result<(), Memory> {
-    for action in actions {
-        step(
-            rt,
-            alloc,
-            machine,
-            Actor::Builder,
-            *action,
-            Ok(Answer::Plain),
-        )?;
-    }
-    step(
-        rt,
-        alloc,
-        machine,
-        Actor::Builder,
-        init(None),
-        Ok(Answer::Hash(digest)),
-    )
-}
-
-fn run(rt: &impl Abort, alloc: Global, machine: &mut Machine, rows: &[Row]) -> Result<(), Memory> {
-    for (actor, action, want) in rows {
-        step(rt, alloc, machine, *actor, *action, *want)?;
-    }
-    Ok(())
 }
 
 // A TCS with two state save frames: what was saved last is resumed first.
