@@ -21,7 +21,7 @@ none_beyond : (d : Parts) (past : List Entry) → Upholds (state_of d) past → 
 none_beyond d past upheld n le = sym (upheld.stands.content n) ∙ free_past d n le
 
 pub apply-requires : goal.apply-requires
-apply-requires c = rw (← c.self.view_is) (can_do c.args.self.now.cpus c.args.actor c.args.action c.requires).able
+apply-requires c = (can_do (length c.self.inside.machine.cpus) c.args.actor c.args.action (rw (← c.self.view_is) at c.requires)).able
 
 pub note_home-requires : goal.note_home-requires
 note_home-requires c = λ g. (let entries = c.self.inside.entries in home_small c.self.inside.homes entries.items g c.self.invariant.homes (omega (arith, entries.ok.0)))
