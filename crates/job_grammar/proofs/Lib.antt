@@ -5,7 +5,6 @@ pub mod Numerals
 pub mod PageLaws
 pub mod PrintedLines
 pub mod ReadJobs
-pub mod ScriptLaws
 pub mod Splits
 pub mod ValidJobs
 pub mod ViewLaws

@@ -1,11 +1,16 @@
 -- What is written of a line is words, and is read again as that line.
-use Rattle.std.proofs.Common.{◌≡◌, ℕ, ◌+◌, ◌^◌, ◌<◌, ◌≤◌, Bool, true, false, ltb, List, [], ◌∷◌, Some, length, decimal, refl, sym, ap, subst, arith, lit≤, inl, inr}
+use Rattle.std.proofs.Common.{◌≡◌, ℕ, ◌+◌, ◌^◌, ◌<◌, ◌≤◌, ◌/◌, ◌%◌, Bool, true, false, ltb, List, [], ◌∷◌, Some, None, length, slice_index, All, decimal, refl, sym, ap, subst, ◌∙◌, arith, lit≤, inl, inr}
 use Rattle.std.specs.Char.{digit_value}
 use Rattle.std.specs.Fmt.{digits}
 use Rattle.std.specs.List.{list_all}
 use Rattle.std.specs.Str.Parse.{AllDigits, IsNumeral}
 use Rattle.std.proofs.lemmas.Bool.{and_from, lt-ltb, le-leb, cases_lt}
+use Rattle.std.proofs.lemmas.Bool.Decides.{nat_tests}
 use Rattle.std.proofs.lemmas.Fmt.{digits_is_IsNumeral}
+use Rattle.std.proofs.lemmas.List.{get_or_past}
+use Rattle.std.proofs.lemmas.List.Elements.{All-get_or, All-head, All-tail}
+use Rattle.hex.specs.Hex.{IsBytes, encode_with, encode_lower, hex_digit_value, lower_digits}
+use Rattle.hex.proofs.HexLemmas.{IsDigits-lower_digits, decode_sized-encode_lower, length-encode_with}
 use Rattle.sgx_types.specs.declared.names.Perm.{Perm}
 use Rattle.job_grammar.specs.declared.jobs.PageLine.{PageLine}
 use Rattle.job_grammar.specs.declared.jobs.PageLine.TheVariants as pages
@@ -15,7 +20,8 @@ use Rattle.job_grammar.specs.declared.lines.Line.{Line}
 use Rattle.job_grammar.specs.declared.lines.Line.TheVariants as lines
 use Rattle.job_grammar.specs.Text.{hexadecimal, letter, perm_word, plain_word, page_words, op_words}
 use Rattle.job_grammar.specs.Lines.{line_words}
-use Rattle.job_grammar.specs.Reading.{small_of, letter_of, perm_with, perm_of, plain_of, keyword_of, epc_line, enclave_line, tcs_line, reg_line, cpu_line, enter_line, exit_line, load_line, line_of}
+use Rattle.job_grammar.specs.Valid.{IsDigest}
+use Rattle.job_grammar.specs.Reading.{small_of, letter_of, perm_with, perm_of, digest_of, plain_of, keyword_of, epc_line, enclave_line, tcs_line, reg_line, expect_line, cpu_line, enter_line, resume_line, exit_line, timer_line, load_line, store_line, xadd_line, set_line, plus_line, outload_line, outstore_line, line_of}
 use Rattle.job_grammar.proofs.Numerals.{number_of-decimal, number_of-hexadecimal}
 use Rattle.job_grammar.proofs.Splits.{is_word, AreWords}
 
@@ -30,14 +36,22 @@ FitsPage (pages.Reg first count perm value plain) = (first < 2 ^ 32) × (count <
 
 abbrev pub FitsOp : Op → Type 0
 FitsOp (ops.Enter enclave tcs) = IsLetter enclave × (tcs < 2 ^ 32)
+FitsOp (ops.Resume enclave tcs) = IsLetter enclave × (tcs < 2 ^ 32)
 FitsOp ops.Exit = Unit {0}
+FitsOp ops.Timer = Unit {0}
 FitsOp (ops.Load off) = off < 2 ^ 64
-FitsOp _ = ⊥
+FitsOp (ops.Store off value) = (off < 2 ^ 64) × (value < 2 ^ 64)
+FitsOp (ops.Xadd off value) = (off < 2 ^ 64) × (value < 2 ^ 64)
+FitsOp (ops.Set value) = value < 2 ^ 64
+FitsOp (ops.Plus value) = value < 2 ^ 64
+FitsOp (ops.OutLoad enclave off) = IsLetter enclave × (off < 2 ^ 64)
+FitsOp (ops.OutStore enclave off value) = IsLetter enclave × (off < 2 ^ 64) × (value < 2 ^ 64)
 
 abbrev pub FitsLine : Line → Type 0
 FitsLine (lines.Epc frames) = frames < 2 ^ 32
 FitsLine (lines.Enclave enclave base size) = IsLetter enclave × (base < 2 ^ 64) × (size < 2 ^ 64)
 FitsLine (lines.Page page) = FitsPage page
+FitsLine (lines.Expect digest) = IsDigest digest
 FitsLine (lines.Cpu number) = number < 2 ^ 32
 FitsLine (lines.Op op) = FitsOp op
 
@@ -75,6 +89,40 @@ perm_with-is_word false false = refl
 
 perm-is_word : (perm : Perm) → perm.r ≡ true → is_word (perm_word perm) ≡ true
 perm-is_word perm r = subst (λ (p : Perm). is_word (perm_word p) ≡ true) (readable-perm perm r) (perm_with-is_word perm.w perm.x)
+
+-- a digit is above the space
+digit-above : (d : ℕ) → d < 16 → 32 < slice_index lower_digits d
+digit-above d lt =
+    elim (cases_lt (slice_index lower_digits d) 48) [
+      | inl low ↦ (let none = not_digit (slice_index lower_digits d) low in absurd (let e = sym none ∙ IsDigits-lower_digits d lt in cc))
+      | inr high ↦ omega arith
+    ]
+  where
+    not_digit : (c : ℕ) → c < 48 → hex_digit_value c ≡ None
+    not_digit c low = grind (arith, nat_tests)
+
+encoded-above : (bytes : List ℕ) → All (λ b. b < 256) bytes → list_all (ltb 32) (encode_lower bytes) ≡ true
+unfolding encode_with
+encoded-above [] all = refl
+encoded-above (b ∷ bytes) all =
+    let small : b < 256 = All-head (λ b. b < 256) b bytes all in
+    and_from _ _ (lt-ltb 32 (slice_index lower_digits (b / 16)) (digit-above (b / 16) (omega arith)))
+    (and_from _ _ (lt-ltb 32 (slice_index lower_digits (b % 16)) (digit-above (b % 16) (omega arith))) (encoded-above bytes (All-tail (λ b. b < 256) b bytes all)))
+
+digest-is_word : (digest : List ℕ) → IsDigest digest → is_word (encode_lower digest) ≡ true
+digest-is_word digest is =
+    and_from _ _ (lt-ltb 0 (length (encode_lower digest)) (omega (arith, length-encode_with lower_digits digest, is.sized))) (encoded-above digest is.bytes)
+
+digest-bytes : (digest : List ℕ) → IsDigest digest → IsBytes digest
+digest-bytes digest is i =
+    elim (cases_lt i (length digest)) [
+      | inl lt ↦ All-get_or (λ b. b < 256) digest i 0 lt is.bytes
+      | inr past ↦ rw (get_or_past digest i 0 past) (lit≤ tt)
+    ]
+
+digest_of-encode_lower : (digest : List ℕ) → IsDigest digest → digest_of (encode_lower digest) ≡ Some digest
+unfolding digest_of
+digest_of-encode_lower digest is = rw (decode_sized-encode_lower digest 32 is.sized (digest-bytes digest is)) refl
 
 small_of-decimal : (n : ℕ) → n < 2 ^ 32 → small_of (decimal n) ≡ Some n
 unfolding small_of
@@ -114,15 +162,24 @@ page-are_words (pages.Reg first count perm value plain) fits =
 
 op-are_words : (op : Op) → FitsOp op → AreWords (op_words op)
 op-are_words (ops.Enter enclave tcs) fits = (refl, (letter-is_word enclave, (decimal-is_word tcs (omega arith), tt)))
+op-are_words (ops.Resume enclave tcs) fits = (refl, (letter-is_word enclave, (decimal-is_word tcs (omega arith), tt)))
 op-are_words ops.Exit fits = (refl, tt)
+op-are_words ops.Timer fits = (refl, tt)
 op-are_words (ops.Load off) fits = (refl, (hexadecimal-is_word off fits, tt))
-op-are_words _ fits = absurd fits
+op-are_words (ops.Store off value) fits = (refl, (hexadecimal-is_word off fits.0, (decimal-is_word value fits.1, tt)))
+op-are_words (ops.Xadd off value) fits = (refl, (hexadecimal-is_word off fits.0, (decimal-is_word value fits.1, tt)))
+op-are_words (ops.Set value) fits = (refl, (decimal-is_word value fits, tt))
+op-are_words (ops.Plus value) fits = (refl, (decimal-is_word value fits, tt))
+op-are_words (ops.OutLoad enclave off) fits = (refl, (letter-is_word enclave, (hexadecimal-is_word off fits.1, tt)))
+op-are_words (ops.OutStore enclave off value) fits =
+    (refl, (letter-is_word enclave, (hexadecimal-is_word off fits.1, (decimal-is_word value fits.2, tt))))
 
 pub line-are_words : (line : Line) → FitsLine line → AreWords (line_words line)
 line-are_words (lines.Epc frames) fits = (refl, (decimal-is_word frames (omega arith), tt))
 line-are_words (lines.Enclave enclave base size) fits =
     (refl, (letter-is_word enclave, (hexadecimal-is_word base fits.1, (hexadecimal-is_word size fits.2, tt))))
 line-are_words (lines.Page page) fits = page-are_words page fits
+line-are_words (lines.Expect digest) fits = (refl, (digest-is_word digest fits, tt))
 line-are_words (lines.Cpu number) fits = (refl, (decimal-is_word number (omega arith), tt))
 line-are_words (lines.Op op) fits = op-are_words op fits
 
@@ -134,18 +191,26 @@ page-few : (page : PageLine) → length (page_words page) ≤ 7
 page-few (pages.Tcs page ossa nssa plain) = omega (arith, plain-few plain)
 page-few (pages.Reg first count perm value plain) = omega (arith, plain-few plain)
 
-op-few : (op : Op) → FitsOp op → length (op_words op) ≤ 7
-op-few (ops.Enter enclave tcs) fits = lit≤ tt
-op-few ops.Exit fits = lit≤ tt
-op-few (ops.Load off) fits = lit≤ tt
-op-few _ fits = absurd fits
+op-few : (op : Op) → length (op_words op) ≤ 7
+op-few (ops.Enter enclave tcs) = lit≤ tt
+op-few (ops.Resume enclave tcs) = lit≤ tt
+op-few ops.Exit = lit≤ tt
+op-few ops.Timer = lit≤ tt
+op-few (ops.Load off) = lit≤ tt
+op-few (ops.Store off value) = lit≤ tt
+op-few (ops.Xadd off value) = lit≤ tt
+op-few (ops.Set value) = lit≤ tt
+op-few (ops.Plus value) = lit≤ tt
+op-few (ops.OutLoad enclave off) = lit≤ tt
+op-few (ops.OutStore enclave off value) = lit≤ tt
 
-pub line-few : (line : Line) → FitsLine line → length (line_words line) ≤ 7
-line-few (lines.Epc frames) fits = lit≤ tt
-line-few (lines.Enclave enclave base size) fits = lit≤ tt
-line-few (lines.Page page) fits = page-few page
-line-few (lines.Cpu number) fits = lit≤ tt
-line-few (lines.Op op) fits = op-few op fits
+pub line-few : (line : Line) → length (line_words line) ≤ 7
+line-few (lines.Epc frames) = lit≤ tt
+line-few (lines.Enclave enclave base size) = lit≤ tt
+line-few (lines.Page page) = page-few page
+line-few (lines.Expect digest) = lit≤ tt
+line-few (lines.Cpu number) = lit≤ tt
+line-few (lines.Op op) = op-few op
 
 page-read : (page : PageLine) → FitsPage page → line_of (page_words page) ≡ Some (lines.Page page)
 unfolding line_of tcs_line reg_line keyword_of
@@ -155,17 +220,26 @@ page-read (pages.Reg first count perm value plain) fits =
     rw (small_of-decimal first fits.0, small_of-decimal count fits.1, perm_of-perm_word perm fits.3, number_of-decimal value fits.2, plain_of-plain_word plain) refl
 
 op-read : (op : Op) → FitsOp op → line_of (op_words op) ≡ Some (lines.Op op)
-unfolding line_of enter_line exit_line load_line keyword_of
+unfolding line_of enter_line resume_line exit_line timer_line load_line store_line xadd_line set_line plus_line outload_line outstore_line keyword_of
 op-read (ops.Enter enclave tcs) fits = rw (letter_of-letter enclave fits.0, small_of-decimal tcs fits.1) refl
+op-read (ops.Resume enclave tcs) fits = rw (letter_of-letter enclave fits.0, small_of-decimal tcs fits.1) refl
 op-read ops.Exit fits = refl
+op-read ops.Timer fits = refl
 op-read (ops.Load off) fits = rw (number_of-hexadecimal off fits) refl
-op-read _ fits = absurd fits
+op-read (ops.Store off value) fits = rw (number_of-hexadecimal off fits.0, number_of-decimal value fits.1) refl
+op-read (ops.Xadd off value) fits = rw (number_of-hexadecimal off fits.0, number_of-decimal value fits.1) refl
+op-read (ops.Set value) fits = rw (number_of-decimal value fits) refl
+op-read (ops.Plus value) fits = rw (number_of-decimal value fits) refl
+op-read (ops.OutLoad enclave off) fits = rw (letter_of-letter enclave fits.0, number_of-hexadecimal off fits.1) refl
+op-read (ops.OutStore enclave off value) fits =
+    rw (letter_of-letter enclave fits.0, number_of-hexadecimal off fits.1, number_of-decimal value fits.2) refl
 
 pub line_of-line_words : (line : Line) → FitsLine line → line_of (line_words line) ≡ Some line
-unfolding line_of epc_line enclave_line cpu_line keyword_of
+unfolding line_of epc_line enclave_line expect_line cpu_line keyword_of
 line_of-line_words (lines.Epc frames) fits = rw (small_of-decimal frames fits) refl
 line_of-line_words (lines.Enclave enclave base size) fits =
     rw (letter_of-letter enclave fits.0, number_of-hexadecimal base fits.1, number_of-hexadecimal size fits.2) refl
 line_of-line_words (lines.Page page) fits = page-read page fits
+line_of-line_words (lines.Expect digest) fits = rw (digest_of-encode_lower digest fits) refl
 line_of-line_words (lines.Cpu number) fits = rw (small_of-decimal number fits) refl
 line_of-line_words (lines.Op op) fits = op-read op fits

@@ -1,5 +1,5 @@
 -- What the table of an enclave's pages says of its lines.
-use Rattle.std.proofs.Common.{◌≡◌, ℕ, zero, suc, ◌+◌, ◌<◌, ◌≤◌, Bool, true, false, cond, ◌&&◌, ◌||◌, ◌⊎◌, List, [], ◌∷◌, ◌++◌, length, get_or, take, replicate, Option, Some, None, IsSome, MatchOption, HoldsAt, Bor, count_by, find, refl, sym, ap, ◌∙◌, arith, inl, inr}
+use Rattle.std.proofs.Common.{◌≡◌, ℕ, zero, suc, ◌+◌, ◌<◌, ◌≤◌, Bool, true, false, cond, ◌&&◌, ◌||◌, ◌⊎◌, List, [], ◌∷◌, ◌++◌, length, get_or, take, replicate, Option, Some, None, IsSome, MatchOption, HoldsAt, Bor, map, option_map, count_by, find, refl, sym, ap, ◌∙◌, arith, inl, inr}
 use Rattle.std.specs.List.{list_any}
 use Rattle.std.specs.Option.{option_map_or, option_or}
 use Rattle.std.proofs.lemmas.Bool.{cases_Bool, cases_lt}
@@ -9,7 +9,8 @@ use Rattle.std.proofs.lemmas.List.Folds.{find-append}
 use Rattle.std.proofs.lemmas.List.Sums.{sum_by-cons, sum_by_push, sum_by-take-le, sum_by_more}
 use Rattle.job_grammar.specs.declared.jobs.PageLine.{PageLine}
 use Rattle.job_grammar.specs.declared.jobs.PageLine.TheVariants.{Tcs, Reg}
-use Rattle.job_grammar.specs.Jobs.{EnclaveView, covers, first_page, page_count, lines_at}
+use Rattle.job_grammar.specs.declared.jobs.EnclaveJob.{EnclaveJob}
+use Rattle.job_grammar.specs.Jobs.{EnclaveView, covers, enclave_at, enclave_view, first_page, page_count, lines_at}
 use Rattle.job_grammar.specs.Valid.{IsValidLine}
 use Rattle.job_grammar.specs.declared.page_tables.PageTable.{PageTable}
 use Rattle.job_grammar.specs.PageTables.{Table, line_at, IsTableOf, Tells, AddsLine, AreValidPages, AreTablesOf}
@@ -135,6 +136,24 @@ told-none q lines table n tells e = ap (λ (o : Option PageLine). option_map_or 
 
 pub valid_tells : (pages : ℕ) (lines : List PageLine) (table : Table) → AreValidPages pages lines → IsTableOf lines table → Tells table lines
 valid_tells pages lines table valid of = record { of = of; once = valid.once }
+
+-- ---- enclaves by their numbers
+
+enclave_at-past : (es : List EnclaveJob) (i : ℕ) → length es ≤ i → enclave_at (map enclave_view es) (suc i) ≡ None
+enclave_at-past [] i le = refl
+enclave_at-past (e ∷ es) zero le = absurd (omega arith)
+enclave_at-past (e ∷ es) (suc i) le = enclave_at-past es i (omega arith)
+
+enclave_at-here : (es : List EnclaveJob) (i : ℕ) (e : EnclaveJob) → i < length es → e ≡ get_or es i e → enclave_at (map enclave_view es) (suc i) ≡ Some (enclave_view e)
+enclave_at-here [] i e lt here = absurd (omega arith)
+enclave_at-here (f ∷ es) zero e lt here = ap (λ (x : EnclaveJob). Some (enclave_view x)) (sym here)
+enclave_at-here (f ∷ es) (suc i) e lt here = enclave_at-here es i e (omega arith) here
+
+-- an enclave that is looked up at an index is the one whose number is one more
+pub enclave-told : (es : List EnclaveJob) (i : ℕ) (found : Option (Bor EnclaveJob)) → MatchOption found (length es ≤ i) (λ e. (i < length es) × HoldsAt (λ y. e.now ≡ y) es i)
+    → enclave_at (map enclave_view es) (suc i) ≡ option_map (λ e. enclave_view e.now) found
+enclave-told es i None past = enclave_at-past es i past
+enclave-told es i (Some e) here = enclave_at-here es i e.now here.0 (here.1 e.now)
 
 -- ---- the tables of all enclaves
 

@@ -1,12 +1,11 @@
 -- Validity in the parts in which it is checked.
-use Rattle.std.specs.Prelude.{◌≡◌, ℕ, ◌≤◌, ◌⊎◌, ⊤, List, [], Some, Result, Ok, Err, length, replicate, sum_by}
+use Rattle.std.specs.Prelude.{◌≡◌, ℕ, ◌≤◌, ◌⊎◌, ⊤, List, [], Option, Some, Result, Ok, Err, length, replicate, sum_by}
 use Rattle.job_grammar.specs.declared.jobs.Op.{Op}
 use Rattle.job_grammar.specs.declared.refusals.JobRefusal.{JobRefusal}
 use Rattle.job_grammar.specs.declared.refusals.JobRefusal.TheVariants as refusals
 use Rattle.job_grammar.specs.declared.refusals.JobKind.TheVariants.{TooLong, NotYetBuilt}
 use Rattle.job_grammar.specs.Jobs.{EnclaveView, JobView, default_marks, job_pages, needed}
-use Rattle.job_grammar.specs.Valid.{IsValid, IsFirstForm}
-use Rattle.job_grammar.specs.Drafts.{DraftView}
+use Rattle.job_grammar.specs.Valid.{IsValid, IsFittingForm}
 
 -- the job of these enclaves and scripts, with no option and no store line
 abbrev pub default_job : ℕ → List EnclaveView → List (List Op) → JobView
@@ -33,24 +32,24 @@ pub record HasValidCounts (j : JobView) : Type 0 where
   pub few_scripts : length j.scripts ≤ 16
   pub few_ops : sum_by length j.scripts ≤ 100000
 
--- ---- a draft that is checked
+-- ---- the parts of a draft that are checked
 
--- the job is what the draft says, and accepted
-pub record IsAccepted (d : DraftView) (job : JobView) : Type 0 where
-  pub epc : d.epc ≡ Some job.epc
-  pub parts : job ≡ default_job job.epc d.enclaves d.scripts
+-- the job has these parts, and is accepted
+pub record IsAccepted (epc : Option ℕ) (enclaves : List EnclaveView) (scripts : List (List Op)) (job : JobView) : Type 0 where
+  pub frames : epc ≡ Some job.epc
+  pub parts : job ≡ default_job job.epc enclaves scripts
   pub valid : IsValid job
-  pub form : IsFirstForm job
+  pub form : IsFittingForm job
 
--- no job is what the draft says and accepted
-abbrev pub IsRefused : DraftView → Type 0
-IsRefused d = (job : JobView) → ¬ IsAccepted d job
+-- no job has these parts and is accepted
+abbrev pub IsRefused : Option ℕ → List EnclaveView → List (List Op) → Type 0
+IsRefused epc enclaves scripts = (job : JobView) → ¬ IsAccepted epc enclaves scripts job
 
--- a judge's answer: the draft's job, or that the draft has none that is accepted, unless memory ran out
-abbrev pub Judges : DraftView → Result JobView JobRefusal → Type 0
-Judges d (Ok job) = IsAccepted d job
-Judges d (Err refusals.Memory) = ⊤
-Judges d (Err (refusals.Fault line kind)) = IsRefused d × (line ≡ 0) × (kind ≡ NotYetBuilt)
+-- a judge's answer: the job of these parts, or that no job of them is accepted, unless memory ran out
+abbrev pub Judges : Option ℕ → List EnclaveView → List (List Op) → Result JobView JobRefusal → Type 0
+Judges epc enclaves scripts (Ok job) = IsAccepted epc enclaves scripts job
+Judges epc enclaves scripts (Err refusals.Memory) = ⊤
+Judges epc enclaves scripts (Err (refusals.Fault line kind)) = IsRefused epc enclaves scripts × (line ≡ 0) × (kind ≡ NotYetBuilt)
 
 -- ---- what a reader answers
 

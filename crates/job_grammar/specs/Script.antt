@@ -2,11 +2,15 @@
 use Rattle.std.specs.Prelude.{ℕ, zero, suc, ◌≡◌, ◌==◌, ◌+◌, ◌-◌, ◌/◌, ◌<◌, ◌&&◌, ◌||◌, not, Bool, true, false, if◌then◌else◌, List, [], ◌∷◌, ◌++◌, Option, Some, None, length, map, flat_map, replicate, slice_get, nat_le, is_some, unwrap_or}
 use Rattle.sgx_types.specs.declared.entries.Entry.{Entry}
 use Rattle.sgx_types.specs.declared.entries.Event.{Event}
-use Rattle.sgx_types.specs.declared.entries.Event.TheVariants.{Did, Refused}
+use Rattle.sgx_types.specs.declared.entries.Event.TheVariants.{Did, Refused, Bus}
 use Rattle.sgx_types.specs.declared.entries.Actor.{Actor}
 use Rattle.sgx_types.specs.declared.entries.Actor.TheVariants as actors
 use Rattle.sgx_types.specs.declared.entries.Action.{Action}
 use Rattle.sgx_types.specs.declared.entries.Action.TheVariants as actions
+use Rattle.sgx_types.specs.declared.entries.Cause.{Cause}
+use Rattle.sgx_types.specs.declared.entries.Cause.TheVariants as causes
+use Rattle.sgx_types.specs.declared.entries.AccessOp.{AccessOp}
+use Rattle.sgx_types.specs.declared.entries.AccessOp.TheVariants as accesses
 use Rattle.sgx_types.specs.declared.entries.PageInit.{PageInit}
 use Rattle.sgx_types.specs.declared.entries.PageInit.TheVariants as inits
 use Rattle.sgx_types.specs.declared.names.Frame.{Frame}
@@ -16,6 +20,8 @@ use Rattle.sgx_types.specs.declared.names.Kind.TheVariants as kinds
 use Rattle.sgx_types.specs.declared.names.Perm.{Perm}
 use Rattle.sgx_types.specs.Frames.{content, same_page, page_at, least_free, frame_of}
 use Rattle.sgx_types.specs.Processors.{Stay, stay, is_by, holds_number, translations}
+use Rattle.sgx_types.specs.Table.{is_lawful_access}
+use Rattle.sgx_types.specs.Flat.{added_as, flat}
 use Rattle.sgx_types.specs.Rules.{Along}
 use Rattle.job_grammar.specs.declared.jobs.PageLine.{PageLine}
 use Rattle.job_grammar.specs.declared.jobs.PageLine.TheVariants as lines
@@ -109,22 +115,56 @@ abbrev pub built : List Entry → ℕ
 built [] = 0
 built (e ∷ past) = if is_builder e.actor then built past + 1 else built past
 
--- the instructions whose entries answer an operation of a script
-abbrev pub is_reply_action : Action → Bool
-is_reply_action (actions.Enter enclave tcs tf sf) = true
-is_reply_action actions.Exit = true
-is_reply_action (actions.Load off) = true
-is_reply_action _ = false
+-- an exit that no operation of the script asked for, after which the processor resumes by itself
+abbrev pub is_system : Cause → Bool
+is_system causes.Fault = true
+is_system causes.Kick = true
+is_system _ = false
 
-abbrev pub is_reply : Event → Bool
-is_reply (Did action answer) = is_reply_action action
-is_reply (Refused action why) = is_reply_action action
-is_reply _ = false
+abbrev pub interrupted_after : Event → Bool → Bool
+interrupted_after (Did (actions.Enter enclave tcs tf sf) answer) before = false
+interrupted_after (Did (actions.Resume enclave tcs tf sf) answer) before = false
+interrupted_after (Did actions.Exit answer) before = false
+interrupted_after (Did (actions.Aex cause) answer) before = is_system cause
+interrupted_after _ before = before
+
+-- whether such an exit was the last of a processor's entries into enclaves and exits
+abbrev pub is_interrupted : List Entry → ℕ → Bool
+is_interrupted [] p = false
+is_interrupted (e ∷ past) p = if is_by p e.actor then interrupted_after e.event (is_interrupted past p) else is_interrupted past p
+
+-- the instructions whose entries answer an operation of a script. A resumption answers one where the processor was not
+-- interrupted
+abbrev pub is_reply_action : Bool → Action → Bool
+is_reply_action interrupted (actions.Enter enclave tcs tf sf) = true
+is_reply_action interrupted (actions.Resume enclave tcs tf sf) = not interrupted
+is_reply_action interrupted actions.Exit = true
+is_reply_action interrupted (actions.Aex causes.Timer) = true
+is_reply_action interrupted (actions.Load off) = true
+is_reply_action interrupted (actions.Store off value) = true
+is_reply_action interrupted (actions.Xadd off value) = true
+is_reply_action interrupted (actions.Set value) = true
+is_reply_action interrupted (actions.Plus value) = true
+is_reply_action interrupted (actions.Pf op off) = true
+is_reply_action interrupted (actions.OutLoad enclave off) = true
+is_reply_action interrupted (actions.OutStore enclave off value) = true
+is_reply_action interrupted _ = false
+
+-- .. and so does an entry that tells why a page could not be reloaded
+abbrev pub is_reply : Bool → Event → Bool
+is_reply interrupted (Did action answer) = is_reply_action interrupted action
+is_reply interrupted (Refused action why) = is_reply_action interrupted action
+is_reply interrupted (Bus page why) = true
+is_reply interrupted _ = false
+
+-- whether the entry behind these is a reply of a processor
+abbrev pub is_reply_of : List Entry → Entry → ℕ → Bool
+is_reply_of past e p = is_by p e.actor && is_reply (is_interrupted past p) e.event
 
 -- how many operations of its script a processor has replies to
 abbrev pub replied : List Entry → ℕ → ℕ
 replied [] p = 0
-replied (e ∷ past) p = if is_by p e.actor && is_reply e.event then replied past p + 1 else replied past p
+replied (e ∷ past) p = if is_reply_of past e p then replied past p + 1 else replied past p
 
 abbrev pub is_init_of : ℕ → Event → Bool
 is_init_of enclave (Did (actions.Init e expect) answer) = e == enclave
@@ -168,32 +208,74 @@ enter_by past enclave tcs (Some (lines.Tcs page ossa nssa plain)) =
     enter_with enclave tcs (frame_of past g) (if n == nssa then frame_of past g else frame_of past (page_at enclave (ossa + n)))
 enter_by past enclave tcs _ = None
 
+abbrev pub resume_with : ℕ → ℕ → Option ℕ → Option ℕ → Option Action
+resume_with enclave tcs (Some tf) (Some sf) = Some (actions.Resume enclave tcs (frame_at tf) (frame_at sf))
+resume_with enclave tcs _ _ = None
+
+-- resumes with the frames of the TCS page and of the state save page that was used last; with the TCS page's own where none
+-- was
+abbrev pub resume_by : List Entry → ℕ → ℕ → Option PageLine → Option Action
+resume_by past enclave tcs (Some (lines.Tcs page ossa nssa plain)) =
+    let g = page_at enclave tcs in
+    let n = saved past g in
+    resume_with enclave tcs (frame_of past g) (if n == 0 then frame_of past g else frame_of past (page_at enclave (ossa + n - 1)))
+resume_by past enclave tcs _ = None
+
+-- who is inside, or enters an enclave that is not initialised, is refused whatever the frames are
+abbrev pub is_turned_away : List Entry → ℕ → ℕ → Bool
+is_turned_away past p enclave = is_some (stay past p) || not (is_initialised past enclave)
+
 abbrev pub fill_with : ℕ → Option ℕ → Option Action
 fill_with number None = None
 fill_with number (Some f) = Some (actions.Fill number (frame_at f))
 
--- an access goes by a translation; where none is held, it is filled first
-abbrev pub access_due : List Entry → ℕ → Option Stay → ℕ → Action → Option Action
-access_due past p None off access = Some access
-access_due past p (Some s) off access =
-    if holds_number (translations past p) (off / 4096) then Some access
-    else fill_with (off / 4096) (frame_of past (page_at s.seat.enclave (off / 4096)))
+-- an access inside that cannot succeed faults; another goes by a translation, which is filled first where none is held
+abbrev pub inner_access : List Entry → ℕ → ℕ → AccessOp → ℕ → Action → Option Action
+inner_access past p enclave op off access =
+    let g = page_at enclave (off / 4096) in
+    if not (is_lawful_access (added_as ((flat past).pages g)) op) then Some (actions.Pf op off)
+    else if holds_number (translations past p) (off / 4096) then Some access
+    else fill_with (off / 4096) (frame_of past g)
 
-abbrev pub op_due : JobView → List Entry → ℕ → Option Op → Option Action
-op_due j past p (Some (ops.Enter enclave tcs)) =
-    if is_some (stay past p) || not (is_initialised past enclave) then Some (actions.Enter enclave tcs (frame_at 0) (frame_at 0))
+-- an access outside is made, and refused
+abbrev pub access_due : List Entry → ℕ → Option Stay → AccessOp → ℕ → Action → Option Action
+access_due past p None op off access = Some access
+access_due past p (Some s) op off access = inner_access past p s.seat.enclave op off access
+
+-- the instruction that an operation of the script asks for next
+abbrev pub op_due : JobView → List Entry → ℕ → Op → Option Action
+op_due j past p (ops.Enter enclave tcs) =
+    if is_turned_away past p enclave then Some (actions.Enter enclave tcs (frame_at 0) (frame_at 0))
     else enter_by past enclave tcs (tcs_line (lines_at j.enclaves enclave) tcs)
-op_due j past p (Some ops.Exit) = Some actions.Exit
-op_due j past p (Some (ops.Load off)) = access_due past p (stay past p) off (actions.Load off)
-op_due j past p _ = None
+op_due j past p (ops.Resume enclave tcs) =
+    if is_turned_away past p enclave then Some (actions.Resume enclave tcs (frame_at 0) (frame_at 0))
+    else resume_by past enclave tcs (tcs_line (lines_at j.enclaves enclave) tcs)
+op_due j past p ops.Exit = Some actions.Exit
+op_due j past p ops.Timer = Some (actions.Aex causes.Timer)
+op_due j past p (ops.Load off) = access_due past p (stay past p) accesses.Load off (actions.Load off)
+op_due j past p (ops.Store off value) = access_due past p (stay past p) accesses.Store off (actions.Store off value)
+op_due j past p (ops.Xadd off value) = access_due past p (stay past p) accesses.Xadd off (actions.Xadd off value)
+op_due j past p (ops.Set value) = Some (actions.Set value)
+op_due j past p (ops.Plus value) = Some (actions.Plus value)
+op_due j past p (ops.OutLoad enclave off) = Some (actions.OutLoad enclave off)
+op_due j past p (ops.OutStore enclave off value) = Some (actions.OutStore enclave off value)
+
+-- who is inside at the end of its script leaves
+abbrev pub end_due : Option Stay → Option Action
+end_due None = None
+end_due (Some s) = Some (actions.Aex causes.End)
+
+abbrev pub next_due : JobView → List Entry → ℕ → Option Op → Option Action
+next_due j past p None = end_due (stay past p)
+next_due j past p (Some op) = op_due j past p op
 
 abbrev pub script_of : JobView → ℕ → List Op
 script_of j p = unwrap_or (slice_get j.scripts p) []
 
--- nothing before the build is done, then the script's operations in order
+-- nothing before the build is done, then the script's operations in order, and at its end out of the enclave
 abbrev pub cpu_due : JobView → List Entry → ℕ → Option Action
 cpu_due j past p =
-    if nat_le (length (build_of j)) (built past) then op_due j past p (slice_get (script_of j p) (replied past p))
+    if nat_le (length (build_of j)) (built past) then next_due j past p (slice_get (script_of j p) (replied past p))
     else None
 
 abbrev pub builder_due : JobView → List Entry → Option BuildStep → Option Action

@@ -1,7 +1,8 @@
 -- The text of a job: lines of words with one space between two, each line ended by a line feed.
-use Rattle.std.specs.Prelude.{ℕ, ◌+◌, Bool, true, false, List, [], ◌∷◌, ◌++◌, codes, map, flat_map}
+use Rattle.std.specs.Prelude.{ℕ, ◌+◌, Bool, true, false, Option, Some, None, List, [], ◌∷◌, ◌++◌, codes, drop, map, flat_map, take}
 use Rattle.std.specs.List.{join_with_byte}
 use Rattle.std.specs.Fmt.{digits, decimal}
+use Rattle.hex.specs.Hex.{encode_lower}
 use Rattle.sgx_types.specs.declared.names.Perm.{Perm}
 use Rattle.job_grammar.specs.declared.jobs.PageLine.{PageLine}
 use Rattle.job_grammar.specs.declared.jobs.PageLine.TheVariants.{Tcs, Reg}
@@ -57,10 +58,20 @@ op_words (Plus value) = codes "plus" ∷ decimal value ∷ []
 op_words (OutLoad enclave off) = codes "outload" ∷ letter enclave ∷ hexadecimal off ∷ []
 op_words (OutStore enclave off value) = codes "outstore" ∷ letter enclave ∷ hexadecimal off ∷ decimal value ∷ []
 
--- the lines of the enclaves from this number on
-abbrev pub enclave_lines : ℕ → List EnclaveView → List Words
-enclave_lines n [] = []
-enclave_lines n (e ∷ es) = (codes "enclave" ∷ letter n ∷ hexadecimal e.base ∷ hexadecimal e.size ∷ []) ∷ map page_words e.lines ++ enclave_lines (n + 1) es
+-- the line of the digest that is expected, in lower case
+abbrev pub expect_lines : Option (List ℕ) → List Words
+expect_lines None = []
+expect_lines (Some digest) = (codes "expect" ∷ encode_lower digest ∷ []) ∷ []
+
+-- the lines in an enclave: its pages, and the digest that is expected behind so many of them
+abbrev pub inner_lines : ℕ → EnclaveView → List Words
+inner_lines place e = map page_words (take place e.lines) ++ expect_lines e.expect ++ map page_words (drop place e.lines)
+
+-- the lines of the enclaves from this number on, by where each has the digest that is expected
+abbrev pub enclave_lines : (ℕ → ℕ) → ℕ → List EnclaveView → List Words
+enclave_lines places n [] = []
+enclave_lines places n (e ∷ es) =
+    (codes "enclave" ∷ letter n ∷ hexadecimal e.base ∷ hexadecimal e.size ∷ []) ∷ inner_lines (places n) e ++ enclave_lines places (n + 1) es
 
 -- the lines of the processors from this number on
 abbrev pub script_lines : ℕ → List (List Op) → List Words
@@ -68,11 +79,12 @@ script_lines n [] = []
 script_lines n (script ∷ scripts) = (codes "cpu" ∷ decimal n ∷ []) ∷ map op_words script ++ script_lines (n + 1) scripts
 
 -- a job as its lines
-abbrev pub lines_of : JobView → List Words
-lines_of j = (codes "epc" ∷ decimal j.epc ∷ []) ∷ enclave_lines 1 j.enclaves ++ script_lines 0 j.scripts
+abbrev pub lines_of : (ℕ → ℕ) → JobView → List Words
+lines_of places j = (codes "epc" ∷ decimal j.epc ∷ []) ∷ enclave_lines places 1 j.enclaves ++ script_lines 0 j.scripts
 
 abbrev pub line_text : Words → List ℕ
 line_text words = join_with_byte 32 words ++ 10 ∷ []
 
-unfoldable pub job_text : JobView → List ℕ
-job_text j = flat_map line_text (lines_of j)
+-- a job's text, by the place of each enclave's `expect` line among its lines of pages
+unfoldable pub job_text : (ℕ → ℕ) → JobView → List ℕ
+job_text places j = flat_map line_text (lines_of places j)

@@ -1,12 +1,12 @@
 -- When a job is valid, and which jobs are accepted yet.
-use Rattle.std.specs.Prelude.{ℕ, ◌≡◌, ◌+◌, ◌/◌, ◌%◌, ◌^◌, ◌<◌, ◌≤◌, true, List, [], ◌∷◌, None, length, count_by, replicate, sum_by}
+use Rattle.std.specs.Prelude.{ℕ, ◌≡◌, ◌+◌, ◌/◌, ◌%◌, ◌^◌, ◌<◌, ◌≤◌, true, List, [], Option, None, Some, IfSome, length, count_by, replicate, sum_by}
 use Rattle.std.specs.List.{All}
 use Rattle.sgx_types.specs.Table.{is_lawful}
 use Rattle.job_grammar.specs.declared.jobs.PageLine.{PageLine}
 use Rattle.job_grammar.specs.declared.jobs.PageLine.TheVariants.{Tcs, Reg}
 use Rattle.job_grammar.specs.declared.jobs.Op.{Op}
-use Rattle.job_grammar.specs.declared.jobs.Op.TheVariants.{Enter, Exit, Load}
-use Rattle.job_grammar.specs.Jobs.{EnclaveView, JobView, covers, is_tcs_page, is_reg_page, is_save_page, lines_at, job_pages, va_pages, needed, default_marks}
+use Rattle.job_grammar.specs.declared.jobs.Op.TheVariants.{Enter, Resume, Exit, Timer, Load, Store, Xadd, Set, Plus, OutLoad, OutStore}
+use Rattle.job_grammar.specs.Jobs.{EnclaveView, JobView, covers, enclave_at, is_tcs_page, is_save_page, lines_at, job_pages, va_pages, needed, default_marks}
 use Rattle.job_grammar.specs.Text.{job_text}
 
 -- ---- lines
@@ -21,23 +21,50 @@ abbrev pub HasSavePages : List PageLine → PageLine → Type 0
 HasSavePages lines (Tcs page ossa nssa plain) = (n : ℕ) → ossa ≤ n → n < ossa + nssa → is_save_page lines n ≡ true
 HasSavePages lines _ = Unit {0}
 
+-- 32 bytes
+pub record IsDigest (digest : List ℕ) : Type 0 where
+  pub sized : length digest ≡ 32
+  pub bytes : All (λ b. b < 256) digest
+
 pub record IsValidEnclave (e : EnclaveView) : Type 0 where
   pub range : is_lawful e.base e.size ≡ true
   pub top : e.base + e.size ≤ 2 ^ 47
   pub lines : All (IsValidLine (e.size / 4096)) e.lines
   pub once : (n : ℕ) → count_by (covers n) e.lines ≤ 1
   pub saved : All (HasSavePages e.lines) e.lines
+  pub expect : IfSome e.expect IsDigest
 
 -- ---- operations
 
+-- a number of 8 bytes
+abbrev pub IsValidValue : ℕ → Type 0
+IsValidValue value = value < 2 ^ 64
+
+-- the word at an offset in the largest enclave
 abbrev pub IsValidOffset : ℕ → Type 0
 IsValidOffset off = (off % 8 ≡ 0) × (off < 2 ^ 24)
 
+-- the word at an offset in an enclave of this size
+abbrev pub IsInnerOffset : ℕ → EnclaveView → Type 0
+IsInnerOffset off e = (off % 8 ≡ 0) × (off < e.size)
+
+-- .. in an enclave of the job
+abbrev pub IsOuterOffset : ℕ → Option EnclaveView → Type 0
+IsOuterOffset off None = ⊥
+IsOuterOffset off (Some e) = IsInnerOffset off e
+
 abbrev pub IsValidOp : JobView → Op → Type 0
 IsValidOp j (Enter enclave tcs) = is_tcs_page (lines_at j.enclaves enclave) tcs ≡ true
+IsValidOp j (Resume enclave tcs) = is_tcs_page (lines_at j.enclaves enclave) tcs ≡ true
 IsValidOp j Exit = Unit {0}
+IsValidOp j Timer = Unit {0}
 IsValidOp j (Load off) = IsValidOffset off
-IsValidOp j _ = ⊥
+IsValidOp j (Store off value) = IsValidOffset off × IsValidValue value
+IsValidOp j (Xadd off value) = IsValidOffset off × IsValidValue value
+IsValidOp j (Set value) = IsValidValue value
+IsValidOp j (Plus value) = IsValidValue value
+IsValidOp j (OutLoad enclave off) = IsOuterOffset off (enclave_at j.enclaves enclave)
+IsValidOp j (OutStore enclave off value) = IsOuterOffset off (enclave_at j.enclaves enclave) × IsValidValue value
 
 pub record IsValid (j : JobView) : Type 0 where
   pub some_frames : 1 ≤ j.epc
@@ -52,39 +79,23 @@ pub record IsValid (j : JobView) : Type 0 where
   pub few_ops : sum_by length j.scripts ≤ 100000
   pub ops : All (All (IsValidOp j)) j.scripts
 
--- ---- what is accepted yet: enclaves of at most 64 pages in all that all fit, and one processor that enters, loads and
--- exits
+-- ---- what is accepted yet: jobs with one processor and the default options, without plans for the store, whose frames are
+-- enough for all pages at once
 
--- loads of REG pages, and then an exit
-abbrev pub AreLoads : List PageLine → List Op → Type 0
-AreLoads lines (Exit ∷ []) = Unit {0}
-AreLoads lines (Load off ∷ ops) = (is_reg_page lines (off / 4096) ≡ true) × AreLoads lines ops
-AreLoads lines _ = ⊥
-
--- an entry into an enclave, loads from it, and an exit
-abbrev pub IsFirstScript : List EnclaveView → List Op → Type 0
-IsFirstScript enclaves (Enter enclave tcs ∷ ops) = AreLoads (lines_at enclaves enclave) ops
-IsFirstScript enclaves _ = ⊥
-
--- one processor
-abbrev pub AreFirstScripts : List EnclaveView → List (List Op) → Type 0
-AreFirstScripts enclaves (script ∷ []) = IsFirstScript enclaves script
-AreFirstScripts enclaves _ = ⊥
-
-pub record IsFirstForm (j : JobView) : Type 0 where
+pub record IsFittingForm (j : JobView) : Type 0 where
   pub marks : j.marks ≡ default_marks j.epc
   pub key : j.key ≡ replicate 32 0
   pub start_epoch : j.start_epoch ≡ 1
   pub start_version : j.start_version ≡ 1
   pub plans : j.plans ≡ []
-  pub few_pages : job_pages j ≤ 64
   pub room : job_pages j + length j.enclaves + va_pages j ≤ j.epc
-  pub unexpected : All (λ e. e.expect ≡ None) j.enclaves
-  pub scripts : AreFirstScripts j.enclaves j.scripts
+  pub one_script : length j.scripts ≡ 1
 
--- the bytes are the text of this job, which is valid and of the form that is accepted yet
+-- the bytes are a text of this job, which is valid and of the form that is accepted yet
 pub record IsJobText (bytes : List ℕ) (j : JobView) : Type 0 where
   pub small : length bytes ≤ 2 ^ 24
-  pub text : bytes ≡ job_text j
+  -- behind how many of its lines of pages each enclave has its `expect` line
+  pub places : ℕ → ℕ
+  pub text : bytes ≡ job_text places j
   pub valid : IsValid j
-  pub form : IsFirstForm j
+  pub form : IsFittingForm j

@@ -1,6 +1,6 @@
 ghost use Rattle.std.specs.Prelude.{◌≡◌, map};
 ghost use Rattle.job_grammar.specs.Reading.{line_of};
-ghost use Rattle.job_grammar.specs.Drafts.{draft_view, enclave_views, script_ops, empty_draft, Gives, with_page, with_op, step, read_line, read_text};
+ghost use Rattle.job_grammar.specs.Drafts.{draft_view, enclave_views, script_ops, empty_draft, Gives, with_page, with_expect, with_place, with_op, step, read_line, read_text};
 
 use crate::jobs::{EnclaveJob, Op, PageLine};
 use crate::lines::{Line, line_of};
@@ -13,6 +13,10 @@ use std::alloc::Global;
 pub(crate) struct Draft {
     pub epc: Option<u32>,
     pub enclaves: Vec<EnclaveJob>,
+
+    /// Behind how many of its page lines each enclave has its `expect` line. 0 where it has none.
+    pub places: Vec<usize>,
+
     pub scripts: Vec<Vec<Op>>,
 }
 
@@ -23,6 +27,30 @@ fn add_page(enclaves: &mut Vec<EnclaveJob>, page: PageLine) -> Result<(), JobRef
         return Err(NOT_YET_BUILT);
     };
     last.lines.push(page)?;
+    Ok(())
+}
+
+/// Expects a digest of the last enclave, and answers behind how many of its page lines it stands.
+fn add_expect(enclaves: &mut Vec<EnclaveJob>, digest: [u8; 32]) -> Result<usize, JobRefusal>
+    ensures { Gives (λ place. (place, enclave_views enclaves.new.items)) result (with_expect (enclave_views enclaves.old.items) digest) }
+{
+    let Some(enclave) = enclaves.last_mut() else {
+        return Err(NOT_YET_BUILT);
+    };
+    if enclave.expect.is_some() {
+        return Err(NOT_YET_BUILT);
+    }
+    enclave.expect = Some(digest);
+    Ok(enclave.lines.len())
+}
+
+fn set_place(places: &mut Vec<usize>, place: usize) -> Result<(), JobRefusal>
+    ensures { Gives (λ _. places.new.items) result (with_place places.old.items place) }
+{
+    let Some(last) = places.last_mut() else {
+        return Err(NOT_YET_BUILT);
+    };
+    *last = place;
     Ok(())
 }
 
@@ -44,6 +72,7 @@ impl Draft {
         Draft {
             epc: None,
             enclaves: Vec::new(alloc),
+            places: Vec::new(alloc),
             scripts: Vec::new(alloc),
         }
     }
@@ -74,12 +103,20 @@ impl Draft {
                     lines: Vec::new(alloc),
                     expect: None,
                 })?;
+                self.places.push(0)?;
             }
             Line::Page(page) => {
                 if !self.scripts.is_empty() {
                     return Err(NOT_YET_BUILT);
                 }
                 add_page(&mut self.enclaves, page)?;
+            }
+            Line::Expect { digest } => {
+                if !self.scripts.is_empty() {
+                    return Err(NOT_YET_BUILT);
+                }
+                let place = add_expect(&mut self.enclaves, digest)?;
+                set_place(&mut self.places, place)?;
             }
             Line::Cpu { number } => {
                 if number as usize != self.scripts.len() {

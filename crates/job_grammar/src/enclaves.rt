@@ -1,7 +1,7 @@
-ghost use Rattle.std.specs.Prelude.{◌≡◌, ◌+◌, ◌^◌, ◌≤◌, ◌↔◌, List, true, map, All, IsTrue, IfOk, MatchOption};
+ghost use Rattle.std.specs.Prelude.{◌≡◌, ◌+◌, ◌^◌, ◌≤◌, ◌↔◌, List, true, map, All, IsTrue, IfOk, IfSome, MatchOption};
 ghost use Rattle.sgx_types.specs.Table.{is_lawful};
 ghost use Rattle.job_grammar.specs.Jobs.{enclave_view};
-ghost use Rattle.job_grammar.specs.Valid.{IsValidLine, HasSavePages, IsValidEnclave};
+ghost use Rattle.job_grammar.specs.Valid.{IsDigest, IsValidLine, HasSavePages, IsValidEnclave};
 ghost use Rattle.job_grammar.specs.PageTables.{IsTableOf, AreValidPages, Tells, AreTablesOf};
 ghost use Rattle.job_grammar.specs.declared.jobs.PageLine.{PageLine};
 
@@ -84,12 +84,29 @@ fn has_save_pages(table: &PageTable, line: PageLine) -> bool
     true
 }
 
+/// Whether these are the bytes of a digest.
+fn is_digest(bytes: &[u8]) -> bool
+    ensures { IsTrue result ↔ IsDigest bytes.now }
+{
+    bytes.len() == 32
+}
+
+/// Whether a digest is expected, or none.
+fn has_digest(expect: Option<[u8; 32]>) -> bool
+    ensures { IsTrue result ↔ IfSome expect IsDigest }
+{
+    match expect {
+        Some(digest) => is_digest(&digest),
+        None => true,
+    }
+}
+
 /// The table of a valid enclave's pages. None where the enclave is not valid.
 fn enclave_table(alloc: Global, enclave: &EnclaveJob) -> Result<Option<PageTable>, AllocError>
     ensures { IfOk result (λ found. MatchOption found (¬ IsValidEnclave (enclave_view enclave.now))
         (λ table. IsValidEnclave (enclave_view enclave.now) × Tells table.lines.items enclave.now.lines.items)) }
 {
-    if !has_valid_range(enclave) {
+    if !has_valid_range(enclave) || !has_digest(enclave.expect) {
         return Ok(None);
     }
     let Some(table) = page_table(alloc, enclave.size / 4096, &enclave.lines)? else {

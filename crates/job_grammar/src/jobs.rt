@@ -245,13 +245,21 @@ impl Job {
 impl Job {
     ghost use Rattle.std.specs.Prelude.{IfOk, string_bytes};
     ghost use Rattle.job_grammar.specs.Text.{job_text};
+    ghost use Rattle.job_grammar.specs.Lines.{place_at};
 
-    /// The one text of the job.
-    pub(crate) fn text(&self, alloc: Global) -> Result<String, AllocError>
-        ensures { IfOk result (λ text. string_bytes text ≡ job_text self.now) }
+    /// The text of the job in which the `expect` line of each enclave stands behind so many of its page lines.
+    pub(crate) fn text(&self, alloc: Global, places: &[usize]) -> Result<String, AllocError>
+        ensures { IfOk result (λ text. string_bytes text ≡ job_text (place_at places.now) self.now) }
     {
         let mut text = String::new(alloc);
-        push_job(&mut text, self.epc, &self.enclaves, &self.scripts)?;
+        push_job(
+            alloc,
+            &mut text,
+            self.epc,
+            &self.enclaves,
+            places,
+            &self.scripts,
+        )?;
         Ok(text)
     }
 }

@@ -1,6 +1,6 @@
 ghost use Rattle.std.specs.Prelude.{◌≡◌, ◌+◌, ◌≤◌, ℕ, List, true, None, replicate, vec_len, IfOk, IsSome};
 ghost use Rattle.std.specs.Bool.{OnTrue, OnFalse};
-ghost use Rattle.job_grammar.specs.Jobs.{covers, first_page, page_count, is_tcs_page, is_reg_page, is_save_page};
+ghost use Rattle.job_grammar.specs.Jobs.{covers, first_page, page_count, is_tcs_page, is_save_page};
 ghost use Rattle.job_grammar.specs.PageTables.{line_at, AddsLine, Tells};
 ghost use Rattle.job_grammar.specs.declared.jobs.PageLine.{PageLine};
 
@@ -36,16 +36,6 @@ impl PageTable {
     {
         match self.line(page) {
             Some(line) => line.is_tcs(),
-            None => false,
-        }
-    }
-
-    /// Whether a page is a REG page.
-    pub(crate) fn is_reg(&self, page: u64) -> bool
-        ensures { (lines : List PageLine) → Tells self.now.lines.items lines → result ≡ is_reg_page lines page }
-    {
-        match self.line(page) {
-            Some(line) => line.is_reg(),
             None => false,
         }
     }

@@ -2,11 +2,11 @@ ghost use Rattle.std.specs.Prelude.{◌≡◌, ◌+◌, ◌≤◌, ◌++◌, All
 ghost use Rattle.job_grammar.specs.Jobs.{enclave_view};
 ghost use Rattle.job_grammar.specs.Text.{line_text};
 ghost use Rattle.job_grammar.specs.Drafts.{script_ops};
-ghost use Rattle.job_grammar.specs.Lines.{line_words, lines_text, lines_of_enclaves, lines_of_scripts, lines_of_parts, HasLetter};
+ghost use Rattle.job_grammar.specs.Lines.{line_words, lines_text, lines_inside, lines_of_expect, lines_of_enclaves, lines_of_scripts, lines_of_parts, place_at, HasLetter};
 ghost use Rattle.job_grammar.specs.declared.lines.Line.TheVariants as lines;
 
 use crate::jobs::{EnclaveJob, Op, PageLine};
-use std::alloc::AllocError;
+use std::alloc::{AllocError, Global};
 
 /// The letter of an enclave, A for number 1.
 fn letter_of(enclave: u16) -> char
@@ -103,13 +103,51 @@ fn push_pages(text: &mut String, pages: &[PageLine]) -> Result<(), AllocError>
     Ok(())
 }
 
-fn push_enclaves(text: &mut String, enclaves: &[EnclaveJob]) -> Result<(), AllocError>
+fn push_expect(alloc: Global, text: &mut String, expect: Option<[u8; 32]>) -> Result<(), AllocError>
+    ensures { OnOk result (string_bytes text.new ≡ string_bytes text.old ++ lines_text (lines_of_expect expect)) }
+{
+    let Some(digest) = expect else {
+        return Ok(());
+    };
+    let digits = hex::encode(alloc, digest)?;
+    writeln!(text, "expect {digits}")
+}
+
+/// Writes the lines in an enclave, with the digest that is expected behind so many of its pages.
+fn push_inner(
+    alloc: Global,
+    text: &mut String,
+    enclave: &EnclaveJob,
+    place: usize,
+) -> Result<(), AllocError>
+    ensures { OnOk result (string_bytes text.new ≡ string_bytes text.old ++ lines_text (lines_inside place (enclave_view enclave.now))) }
+{
+    let (front, back) = enclave.lines.split_at(place.min(enclave.lines.len()));
+    push_pages(text, front)?;
+    push_expect(alloc, text, enclave.expect)?;
+    push_pages(text, back)
+}
+
+/// Behind how many of its page lines the `expect` line of an enclave stands, by the enclave's index from 0.
+fn place_of(places: &[usize], index: usize) -> usize
+    ensures { result ≡ place_at places.now (index + 1) }
+{
+    places.get(index).copied().unwrap_or(0)
+}
+
+fn push_enclaves(
+    alloc: Global,
+    text: &mut String,
+    enclaves: &[EnclaveJob],
+    places: &[usize],
+) -> Result<(), AllocError>
     requires { length enclaves.now ≤ 8 }
-    ensures { OnOk result (string_bytes text.new ≡ string_bytes text.old ++ lines_text (lines_of_enclaves 1 (map enclave_view enclaves.now))) }
+    ensures { OnOk result (string_bytes text.new ≡ string_bytes text.old ++ lines_text (lines_of_enclaves (place_at places.now) 1 (map enclave_view enclaves.now))) }
 {
     for (index, enclave) in enclaves.iter().enumerate() {
+        let place = place_of(places, index);
         push_enclave(text, index as u16 + 1, enclave.base, enclave.size)?;
-        push_pages(text, &enclave.lines)?;
+        push_inner(alloc, text, enclave, place)?;
     }
     Ok(())
 }
@@ -135,18 +173,20 @@ fn push_scripts(text: &mut String, scripts: &[Vec<Op>]) -> Result<(), AllocError
     Ok(())
 }
 
-/// Writes the lines of a job with these parts.
+/// Writes the lines of a job with these parts, each `expect` line behind so many of its enclave's pages.
 pub(crate) fn push_job(
+    alloc: Global,
     text: &mut String,
     epc: u32,
     enclaves: &[EnclaveJob],
+    places: &[usize],
     scripts: &[Vec<Op>],
 ) -> Result<(), AllocError>
     requires enclaves { length enclaves.now ≤ 8 }
     requires scripts { All (All HasLetter) (script_ops scripts.now) }
-    ensures { OnOk result (string_bytes text.new ≡ string_bytes text.old ++ lines_text (lines_of_parts epc (map enclave_view enclaves.now) (script_ops scripts.now))) }
+    ensures { OnOk result (string_bytes text.new ≡ string_bytes text.old ++ lines_text (lines_of_parts (place_at places.now) epc (map enclave_view enclaves.now) (script_ops scripts.now))) }
 {
     writeln!(text, "epc {epc}")?;
-    push_enclaves(text, enclaves)?;
+    push_enclaves(alloc, text, enclaves, places)?;
     push_scripts(text, scripts)
 }

@@ -3,14 +3,14 @@ ghost use Rattle.job_grammar.specs.declared.refusals.JobRefusal.TheVariants.{Fau
 ghost use Rattle.job_grammar.specs.declared.refusals.JobKind.TheVariants.{TooLong, NotYetBuilt};
 ghost use Rattle.job_grammar.specs.Jobs.{JobView};
 ghost use Rattle.job_grammar.specs.Valid.{IsJobText};
-ghost use Rattle.job_grammar.specs.Drafts.{draft_view};
+ghost use Rattle.job_grammar.specs.Drafts.{enclave_views, script_ops};
 ghost use Rattle.job_grammar.specs.Checks.{Judges, IsJob, IsEarlyRefusal};
 
 use crate::counts::has_valid_counts;
 use crate::drafts::{Draft, read_draft};
 use crate::enclaves::enclave_tables;
-use crate::forms::has_first_form;
-use crate::jobs::Job;
+use crate::forms::has_fitting_form;
+use crate::jobs::{EnclaveJob, Job, Op};
 use crate::refusals::{JobKind, JobRefusal, NOT_YET_BUILT};
 use crate::scripts::are_valid_scripts;
 use std::alloc::Global;
@@ -18,15 +18,15 @@ use std::alloc::Global;
 /// How many bytes a job may have.
 const MOST_BYTES: usize = 1 << 24;
 
-/// The job that a draft says, where it is valid and of the form that is accepted yet.
-fn accept(alloc: Global, draft: Draft) -> Result<Job, JobRefusal>
-    ensures { Judges (draft_view draft) result }
+/// The job with these parts of a draft, where it is valid and of the form that is accepted yet.
+fn accept(
+    alloc: Global,
+    epc: Option<u32>,
+    enclaves: Vec<EnclaveJob>,
+    scripts: Vec<Vec<Op>>,
+) -> Result<Job, JobRefusal>
+    ensures { Judges epc (enclave_views enclaves.items) (script_ops scripts.items) result }
 {
-    let Draft {
-        epc,
-        enclaves,
-        scripts,
-    } = draft;
     let Some(epc) = epc else {
         return Err(NOT_YET_BUILT);
     };
@@ -36,14 +36,16 @@ fn accept(alloc: Global, draft: Draft) -> Result<Job, JobRefusal>
     let Some(tables) = enclave_tables(alloc, &enclaves)? else {
         return Err(NOT_YET_BUILT);
     };
-    if !are_valid_scripts(&tables, &scripts) || !has_first_form(epc, &enclaves, &tables, &scripts) {
+    if !are_valid_scripts(&enclaves, &tables, &scripts)
+        || !has_fitting_form(epc, &enclaves, &scripts)
+    {
         return Err(NOT_YET_BUILT);
     }
     Ok(Job::new(alloc, epc, enclaves, scripts))
 }
 
-/// Reads a job: its one text, of at most 2^24 bytes. Accepted yet are valid jobs whose enclaves have at most 64 pages in
-/// all, which all stay in the EPC, and with one processor that enters an enclave, loads from its REG pages and exits. A
+/// Reads a job: a text of it, of at most 2^24 bytes. Accepted yet are valid jobs with one processor, whose pages all stay in
+/// the EPC, and with no option and no store line. An enclave's `expect` line may stand anywhere among its page lines. A
 /// longer text is refused as line 0, TooLong, and every other one as line 0, NotYetBuilt.
 pub fn read_job(alloc: Global, bytes: &[u8]) -> Result<Job, JobRefusal>
     ensures found { IfOk result (IsJobText bytes.now) }
@@ -59,13 +61,23 @@ pub fn read_job(alloc: Global, bytes: &[u8]) -> Result<Job, JobRefusal>
         });
     }
     let draft = read_draft(alloc, bytes)?;
-    let job = accept(alloc, draft)?;
-    let text = job.text(alloc)?;
+    let Draft {
+        epc,
+        enclaves,
+        places,
+        scripts,
+    } = draft;
+    let job = accept(alloc, epc, enclaves, scripts)?;
+    let text = job.text(alloc, &places)?;
     if text.as_bytes() != bytes {
         return Err(NOT_YET_BUILT);
     }
     Ok(job)
 }
 
+#[cfg(test)]
+mod enclave_tests;
+#[cfg(test)]
+mod operation_tests;
 #[cfg(test)]
 mod tests;

@@ -1,7 +1,8 @@
 ghost use Rattle.std.specs.Prelude.{◌≡◌, map, IfOk};
-ghost use Rattle.job_grammar.specs.Reading.{small_of, letter_of, perm_of, plain_of, words_of, keyword_of};
+ghost use Rattle.job_grammar.specs.Reading.{small_of, letter_of, perm_of, digest_of, plain_of, words_of, keyword_of};
 
 use crate::numbers::number;
+use hex::FromHex;
 use sgx_types::names::Perm;
 use std::alloc::{AllocError, Global};
 
@@ -12,10 +13,19 @@ pub(crate) enum Keyword {
     Enclave,
     Tcs,
     Reg,
+    Expect,
     Cpu,
     Enter,
+    Resume,
     Exit,
+    Timer,
     Load,
+    Store,
+    Xadd,
+    Set,
+    Plus,
+    OutLoad,
+    OutStore,
 }
 
 /// The words of a line, as many as tell whether it has the words of a line of a job: none has more than six.
@@ -37,10 +47,19 @@ pub(crate) fn keyword_of(word: &[u8]) -> Option<Keyword>
         b"enclave" => Some(Keyword::Enclave),
         b"tcs" => Some(Keyword::Tcs),
         b"reg" => Some(Keyword::Reg),
+        b"expect" => Some(Keyword::Expect),
         b"cpu" => Some(Keyword::Cpu),
         b"eenter" => Some(Keyword::Enter),
+        b"eresume" => Some(Keyword::Resume),
         b"eexit" => Some(Keyword::Exit),
+        b"timer" => Some(Keyword::Timer),
         b"load" => Some(Keyword::Load),
+        b"store" => Some(Keyword::Store),
+        b"xadd" => Some(Keyword::Xadd),
+        b"set" => Some(Keyword::Set),
+        b"plus" => Some(Keyword::Plus),
+        b"outload" => Some(Keyword::OutLoad),
+        b"outstore" => Some(Keyword::OutStore),
         _ => None,
     }
 }
@@ -76,6 +95,14 @@ pub(crate) fn perm(word: &[u8]) -> Option<Perm>
         _ => return None,
     };
     Some(Perm { r: true, w, x })
+}
+
+/// The 32 bytes of 64 hexadecimal digits, in either case.
+#[tactic(auto, unfolding(crate::specs::Reading::digest_of))]
+pub(crate) fn digest(word: &[u8]) -> Option<[u8; 32]>
+    ensures { result ≡ digest_of word.now }
+{
+    <[u8; 32] as FromHex>::from_hex(word).ok()
 }
 
 /// Whether a line of pages ends in `plain`.

@@ -31,11 +31,11 @@ same_frames s (actors.Cpu p) (actions.Enter enclave tcs tf sf) = refl
 same_frames s (actors.Cpu p) (actions.Resume enclave tcs tf sf) = refl
 same_frames s (actors.Cpu p) actions.Exit = refl
 same_frames s (actors.Cpu p) (actions.Aex cause) = saved_frames s (s.acc p.0) (s.inside p.0)
+same_frames s (actors.Cpu p) (actions.Fill number f) = refl
 same_frames s (actors.Cpu p) (actions.Store off value) = refl
 same_frames s (actors.Cpu p) (actions.Xadd off value) = refl
 same_frames s (actors.Cpu p) (actions.Set value) = refl
 same_frames s (actors.Cpu p) (actions.Plus value) = refl
-same_frames s (actors.Cpu p) (actions.Fill number f) = refl
 same_frames s a action = refl
 
 done_of : (s t : State) (a : Actor) (action : Action) (e : Entry) → IsDone s a action e t → IsOf a action e s.frames t.frames

@@ -1,6 +1,6 @@
 -- One step of the builder.
 use Rattle.std.proofs.Common.{◌≡◌, ℕ, ◌+◌, ◌==◌, ◌≤◌, Bool, true, false, refl, arith, sym, ap, ◌∙◌, Option, Some, None, is_some, List, [], ◌∷◌, slice_get}
-use Rattle.std.proofs.lemmas.Bool.{cond_both, eq-eqb, lt-leb}
+use Rattle.std.proofs.lemmas.Bool.{cond_both, lt-leb}
 use Rattle.sgx_types.specs.declared.entries.Entry.{Entry}
 use Rattle.sgx_types.specs.declared.entries.Event.{Event}
 use Rattle.sgx_types.specs.declared.entries.Event.TheVariants as events
@@ -14,20 +14,20 @@ use Rattle.sgx_types.specs.declared.names.Frame.{Frame}
 use Rattle.sgx_types.specs.declared.names.Page.{Page}
 use Rattle.sgx_types.specs.declared.names.Kind.{Kind}
 use Rattle.sgx_types.specs.declared.names.Perm.{Perm}
-use Rattle.sgx_types.specs.Frames.{Free, IsVa, SecsOf, Holds, content, frame_of, least_free, page_at, same_page}
+use Rattle.sgx_types.specs.Frames.{IsVa, SecsOf, Holds, content, frame_of, least_free, page_at}
 use Rattle.sgx_types.specs.Processors.{Move, Enters, Leaves, Keeps, Stay, stay, stay_after, move_by}
-use Rattle.sgx_types.specs.Table.{EnclaveSight, add_row, create_row, first_of_row}
-use Rattle.sgx_types.specs.Flat.{FlatMemory, FlatPage, accepts, flat, enclave_sight, first_words, initialised, memory_after, open_frame, with_enclave, with_page}
+use Rattle.sgx_types.specs.Table.{create_row, first_of_row}
+use Rattle.sgx_types.specs.Flat.{accepts, flat, first_words, initialised, open_frame, with_enclave, with_page}
 use Rattle.sgx_types.specs.Sights.{row_at, sight_at}
 use Rattle.sgx_types.specs.Rules.{KeepsRules, case_of}
 use Rattle.job_grammar.specs.Jobs.{JobView}
-use Rattle.job_grammar.specs.Script.{BuildStep, MakeVa, MakeSecs, AddPage, ExtendPage, Finish, action_of, build_of, builder_due, built, step_action, step_due}
+use Rattle.job_grammar.specs.Script.{BuildStep, MakeVa, MakeSecs, AddPage, ExtendPage, Finish, action_of, build_of, builder_due, built, saved, saved_after, step_action, step_due}
 use Rattle.paging_machine.specs.Steps.{did_by, refused_by}
-use Rattle.paging_machine.proofs.Tools.{apart, eqb-swap, none_holds, none_there}
-use Rattle.paging_machine.proofs.Carry.{flat_done, same_page-refl, same_page-true}
+use Rattle.paging_machine.proofs.Tools.{eqb-swap}
+use Rattle.paging_machine.proofs.Carry.{flat_done, same_page-refl}
 use Rattle.sgxpage.specs.Books.{BookView, IsCalm, IsNext, IsPlaced, GoesOn}
 use Rattle.sgxpage.specs.Building.{AreNext, AreTaken, Grows, IsHere, IsUnmade, MakesOnly, count_free, frames_taken, free_frames}
-use Rattle.sgxpage.proofs.CalmLaws.{taken_none}
+use Rattle.sgxpage.proofs.OptionLaws.{some_same, taken_none}
 use Rattle.sgxpage.proofs.FreeLaws.{IsLeast, found_least, put_room}
 
 -- the instructions of a builder
@@ -39,80 +39,8 @@ IsBuilders (Extend f chunk) = Unit {0}
 IsBuilders (Init enclave expect) = Unit {0}
 IsBuilders _ = ⊥
 
--- ---- pages stay where they are
-
-unlike : (past : List Entry) (f n : ℕ) (g : Page) (kind : Kind) (perm : Perm) → content past f ≡ Free → content past n ≡ Holds g kind perm → (f == n) ≡ false
-unlike past f n g kind perm free held = apart f n (λ same. cc (free, held, same))
-
--- an entry that puts nothing where the page is
-kept_by : (past : List Entry) (e : Entry) (g : Page) (kind : Kind) (perm : Perm) (init : PageInit) (h : IsPlaced past g kind perm init)
-    → frame_of (e ∷ past) g ≡ frame_of past g → content (e ∷ past) h.frame ≡ content past h.frame → (flat (e ∷ past)).pages g ≡ (flat past).pages g → IsPlaced (e ∷ past) g kind perm init
-kept_by past e g kind perm init h there held words = record { frame = h.frame; there = there ∙ h.there; held = held ∙ h.held; words = words ∙ h.words }
-
-same_pages : (past : List Entry) (act : Action) (ans : Answer) (g : Page) → (memory_after actors.Builder act (flat past)).pages g ≡ (flat past).pages g
-    → (flat (did_by actors.Builder act ans ∷ past)).pages g ≡ (flat past).pages g
-same_pages past act ans g h = cond_both (accepts (flat past) actors.Builder act) (memory_after actors.Builder act (flat past)) (flat past) (λ v. v.pages g ≡ (flat past).pages g) (λ _. h) (λ _. refl)
-
--- a page that is added is another than one that was added before
-other_page : (m : FlatMemory) (a g : Page) (x : FlatPage) → m.pages a ≡ None → m.pages g ≡ Some x → (same_page a g ≡ false) × (same_page g a ≡ false)
-other_page m a g x none some = (by_test (same_page a g) refl, by_swap (same_page g a) refl)
-  where
-    by_test : (b : Bool) → same_page a g ≡ b → b ≡ false
-    by_test true is = let same = same_page-true a g is in cc (ap m.pages same, none, some)
-    by_test false is = refl
-
-    by_swap : (b : Bool) → same_page g a ≡ b → b ≡ false
-    by_swap true is = let same = same_page-true g a is in cc (ap m.pages same, none, some)
-    by_swap false is = refl
-
-unadded_of : (m : FlatMemory) (enclave number : ℕ) (kind : Kind) (perm : Perm) (init : PageInit) (o : Option EnclaveSight)
-    → first_of_row (add_row number kind perm init o (is_some (m.pages (page_at enclave number))) open_frame) ≡ None → m.pages (page_at enclave number) ≡ None
-unadded_of m enclave number kind perm init None allowed = let row = none_holds (add_row number kind perm init None (is_some (m.pages (page_at enclave number))) open_frame) allowed in cc
-unadded_of m enclave number kind perm init (Some x) allowed =
-    let row = none_holds (add_row number kind perm init (Some x) (is_some (m.pages (page_at enclave number))) open_frame) allowed in
-    none_there (m.pages (page_at enclave number)) row.1.1.1.1.1.0
-
-placed_did : (frames : ℕ) (past : List Entry) (act : Action) (ans : Answer) → IsBuilders act → KeepsRules frames (did_by actors.Builder act ans ∷ past)
-    → (g : Page) (kind : Kind) (perm : Perm) (init : PageInit) → IsPlaced past g kind perm init → IsPlaced (did_by actors.Builder act ans ∷ past) g kind perm init
-placed_did frames past (Epa f) ans can rules g kind perm init h =
-    let apart_from = unlike past f.0 h.frame g kind perm rules.fits.entries.0.1 h.held in
-    kept_by past (did_by actors.Builder (Epa f) ans) g kind perm init h refl (rw apart_from refl) (same_pages past (Epa f) ans g refl)
-placed_did frames past (Create enclave f base size) ans can rules g kind perm init h =
-    let apart_from = unlike past f.0 h.frame g kind perm rules.fits.entries.0.1 h.held in
-    kept_by past (did_by actors.Builder (Create enclave f base size) ans) g kind perm init h refl (rw apart_from refl) (same_pages past (Create enclave f base size) ans g refl)
-placed_did frames past (Add enclave number f kind' perm' init') ans can rules g kind perm init h =
-    let apart_from = unlike past f.0 h.frame g kind perm rules.fits.entries.0.1 h.held in
-    let a = page_at enclave number in
-    let unadded = unadded_of (flat past) enclave number kind' perm' init' (enclave_sight (flat past) enclave) (taken_none _ (rules.flat.0 refl).taken) in
-    let other = other_page (flat past) a g _ unadded h.words in
-    kept_by past (did_by actors.Builder (Add enclave number f kind' perm' init') ans) g kind perm init h (rw other.0 refl) (rw apart_from refl)
-    (same_pages past (Add enclave number f kind' perm' init') ans g (rw other.1 refl))
-placed_did frames past (Extend f chunk) ans can rules g kind perm init h =
-    kept_by past (did_by actors.Builder (Extend f chunk) ans) g kind perm init h refl refl (same_pages past (Extend f chunk) ans g refl)
-placed_did frames past (Init enclave expect) ans can rules g kind perm init h =
-    kept_by past (did_by actors.Builder (Init enclave expect) ans) g kind perm init h refl refl (same_pages past (Init enclave expect) ans g refl)
-placed_did frames past act ans can rules g kind perm init h = absurd can
-
 abbrev entry_of : Event → Entry
 entry_of event = record { actor = actors.Builder; event = event }
-
-some_same : {X : Type 0} (x y : X) → Some x ≡ Some y → x ≡ y
-some_same x y h = cc
-
-placed_refused : (past : List Entry) (act : Action) (why : Refusal) → IsBuilders act → (g : Page) (kind : Kind) (perm : Perm) (init : PageInit) → IsPlaced past g kind perm init
-    → IsPlaced (refused_by actors.Builder act why ∷ past) g kind perm init
-placed_refused past (Epa f) why can g kind perm init h = kept_by past (refused_by actors.Builder (Epa f) why) g kind perm init h refl refl refl
-placed_refused past (Create enclave f base size) why can g kind perm init h = kept_by past (refused_by actors.Builder (Create enclave f base size) why) g kind perm init h refl refl refl
-placed_refused past (Add enclave number f kind' perm' init') why can g kind perm init h = kept_by past (refused_by actors.Builder (Add enclave number f kind' perm' init') why) g kind perm init h refl refl refl
-placed_refused past (Extend f chunk) why can g kind perm init h = kept_by past (refused_by actors.Builder (Extend f chunk) why) g kind perm init h refl refl refl
-placed_refused past (Init enclave expect) why can g kind perm init h = kept_by past (refused_by actors.Builder (Init enclave expect) why) g kind perm init h refl refl refl
-placed_refused past act why can g kind perm init h = absurd can
-
-placed_more : (frames : ℕ) (past : List Entry) (act : Action) (event : Event) → IsBuilders act → action_of event ≡ Some act → KeepsRules frames (entry_of event ∷ past)
-    → (g : Page) (kind : Kind) (perm : Perm) (init : PageInit) → IsPlaced past g kind perm init → IsPlaced (entry_of event ∷ past) g kind perm init
-placed_more frames past act (events.Did action ans) can is rules g kind perm init h = placed_did frames past action ans (rw (some_same action act is) can) rules g kind perm init h
-placed_more frames past act (events.Refused action why) can is rules g kind perm init h = placed_refused past action why (rw (some_same action act is) can) g kind perm init h
-placed_more frames past act _ can is rules g kind perm init h = cc
 
 -- ---- free frames
 
@@ -160,6 +88,19 @@ others_stay (Enters seat) past before = refl
 others_stay Leaves past before = refl
 others_stay Keeps past before = refl
 
+saved_same : (act : Action) (event : Event) (left : Bool) (g : Page) (n : ℕ) → IsBuilders act → action_of event ≡ Some act → saved_after event left g n ≡ n
+saved_same act (events.Did action ans) left g n can is = by_action action (rw (some_same action act is) can)
+  where
+    by_action : (action : Action) → IsBuilders action → saved_after (events.Did action ans) left g n ≡ n
+    by_action (Epa f) can = refl
+    by_action (Create enclave f base size) can = refl
+    by_action (Add enclave number f kind perm init) can = refl
+    by_action (Extend f chunk) can = refl
+    by_action (Init enclave expect) can = refl
+    by_action action can = absurd can
+saved_same act (events.Refused action why) left g n can is = refl
+saved_same act _ left g n can is = cc
+
 due_step : (j : JobView) (past : List Entry) (step : BuildStep) → AreNext j past (step ∷ []) → slice_get (build_of j) (built past) ≡ Some step
 due_step j past step ahead =
     let here = ahead 0 step refl in
@@ -170,17 +111,12 @@ due_step j past step ahead =
 pub grow : (b b' : BookView) (step : BuildStep) (act : Action) → IsBuilders act → step_due b.frames b.past step ≡ Some act → IsNext actors.Builder act b b'
     → free_frames b ≤ free_frames b' + frames_taken (step ∷ []) → Grows (step ∷ []) b b'
 grow b b' step act can due next room = record {
-  goes = record {
-    frames = next.frames;
-    cpus = next.cpus;
-    calm = next.calm;
-    keeps = λ g kind perm init h. rw next.past (placed_more b'.frames b.past act next.event can next.is_action (rw (← next.past) next.rules) g kind perm init h);
-  };
+  goes = next.goes;
   built = rw next.past refl;
   script = λ j size ahead before. rw next.past (record { is_instruction = rw next.is_action refl; is_due = next.is_action ∙ sym (due_of j size ahead) }, before);
   room = room;
-  replied = λ p. rw next.past refl;
-  stays = λ p. rw next.past (others_stay (move_by next.event) b.past (stay b.past p));
+  idle = λ p. record { replied = rw next.past refl; stays = rw next.past (others_stay (move_by next.event) b.past (stay b.past p)); interrupted = rw next.past refl };
+  saved = λ g. rw next.past (saved_same act next.event false g (saved b.past g) can next.is_action);
 }
   where
     due_of : (j : JobView) → j.epc ≡ b.frames → AreNext j b.past (step ∷ []) → builder_due j b.past (slice_get (build_of j) (built b.past)) ≡ Some act
@@ -188,7 +124,7 @@ grow b b' step act can due next room = record {
 
 pub grow_va : (b b' : BookView) (f : Frame) → least_free b.frames (content b.past) ≡ Some f.0 → IsNext actors.Builder (Epa f) b b' → Grows (MakeVa ∷ []) b b'
 grow_va b b' f least next =
-    grow b b' MakeVa (Epa f) tt (rw least refl) next (rw (next.past, next.frames) (room_more b.frames b.past (Epa f) next.event tt next.is_action))
+    grow b b' MakeVa (Epa f) tt (rw least refl) next (rw (next.past, next.goes.frames) (room_more b.frames b.past (Epa f) next.event tt next.is_action))
 
 -- ---- steps that are done
 
@@ -215,13 +151,13 @@ one_taken past step h = h 0 step (omega arith)
 create_did : (b b' : BookView) (enclave : ℕ) (f : Frame) (base size : ℕ) → IsCalm b.past → IsLeast (content b.past) b.frames f.0 → AreTaken b.past (MakeSecs enclave base size ∷ [])
     → (next : IsNext actors.Builder (Create enclave f base size) b b') → IsDid (Create enclave f base size) next.event
 create_did b b' enclave f base size calm least taken next =
-    did_of b.frames b.past (Create enclave f base size) next.event next.is_action (rw (← next.frames, ← next.past) next.rules) (λ why. refl)
+    did_of b.frames b.past (Create enclave f base size) next.event next.is_action (rw (← next.goes.frames, ← next.past) next.rules) (λ why. refl)
     (ap (λ s. first_of_row (create_row enclave base size (is_some ((flat b.past).enclaves enclave)) s)) (open_sight b f.0 calm least) ∙ taken_none _ (one_taken b.past (MakeSecs enclave base size) taken))
 
 add_did : (b b' : BookView) (g : Page) (f : Frame) (kind : Kind) (perm : Perm) (init : PageInit) → IsCalm b.past → IsLeast (content b.past) b.frames f.0
     → AreTaken b.past (AddPage g.enclave g.number kind perm init ∷ []) → (next : IsNext actors.Builder (Add g.enclave g.number f kind perm init) b b') → IsDid (Add g.enclave g.number f kind perm init) next.event
 add_did b b' g f kind perm init calm least taken next =
-    did_of b.frames b.past (Add g.enclave g.number f kind perm init) next.event next.is_action (rw (← next.frames, ← next.past) next.rules) (λ why. refl)
+    did_of b.frames b.past (Add g.enclave g.number f kind perm init) next.event next.is_action (rw (← next.goes.frames, ← next.past) next.rules) (λ why. refl)
     (rw (open_sight b f.0 calm least) (taken_none _ (one_taken b.past (AddPage g.enclave g.number kind perm init) taken)))
 
 -- ---- the enclave
@@ -229,7 +165,7 @@ add_did b b' g f kind perm init calm least taken next =
 pub grow_secs : (b b' : BookView) (enclave : ℕ) (f : Frame) (base size : ℕ) → least_free b.frames (content b.past) ≡ Some f.0 → IsNext actors.Builder (Create enclave f base size) b b' → Grows (MakeSecs enclave base size ∷ []) b b'
 grow_secs b b' enclave f base size least next =
     grow b b' (MakeSecs enclave base size) (Create enclave f base size) tt (rw least refl) next
-    (rw (next.past, next.frames) (room_more b.frames b.past (Create enclave f base size) next.event tt next.is_action))
+    (rw (next.past, next.goes.frames) (room_more b.frames b.past (Create enclave f base size) next.event tt next.is_action))
 
 pub secs_made : (b b' : BookView) (enclave : ℕ) (f : Frame) (base size : ℕ) → IsCalm b.past → least_free b.frames (content b.past) ≡ Some f.0 → AreTaken b.past (MakeSecs enclave base size ∷ [])
     → IsNext actors.Builder (Create enclave f base size) b b' → flat b'.past ≡ with_enclave (flat b.past) enclave (record { base = base; size = size; is_init = false })
@@ -243,7 +179,7 @@ pub grow_page : (b b' : BookView) (g : Page) (f : Frame) (kind : Kind) (perm : P
     → IsNext actors.Builder (Add g.enclave g.number f kind perm init) b b' → Grows (AddPage g.enclave g.number kind perm init ∷ []) b b'
 grow_page b b' g f kind perm init least next =
     grow b b' (AddPage g.enclave g.number kind perm init) (Add g.enclave g.number f kind perm init) tt (rw least refl) next
-    (rw (next.past, next.frames) (room_more b.frames b.past (Add g.enclave g.number f kind perm init) next.event tt next.is_action))
+    (rw (next.past, next.goes.frames) (room_more b.frames b.past (Add g.enclave g.number f kind perm init) next.event tt next.is_action))
 
 pub page_made : (b b' : BookView) (g : Page) (f : Frame) (kind : Kind) (perm : Perm) (init : PageInit) → IsCalm b.past → least_free b.frames (content b.past) ≡ Some f.0
     → AreTaken b.past (AddPage g.enclave g.number kind perm init ∷ []) → IsNext actors.Builder (Add g.enclave g.number f kind perm init) b b'
@@ -253,22 +189,16 @@ page_made b b' g f kind perm init calm least taken next =
     rw (next.past, did.is) (flat_done (flat b.past) actors.Builder (Add g.enclave g.number f kind perm init) did.answer (one_taken b.past (AddPage g.enclave g.number kind perm init) taken))
 
 pub page_placed : (b b' : BookView) (g : Page) (f : Frame) (kind : Kind) (perm : Perm) (init : PageInit) → IsCalm b.past → least_free b.frames (content b.past) ≡ Some f.0
-    → AreTaken b.past (AddPage g.enclave g.number kind perm init ∷ []) → IsNext actors.Builder (Add g.enclave g.number f kind perm init) b b' → IsPlaced b'.past g kind perm init
+    → AreTaken b.past (AddPage g.enclave g.number kind perm init ∷ []) → IsNext actors.Builder (Add g.enclave g.number f kind perm init) b b' → IsPlaced b'.past g kind perm
 page_placed b b' g f kind perm init calm least taken next =
-    let did = add_did b b' g f kind perm init calm (found_least (content b.past) b.frames f.0 least) taken next in
-    record {
-      frame = f.0;
-      there = rw (next.past, did.is, same_page-refl g.enclave g.number) refl;
-      held = rw (next.past, did.is, eq-eqb f.0 f.0 refl) refl;
-      words = rw (page_made b b' g f kind perm init calm least taken next, same_page-refl g.enclave g.number) refl;
-    }
+    next.goes.calm.placed g kind perm (rw (page_made b b' g f kind perm init calm least taken next, same_page-refl g.enclave g.number) refl)
 
 -- ---- its measurement
 
 pub grow_chunk : (b b' : BookView) (g : Page) (f : Frame) (chunk : ℕ) → frame_of b.past g ≡ Some f.0 → IsNext actors.Builder (Extend f chunk) b b' → Grows (ExtendPage g.enclave g.number chunk ∷ []) b b'
 grow_chunk b b' g f chunk there next =
     let same = room_extend b.frames b.past f chunk next.event next.is_action in
-    grow b b' (ExtendPage g.enclave g.number chunk) (Extend f chunk) tt (rw there refl) next (rw (next.past, next.frames, same) (omega arith))
+    grow b b' (ExtendPage g.enclave g.number chunk) (Extend f chunk) tt (rw there refl) next (rw (next.past, next.goes.frames, same) (omega arith))
 
 flat_chunk : (past : List Entry) (f : Frame) (chunk : ℕ) (event : Event) → action_of event ≡ Some (Extend f chunk) → flat (entry_of event ∷ past) ≡ flat past
 flat_chunk past f chunk (events.Did action ans) is =
@@ -280,14 +210,14 @@ pub chunk_flat : (b b' : BookView) (f : Frame) (chunk : ℕ) → IsNext actors.B
 chunk_flat b b' f chunk next = rw next.past (flat_chunk b.past f chunk next.event next.is_action)
 
 pub here_later : (b b' : BookView) (g : Page) → GoesOn b b' → IsHere b.past g → IsHere b'.past g
-here_later b b' g goes h = record { kind = h.kind; perm = h.perm; init = h.init; placed = goes.keeps g h.kind h.perm h.init h.placed }
+here_later b b' g goes h = record { kind = h.kind; perm = h.perm; placed = goes.keeps g h.kind h.perm h.placed }
 
 -- ---- its end
 
 pub grow_finish : (b b' : BookView) (enclave : ℕ) (expect : Option (List ℕ)) → IsNext actors.Builder (Init enclave expect) b b' → Grows (Finish enclave expect ∷ []) b b'
 grow_finish b b' enclave expect next =
     let same = room_init b.frames b.past enclave expect next.event next.is_action in
-    grow b b' (Finish enclave expect) (Init enclave expect) tt refl next (rw (next.past, next.frames, same) (omega arith))
+    grow b b' (Finish enclave expect) (Init enclave expect) tt refl next (rw (next.past, next.goes.frames, same) (omega arith))
 
 unmade_after : (past : List Entry) (enclave : ℕ) (expect : Option (List ℕ)) (event : Event) (e : ℕ) → action_of event ≡ Some (Init enclave expect) → (enclave == e) ≡ false
     → IsUnmade past e → IsUnmade (entry_of event ∷ past) e

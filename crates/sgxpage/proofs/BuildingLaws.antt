@@ -11,7 +11,7 @@ use Rattle.sgx_types.specs.Table.{is_enclave}
 use Rattle.job_grammar.specs.declared.jobs.EnclaveJob.{EnclaveJob}
 use Rattle.job_grammar.specs.Jobs.{EnclaveView, JobView, va_pages, enclave_pages, enclave_view, lines_at, lines_in}
 use Rattle.job_grammar.specs.Script.{MakeVa, build_of, enclave_steps, enclaves_steps}
-use Rattle.job_grammar.specs.Valid.{IsFirstForm, IsValidEnclave}
+use Rattle.job_grammar.specs.Valid.{IsFittingForm, IsValidEnclave}
 use Rattle.paging_machine.proofs.Tools.{apart}
 use Rattle.sgxpage.specs.Books.{BookView, IsCalm}
 use Rattle.sgxpage.specs.Building.{Grows, IsPlacedLine, IsUnmade, MakesOnly, frame_count, frames_taken, free_frames}
@@ -127,12 +127,12 @@ sum_frames (e ∷ es) =
     let rest = sum_frames es in
     omega (arith, frames, pages, rest)
 
-pub vas_room : (j : JobView) (b : BookView) → b.frames ≡ j.epc → b.past ≡ [] → IsFirstForm j → va_pages j ≤ free_frames b
+pub vas_room : (j : JobView) (b : BookView) → b.frames ≡ j.epc → b.past ≡ [] → IsFittingForm j → va_pages j ≤ free_frames b
 vas_room j b frames past form =
     let free : free_frames b ≡ j.epc = rw (past, frames) (all_free j.epc) in
     omega (arith, free, form.room)
 
-pub enclaves_room : (j : JobView) (b b' : BookView) → b.frames ≡ j.epc → b.past ≡ [] → IsFirstForm j → Grows (replicate (va_pages j) MakeVa) b b' → frames_taken (enclaves_steps 1 j.enclaves) ≤ free_frames b'
+pub enclaves_room : (j : JobView) (b b' : BookView) → b.frames ≡ j.epc → b.past ≡ [] → IsFittingForm j → Grows (replicate (va_pages j) MakeVa) b b' → frames_taken (enclaves_steps 1 j.enclaves) ≤ free_frames b'
 enclaves_room j b b' frames past form grown =
     let sums = sum_frames j.enclaves in
     let free : free_frames b ≡ j.epc = rw (past, frames) (all_free j.epc) in

@@ -11,7 +11,7 @@ use Rattle.job_grammar.specs.declared.jobs.PageLine.{PageLine}
 use Rattle.job_grammar.specs.declared.jobs.PageLine.TheVariants as lines
 use Rattle.job_grammar.specs.Jobs.{JobView}
 use Rattle.job_grammar.specs.Script.{BuildStep, MakeVa, built}
-use Rattle.sgxpage.specs.Books.{BookView, GoesOn, IsCalm}
+use Rattle.sgxpage.specs.Books.{BookView, GoesOn, IsCalm, IsIdle}
 use Rattle.sgxpage.specs.Building.{AreNext, Grows, IsPlacedLine, frame_count, frames_taken}
 
 next_first : (xs ys : List BuildStep) (i : ℕ) (step : BuildStep) → slice_get xs i ≡ Some step → slice_get (xs ++ ys) i ≡ Some step
@@ -36,11 +36,17 @@ goes_on b b' b'' g h = record {
   frames = h.frames ∙ g.frames;
   cpus = h.cpus ∙ g.cpus;
   calm = h.calm;
-  keeps = λ page kind perm init k. h.keeps page kind perm init (g.keeps page kind perm init k);
+  keeps = λ page kind perm k. h.keeps page kind perm (g.keeps page kind perm k);
 }
 
 pub stays_put : (b : BookView) → IsCalm b.past → GoesOn b b
-stays_put b calm = record { frames = refl; cpus = refl; calm = calm; keeps = λ page kind perm init k. k }
+stays_put b calm = record { frames = refl; cpus = refl; calm = calm; keeps = λ page kind perm k. k }
+
+pub idle_same : (p : ℕ) (b : BookView) → IsIdle p b b
+idle_same p b = record { replied = refl; stays = refl; interrupted = refl }
+
+pub idle_then : (p : ℕ) (b b' b'' : BookView) → IsIdle p b b' → IsIdle p b' b'' → IsIdle p b b''
+idle_then p b b' b'' g h = record { replied = h.replied ∙ g.replied; stays = h.stays ∙ g.stays; interrupted = h.interrupted ∙ g.interrupted }
 
 pub grows_none : (b : BookView) → IsCalm b.past → Grows [] b b
 grows_none b calm = record {
@@ -48,8 +54,8 @@ grows_none b calm = record {
   built = omega arith;
   script = λ j size ahead before. before;
   room = omega arith;
-  replied = λ p. refl;
-  stays = λ p. refl;
+  idle = λ p. idle_same p b;
+  saved = λ g. refl;
 }
 
 pub grows_append : (xs ys : List BuildStep) (b b' b'' : BookView) → Grows xs b b' → Grows ys b' b'' → Grows (xs ++ ys) b b''
@@ -63,8 +69,8 @@ grows_append xs ys b b' b'' g h =
           h.script j (size ∙ sym g.goes.frames) (ahead_rest j b.past b'.past xs ys g.built ahead)
           (g.script j size (λ i step k. ahead i step (next_first xs ys i step k)) before);
       room = omega (arith, g.room, h.room, taken);
-      replied = λ p. h.replied p ∙ g.replied p;
-      stays = λ p. h.stays p ∙ g.stays p;
+      idle = λ p. idle_then p b b' b'' (g.idle p) (h.idle p);
+      saved = λ page. h.saved page ∙ g.saved page;
     }
 
 -- ---- version arrays
@@ -78,8 +84,8 @@ vas_taken k = sum_by-replicate frame_count k MakeVa ∙ omega arith
 -- ---- what was placed
 
 pub line_kept : (b b' : BookView) (enclave : ℕ) → GoesOn b b' → (line : PageLine) → IsPlacedLine b.past enclave line → IsPlacedLine b'.past enclave line
-line_kept b b' enclave g (lines.Tcs page ossa nssa plain) h = g.keeps _ _ _ _ h
-line_kept b b' enclave g (lines.Reg first count perm value plain) h = λ n low high. g.keeps _ _ _ _ (h n low high)
+line_kept b b' enclave g (lines.Tcs page ossa nssa plain) h = g.keeps _ _ _ h
+line_kept b b' enclave g (lines.Reg first count perm value plain) h = λ n low high. g.keeps _ _ _ (h n low high)
 
 pub lines_kept : (b b' : BookView) (enclave : ℕ) → GoesOn b b' → (ls : List PageLine) → All (IsPlacedLine b.past enclave) ls → All (IsPlacedLine b'.past enclave) ls
 lines_kept b b' enclave g ls h = λ k d within. line_kept b b' enclave g (get_or ls k d) (h k d within)

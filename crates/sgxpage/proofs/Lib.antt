@@ -3,7 +3,10 @@ pub mod Digits
 pub mod LineLaws
 pub mod EntryLaws
 pub mod NumberLaws
+pub mod AskLaws
 pub mod BookLaws
+pub mod OptionLaws
+pub mod PlacedLaws
 pub mod CalmLaws
 pub mod HomeLaws
 pub mod FreeLaws
@@ -13,9 +16,10 @@ pub mod PlacingLaws
 pub mod EnclaveLaws
 pub mod BuildingLaws
 pub mod RunLaws
-pub mod PlayLaws
 pub mod PlayPages
-pub mod PlayFills
+pub mod RoomLaws
+pub mod PlayLaws
 pub mod PlayEnters
+pub mod PlayAccesses
 pub mod PlayScripts
 pub mod CommandLaws

@@ -111,13 +111,13 @@ module _ (enclave first : ℕ) (perm : Perm) (value : ℕ) (plain : Bool) where
       let zeroth : i ≡ 0 = omega (arith, within) in
       rw zeroth (rw (only.enclaves enclave, only.pages (page_at enclave (first + k)) (next_is_other k)) (taken_at b.past count k h below))
 
-  placed_more : (b b' : BookView) (k : ℕ) → GoesOn b b' → IsPlacedLine b.past enclave (first_ones k) → IsPlaced b'.past (page_at enclave (first + k)) kinds.Reg perm (inits.Words value)
+  placed_more : (b b' : BookView) (k : ℕ) → GoesOn b b' → IsPlacedLine b.past enclave (first_ones k) → IsPlaced b'.past (page_at enclave (first + k)) kinds.Reg perm
       → IsPlacedLine b'.past enclave (first_ones (k + 1))
   placed_more b b' k g h new n low high = by_place (leb_tells (first + k) n)
     where
-      by_place : ((nat_le (first + k) n ≡ true) × (first + k ≤ n)) ⊎ ((nat_le (first + k) n ≡ false) × (n < first + k)) → IsPlaced b'.past (page_at enclave n) kinds.Reg perm (inits.Words value)
+      by_place : ((nat_le (first + k) n ≡ true) × (first + k ≤ n)) ⊎ ((nat_le (first + k) n ≡ false) × (n < first + k)) → IsPlaced b'.past (page_at enclave n) kinds.Reg perm
       by_place (inl last) = let same : n ≡ first + k = omega (arith, last.1, high) in rw same new
-      by_place (inr before) = g.keeps (page_at enclave n) kinds.Reg perm (inits.Words value) (h n low before.1)
+      by_place (inr before) = g.keeps (page_at enclave n) kinds.Reg perm (h n low before.1)
 
   -- what the pages so far and the next one leave out
   record IsOut (k : ℕ) (g : Page) : Type 0 where
@@ -146,7 +146,7 @@ module _ (enclave first : ℕ) (perm : Perm) (value : ℕ) (plain : Bool) where
 
   pub page_more : (b b' b'' : BookView) (k : ℕ) (x : FlatPage)
       → Grows (line_steps enclave (first_ones k)) b b' × IsPlacedLine b'.past enclave (first_ones k) × AddsOnly enclave (first_ones k) b b'
-      → Grows (whole_page (first + k)) b' b'' → IsPlaced b''.past (page_at enclave (first + k)) kinds.Reg perm (inits.Words value)
+      → Grows (whole_page (first + k)) b' b'' → IsPlaced b''.past (page_at enclave (first + k)) kinds.Reg perm
       → flat b''.past ≡ with_page (flat b'.past) (page_at enclave (first + k)) x
       → Grows (line_steps enclave (first_ones (k + 1))) b b'' × IsPlacedLine b''.past enclave (first_ones (k + 1)) × AddsOnly enclave (first_ones (k + 1)) b b''
   page_more b b' b'' k x h grown new is = (

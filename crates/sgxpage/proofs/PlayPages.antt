@@ -1,24 +1,24 @@
--- Where the pages are that a built job's lines add.
-use Rattle.std.proofs.Common.{◌≡◌, ℕ, zero, suc, ◌+◌, ◌*◌, ◌/◌, ◌%◌, ◌^◌, ◌<◌, ◌≤◌, ◌==◌, ◌&&◌, ◌||◌, Bool, true, false, cond, nat_le, nat_lt, refl, arith, Option, Some, None, IfSome, List, [], ◌∷◌}
+-- The lines of a valid job, and where the pages are that they add.
+use Rattle.std.proofs.Common.{◌≡◌, ℕ, zero, suc, ◌+◌, ◌/◌, ◌%◌, ◌^◌, ◌<◌, ◌≤◌, ◌==◌, ◌&&◌, ◌||◌, Bool, true, false, cond, nat_le, nat_lt, refl, arith, Option, Some, None, IfSome, List, [], ◌∷◌, slice_get}
 use Rattle.std.specs.Int.{is_power_of_two}
-use Rattle.std.specs.List.{All, find, list_any, slice_get}
-use Rattle.std.proofs.lemmas.Bool.{eqb-true, leb-true, ltb-true}
+use Rattle.std.specs.List.{All, find, list_any}
+use Rattle.std.proofs.lemmas.Bool.{eqb-true, le-leb, leb-true, lt-ltb, ltb-true}
 use Rattle.std.proofs.lemmas.List.Elements.{All-head, All-tail}
+use Rattle.std.proofs.lemmas.Option.{slice_get_within}
 use Rattle.sgx_types.specs.declared.entries.Entry.{Entry}
-use Rattle.sgx_types.specs.declared.entries.PageInit.TheVariants as inits
 use Rattle.sgx_types.specs.declared.names.Page.{Page}
 use Rattle.sgx_types.specs.declared.names.Kind.TheVariants as kinds
-use Rattle.sgx_types.specs.declared.names.Perm.{Perm}
-use Rattle.sgx_types.specs.Frames.{Holds, content, frame_of, page_at}
+use Rattle.sgx_types.specs.Frames.{frame_of, page_at}
 use Rattle.sgx_types.specs.Table.{is_lawful_size}
 use Rattle.job_grammar.specs.declared.jobs.PageLine.{PageLine}
 use Rattle.job_grammar.specs.declared.jobs.PageLine.TheVariants as lines
-use Rattle.job_grammar.specs.Jobs.{EnclaveView, JobView, covers, enclave_at, is_reg_line, is_reg_page, is_save_line, is_save_page, is_tcs_line, is_tcs_page, lines_at, lines_in, tcs_line}
+use Rattle.job_grammar.specs.Jobs.{EnclaveView, JobView, covers, enclave_at, is_save_line, is_save_page, is_tcs_line, is_tcs_page, lines_at, lines_in, tcs_line}
 use Rattle.job_grammar.specs.Script.{no_perm}
-use Rattle.job_grammar.specs.Valid.{HasSavePages, IsValidEnclave, IsValidLine}
+use Rattle.job_grammar.specs.Valid.{HasSavePages, IsValid, IsValidEnclave, IsValidLine}
 use Rattle.paging_machine.proofs.Tools.{both_true}
-use Rattle.sgxpage.specs.Books.{IsPlaced, tcs_at}
+use Rattle.sgxpage.specs.Books.{IsPlaced}
 use Rattle.sgxpage.specs.Building.{IsPlacedLine}
+use Rattle.sgxpage.specs.Homes.{has_home}
 use Rattle.sgxpage.specs.Playing.{IsBuilt}
 
 -- ---- lists
@@ -49,39 +49,16 @@ found_has {X} test P (y ∷ ys) x all h = by_test (test y) h (found_has test P y
     by_test true e more = let same : y ≡ x = cc in rw (← same) (All-head P y ys all)
     by_test false e more = more e
 
+found_passes : {X : Type 0} (test : X → Bool) (xs : List X) (x : X) → find test xs ≡ Some x → test x ≡ true
+found_passes test [] x h = cc
+found_passes {X} test (y ∷ ys) x h = by_test (test y) refl h (found_passes test ys x)
+  where
+    by_test : (b : Bool) → test y ≡ b → cond b (Some y) (find test ys) ≡ Some x → (find test ys ≡ Some x → test x ≡ true) → test x ≡ true
+    by_test true e found more = let same : y ≡ x = cc in rw (← same) e
+    by_test false e found more = more found
+
 all_nil : {X : Type 0} (P : X → Type 0) → All P []
 all_nil P k d h = absurd (omega arith)
-
--- ---- REG pages
-
-pub record IsRegAt (past : List Entry) (g : Page) : Type 0 where
-  pub frame : ℕ
-  pub perm : Perm
-  pub there : frame_of past g ≡ Some frame
-  pub held : content past frame ≡ Holds g kinds.Reg perm
-
-reg_line_at : (past : List Entry) (e n : ℕ) (line : PageLine) → IsPlacedLine past e line → covers n line ≡ true → is_reg_line line ≡ true → IsRegAt past (page_at e n)
-reg_line_at past e n (lines.Tcs page ossa nssa plain) placed cover reg = cc
-reg_line_at past e n (lines.Reg first count perm value plain) placed cover reg =
-    let bounds = both_true (nat_le first n) (nat_lt n (first + count)) cover in
-    let at = placed n (leb-true first n bounds.0) (ltb-true n (first + count) bounds.1) in
-    record { frame = at.frame; perm = perm; there = at.there; held = at.held }
-
-save_is_reg : (line : PageLine) → is_save_line line ≡ true → is_reg_line line ≡ true
-save_is_reg (lines.Tcs page ossa nssa plain) h = cc
-save_is_reg (lines.Reg first count perm value plain) h = refl
-
-pub reg_at : (j : JobView) (past : List Entry) (e n : ℕ) → IsBuilt j past → is_reg_page (lines_at j.enclaves e) n ≡ true → IsRegAt past (page_at e n)
-reg_at j past e n built is =
-    let found = any_found (λ line. is_reg_line line && covers n line) (IsPlacedLine past e) (lines_at j.enclaves e) (built.pages e) is in
-    let tests = both_true (is_reg_line found.0) (covers n found.0) found.2 in
-    reg_line_at past e n found.0 found.1 tests.1 tests.0
-
-save_at : (j : JobView) (past : List Entry) (e n : ℕ) → IsBuilt j past → is_save_page (lines_at j.enclaves e) n ≡ true → IsRegAt past (page_at e n)
-save_at j past e n built is =
-    let found = any_found (λ line. is_save_line line && covers n line) (IsPlacedLine past e) (lines_at j.enclaves e) (built.pages e) is in
-    let tests = both_true (is_save_line found.0) (covers n found.0) found.2 in
-    reg_line_at past e n found.0 found.1 tests.1 (save_is_reg found.0 tests.0)
 
 -- ---- the lines of a valid enclave
 
@@ -115,67 +92,91 @@ enclave_there es (suc n) all = at_place es n all
     at_place (e ∷ es) zero all = All-head IsValidEnclave e es all
     at_place (e ∷ es) (suc n) all = at_place es n (All-tail IsValidEnclave e es all)
 
-lines_are : (j : JobView) (past : List Entry) (e : ℕ) → IsBuilt j past → All (IsLine (lines_at j.enclaves e)) (lines_at j.enclaves e)
-lines_are j past e built = enclave_lines (enclave_at j.enclaves e) (enclave_there j.enclaves e built.valid.enclaves)
+lines_are : (j : JobView) (e : ℕ) → IsValid j → All (IsLine (lines_at j.enclaves e)) (lines_at j.enclaves e)
+lines_are j e valid = enclave_lines (enclave_at j.enclaves e) (enclave_there j.enclaves e valid.enclaves)
 
-reg_number : (n : ℕ) (ls : List PageLine) (line : PageLine) → IsLine ls line → covers n line ≡ true → n < 4096
-reg_number n ls (lines.Tcs page ossa nssa plain) h cover = let same : page ≡ n = eqb-true page n cover in omega (arith, h.valid.2)
-reg_number n ls (lines.Reg first count perm value plain) h cover =
-    let below : n < first + count = ltb-true n (first + count) (both_true (nat_le first n) (nat_lt n (first + count)) cover).1 in
-    omega (arith, h.valid.1)
+-- ---- the line of a TCS page
 
--- the number of a REG page
-pub reg_below : (j : JobView) (past : List Entry) (e n : ℕ) → IsBuilt j past → is_reg_page (lines_at j.enclaves e) n ≡ true → n < 4096
-reg_below j past e n built is =
+-- what a line of a job that adds a TCS page says
+pub record IsTcsLine (j : JobView) (e n page ossa nssa : ℕ) : Type 0 where
+  pub page_is : page ≡ n
+  pub some_frames : 1 ≤ nssa
+  pub within : ossa + nssa ≤ 4096
+  pub low : n < 4096
+  pub few : e ≤ 8
+  pub saves : (k : ℕ) → ossa ≤ k → k < ossa + nssa → is_save_page (lines_at j.enclaves e) k ≡ true
+
+line_few : (j : JobView) (e n : ℕ) (line : PageLine) → IsValid j → tcs_line (lines_at j.enclaves e) n ≡ Some line → e ≤ 8
+line_few j zero n line valid is = omega arith
+line_few j (suc e) n line valid is = by_enclave (slice_get j.enclaves e) refl is
+  where
+    by_enclave : (o : Option EnclaveView) → slice_get j.enclaves e ≡ o → tcs_line (lines_in o) n ≡ Some line → suc e ≤ 8
+    by_enclave None at found = cc
+    by_enclave (Some x) at found = let within = slice_get_within j.enclaves e x at in let most = valid.few_enclaves in omega arith
+
+pub tcs_line_is : (j : JobView) (e n page ossa nssa : ℕ) (plain : Bool) → IsValid j → tcs_line (lines_at j.enclaves e) n ≡ Some (lines.Tcs page ossa nssa plain) → IsTcsLine j e n page ossa nssa
+tcs_line_is j e n page ossa nssa plain valid is =
     let ls = lines_at j.enclaves e in
-    let found = any_found (λ line. is_reg_line line && covers n line) (IsLine ls) ls (lines_are j past e built) is in
-    reg_number n ls found.0 found.1 (both_true (is_reg_line found.0) (covers n found.0) found.2).1
+    let test : PageLine → Bool = λ line. is_tcs_line line && covers n line in
+    let line : PageLine = lines.Tcs page ossa nssa plain in
+    let h = found_has test (IsLine ls) ls line (lines_are j e valid) is in
+    let same : page ≡ n = eqb-true page n (found_passes test ls line is) in
+    record {
+      page_is = same;
+      some_frames = h.valid.0;
+      within = h.valid.3;
+      low = let low = h.valid.2 in omega (arith, same, low);
+      few = line_few j e n line valid is;
+      saves = h.saved;
+    }
 
--- ---- TCS pages
+pub some_frames : (j : JobView) (e n page ossa nssa : ℕ) (plain : Bool) → IsValid j → tcs_line (lines_at j.enclaves e) n ≡ Some (lines.Tcs page ossa nssa plain) → 1 ≤ nssa
+some_frames j e n page ossa nssa plain valid is = (tcs_line_is j e n page ossa nssa plain valid is).some_frames
 
-pub record IsTcsAt (past : List Entry) (e n : ℕ) (line : Option PageLine) : Type 0 where
+pub line_home : (j : JobView) (e n page ossa nssa : ℕ) → IsTcsLine j e n page ossa nssa → has_home (page_at e n) ≡ true
+line_home j e n page ossa nssa t = rw (le-leb e 8 t.few, lt-ltb n 4096 t.low) refl
+
+-- ---- where the pages are
+
+-- a page is in a frame
+pub record HasFrame (past : List Entry) (g : Page) : Type 0 where
+  pub frame : ℕ
+  pub there : frame_of past g ≡ Some frame
+
+line_frame : (past : List Entry) (e n : ℕ) (line : PageLine) → IsPlacedLine past e line → covers n line ≡ true → HasFrame past (page_at e n)
+line_frame past e n (lines.Tcs page ossa nssa plain) placed cover =
+    let same : page ≡ n = eqb-true page n cover in
+    let at : IsPlaced past (page_at e n) kinds.Tcs no_perm = rw (← same) placed in
+    record { frame = at.frame; there = at.there }
+line_frame past e n (lines.Reg first count perm value plain) placed cover =
+    let bounds = both_true (nat_le first n) (nat_lt n (first + count)) cover in
+    let at = placed n (leb-true first n bounds.0) (ltb-true n (first + count) bounds.1) in
+    record { frame = at.frame; there = at.there }
+
+pub save_frame : (j : JobView) (past : List Entry) (e n : ℕ) → IsBuilt j past → is_save_page (lines_at j.enclaves e) n ≡ true → HasFrame past (page_at e n)
+save_frame j past e n built is =
+    let found = any_found (λ line. is_save_line line && covers n line) (IsPlacedLine past e) (lines_at j.enclaves e) (built.pages e) is in
+    line_frame past e n found.0 found.1 (both_true (is_save_line found.0) (covers n found.0) found.2).1
+
+pub tcs_frame : (j : JobView) (past : List Entry) (e n : ℕ) → IsBuilt j past → is_tcs_page (lines_at j.enclaves e) n ≡ true → HasFrame past (page_at e n)
+tcs_frame j past e n built is =
+    let found = any_found (λ line. is_tcs_line line && covers n line) (IsPlacedLine past e) (lines_at j.enclaves e) (built.pages e) is in
+    line_frame past e n found.0 found.1 (both_true (is_tcs_line found.0) (covers n found.0) found.2).1
+
+-- the line of a TCS page
+pub record FoundTcs (o : Option PageLine) : Type 0 where
+  pub page : ℕ
   pub ossa : ℕ
   pub nssa : ℕ
   pub plain : Bool
-  pub line_is : line ≡ Some (lines.Tcs n ossa nssa plain)
-  pub some_frames : 1 ≤ nssa
-  pub low : ossa < 4096
-  pub placed : IsPlaced past (page_at e n) kinds.Tcs no_perm (inits.Tcs ossa nssa)
-  pub ssa : IsRegAt past (page_at e ossa)
+  pub is : o ≡ Some (lines.Tcs page ossa nssa plain)
 
-tcs_line_at : (j : JobView) (past : List Entry) (e n : ℕ) (line : PageLine) (o : Option PageLine) → o ≡ Some line → IsBuilt j past → IsPlacedLine past e line → IsLine (lines_at j.enclaves e) line
-    → is_tcs_line line ≡ true → covers n line ≡ true → IsTcsAt past e n o
-tcs_line_at j past e n (lines.Tcs page ossa nssa plain) o is built placed h tcs cover =
-    let same : page ≡ n = eqb-true page n cover in
-    let some : 1 ≤ nssa = h.valid.0 in
-    let within : ossa + nssa ≤ 4096 = h.valid.3 in
-    record {
-      ossa = ossa;
-      nssa = nssa;
-      plain = plain;
-      line_is = rw (← same) is;
-      some_frames = some;
-      low = omega (arith, some, within);
-      placed = rw (← same) placed;
-      ssa = save_at j past e ossa built (h.saved ossa (omega arith) (omega (arith, some)));
-    }
-tcs_line_at j past e n (lines.Reg first count perm value plain) o is built placed h tcs cover = cc
-
-pub tcs_page_at : (j : JobView) (past : List Entry) (e n : ℕ) → IsBuilt j past → is_tcs_page (lines_at j.enclaves e) n ≡ true → IsTcsAt past e n (tcs_line (lines_at j.enclaves e) n)
-tcs_page_at j past e n built is =
-    let ls = lines_at j.enclaves e in
+pub tcs_found : (j : JobView) (e n : ℕ) → is_tcs_page (lines_at j.enclaves e) n ≡ true → FoundTcs (tcs_line (lines_at j.enclaves e) n)
+tcs_found j e n is =
     let test : PageLine → Bool = λ line. is_tcs_line line && covers n line in
-    let found = first_found test ls is in
-    let tests = both_true (is_tcs_line found.0) (covers n found.0) found.2 in
-    tcs_line_at j past e n found.0 (tcs_line ls n) found.1 built (found_has test (IsPlacedLine past e) ls found.0 (built.pages e) found.1)
-    (found_has test (IsLine ls) ls found.0 (lines_are j past e built) found.1) tests.0 tests.1
-
--- the fields of a TCS page that was added and whose saved state is none
-pub first_fields : (past : List Entry) (e n f ossa nssa : ℕ) → IsPlaced past (page_at e n) kinds.Tcs no_perm (inits.Tcs ossa nssa) → frame_of past (page_at e n) ≡ Some f
-    → tcs_at past f ≡ Some (record { ossa = ossa * 4096; cssa = 0; nssa = nssa })
-first_fields past e n f ossa nssa h there =
-    let same : h.frame ≡ f = cc (h.there, there) in
-    let held : content past f ≡ Holds (page_at e n) kinds.Tcs no_perm = rw same at h.held in
-    let none : nssa * 2 ^ 32 % 2 ^ 32 ≡ 0 = omega arith in
-    let all : nssa * 2 ^ 32 / 2 ^ 32 ≡ nssa = omega arith in
-    rw (held, h.words, none, all) refl
+    let found = first_found test (lines_at j.enclaves e) is in
+    by_line found.0 (tcs_line (lines_at j.enclaves e) n) found.1 (both_true (is_tcs_line found.0) (covers n found.0) found.2).0
+  where
+    by_line : (line : PageLine) (o : Option PageLine) → o ≡ Some line → is_tcs_line line ≡ true → FoundTcs o
+    by_line (lines.Tcs page ossa nssa plain) o is tcs = record { page = page; ossa = ossa; nssa = nssa; plain = plain; is = is }
+    by_line (lines.Reg first count perm value plain) o is tcs = cc

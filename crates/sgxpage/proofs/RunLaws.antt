@@ -21,7 +21,12 @@ built_of j b b' valid none grown placed = record {
 }
 
 pub quiet_of : (j : JobView) (b b' : BookView) → b.past ≡ [] → Grows (build_of j) b b' → IsQuiet b'.past
-quiet_of j b b' none grown = record { replied = λ p. grown.replied p ∙ rw none refl; outside = λ p. grown.stays p ∙ rw none refl }
+quiet_of j b b' none grown = record {
+  replied = λ p. (grown.idle p).replied ∙ rw none refl;
+  outside = λ p. (grown.idle p).stays ∙ rw none refl;
+  calm = λ p. (grown.idle p).interrupted ∙ rw none refl;
+  saved = λ g. grown.saved g ∙ rw none refl;
+}
 
 pub build_scripted : (j : JobView) (b b' : BookView) → b.frames ≡ j.epc → b.past ≡ [] → Grows (build_of j) b b' → Along (ScriptRule j) b'.past
 build_scripted j b b' frames none grown = grown.script j (sym frames) (all_next j b.past none) (rw none tt)

@@ -3,21 +3,19 @@ use Rattle.std.specs.Prelude.{ℕ, zero, suc, ◌≡◌, ◌==◌, ◌&&◌, ◌
 use Rattle.std.specs.List.{All}
 use Rattle.sgx_types.specs.declared.entries.Entry.{Entry}
 use Rattle.sgx_types.specs.declared.entries.Actor.TheVariants as actors
-use Rattle.sgx_types.specs.declared.entries.PageInit.{PageInit}
 use Rattle.sgx_types.specs.declared.entries.PageInit.TheVariants as inits
 use Rattle.sgx_types.specs.declared.names.Page.{Page}
 use Rattle.sgx_types.specs.declared.names.Kind.{Kind}
 use Rattle.sgx_types.specs.declared.names.Kind.TheVariants as kinds
 use Rattle.sgx_types.specs.declared.names.Perm.{Perm}
 use Rattle.sgx_types.specs.Frames.{Content, content, is_free, page_at}
-use Rattle.sgx_types.specs.Processors.{stay}
 use Rattle.sgx_types.specs.Flat.{flat, accepts}
 use Rattle.sgx_types.specs.Rules.{Along}
 use Rattle.job_grammar.specs.declared.jobs.PageLine.{PageLine}
 use Rattle.job_grammar.specs.declared.jobs.PageLine.TheVariants as lines
 use Rattle.job_grammar.specs.Jobs.{JobView, covers}
-use Rattle.job_grammar.specs.Script.{BuildStep, AddPage, ExtendPage, Finish, ScriptRule, build_of, built, no_perm, numbers_from, replied, step_action}
-use Rattle.sgxpage.specs.Books.{BookView, GoesOn, IsPlaced}
+use Rattle.job_grammar.specs.Script.{BuildStep, AddPage, ExtendPage, Finish, ScriptRule, build_of, built, no_perm, numbers_from, saved, step_action}
+use Rattle.sgxpage.specs.Books.{BookView, GoesOn, IsIdle, IsPlaced}
 
 -- ---- frames
 
@@ -54,8 +52,8 @@ pub record Grows (steps : List BuildStep) (b b' : BookView) : Type 0 where
   pub built : built b'.past ≡ built b.past + length steps
   pub script : (j : JobView) → j.epc ≡ b.frames → AreNext j b.past steps → Along (ScriptRule j) b.past → Along (ScriptRule j) b'.past
   pub room : free_frames b ≤ free_frames b' + frames_taken steps
-  pub replied : (p : ℕ) → replied b'.past p ≡ replied b.past p
-  pub stays : (p : ℕ) → stay b'.past p ≡ stay b.past p
+  pub idle : (p : ℕ) → IsIdle p b b'
+  pub saved : (g : Page) → saved b'.past g ≡ saved b.past g
 
 -- ---- pages and enclaves
 
@@ -73,13 +71,12 @@ line_adds enclave (lines.Reg first count perm value plain) = map (λ n. AddPage 
 pub record IsHere (past : List Entry) (g : Page) : Type 0 where
   pub kind : Kind
   pub perm : Perm
-  pub init : PageInit
-  pub placed : IsPlaced past g kind perm init
+  pub placed : IsPlaced past g kind perm
 
 -- the pages of a line are in frames
 abbrev pub IsPlacedLine : List Entry → ℕ → PageLine → Type 0
-IsPlacedLine past enclave (lines.Tcs page ossa nssa plain) = IsPlaced past (page_at enclave page) kinds.Tcs no_perm (inits.Tcs ossa nssa)
-IsPlacedLine past enclave (lines.Reg first count perm value plain) = (n : ℕ) → first ≤ n → n < first + count → IsPlaced past (page_at enclave n) kinds.Reg perm (inits.Words value)
+IsPlacedLine past enclave (lines.Tcs page ossa nssa plain) = IsPlaced past (page_at enclave page) kinds.Tcs no_perm
+IsPlacedLine past enclave (lines.Reg first count perm value plain) = (n : ℕ) → first ≤ n → n < first + count → IsPlaced past (page_at enclave n) kinds.Reg perm
 
 -- a line of an enclave adds this page
 abbrev pub adds : ℕ → PageLine → Page → Bool

@@ -1,20 +1,20 @@
 -- The output of a run: for each enclave how its EINIT ended, and for each processor the replies to its operations.
-use Rattle.std.specs.Prelude.{ℕ, ◌==◌, ◌&&◌, if◌then◌else◌, List, [], ◌∷◌, ◌++◌, codes, length, take, flat_map}
+use Rattle.std.specs.Prelude.{ℕ, ◌==◌, if◌then◌else◌, List, [], ◌∷◌, ◌++◌, codes, length, take, flat_map}
 use Rattle.std.specs.Fmt.{decimal}
 use Rattle.sgx_types.specs.declared.entries.Entry.{Entry}
 use Rattle.sgx_types.specs.declared.entries.Event.{Event}
-use Rattle.sgx_types.specs.declared.entries.Event.TheVariants.{Did, Refused}
+use Rattle.sgx_types.specs.declared.entries.Event.TheVariants.{Did, Refused, Bus}
 use Rattle.sgx_types.specs.declared.entries.Action.{Action}
 use Rattle.sgx_types.specs.declared.entries.Action.TheVariants as actions
 use Rattle.sgx_types.specs.declared.entries.Answer.{Answer}
 use Rattle.sgx_types.specs.declared.entries.Answer.TheVariants as answers
+use Rattle.sgx_types.specs.declared.entries.Cause.TheVariants as causes
 use Rattle.sgx_types.specs.declared.refusals.Refusal.{Refusal}
 use Rattle.sgx_types.specs.declared.refusals.Refusal.TheVariants as why
-use Rattle.sgx_types.specs.Processors.{is_by}
 use Rattle.job_grammar.specs.Jobs.{JobView}
-use Rattle.job_grammar.specs.Script.{is_reply, numbers_from}
+use Rattle.job_grammar.specs.Script.{is_reply_of, numbers_from}
 use Rattle.job_grammar.specs.Text.{Words, line_text}
-use Rattle.sgxpage.specs.TraceText.{enclave_word, refusal_words}
+use Rattle.sgxpage.specs.TraceText.{enclave_word, fault_word, refusal_words}
 
 -- ---- enclaves
 
@@ -32,8 +32,17 @@ enclave_lines (e ∷ past) enclave = init_line e.event enclave (enclave_lines pa
 
 abbrev pub done_reply : Action → Answer → Words
 done_reply (actions.Enter enclave tcs tf sf) (answers.Cssa n) = codes "cssa" ∷ decimal n ∷ []
+done_reply (actions.Resume enclave tcs tf sf) (answers.Value v) = codes "acc" ∷ decimal v ∷ []
 done_reply actions.Exit answer = codes "exit" ∷ []
+done_reply (actions.Aex causes.Timer) answer = codes "timer" ∷ []
 done_reply (actions.Load off) (answers.Value v) = decimal v ∷ []
+done_reply (actions.Store off value) answer = codes "ok" ∷ []
+done_reply (actions.Xadd off value) (answers.Value v) = decimal v ∷ []
+done_reply (actions.Set value) answer = codes "ok" ∷ []
+done_reply (actions.Plus value) (answers.Value v) = decimal v ∷ []
+done_reply (actions.Pf op off) (answers.Pf fault) = codes "pf" ∷ fault_word fault ∷ []
+done_reply (actions.OutLoad enclave off) (answers.Value v) = decimal v ∷ []
+done_reply (actions.OutStore enclave off value) answer = codes "dropped" ∷ []
 done_reply action answer = []
 
 -- a refusal's name, without its numbers
@@ -48,12 +57,13 @@ refused_reply refusal = codes "gp" ∷ refusal_name refusal
 abbrev pub reply_words : Event → Words
 reply_words (Did action answer) = done_reply action answer
 reply_words (Refused action refusal) = refused_reply refusal
+reply_words (Bus page why) = codes "bus" ∷ []
 reply_words _ = []
 
 -- the replies of a processor, the oldest first
 abbrev pub reply_lines : List Entry → ℕ → List Words
 reply_lines [] p = []
-reply_lines (e ∷ past) p = if is_by p e.actor && is_reply e.event then reply_lines past p ++ reply_words e.event ∷ [] else reply_lines past p
+reply_lines (e ∷ past) p = if is_reply_of past e p then reply_lines past p ++ reply_words e.event ∷ [] else reply_lines past p
 
 abbrev pub cpu_lines : List Entry → ℕ → List Words
 cpu_lines past p = (codes "cpu" ∷ decimal p ∷ []) ∷ reply_lines past p

@@ -5,7 +5,7 @@ ghost use Rattle.sgx_types.specs.Flat.{flat, first_words, with_enclave, with_pag
 ghost use Rattle.sgx_types.specs.Table.{is_enclave};
 ghost use Rattle.job_grammar.specs.Jobs.{enclave_view, lines_at, va_pages, page_count, first_page};
 ghost use Rattle.job_grammar.specs.Script.{MakeVa, MakeSecs, AddPage, ExtendPage, Finish, build_of, chunk_steps, enclave_steps, enclaves_steps, line_steps, page_steps};
-ghost use Rattle.job_grammar.specs.Valid.{IsFirstForm, IsValidEnclave};
+ghost use Rattle.job_grammar.specs.Valid.{IsFittingForm, IsValidEnclave};
 ghost use Rattle.sgxpage.specs.Books.{IsCalm, IsPlaced};
 ghost use Rattle.sgxpage.specs.Building.{AddsOnly, AreTaken, Grows, IsHere, IsPlacedLine, IsUnmade, MakesOnly, frames_taken, free_frames, line_adds};
 
@@ -19,7 +19,7 @@ use std::alloc::Global;
 pub fn build(alloc: Global, book: &mut Book, job: &Job) -> Result<(), Memory>
     requires frames { book.old.frames ≡ job.now.epc }
     requires past { book.old.past ≡ [] }
-    requires form { IsFirstForm job.now }
+    requires form { IsFittingForm job.now }
     requires calm { IsCalm book.old.past }
     ensures grows { OnOk result (Grows (build_of job.now) book.old book.new) }
     ensures placed { OnOk result ((e : ℕ) → All (IsPlacedLine book.new.past e) (lines_at job.now.enclaves e)) }
@@ -194,7 +194,7 @@ fn add_page(
     requires room { 1 ≤ free_frames book.old }
     requires taken { AreTaken book.old.past (AddPage page.enclave page.number kind perm init ∷ []) }
     ensures grows { OnOk result (Grows (page_steps page.enclave page.number kind perm init plain) book.old book.new) }
-    ensures placed { OnOk result (IsPlaced book.new.past page kind perm init) }
+    ensures placed { OnOk result (IsPlaced book.new.past page kind perm) }
     ensures flat { OnOk result (flat book.new.past ≡ with_page (flat book.old.past) page (record { kind = kind; perm = perm; words = first_words init })) }
 {
     add(alloc, book, page, kind, perm, init)?;
@@ -216,7 +216,7 @@ fn add(
     requires room { 1 ≤ free_frames book.old }
     requires taken { AreTaken book.old.past (AddPage page.enclave page.number kind perm init ∷ []) }
     ensures grows { OnOk result (Grows (AddPage page.enclave page.number kind perm init ∷ []) book.old book.new) }
-    ensures placed { OnOk result (IsPlaced book.new.past page kind perm init) }
+    ensures placed { OnOk result (IsPlaced book.new.past page kind perm) }
     ensures flat { OnOk result (flat book.new.past ≡ with_page (flat book.old.past) page (record { kind = kind; perm = perm; words = first_words init })) }
 {
     let frame = book.first_free().unwrap();

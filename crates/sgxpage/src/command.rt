@@ -2,7 +2,7 @@ ghost use Rattle.std.specs.Prelude.{◌≡◌, ◌≢◌, ◌<◌, ◌+◌, ◌^
 ghost use Rattle.io_edges.specs.Faults.{HasRisen};
 ghost use Rattle.io_edges.specs.Sinks.{GivesPart, followed_by};
 ghost use Rattle.io_edges.specs.Sources.{TakesAtMost};
-ghost use Rattle.job_grammar.specs.Valid.{IsFirstForm, IsJobText};
+ghost use Rattle.job_grammar.specs.Valid.{IsFittingForm, IsJobText};
 ghost use Rattle.sgxpage.specs.Commands.{IsRun, MayStandIn, NoFault, number_of};
 ghost use Rattle.sgxpage.specs.Runs.{Broke, BrokeOn, Gave, HalfTold, HasJob, IsFaultAnd, IsFaultOf, IsNoJob, OfRead, Ran, Told, fault_text};
 
@@ -167,7 +167,7 @@ fn run_over<K: Sink, L: Sink>(
     out: &mut K,
     trace: &mut L,
 ) -> Result<(), Ungiven>
-    requires { IsFirstForm job.now }
+    requires { IsFittingForm job.now }
     ensures gave { OnOk result (Gave job.now (K.given out.old) (K.given out.new) (L.given trace.old) (L.given trace.new)) }
     ensures broke { IsErrOf result Ungiven.Failed → Broke job.now (K.given out.old) (K.given out.new) (L.given trace.old) (L.given trace.new) }
     ensures memory { IsErrOf result Ungiven.Memory → (out.new ≡ out.old) × (trace.new ≡ trace.old) }

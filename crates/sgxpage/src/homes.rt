@@ -1,6 +1,6 @@
-ghost use Rattle.std.specs.Prelude.{◌≡◌, None, IfOk, replicate};
+ghost use Rattle.std.specs.Prelude.{◌≡◌, ◌<◌, ◌^◌, IfOk, replicate};
 ghost use Rattle.sgx_types.specs.declared.names.Page.{Page};
-ghost use Rattle.sgxpage.specs.Homes.{home_in, home_after, place_of};
+ghost use Rattle.sgxpage.specs.Homes.{home_in, home_after, no_home, place_of, with_fewer, with_frame, with_more};
 
 use sgx_types::names::{Frame, Memory, Page};
 use std::alloc::Global;
@@ -10,49 +10,84 @@ const ENCLAVES: usize = 8;
 
 const PAGES: usize = 4096;
 
-/// The frame of each page that an enclave can have, None where the page is in no frame.
+/// Where a page is, None where it is in no frame, and, of a TCS page, how many of its state save frames are in use.
+#[derive(Clone, Copy, Debug)]
+pub struct Home {
+    pub frame: Option<Frame>,
+    pub saved: u64,
+}
+
+const NO_HOME: Home = Home {
+    frame: None,
+    saved: 0,
+};
+
+/// The home of each page that an enclave can have.
 #[derive(Drop)]
 pub struct Homes {
-    frames: Vec<Option<Frame>>,
+    places: Vec<Home>,
 }
 
 impl Model for Homes {
-    ghost use Rattle.std.specs.Prelude.{◌≡◌, List, Option, length};
-    ghost use Rattle.sgx_types.specs.declared.names.Frame.{Frame};
+    ghost use Rattle.std.specs.Prelude.{◌≡◌, List, length};
+    ghost use Rattle.sgxpage.specs.declared.homes.Home.{Home};
 
-    ghost Value = { List (Option Frame) };
+    ghost Value = { List Home };
 
-    ghost view = { λ homes. homes.frames.items };
+    ghost view = { λ homes. homes.places.items };
 
-    ghost invariant = { λ homes. length homes.frames.items ≡ 36864 };
+    ghost invariant = { λ homes. length homes.places.items ≡ 36864 };
 }
 
 impl Homes {
     /// No page is in a frame.
     pub fn new(alloc: Global) -> Result<Homes, Memory>
-        ensures { IfOk result (λ homes. homes ≡ replicate 36864 None) }
+        ensures { IfOk result (λ homes. homes ≡ replicate 36864 no_home) }
     {
-        let places = (ENCLAVES + 1) * PAGES;
-        let mut frames = Vec::with_capacity(alloc, places)?;
-        for _ in 0..places {
-            frames.push(None)?;
+        let count = (ENCLAVES + 1) * PAGES;
+        let mut places = Vec::with_capacity(alloc, count)?;
+        for _ in 0..count {
+            places.push(NO_HOME)?;
         }
-        Ok(Homes { frames })
+        Ok(Homes { places })
     }
 
-    /// The frame of a page, None where it was not put.
-    pub fn find(&self, page: Page) -> Option<Frame>
+    /// The home of a page. A page that no enclave can have is in no frame.
+    pub fn find(&self, page: Page) -> Home
         ensures { result ≡ home_in self.now page }
     {
-        self.frames[place_of(page)?]
+        match place_of(page) {
+            Some(place) => self.places[place],
+            None => NO_HOME,
+        }
     }
 
     /// Puts a page into a frame. A page that no enclave can have is left out.
     pub fn put(&mut self, page: Page, frame: Frame)
-        ensures { (g : Page) → home_in self.new g ≡ home_after page frame g (home_in self.old g) }
+        ensures { (g : Page) → home_in self.new g ≡ home_after page (with_frame frame) g (home_in self.old g) }
     {
         if let Some(place) = place_of(page) {
-            self.frames[place] = Some(frame);
+            self.places[place].frame = Some(frame);
+        }
+    }
+
+    /// One more state save frame of a TCS page is in use.
+    pub fn save(&mut self, page: Page)
+        requires { (home_in self.old page).saved < 2 ^ 63 }
+        ensures { (g : Page) → home_in self.new g ≡ home_after page with_more g (home_in self.old g) }
+    {
+        if let Some(place) = place_of(page) {
+            self.places[place].saved += 1;
+        }
+    }
+
+    /// One fewer is in use, if one was.
+    pub fn restore(&mut self, page: Page)
+        ensures { (g : Page) → home_in self.new g ≡ home_after page with_fewer g (home_in self.old g) }
+    {
+        if let Some(place) = place_of(page) {
+            let home = &mut self.places[place];
+            home.saved = home.saved.saturating_sub(1);
         }
     }
 }

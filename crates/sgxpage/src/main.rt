@@ -4,12 +4,14 @@ mod actions;
 mod book;
 mod build;
 mod command;
+mod entering;
 mod homes;
 mod job_faults;
 mod names;
 mod play;
 mod replies;
 mod run;
+mod saves;
 #[cfg(test)]
 mod tests;
 mod trace;
@@ -18,6 +20,8 @@ mod two_enclaves;
 mod words;
 #[cfg(test)]
 mod worked;
+#[cfg(test)]
+mod worked_runs;
 
 use crate::command::{Status, path_of, sgxpage};
 use io_edges::failed_edges::FailedSink;

@@ -1,25 +1,26 @@
-ghost use Rattle.std.specs.Prelude.{ℕ, ◌≡◌, ◌<◌, ◌≤◌, [], ◌∷◌, length, None, Some, true, OnOk, unwrap_or};
-ghost use Rattle.sgx_types.specs.Frames.{frame_of, page_at};
-ghost use Rattle.sgx_types.specs.Processors.{stay};
+ghost use Rattle.std.specs.Prelude.{◌≡◌, ◌<◌, ◌≤◌, List, [], ◌∷◌, length, Some, OnOk};
+ghost use Rattle.sgx_types.specs.declared.entries.Actor.TheVariants as actors;
+ghost use Rattle.sgx_types.specs.Flat.{added_as, flat};
 ghost use Rattle.sgx_types.specs.Rules.{Along};
-ghost use Rattle.job_grammar.specs.Jobs.{JobView, is_tcs_page, lines_at, tcs_line};
-ghost use Rattle.job_grammar.specs.Script.{IsEnded, ScriptRule, enter_by, op_due};
-ghost use Rattle.job_grammar.specs.Valid.{IsFirstForm};
-ghost use Rattle.sgxpage.specs.Books.{IsCalm};
-ghost use Rattle.sgxpage.specs.Playing.{Fills, IsBuilt, IsQuiet, LeavesLast, Plays, Prepares};
+ghost use Rattle.job_grammar.specs.declared.jobs.Op.{Op};
+ghost use Rattle.job_grammar.specs.Jobs.{JobView};
+ghost use Rattle.job_grammar.specs.Script.{IsEnded, ScriptRule};
+ghost use Rattle.sgxpage.specs.Asking.{CanAsk};
+ghost use Rattle.sgxpage.specs.Books.{BookView, IsCalm};
+ghost use Rattle.sgxpage.specs.Playing.{Fills, Finishes, IsAccess, IsBuilt, IsQuiet, IsReg, Plays, plain_action};
 
 use crate::book::Book;
+use crate::entering::{frames_to_enter, frames_to_resume};
 use cached_translations::processor::Mode;
 use job_grammar::jobs::{Job, Op};
-use sgx_types::entries::{Action, Actor};
-use sgx_types::names::{Cpu, Frame, Memory, Page};
+use sgx_types::entries::{AccessOp, Action, Actor, Cause};
+use sgx_types::names::{Cpu, Memory, Page};
 use std::alloc::Global;
 
 /// The processors' part of a run: each plays its script.
 pub fn play_all(alloc: Global, book: &mut Book, job: &Job) -> Result<(), Memory>
     requires cpus { length job.now.scripts ≤ book.old.cpus }
     requires calm { IsCalm book.old.past }
-    requires form { IsFirstForm job.now }
     requires built { IsBuilt job.now book.old.past }
     requires quiet { IsQuiet book.old.past }
     ensures frames { OnOk result (book.new.frames ≡ book.old.frames) }
@@ -28,44 +29,120 @@ pub fn play_all(alloc: Global, book: &mut Book, job: &Job) -> Result<(), Memory>
 {
     let scripts = job.scripts();
     for index in 0..scripts.len() {
-        play_script(alloc, book, Cpu(index as u8), &scripts[index])?;
+        play_script(alloc, book, job, Cpu(index as u8), &scripts[index])?;
     }
     Ok(())
 }
 
-fn play_script(alloc: Global, book: &mut Book, cpu: Cpu, script: &[Op]) -> Result<(), Memory>
+fn play_script(
+    alloc: Global,
+    book: &mut Book,
+    job: &Job,
+    cpu: Cpu,
+    script: &[Op],
+) -> Result<(), Memory>
     requires cpu { cpu.0 < book.old.cpus }
     requires calm { IsCalm book.old.past }
-    ensures plays { OnOk result (Plays cpu.0 script.now book.old book.new) }
-    ensures leaves { OnOk result (LeavesLast script.now → stay book.new.past cpu.0 ≡ None) }
+    ensures { OnOk result (Finishes job.now cpu.0 script.now book.old book.new) }
 {
     for op in script {
-        play(alloc, book, cpu, op)?;
+        play(alloc, book, job, cpu, op)?;
     }
-    Ok(())
+    leave(alloc, book, cpu)
 }
 
-fn play(alloc: Global, book: &mut Book, cpu: Cpu, op: &Op) -> Result<(), Memory>
+// Who is inside at the end of its script leaves.
+fn leave(alloc: Global, book: &mut Book, cpu: Cpu) -> Result<(), Memory>
     requires cpu { cpu.0 < book.old.cpus }
     requires calm { IsCalm book.old.past }
-    ensures plays { OnOk result (Plays cpu.0 (op.now ∷ []) book.old book.new) }
-    ensures leaves { OnOk result (op.now ≡ Op.Exit → stay book.new.past cpu.0 ≡ None) }
+    ensures { OnOk result ((j : JobView) (ops : List Op) (b : BookView) → Plays j cpu.0 ops b book.old → Finishes j cpu.0 ops b book.new) }
+{
+    match book.mode(cpu) {
+        Mode::Outside => Ok(()),
+        Mode::Inside { .. } => book.apply(
+            alloc,
+            Actor::Cpu(cpu),
+            Action::Aex { cause: Cause::End },
+        ),
+    }
+}
+
+fn play(alloc: Global, book: &mut Book, job: &Job, cpu: Cpu, op: &Op) -> Result<(), Memory>
+    requires cpu { cpu.0 < book.old.cpus }
+    requires calm { IsCalm book.old.past }
+    ensures { OnOk result (Plays job.now cpu.0 (op.now ∷ []) book.old book.new) }
 {
     match *op {
-        Op::Enter { enclave, tcs } => enter(alloc, book, cpu, enclave, tcs),
-        Op::Exit => book.apply(alloc, Actor::Cpu(cpu), Action::Exit),
-        Op::Load { off } => load(alloc, book, cpu, off),
-        // No job that is accepted yet has another operation.
-        _ => Ok(()),
+        Op::Enter { enclave, tcs } => enter(alloc, book, job, cpu, enclave, tcs),
+        Op::Resume { enclave, tcs } => resume(alloc, book, job, cpu, enclave, tcs),
+        Op::Exit => make(alloc, book, cpu, Action::Exit),
+        Op::Timer => make(
+            alloc,
+            book,
+            cpu,
+            Action::Aex {
+                cause: Cause::Timer,
+            },
+        ),
+        Op::Load { off } => access(alloc, book, cpu, AccessOp::Load, off, Action::Load { off }),
+        Op::Store { off, value } => access(
+            alloc,
+            book,
+            cpu,
+            AccessOp::Store,
+            off,
+            Action::Store { off, value },
+        ),
+        Op::Xadd { off, value } => access(
+            alloc,
+            book,
+            cpu,
+            AccessOp::Xadd,
+            off,
+            Action::Xadd { off, value },
+        ),
+        Op::Set { value } => make(alloc, book, cpu, Action::Set { value }),
+        Op::Plus { value } => make(alloc, book, cpu, Action::Plus { value }),
+        Op::OutLoad { enclave, off } => make(alloc, book, cpu, Action::OutLoad { enclave, off }),
+        Op::OutStore {
+            enclave,
+            off,
+            value,
+        } => make(
+            alloc,
+            book,
+            cpu,
+            Action::OutStore {
+                enclave,
+                off,
+                value,
+            },
+        ),
     }
 }
 
-fn enter(alloc: Global, book: &mut Book, cpu: Cpu, enclave: u16, tcs: u32) -> Result<(), Memory>
+// An operation that is nothing but one instruction.
+fn make(alloc: Global, book: &mut Book, cpu: Cpu, action: Action) -> Result<(), Memory>
+    requires able { CanAsk book.old.cpus (actors.Cpu cpu) action }
+    requires calm { IsCalm book.old.past }
+    ensures { OnOk result ((j : JobView) (op : Op) → plain_action op ≡ Some action → Plays j cpu.0 (op ∷ []) book.old book.new) }
+{
+    book.apply(alloc, Actor::Cpu(cpu), action)
+}
+
+fn enter(
+    alloc: Global,
+    book: &mut Book,
+    job: &Job,
+    cpu: Cpu,
+    enclave: u16,
+    tcs: u32,
+) -> Result<(), Memory>
     requires cpu { cpu.0 < book.old.cpus }
     requires calm { IsCalm book.old.past }
-    ensures plays { OnOk result (Plays cpu.0 (Op.Enter enclave tcs ∷ []) book.old book.new) }
+    ensures { OnOk result (Plays job.now cpu.0 (Op.Enter enclave tcs ∷ []) book.old book.new) }
 {
-    let (tcs_frame, ssa_frame) = frames_to_enter(book, cpu, enclave, tcs);
+    let (tcs_frame, ssa_frame) = frames_to_enter(book, job, cpu, enclave, tcs);
     let action = Action::Enter {
         enclave,
         tcs,
@@ -75,76 +152,68 @@ fn enter(alloc: Global, book: &mut Book, cpu: Cpu, enclave: u16, tcs: u32) -> Re
     book.apply(alloc, Actor::Cpu(cpu), action)
 }
 
-// The frames of a TCS page and of its next state save page, or of the TCS page alone where all of those are in use. Who
-// is inside, or enters an enclave that is not initialised, is refused whatever the frames are.
-fn frames_to_enter(book: &Book, cpu: Cpu, enclave: u16, tcs: u32) -> (Frame, Frame)
-    requires cpu { cpu.0 < book.now.cpus }
-    requires calm { IsCalm book.now.past }
-    ensures due { (j : JobView) → IsBuilt j book.now.past → is_tcs_page (lines_at j.enclaves enclave) tcs ≡ true
-        → op_due j book.now.past cpu.0 (Some (Op.Enter enclave tcs)) ≡ Some (Action.Enter enclave tcs result.0 result.1) }
+fn resume(
+    alloc: Global,
+    book: &mut Book,
+    job: &Job,
+    cpu: Cpu,
+    enclave: u16,
+    tcs: u32,
+) -> Result<(), Memory>
+    requires cpu { cpu.0 < book.old.cpus }
+    requires calm { IsCalm book.old.past }
+    ensures { OnOk result (Plays job.now cpu.0 (Op.Resume enclave tcs ∷ []) book.old book.new) }
 {
-    if book.mode(cpu) != Mode::Outside || !book.is_init(enclave) {
-        return (Frame(0), Frame(0));
-    }
-    let Some(tcs_frame) = book.frame_of(Page {
+    let (tcs_frame, ssa_frame) = frames_to_resume(book, job, cpu, enclave, tcs);
+    let action = Action::Resume {
         enclave,
-        number: tcs,
-    }) else {
-        return (Frame(0), Frame(0));
+        tcs,
+        tcs_frame,
+        ssa_frame,
     };
-    let ssa_frame = next_ssa(book, enclave, tcs_frame).unwrap_or(tcs_frame);
-    (tcs_frame, ssa_frame)
+    book.apply(alloc, Actor::Cpu(cpu), action)
 }
 
-// The frame of the next state save page of a TCS page, None where all are in use.
-fn next_ssa(book: &Book, enclave: u16, tcs_frame: Frame) -> Option<Frame>
-    requires { IsCalm book.now.past }
-    ensures { (j : JobView) (tcs : ℕ) → IsBuilt j book.now.past → is_tcs_page (lines_at j.enclaves enclave) tcs ≡ true → frame_of book.now.past (page_at enclave tcs) ≡ Some tcs_frame.0
-        → enter_by book.now.past enclave tcs (tcs_line (lines_at j.enclaves enclave) tcs) ≡ Some (Action.Enter enclave tcs tcs_frame (unwrap_or result tcs_frame)) }
-{
-    let fields = book.tcs(tcs_frame)?;
-    if fields.cssa == fields.nssa {
-        return None;
-    }
-    let number = u32::try_from(fields.ossa / 4096 + u64::from(fields.cssa)).ok()?;
-    book.frame_of(Page { enclave, number })
-}
-
-fn load(alloc: Global, book: &mut Book, cpu: Cpu, off: u64) -> Result<(), Memory>
+// An access outside is made, and refused. One inside that cannot succeed is told as a fault; another goes by a
+// translation, which is filled first where none is held.
+fn access(
+    alloc: Global,
+    book: &mut Book,
+    cpu: Cpu,
+    op: AccessOp,
+    off: u64,
+    action: Action,
+) -> Result<(), Memory>
     requires cpu { cpu.0 < book.old.cpus }
+    requires able { CanAsk book.old.cpus (actors.Cpu cpu) action }
     requires calm { IsCalm book.old.past }
-    ensures plays { OnOk result (Plays cpu.0 (Op.Load off ∷ []) book.old book.new) }
-{
-    fill_for(alloc, book, cpu, off)?;
-    book.apply(alloc, Actor::Cpu(cpu), Action::Load { off })
-}
-
-// A load inside goes by a translation; where none is held, it is filled first.
-fn fill_for(alloc: Global, book: &mut Book, cpu: Cpu, off: u64) -> Result<(), Memory>
-    requires cpu { cpu.0 < book.old.cpus }
-    requires calm { IsCalm book.old.past }
-    ensures { OnOk result (Prepares cpu.0 off book.old book.new) }
+    ensures { OnOk result ((j : JobView) (o : Op) → IsAccess o op off action → Plays j cpu.0 (o ∷ []) book.old book.new) }
 {
     let Mode::Inside { enclave, .. } = book.mode(cpu) else {
-        return Ok(());
+        return book.apply(alloc, Actor::Cpu(cpu), action);
     };
-    let Ok(number) = u32::try_from(off / 4096) else {
-        return Ok(());
-    };
-    fill(alloc, book, cpu, Page { enclave, number })
+    // The offsets of a job are below 2^24.
+    let number = (off / 4096 % (1 << 32)) as u32;
+    let page = Page { enclave, number };
+    if !book.lawful(page, op) {
+        return book.apply(alloc, Actor::Cpu(cpu), Action::Pf { op, off });
+    }
+    fill(alloc, book, cpu, page)?;
+    book.apply(alloc, Actor::Cpu(cpu), action)
 }
 
+// The translation of a REG page, unless it is held. A page that was added is in a frame.
 fn fill(alloc: Global, book: &mut Book, cpu: Cpu, page: Page) -> Result<(), Memory>
     requires cpu { cpu.0 < book.old.cpus }
     requires calm { IsCalm book.old.past }
-    ensures { OnOk result (Fills cpu.0 page book.old book.new) }
+    requires added { IsReg (added_as ((flat book.old.past).pages page)) }
+    ensures fills { OnOk result (Fills cpu.0 page book.old book.new) }
+    ensures cpus { OnOk result (book.new.cpus ≡ book.old.cpus) }
 {
     let number = page.number;
     if book.holds(cpu, number) {
         return Ok(());
     }
-    match book.frame_of(page) {
-        Some(frame) => book.apply(alloc, Actor::Cpu(cpu), Action::Fill { number, frame }),
-        None => Ok(()),
-    }
+    let frame = book.frame_of(page).unwrap();
+    book.apply(alloc, Actor::Cpu(cpu), Action::Fill { number, frame })
 }

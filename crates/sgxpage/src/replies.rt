@@ -1,15 +1,15 @@
-ghost use Rattle.std.specs.Prelude.{◌≡◌, ◌&&◌, [], ◌++◌, reverse, flat_map, OnOk, IfOk};
+ghost use Rattle.std.specs.Prelude.{◌≡◌, [], ◌++◌, reverse, flat_map, OnOk, IfOk};
 ghost use Rattle.sgx_types.specs.Processors.{is_by};
-ghost use Rattle.job_grammar.specs.Script.{is_reply, is_reply_action, numbers_from};
+ghost use Rattle.job_grammar.specs.Script.{interrupted_after, is_reply, is_reply_action, numbers_from};
 ghost use Rattle.job_grammar.specs.Text.{line_text};
 ghost use Rattle.sgxpage.specs.Ending.{ending_lines};
-ghost use Rattle.sgxpage.specs.OutText.{cpu_lines, done_reply, enclave_lines, init_line, out_of, refused_reply, reply_lines, reply_words};
+ghost use Rattle.sgxpage.specs.OutText.{cpu_lines, done_reply, enclave_lines, init_line, out_of, refused_reply, reply_words};
 
-use crate::names::refusal_name;
+use crate::names::{fault_name, refusal_name};
 use crate::words::Word::{Decimal, Enclave, Name};
 use crate::words::push_line;
 use job_grammar::jobs::Job;
-use sgx_types::entries::{Action, Actor, Answer, Entry, Event};
+use sgx_types::entries::{Action, Actor, Answer, Cause, Entry, Event};
 use sgx_types::names::Memory;
 use sgx_types::refusals::Refusal;
 use std::alloc::Global;
@@ -125,8 +125,32 @@ fn push_done_reply(action: &Action, answer: &Answer, onto: &mut Vec<u8>) -> Resu
             &[Decimal(count.into())],
             onto,
         ),
+        (Action::Resume { .. }, Answer::Value(acc)) => push_line(
+            Name("acc"),
+            &[Decimal(acc)],
+            onto,
+        ),
         (Action::Exit, _) => push_line(Name("exit"), &[], onto),
-        (Action::Load { .. }, Answer::Value(value)) => push_line(Decimal(value), &[], onto),
+        (
+            Action::Aex {
+                cause: Cause::Timer,
+            },
+            _,
+        ) => push_line(Name("timer"), &[], onto),
+        (Action::Store { .. } | Action::Set { .. }, _) => push_line(Name("ok"), &[], onto),
+        (
+            Action::Load { .. }
+            | Action::Xadd { .. }
+            | Action::Plus { .. }
+            | Action::OutLoad { .. },
+            Answer::Value(value),
+        ) => push_line(Decimal(value), &[], onto),
+        (Action::Pf { .. }, Answer::Pf(fault)) => push_line(
+            Name("pf"),
+            &[Name(fault_name(fault))],
+            onto,
+        ),
+        (Action::OutStore { .. }, _) => push_line(Name("dropped"), &[], onto),
         _ => push_empty_line(onto),
     }
 }
@@ -154,25 +178,62 @@ fn push_reply(event: &Event, onto: &mut Vec<u8>) -> Result<(), Memory>
     match event {
         Event::Did { action, answer } => push_done_reply(action, answer, onto),
         Event::Refused { why, .. } => push_refused_reply(why, onto),
+        Event::Bus { .. } => push_line(Name("bus"), &[], onto),
         _ => push_empty_line(onto),
     }
 }
 
-fn is_reply_action(action: &Action) -> bool
-    ensures { result ≡ is_reply_action action.now }
+// Whether an instruction answers an operation of a script. A resumption answers one where the processor was not
+// interrupted.
+fn is_reply_action(interrupted: bool, action: &Action) -> bool
+    ensures { result ≡ is_reply_action interrupted action.now }
 {
-    matches!(
-        action,
-        Action::Enter { .. } | Action::Exit | Action::Load { .. }
-    )
+    match action {
+        Action::Resume { .. } => !interrupted,
+        Action::Enter { .. }
+        | Action::Exit
+        | Action::Aex {
+            cause: Cause::Timer,
+        }
+        | Action::Load { .. }
+        | Action::Store { .. }
+        | Action::Xadd { .. }
+        | Action::Set { .. }
+        | Action::Plus { .. }
+        | Action::Pf { .. }
+        | Action::OutLoad { .. }
+        | Action::OutStore { .. } => true,
+        _ => false,
+    }
 }
 
-fn is_reply(event: &Event) -> bool
-    ensures { result ≡ is_reply event.now }
+fn is_reply(interrupted: bool, event: &Event) -> bool
+    ensures { result ≡ is_reply interrupted event.now }
 {
     match event {
-        Event::Did { action, .. } | Event::Refused { action, .. } => is_reply_action(action),
+        Event::Did { action, .. } | Event::Refused { action, .. } => is_reply_action(
+            interrupted,
+            action,
+        ),
+        Event::Bus { .. } => true,
         _ => false,
+    }
+}
+
+// Whether a processor is interrupted after an event of its own: it left, and no operation asked for that.
+fn interrupted_after(event: &Event, before: bool) -> bool
+    ensures { result ≡ interrupted_after event.now before }
+{
+    match event {
+        Event::Did {
+            action: Action::Enter { .. } | Action::Resume { .. } | Action::Exit,
+            ..
+        } => false,
+        Event::Did {
+            action: Action::Aex { cause },
+            ..
+        } => matches!(cause, Cause::Fault | Cause::Kick),
+        _ => before,
     }
 }
 
@@ -185,24 +246,21 @@ fn is_by(cpu: usize, actor: &Actor) -> bool
     }
 }
 
-/// An entry is the processor's and replies to an operation.
-fn is_reply_by(cpu: usize, entry: &Entry) -> bool
-    ensures { result ≡ (is_by cpu entry.now.actor && is_reply entry.now.event) }
-{
-    is_by(cpu, &entry.actor) && is_reply(&entry.event)
-}
-
 /// Writes the line of a processor, and its replies.
-#[tactic(auto, using(crate::proofs::EntryLaws::replies_more, crate::proofs::EntryLaws::replies_same))]
+#[tactic(auto, using(crate::proofs::EntryLaws::replies_more, crate::proofs::EntryLaws::replies_same, crate::proofs::EntryLaws::replies_other))]
 fn push_cpu(cpu: usize, entries: &[Entry], onto: &mut Vec<u8>) -> Result<(), Memory>
     ensures { OnOk result (
         onto.new.items ≡ onto.old.items
         ++ flat_map line_text (cpu_lines (reverse entries.now) cpu)) }
 {
     push_line(Name("cpu"), &[Decimal(cpu as u64)], onto)?;
+    let mut interrupted = false;
     for entry in entries {
-        if is_reply_by(cpu, entry) {
-            push_reply(&entry.event, onto)?;
+        if is_by(cpu, &entry.actor) {
+            if is_reply(interrupted, &entry.event) {
+                push_reply(&entry.event, onto)?;
+            }
+            interrupted = interrupted_after(&entry.event, interrupted);
         }
     }
     Ok(())

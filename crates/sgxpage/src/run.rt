@@ -1,6 +1,6 @@
 ghost use Rattle.std.specs.Prelude.{◌≡◌, [], length, IfOk};
 ghost use Rattle.job_grammar.specs.Script.{Script};
-ghost use Rattle.job_grammar.specs.Valid.{IsFirstForm, IsValid};
+ghost use Rattle.job_grammar.specs.Valid.{IsFittingForm, IsValid};
 ghost use Rattle.sgxpage.specs.Books.{IsCalm};
 
 use crate::book::Book;
@@ -13,7 +13,7 @@ use std::alloc::Global;
 
 /// Runs a job: the builder makes the version arrays and then each enclave, and then each processor plays its script.
 pub fn run(alloc: Global, job: &Job) -> Result<Book, Memory>
-    requires form { IsFirstForm job.now }
+    requires form { IsFittingForm job.now }
     ensures frames { IfOk result (λ book. book.frames ≡ job.now.epc) }
     ensures script { IfOk result (λ book. Script job.now book.past) }
 {
@@ -24,7 +24,7 @@ pub fn run(alloc: Global, job: &Job) -> Result<Book, Memory>
 }
 
 fn opened(alloc: Global, job: &Job) -> Result<Book, Memory>
-    requires form { IsFirstForm job.now }
+    requires form { IsFittingForm job.now }
     ensures frames { IfOk result (λ book. book.frames ≡ job.now.epc) }
     ensures cpus { IfOk result (λ book. book.cpus ≡ length job.now.scripts) }
     ensures past { IfOk result (λ book. book.past ≡ []) }

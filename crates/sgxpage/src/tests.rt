@@ -1,6 +1,7 @@
 ghost use Rattle.std.specs.Prelude.{◌≤◌};
 
 use crate::command::{Status, sgxpage};
+use crate::worked_runs::{FAULTS, FROM_OUTSIDE, MANY_PAGES, OTHER_DIGEST, Run, SAVED_STATE, TIMER};
 use crate::{print_usage, two_enclaves};
 use io_edges::mem_sink::MemSink;
 use io_edges::mem_source::MemSource;
@@ -78,6 +79,41 @@ fn enclaves_are_measured_apart(rt: HostRuntime) -> Result<(), Fail> {
         two_enclaves::OUT,
         two_enclaves::TRACE,
     )
+}
+
+// Runs a worked job.
+fn gives(rt: &(impl Abort + Alloc<A = Global>), run: &Run) -> Result<(), Fail> {
+    ends(
+        rt,
+        run.job,
+        100,
+        [&[], &[], &[]],
+        Status::Done,
+        run.out,
+        run.trace,
+    )
+}
+
+#[test]
+fn interrupts_save_and_resumptions_take_back(rt: HostRuntime) -> Result<(), Fail> {
+    gives(&rt, &TIMER)?;
+    gives(&rt, &SAVED_STATE)
+}
+
+#[test]
+fn an_access_that_cannot_succeed_is_told(rt: HostRuntime) -> Result<(), Fail> {
+    gives(&rt, &FAULTS)?;
+    gives(&rt, &FROM_OUTSIDE)
+}
+
+#[test]
+fn nobody_enters_an_enclave_of_another_digest(rt: HostRuntime) -> Result<(), Fail> {
+    gives(&rt, &OTHER_DIGEST)
+}
+
+#[test]
+fn the_oldest_translation_makes_room(rt: HostRuntime) -> Result<(), Fail> {
+    gives(&rt, &MANY_PAGES)
 }
 
 #[test]

@@ -18,3 +18,27 @@ returns-in-eexit c = rw (text_from_reads c.args.word.now (codes "eexit") (omega 
 pub returns-in-load : goal.returns-in-load
 unfolding keyword_of
 returns-in-load c = rw (text_from_reads c.args.word.now (codes "load") (omega arith) (search rules)) refl
+
+pub returns-in-eresume : goal.returns-in-eresume
+unfolding keyword_of
+returns-in-eresume c = rw (text_from_reads c.args.word.now (codes "eresume") (omega arith) (search rules)) refl
+
+pub returns-in-expect : goal.returns-in-expect
+unfolding keyword_of
+returns-in-expect c = rw (text_from_reads c.args.word.now (codes "expect") (omega arith) (search rules)) refl
+
+pub returns-in-outload : goal.returns-in-outload
+unfolding keyword_of
+returns-in-outload c = rw (text_from_reads c.args.word.now (codes "outload") (omega arith) (search rules)) refl
+
+pub returns-in-outstore : goal.returns-in-outstore
+unfolding keyword_of
+returns-in-outstore c = rw (text_from_reads c.args.word.now (codes "outstore") (omega arith) (search rules)) refl
+
+pub returns-in-store : goal.returns-in-store
+unfolding keyword_of
+returns-in-store c = rw (text_from_reads c.args.word.now (codes "store") (omega arith) (search rules)) refl
+
+pub returns-in-timer : goal.returns-in-timer
+unfolding keyword_of
+returns-in-timer c = rw (text_from_reads c.args.word.now (codes "timer") (omega arith) (search rules)) refl

@@ -1,13 +1,15 @@
-use Rattle.std.proofs.Common.{sym, ◌∙◌}
+use Rattle.std.proofs.Common.{refl, sym, ◌∙◌}
 use Rattle.std.proofs.lemmas.Result.{on_ok_weaker}
-use Rattle.sgxpage.proofs.PlayFills.{filled_by, never_filled}
+use Rattle.sgx_types.specs.Frames.{frame_of}
+use Rattle.sgxpage.proofs.PlayAccesses.{filled_by, has_frame}
+use Rattle.sgxpage.proofs.PlayEnters.{some_frame}
 use Rattle.sgxpage.proofs.play.fill.Goals as goal
 
-pub returns-in-Some : goal.returns-in-Some
-returns-in-Some c =
-    on_ok_weaker c.apply.result
-    (filled_by c.args.cpu c.args.page c.in-Some.frame c.args.book.now c.apply.new.self c.requires.calm c.if-holds.ensures (sym c.in-Some.is ∙ c.frame_of.ensures))
-    c.apply.ensures.done
+pub unwrap-frame-requires : goal.unwrap-frame-requires
+unwrap-frame-requires c = rw (c.frame_of.ensures, (has_frame c.args.book.now.past c.args.page c.requires.calm c.requires.added).1) refl
 
-pub returns-in-None : goal.returns-in-None
-returns-in-None c = never_filled c.args.cpu.0 c.args.page c.args.book.now c.requires.calm (sym c.in-None.is ∙ c.frame_of.ensures)
+pub returns-clause-fills : goal.returns-clause-fills
+returns-clause-fills c =
+    let missing = sym c.holds.ensures ∙ c.if-holds.false in
+    let there = some_frame (frame_of c.args.book.now.past c.args.page) c.unwrap-frame.result (sym c.unwrap-frame.ensures ∙ c.frame_of.ensures) in
+    on_ok_weaker c.apply.result (filled_by c.args.cpu c.args.page c.unwrap-frame.result c.args.book.now c.apply.new.self c.requires.calm missing there c.requires.added) c.apply.ensures.done

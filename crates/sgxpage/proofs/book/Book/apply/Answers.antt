@@ -1,36 +1,52 @@
-use Rattle.std.proofs.Common.{ℕ, ◌≡◌, ◌≤◌, List, [], ◌∷◌, length, reverse, sym, ◌∙◌}
+use Rattle.std.proofs.Common.{ℕ, ◌≡◌, ◌≤◌, List, [], ◌∷◌, length, reverse, refl, ap, sym, ◌∙◌, arith}
 use Rattle.std.proofs.lemmas.List.{reverse-append}
 use Rattle.sgx_types.specs.declared.entries.Entry.{Entry}
-use Rattle.sgx_types.specs.Frames.{Content, Free, content}
+use Rattle.sgx_types.specs.Frames.{Free, content}
 use Rattle.paging_machine.specs.Parts.{Parts, state_of}
 use Rattle.paging_machine.specs.Stands.{Upholds}
+use Rattle.sgxpage.specs.Asking.{CanAsk}
+use Rattle.paging_machine.specs.Steps.{MovesNoPage}
 use Rattle.paging_machine.proofs.ProcessorBridge.{free_past}
-use Rattle.sgxpage.specs.Books.{CanAsk}
+use Rattle.sgxpage.specs.Homes.{home_by, home_in}
+use Rattle.sgxpage.specs.Places.{page_left}
+use Rattle.sgxpage.proofs.AskLaws.{can_do}
 use Rattle.sgxpage.proofs.BookLaws.{step_of}
 use Rattle.sgxpage.proofs.CalmLaws.{calm_more}
-use Rattle.sgxpage.proofs.HomeLaws.{homes_more}
+use Rattle.sgxpage.proofs.HomeLaws.{home_small, homes_more}
+use Rattle.sgxpage.proofs.PlacedLaws.{pages_stay}
 use Rattle.sgxpage.proofs.book.Book.apply.Goals as goal
 
 -- beyond its last frame the machine holds nothing
 none_beyond : (d : Parts) (past : List Entry) → Upholds (state_of d) past → (n : ℕ) → length d.epc ≤ n → content past n ≡ Free
 none_beyond d past upheld n le = sym (upheld.stands.content n) ∙ free_past d n le
 
+pub apply-requires : goal.apply-requires
+apply-requires c = (can_do (length c.self.inside.machine.cpus) c.args.actor c.args.action (rw (← c.self.view_is) at c.requires)).able
+
+pub note_home-requires : goal.note_home-requires
+note_home-requires c = λ g. (let entries = c.self.inside.entries in home_small c.self.inside.homes entries.items g c.self.invariant.homes (omega (arith, entries.ok.0)))
+
 pub returns-clause-done : goal.returns-clause-done
 returns-clause-done c =
     let step = step_of (state_of c.self.inside.machine) (state_of c.apply.new.self) c.args.actor c.args.action c.in_ok-entry.entry c.in_ok-entry.ensures.step in
     let past : reverse c.push_reserved.new.self.items ≡ c.in_ok-entry.entry ∷ reverse c.self.inside.entries.items =
     rw (c.push_reserved.ensures.items, c.reserve.ensures.items) (reverse-append c.self.inside.entries.items (c.in_ok-entry.entry ∷ [])) in
-    let upheld = c.in_ok-entry.ensures.history (reverse c.self.inside.entries.items) c.self.invariant.upheld in
+    let still : MovesNoPage c.args.action = (can_do c.args.self.now.cpus c.args.actor c.args.action c.requires).still in
+    let upheld = c.in_ok-entry.ensures.history still (reverse c.self.inside.entries.items) c.self.invariant.upheld in
     let can : CanAsk c.args.self.now.cpus c.in_ok-entry.entry.actor c.args.action = rw step.actor_is c.requires in
+    let stay = pages_stay c.args.self.now.cpus _ c.in_ok-entry.entry.actor c.args.action c.in_ok-entry.entry.event (reverse c.self.inside.entries.items) can step.action_is upheld.rules in
     record {
-      frames = rw (← c.self.view_is) step.frames_same;
-      cpus = rw (← c.self.view_is) c.apply.ensures.cpus;
+      goes = record {
+        frames = rw (← c.self.view_is) step.frames_same;
+        cpus = rw (← c.self.view_is) c.apply.ensures.cpus;
+        calm = rw past (calm_more c.args.self.now.cpus _ c.in_ok-entry.entry.actor c.args.action c.in_ok-entry.entry.event (reverse c.self.inside.entries.items) can step.action_is upheld.rules stay c.self.invariant.calm);
+        keeps = rw (past, ← c.self.view_is) stay.keeps;
+      };
       event = c.in_ok-entry.entry.event;
       past = rw (← c.self.view_is, ← step.actor_is) past;
       is_action = step.action_is;
       rules = rw past upheld.rules;
       beyond = rw past (none_beyond c.apply.new.self (c.in_ok-entry.entry ∷ reverse c.self.inside.entries.items) upheld);
-      calm = rw past (calm_more c.args.self.now.cpus _ c.in_ok-entry.entry.actor c.args.action c.in_ok-entry.entry.event (reverse c.self.inside.entries.items) can step.action_is upheld.rules c.self.invariant.calm);
     }
 
 pub invariant_of-self-2 : goal.invariant_of-self-2
@@ -38,12 +54,15 @@ invariant_of-self-2 c =
     let step = step_of (state_of c.self.inside.machine) (state_of c.apply.new.self) c.args.actor c.args.action c.in_ok-entry.entry c.in_ok-entry.ensures.step in
     let past : reverse c.push_reserved.new.self.items ≡ c.in_ok-entry.entry ∷ reverse c.self.inside.entries.items =
     rw (c.push_reserved.ensures.items, c.reserve.ensures.items) (reverse-append c.self.inside.entries.items (c.in_ok-entry.entry ∷ [])) in
-    let upheld = c.in_ok-entry.ensures.history (reverse c.self.inside.entries.items) c.self.invariant.upheld in
+    let still : MovesNoPage c.args.action = (can_do c.args.self.now.cpus c.args.actor c.args.action c.requires).still in
+    let upheld = c.in_ok-entry.ensures.history still (reverse c.self.inside.entries.items) c.self.invariant.upheld in
     let can : CanAsk c.args.self.now.cpus c.in_ok-entry.entry.actor c.args.action = rw step.actor_is c.requires in
+    let stay = pages_stay c.args.self.now.cpus _ c.in_ok-entry.entry.actor c.args.action c.in_ok-entry.entry.event (reverse c.self.inside.entries.items) can step.action_is upheld.rules in
+    let left : c.page_left-left.result ≡ page_left c.in_ok-entry.entry.actor c.args.action (reverse c.self.inside.entries.items) = c.page_left-left.ensures ∙ rw (step.actor_is, ← c.self.view_is) refl in
     record {
       upheld = rw past upheld;
-      calm = rw past (calm_more c.args.self.now.cpus _ c.in_ok-entry.entry.actor c.args.action c.in_ok-entry.entry.event (reverse c.self.inside.entries.items) can step.action_is upheld.rules c.self.invariant.calm);
+      calm = rw past (calm_more c.args.self.now.cpus _ c.in_ok-entry.entry.actor c.args.action c.in_ok-entry.entry.event (reverse c.self.inside.entries.items) can step.action_is upheld.rules stay c.self.invariant.calm);
       homes = rw past
           (homes_more c.args.self.now.cpus _ c.in_ok-entry.entry.actor c.args.action c.in_ok-entry.entry.event (reverse c.self.inside.entries.items) _ _ can step.action_is upheld.rules c.self.invariant.calm
-          c.self.invariant.homes c.note_home.ensures);
+          c.self.invariant.homes (λ g. c.note_home.ensures g ∙ ap (λ o. home_by c.in_ok-entry.entry.event o g (home_in c.self.inside.homes g)) left));
     }

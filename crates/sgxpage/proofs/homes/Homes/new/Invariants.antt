@@ -1,5 +1,6 @@
-use Rattle.std.proofs.Common.{◌≡◌, None, replicate}
+use Rattle.std.proofs.Common.{◌≡◌, replicate}
+use Rattle.sgxpage.specs.Homes.{no_home}
 use Rattle.sgxpage.proofs.homes.Homes.new.Given as goal
 
 abbrev pub invariant-loop : goal.invariant-loop
-invariant-loop l = l.frames.items ≡ replicate l.counter None
+invariant-loop l = l.places.items ≡ replicate l.counter no_home
