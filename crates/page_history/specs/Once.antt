@@ -1,7 +1,7 @@
 -- What the rules give of versions, starts and records: each version is drawn once, each slot has one start, and each record is one
 -- page's.
-use Rattle.std.specs.Prelude.{ℕ, ◌≡◌, ◌<◌, ◌≤◌, true, if◌then◌else◌, List, [], ◌∷◌, Option, Some, None, is_some}
-use Rattle.std.specs.List.{All, Any}
+use Rattle.std.specs.Prelude.{ℕ, ◌≡◌, ◌<◌, ◌≤◌, true, List, [], ◌∷◌, Some, None, is_some}
+use Rattle.std.specs.List.{Any}
 use Rattle.sgx_types.specs.declared.entries.Action.TheVariants.{Ewb}
 use Rattle.sgx_types.specs.declared.entries.Answer.TheVariants.{Moved}
 use Rattle.sgx_types.specs.declared.entries.Entry.{Entry}
@@ -17,7 +17,7 @@ use Rattle.seal_record.specs.Cipher.{tag}
 use Rattle.seal_record.specs.Records.{Made, made_of, tag_of}
 use Rattle.page_history.specs.Fresh.{FreshRule, Out, last_out}
 use Rattle.page_history.specs.Moves.{IsHeader, MovesRule, Numbers}
-use Rattle.page_history.specs.Records.{SealedRule, made_by}
+use Rattle.page_history.specs.Records.{made_by}
 
 -- ---- the rules together
 

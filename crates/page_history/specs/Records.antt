@@ -9,7 +9,6 @@ use Rattle.sgx_types.specs.declared.entries.Entry.{Entry}
 use Rattle.sgx_types.specs.declared.entries.Event.{Event}
 use Rattle.sgx_types.specs.declared.entries.Event.TheVariants.{Did}
 use Rattle.sgx_types.specs.declared.names.Page.{Page}
-use Rattle.sgx_types.specs.declared.record.Header.{Header}
 use Rattle.sgx_types.specs.Flat.{FlatEnclave, FlatMemory, FlatPage, flat}
 use Rattle.sgx_types.specs.Sealed.{Sealed, header_of}
 use Rattle.seal_record.specs.Cipher.{sealed}

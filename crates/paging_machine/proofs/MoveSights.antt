@@ -19,11 +19,10 @@ use Rattle.sgx_types.specs.declared.refusals.Refusal.{Refusal}
 use Rattle.sgx_types.specs.declared.refusals.Refusal.TheVariants as why
 use Rattle.sgx_types.specs.ByEpochs.{up_to_block}
 use Rattle.sgx_types.specs.Epochs.{block_epoch, epoch, epoch_in, epoch_of}
-use Rattle.sgx_types.specs.Eviction.{is_drained, kept_back}
+use Rattle.sgx_types.specs.Eviction.{kept_back}
 use Rattle.sgx_types.specs.Flat.{FlatEnclave, added_as, flat}
 use Rattle.sgx_types.specs.Frames.{added, content, enclave_in, is_block, is_blocked, is_put, put_by}
 use Rattle.sgx_types.specs.Sealed.{Sealed, header_of}
-use Rattle.sgx_types.specs.Slots.{is_slot_busy, next_version, version_in}
 use Rattle.sgx_types.specs.Table.{DrainSight, FrameSight, SlotSight, block_row, eldstart_row, ewbstart_row, first_of_row, track_row}
 use Rattle.sgx_types.proofs.Keystone.{epochs_tell}
 use Rattle.evict_reload.specs.Effects.{same_header}

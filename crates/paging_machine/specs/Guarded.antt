@@ -1,13 +1,13 @@
 -- What tracking and open starts keep of every state: no processor can still use the translation of a page that goes out,
 -- and each frame that is busy has its start.
-use Rattle.std.specs.Prelude.{ℕ, ◌≡◌, ◌+◌, ◌<◌, ◌≤◌, Bool, true, Option, Some, None, IfSome, is_some, List}
+use Rattle.std.specs.Prelude.{ℕ, ◌≡◌, ◌+◌, ◌<◌, ◌≤◌, true, Option, Some, None, IfSome, is_some, List}
 use Rattle.std.specs.List.{All}
 use Rattle.std.specs.Option.{IsSomeAnd}
 use Rattle.sgx_types.specs.declared.names.Kind.{Kind}
 use Rattle.sgx_types.specs.declared.names.Kind.TheVariants as kinds
 use Rattle.sgx_types.specs.declared.names.Page.{Page}
 use Rattle.sgx_types.specs.declared.names.Perm.{Perm}
-use Rattle.sgx_types.specs.Frames.{Content, Free, IsVa, IsLoading, enclave_in, page_at}
+use Rattle.sgx_types.specs.Frames.{Content, IsVa, IsLoading, enclave_in, page_at}
 use Rattle.sgx_types.specs.Processors.{Seat}
 use Rattle.sgx_types.specs.Starts.{Start}
 use Rattle.cached_translations.specs.declared.cache.Translation.{Translation}

@@ -1,5 +1,5 @@
 -- The machine has the shape that some entries give it: all of its state that no page's bytes decide.
-use Rattle.std.specs.Prelude.{ℕ, ◌≡◌, ◌==◌, ◌&&◌, not, true, List, Option, Some, None, map, nat_lt}
+use Rattle.std.specs.Prelude.{ℕ, ◌≡◌, not, true, List, Option, Some, None, map, nat_lt}
 use Rattle.sgx_types.specs.declared.entries.Entry.{Entry}
 use Rattle.sgx_types.specs.declared.names.Page.{Page}
 use Rattle.sgx_types.specs.declared.names.SlotAt.{SlotAt}

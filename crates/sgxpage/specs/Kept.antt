@@ -1,7 +1,8 @@
 -- What the type of a book keeps.
-use Rattle.std.specs.Prelude.{length, reverse}
+use Rattle.std.specs.Prelude.{[], length, reverse}
 use Rattle.paging_machine.specs.Parts.{state_of}
-use Rattle.paging_machine.specs.Stands.{Upholds}
+use Rattle.paging_machine.specs.Histories.{UpholdsAll}
+use Rattle.paging_machine.specs.Shape.{Making}
 use Rattle.sgxpage.specs.declared.book.Book.TheInside.{Inside}
 use Rattle.sgxpage.specs.Books.{BookView, IsCalm}
 use Rattle.sgxpage.specs.Homes.{home_in}
@@ -10,8 +11,10 @@ use Rattle.sgxpage.specs.Places.{AreHomes}
 abbrev pub view_of : Inside → BookView
 view_of b = record { frames = (state_of b.machine).frames; cpus = length b.machine.cpus; past = reverse b.entries.items }
 
--- the machine stands for its entries, and they keep the rules; each page is where the entries put it
+-- the machine stands for its entries, of which no page was written out, and they keep the rules; each page is where the entries
+-- put it
 pub record IsKept (b : Inside) : Type 0 where
-  pub upheld : Upholds (state_of b.machine) (reverse b.entries.items)
+  pub making : Making
+  pub stands : UpholdsAll making (state_of b.machine) (reverse b.entries.items) []
   pub calm : IsCalm (reverse b.entries.items)
   pub homes : AreHomes (home_in b.homes) (reverse b.entries.items)

@@ -9,7 +9,9 @@ ghost use Rattle.measure_log.specs.Rule.{MeasureRule};
 ghost use Rattle.sgx_types.specs.declared.names.Page.{Page};
 ghost use Rattle.job_grammar.specs.Script.{frame_at, saved};
 ghost use Rattle.paging_machine.specs.Parts.{seat_of_mode, state_of};
-ghost use Rattle.paging_machine.specs.Stands.{Upholds, seat_of_stay};
+ghost use Rattle.paging_machine.specs.Histories.{UpholdsAll};
+ghost use Rattle.paging_machine.specs.Shape.{making_of};
+ghost use Rattle.paging_machine.specs.Stands.{seat_of_stay};
 ghost use Rattle.sgxpage.specs.Asking.{CanAsk};
 ghost use Rattle.sgxpage.specs.Books.{BookView, IsCalm, IsNext};
 ghost use Rattle.sgxpage.specs.Homes.{has_home, home_by, home_in, home_left};
@@ -46,7 +48,7 @@ impl Model for Book {
 impl Book {
     /// The book of a machine that has done nothing yet.
     pub fn new(alloc: Global, machine: Machine) -> Result<Book, Memory>
-        requires { Upholds (state_of machine) [] }
+        requires { UpholdsAll (making_of (state_of machine)) (state_of machine) [] [] }
         ensures value { IfOk result (λ book. book ≡ record { frames = (state_of machine).frames; cpus = length machine.cpus; past = [] }) }
         ensures calm { IfOk result (λ book. IsCalm book.past) }
     {

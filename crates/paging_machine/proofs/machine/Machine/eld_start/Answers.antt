@@ -1,4 +1,4 @@
-use Rattle.std.proofs.Common.{◌≡◌, ◌∙◌, sym, ap}
+use Rattle.std.proofs.Common.{◌∙◌, sym, ap}
 use Rattle.sgx_types.specs.declared.entries.Action.TheVariants.{EldStart}
 use Rattle.sgx_types.specs.declared.entries.Answer.TheVariants.{Version}
 use Rattle.paging_machine.specs.Steps.{did_by}

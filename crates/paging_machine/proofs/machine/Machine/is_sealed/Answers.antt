@@ -1,4 +1,4 @@
-use Rattle.std.proofs.Common.{◌≡◌, ◌∙◌, ap, subst, sym, true, false, is_some, List, ℕ}
+use Rattle.std.proofs.Common.{◌≡◌, ◌∙◌, ap, subst, sym, true, is_some}
 use Rattle.std.proofs.lemmas.Bool.{not-false}
 use Rattle.std.proofs.lemmas.Slice.Eq.{bytes_eq-Decides}
 use Rattle.seal_record.specs.declared.seal.SealedWork.{SealedWork}

@@ -1,4 +1,3 @@
-use Rattle.std.proofs.Common.{◌≡◌, ◌∙◌, sym}
 use Rattle.std.specs.Prelude.{nat_le}
 use Rattle.paging_machine.specs.Whole.{parts_of}
 use Rattle.paging_machine.proofs.PagingSights.{number_seen}

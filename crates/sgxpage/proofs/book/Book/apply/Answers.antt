@@ -5,7 +5,6 @@ use Rattle.sgx_types.specs.Frames.{Free, content}
 use Rattle.paging_machine.specs.Parts.{Parts, state_of}
 use Rattle.paging_machine.specs.Stands.{Upholds}
 use Rattle.sgxpage.specs.Asking.{CanAsk}
-use Rattle.paging_machine.specs.Steps.{MovesNoPage}
 use Rattle.paging_machine.proofs.ProcessorBridge.{free_past}
 use Rattle.sgxpage.specs.Homes.{home_by, home_in}
 use Rattle.sgxpage.specs.Places.{page_left}
@@ -21,7 +20,7 @@ none_beyond : (d : Parts) (past : List Entry) → Upholds (state_of d) past → 
 none_beyond d past upheld n le = sym (upheld.stands.content n) ∙ free_past d n le
 
 pub apply-requires : goal.apply-requires
-apply-requires c = (can_do (length c.self.inside.machine.cpus) c.args.actor c.args.action (rw (← c.self.view_is) at c.requires)).able
+apply-requires c = can_do (length c.self.inside.machine.cpus) c.args.actor c.args.action (rw (← c.self.view_is) at c.requires)
 
 pub note_home-requires : goal.note_home-requires
 note_home-requires c = λ g. (let entries = c.self.inside.entries in home_small c.self.inside.homes entries.items g c.self.invariant.homes (omega (arith, entries.ok.0)))
@@ -31,8 +30,8 @@ returns-clause-done c =
     let step = step_of (state_of c.self.inside.machine) (state_of c.apply.new.self) c.args.actor c.args.action c.in_ok-entry.entry c.in_ok-entry.ensures.step in
     let past : reverse c.push_reserved.new.self.items ≡ c.in_ok-entry.entry ∷ reverse c.self.inside.entries.items =
     rw (c.push_reserved.ensures.items, c.reserve.ensures.items) (reverse-append c.self.inside.entries.items (c.in_ok-entry.entry ∷ [])) in
-    let still : MovesNoPage c.args.action = (can_do c.args.self.now.cpus c.args.actor c.args.action c.requires).still in
-    let upheld = c.in_ok-entry.ensures.history still (reverse c.self.inside.entries.items) c.self.invariant.upheld in
+    let all = c.in_ok-entry.ensures.history c.self.invariant.making (reverse c.self.inside.entries.items) [] c.self.invariant.stands in
+    let upheld = all.upheld in
     let can : CanAsk c.args.self.now.cpus c.in_ok-entry.entry.actor c.args.action = rw step.actor_is c.requires in
     let stay = pages_stay c.args.self.now.cpus _ c.in_ok-entry.entry.actor c.args.action c.in_ok-entry.entry.event (reverse c.self.inside.entries.items) can step.action_is upheld.rules in
     record {
@@ -54,13 +53,14 @@ invariant_of-self-2 c =
     let step = step_of (state_of c.self.inside.machine) (state_of c.apply.new.self) c.args.actor c.args.action c.in_ok-entry.entry c.in_ok-entry.ensures.step in
     let past : reverse c.push_reserved.new.self.items ≡ c.in_ok-entry.entry ∷ reverse c.self.inside.entries.items =
     rw (c.push_reserved.ensures.items, c.reserve.ensures.items) (reverse-append c.self.inside.entries.items (c.in_ok-entry.entry ∷ [])) in
-    let still : MovesNoPage c.args.action = (can_do c.args.self.now.cpus c.args.actor c.args.action c.requires).still in
-    let upheld = c.in_ok-entry.ensures.history still (reverse c.self.inside.entries.items) c.self.invariant.upheld in
+    let all = c.in_ok-entry.ensures.history c.self.invariant.making (reverse c.self.inside.entries.items) [] c.self.invariant.stands in
+    let upheld = all.upheld in
     let can : CanAsk c.args.self.now.cpus c.in_ok-entry.entry.actor c.args.action = rw step.actor_is c.requires in
     let stay = pages_stay c.args.self.now.cpus _ c.in_ok-entry.entry.actor c.args.action c.in_ok-entry.entry.event (reverse c.self.inside.entries.items) can step.action_is upheld.rules in
     let left : c.page_left-left.result ≡ page_left c.in_ok-entry.entry.actor c.args.action (reverse c.self.inside.entries.items) = c.page_left-left.ensures ∙ rw (step.actor_is, ← c.self.view_is) refl in
     record {
-      upheld = rw past upheld;
+      making = c.self.invariant.making;
+      stands = rw past all;
       calm = rw past (calm_more c.args.self.now.cpus _ c.in_ok-entry.entry.actor c.args.action c.in_ok-entry.entry.event (reverse c.self.inside.entries.items) can step.action_is upheld.rules stay c.self.invariant.calm);
       homes = rw past
           (homes_more c.args.self.now.cpus _ c.in_ok-entry.entry.actor c.args.action c.in_ok-entry.entry.event (reverse c.self.inside.entries.items) _ _ can step.action_is upheld.rules c.self.invariant.calm

@@ -8,4 +8,4 @@ pub returns : goal.returns
 returns c =
     rw (← c.self.view_is)
     (c.holds.ensures ∙ sym (holds_number-map (cpu_at c.self.inside.machine c.args.cpu.0).cache c.args.number)
-    ∙ ap (λ xs. holds_number xs c.args.number) (c.self.invariant.upheld.stands.cache c.args.cpu.0))
+    ∙ ap (λ xs. holds_number xs c.args.number) (c.self.invariant.stands.upheld.stands.cache c.args.cpu.0))
