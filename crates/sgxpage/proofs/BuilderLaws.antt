@@ -1,5 +1,5 @@
 -- One step of the builder.
-use Rattle.std.proofs.Common.{◌≡◌, ℕ, ◌+◌, ◌==◌, ◌≤◌, Bool, true, false, refl, arith, sym, ap, ◌∙◌, Option, Some, None, is_some, List, [], ◌∷◌, slice_get}
+use Rattle.std.proofs.Common.{◌≡◌, ℕ, ◌+◌, ◌==◌, ◌≤◌, Bool, true, false, refl, subst, arith, sym, ap, ◌∙◌, Option, Some, None, is_some, List, [], ◌∷◌, slice_get}
 use Rattle.std.proofs.lemmas.Bool.{cond_both, lt-leb}
 use Rattle.sgx_types.specs.declared.entries.Entry.{Entry}
 use Rattle.sgx_types.specs.declared.entries.Event.{Event}
@@ -19,7 +19,7 @@ use Rattle.sgx_types.specs.Processors.{Move, Enters, Leaves, Keeps, Stay, stay, 
 use Rattle.sgx_types.specs.Table.{create_row, first_of_row}
 use Rattle.sgx_types.specs.Flat.{accepts, flat, first_words, initialised, open_frame, with_enclave, with_page}
 use Rattle.sgx_types.specs.Sights.{row_at, sight_at}
-use Rattle.sgx_types.specs.Rules.{KeepsRules, case_of}
+use Rattle.sgx_types.specs.Rules.{KeepsRules, RefusalRule}
 use Rattle.job_grammar.specs.Jobs.{JobView}
 use Rattle.job_grammar.specs.Script.{BuildStep, MakeVa, MakeSecs, AddPage, ExtendPage, Finish, action_of, build_of, builder_due, built, saved, saved_after, step_action, step_due}
 use Rattle.paging_machine.specs.Steps.{did_by, refused_by}
@@ -137,12 +137,12 @@ record IsDid (act : Action) (event : Event) : Type 0 where
 
 -- an instruction whose row has no case against it was done
 did_of : (frames : ℕ) (past : List Entry) (act : Action) (event : Event) → action_of event ≡ Some act → KeepsRules frames (entry_of event ∷ past)
-    → ((why : Refusal) → case_of act why ≡ Some why) → first_of_row (row_at frames past actors.Builder act) ≡ None → IsDid act event
+    → ((why : Refusal) → RefusalRule frames past (entry_of (events.Refused act why)) → first_of_row (row_at frames past actors.Builder act) ≡ Some why)
+    → first_of_row (row_at frames past actors.Builder act) ≡ None → IsDid act event
 did_of frames past act (events.Did action ans) is rules plain allowed = record { answer = ans; is = ap (λ a. events.Did a ans) (some_same action act is) }
 did_of frames past act (events.Refused action why) is rules plain allowed =
-    let same = some_same action act is in
-    let refusal : first_of_row (row_at frames past actors.Builder act) ≡ case_of act why = rw (← same) rules.refusal.0 in
-    cc (refusal, plain why, allowed)
+    let rule : RefusalRule frames past (entry_of (events.Refused act why)) = subst (λ x. RefusalRule frames past (entry_of (events.Refused x why))) (some_same action act is) rules.refusal.0 in
+    cc (plain why rule, allowed)
 did_of frames past act _ is rules plain allowed = cc
 
 one_taken : (past : List Entry) (step : BuildStep) → AreTaken past (step ∷ []) → accepts (flat past) actors.Builder (step_action step 0) ≡ true
@@ -151,13 +151,13 @@ one_taken past step h = h 0 step (omega arith)
 create_did : (b b' : BookView) (enclave : ℕ) (f : Frame) (base size : ℕ) → IsCalm b.past → IsLeast (content b.past) b.frames f.0 → AreTaken b.past (MakeSecs enclave base size ∷ [])
     → (next : IsNext actors.Builder (Create enclave f base size) b b') → IsDid (Create enclave f base size) next.event
 create_did b b' enclave f base size calm least taken next =
-    did_of b.frames b.past (Create enclave f base size) next.event next.is_action (rw (← next.goes.frames, ← next.past) next.rules) (λ why. refl)
+    did_of b.frames b.past (Create enclave f base size) next.event next.is_action (rw (← next.goes.frames, ← next.past) next.rules) (λ why refused. refused)
     (ap (λ s. first_of_row (create_row enclave base size (is_some ((flat b.past).enclaves enclave)) s)) (open_sight b f.0 calm least) ∙ taken_none _ (one_taken b.past (MakeSecs enclave base size) taken))
 
 add_did : (b b' : BookView) (g : Page) (f : Frame) (kind : Kind) (perm : Perm) (init : PageInit) → IsCalm b.past → IsLeast (content b.past) b.frames f.0
     → AreTaken b.past (AddPage g.enclave g.number kind perm init ∷ []) → (next : IsNext actors.Builder (Add g.enclave g.number f kind perm init) b b') → IsDid (Add g.enclave g.number f kind perm init) next.event
 add_did b b' g f kind perm init calm least taken next =
-    did_of b.frames b.past (Add g.enclave g.number f kind perm init) next.event next.is_action (rw (← next.goes.frames, ← next.past) next.rules) (λ why. refl)
+    did_of b.frames b.past (Add g.enclave g.number f kind perm init) next.event next.is_action (rw (← next.goes.frames, ← next.past) next.rules) (λ why refused. refused)
     (rw (open_sight b f.0 calm least) (taken_none _ (one_taken b.past (AddPage g.enclave g.number kind perm init) taken)))
 
 -- ---- the enclave
