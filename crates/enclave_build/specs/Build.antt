@@ -8,7 +8,7 @@ use Rattle.sgx_types.specs.declared.names.Kind.TheVariants as kinds
 use Rattle.sgx_types.specs.declared.names.Perm.{Perm}
 use Rattle.sgx_types.specs.declared.refusals.Refusal.{Refusal}
 use Rattle.sgx_types.specs.declared.refusals.Refusal.TheVariants as why
-use Rattle.sgx_types.specs.Frames.{Content, Holds, page_at}
+use Rattle.sgx_types.specs.Frames.{Content, Holds, no_perm, page_at}
 use Rattle.sgx_types.specs.Table.{Case, allowed, when, ◌otherwise◌, EnclaveSight, init_row}
 use Rattle.sgx_types.specs.Flat.{first_words}
 use Rattle.epcm_entry.specs.Epc.{EpcFrame, with_page, with_words, bytes_at, entry_at}
@@ -31,9 +31,6 @@ refusal_in_build (Err (ends.Refused refusal)) = Some refusal
 refusal_in_build (Err ends.Memory) = None
 
 -- ---- ECREATE
-
-abbrev pub no_perm : Perm
-no_perm = record { r = false; w = false; x = false }
 
 -- the frame is the SECS of an enclave
 abbrev pub with_secs : List EpcFrame → ℕ → ℕ → List EpcFrame

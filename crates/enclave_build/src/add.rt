@@ -14,6 +14,7 @@ use epcm_entry::epc::Epc;
 use measure_log::measure::Measure;
 use secs_state::secs::Secs;
 use sgx_types::entries::PageInit;
+use sgx_types::lawful::{is_addable, is_lawful_perm, is_within};
 use sgx_types::layouts::flags;
 use sgx_types::names::{Frame, Kind, Page, Perm};
 use sgx_types::refusals::Refusal;
@@ -45,6 +46,7 @@ pub fn eadd(
     if let Some(refusal) = add_refusal(epc, secs, number, frame, kind, perm, init) {
         return Err(refusal);
     }
+    // All cases come first: a page that stood in its frame and not in the log would be one that nobody measured.
     let enclave = secs.enclave();
     put_page(epc, frame, Page { enclave, number }, kind, perm, init);
     note_page(secs, number, kind, perm);
@@ -120,35 +122,5 @@ fn note_page(secs: &mut Secs, number: u32, kind: Kind, perm: Perm)
     secs.note_added(number, kind, perm);
     if secs.children() < u32::MAX {
         secs.child_added();
-    }
-}
-
-fn is_addable(kind: Kind, init: PageInit) -> bool
-    ensures { result ≡ is_addable kind init }
-{
-    matches!(
-        (kind, init),
-        (Kind::Tcs, PageInit::Tcs { .. }) | (Kind::Reg, PageInit::Words(_))
-    )
-}
-
-fn is_lawful_perm(kind: Kind, perm: Perm) -> bool
-    ensures { result ≡ is_lawful_perm kind perm }
-{
-    match kind {
-        Kind::Tcs => !perm.r && !perm.w && !perm.x,
-        _ => perm.r || !perm.w,
-    }
-}
-
-fn is_within(size: u64, number: u32, init: PageInit) -> bool
-    ensures { result ≡ is_within size number init }
-{
-    let pages = size / 4096;
-    match init {
-        PageInit::Words(_) => u64::from(number) < pages,
-        PageInit::Tcs { ossa, nssa } => {
-            u64::from(number) < pages && u64::from(ossa) + u64::from(nssa) <= pages && nssa != 0
-        }
     }
 }

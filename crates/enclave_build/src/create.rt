@@ -9,16 +9,11 @@ ghost use Rattle.enclave_build.specs.Build.{refusal_in_build, with_secs};
 use crate::build_refusal::BuildRefusal;
 use epcm_entry::epc::Epc;
 use measure_log::measure::Measure;
-use secs_state::secs::{Secs, is_lawful};
+use secs_state::secs::Secs;
+use sgx_types::lawful::{is_enclave, is_lawful};
 use sgx_types::names::{Frame, Kind, Page, Perm};
 use sgx_types::refusals::Refusal;
 use std::alloc::Global;
-
-const NO_PERM: Perm = Perm {
-    r: false,
-    w: false,
-    x: false,
-};
 
 /// ECREATE (Intel SDM volume 3D): a free frame becomes the SECS of enclave `enclave`, numbered from 1 to 8, over `size`
 /// bytes from `base` on, and the enclave's measurement begins. `exists` tells whether it was created before.
@@ -47,7 +42,7 @@ pub fn ecreate(
     }
     let secs = Secs::new(alloc, enclave, base, size)?;
     let page = Page { enclave, number: 0 };
-    epc.set(frame, page, Kind::Secs, NO_PERM);
+    epc.set(frame, page, Kind::Secs, Perm::NONE);
     Ok((secs, Measure::create(size)))
 }
 
@@ -76,10 +71,4 @@ fn create_refusal(
         return Some(Refusal::FrameBusy);
     }
     None
-}
-
-fn is_enclave(enclave: u16) -> bool
-    ensures { result ≡ is_enclave enclave }
-{
-    1 <= enclave && enclave <= 8
 }

@@ -26,6 +26,7 @@ pub fn einit(secs: &mut Secs, log: &Measure, expect: Option<[u8; 32]>) -> Result
     if secs.is_init() {
         return Err(Refusal::IsInit);
     }
+    // The digest is compared before the mark: an enclave that is marked can be entered.
     let made = log.finish();
     if !is_expected(expect, made) {
         return Err(Refusal::BadMeasure { made });

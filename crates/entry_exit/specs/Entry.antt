@@ -15,8 +15,8 @@ use Rattle.cached_translations.specs.declared.processor.Mode.TheVariants as mode
 use Rattle.cached_translations.specs.declared.processor.Processor.{Processor}
 use Rattle.cached_translations.specs.Modes.{is_inside}
 use Rattle.track_epoch.specs.Tracking.{Tracking, left}
-use Rattle.entry_exit.specs.declared.entry.Entry.{Entry}
-use Rattle.entry_exit.specs.declared.entry.Entry.TheVariants as entries
+use Rattle.entry_exit.specs.declared.way_in.WayIn.{WayIn}
+use Rattle.entry_exit.specs.declared.way_in.WayIn.TheVariants as entries
 
 -- ---- what is seen
 
@@ -41,17 +41,17 @@ enter_sight epc secs mode tcs tf sf = record {
 
 -- ---- the two ways in
 
-abbrev pub row_of : Entry → ℕ → ℕ → EnterSight → List Case
+abbrev pub row_of : WayIn → ℕ → ℕ → EnterSight → List Case
 row_of entries.Enter enclave tcs s = enter_row enclave tcs s
 row_of entries.Resume enclave tcs s = resume_row enclave tcs s
 
 -- what is asked of CSSA
-abbrev pub frame_case : Entry → TcsSight → Case
+abbrev pub frame_case : WayIn → TcsSight → Case
 frame_case entries.Enter fields = when (fields.cssa == fields.nssa) why.NoFrame
 frame_case entries.Resume fields = when (fields.cssa == 0) why.NoSaved
 
 -- the page into which the state goes, or from which it comes
-abbrev pub ssa_page : Entry → TcsSight → ℕ
+abbrev pub ssa_page : WayIn → TcsSight → ℕ
 ssa_page entries.Enter fields = fields.ossa + fields.cssa
 ssa_page entries.Resume fields = fields.ossa + fields.cssa - 1
 

@@ -7,14 +7,14 @@ ghost use Rattle.cached_translations.specs.Modes.{is_inside};
 ghost use Rattle.track_epoch.specs.Tracking.{entered};
 ghost use Rattle.entry_exit.specs.Entry.{IsAdded, enter_sight, fields_at, with_entered, with_resumed};
 
-use crate::entry::{Entry, seat};
 use crate::tcs::{fields, set_cssa};
+use crate::way_in::{WayIn, seat};
 use cached_translations::processor::Processor;
 use epcm_entry::epc::Epc;
 use secs_state::secs::Secs;
-use sgx_types::names::Frame;
+use sgx_types::names::{Frame, PROCESSORS};
 use sgx_types::refusals::Refusal;
-use track_epoch::track::{PROCESSORS, Track};
+use track_epoch::track::Track;
 
 /// EENTER (Intel SDM volume 3D): a processor enters the enclave of `secs` by its TCS page `tcs` in a frame, with the frame
 /// of the state save page that CSSA names. The TCS page is busy, the track counts the processor, and the accumulator is
@@ -44,7 +44,7 @@ pub fn eenter(
         ≡ with_entered secs.old.enclave tcs tcs_frame ssa_frame track.old.epoch (fields_at epc.now tcs_frame.0).cssa) }
     ensures refused { OnErr result ((secs.new ≡ secs.old) × (track.new ≡ track.old) × (cpu.new ≡ cpu.old)) }
 {
-    if let Some(refusal) = Entry::Enter.refusal(epc, secs, cpu.mode, tcs, tcs_frame, ssa_frame) {
+    if let Some(refusal) = WayIn::Enter.refusal(epc, secs, cpu.mode, tcs, tcs_frame, ssa_frame) {
         return Err(refusal);
     }
     let cssa = fields(epc, tcs_frame).cssa;
@@ -77,7 +77,7 @@ pub fn eresume(
         ≡ with_entered secs.old.enclave tcs tcs_frame ssa_frame track.old.epoch (word_at epc.old ssa_frame.0 0)) }
     ensures refused { OnErr result ((epc.new ≡ epc.old) × (secs.new ≡ secs.old) × (track.new ≡ track.old) × (cpu.new ≡ cpu.old)) }
 {
-    if let Some(refusal) = Entry::Resume.refusal(epc, secs, cpu.mode, tcs, tcs_frame, ssa_frame) {
+    if let Some(refusal) = WayIn::Resume.refusal(epc, secs, cpu.mode, tcs, tcs_frame, ssa_frame) {
         return Err(refusal);
     }
     let saved = epc.word(ssa_frame, 0);

@@ -58,6 +58,7 @@ pub fn aex(epc: &mut Epc, secs: &mut Secs, track: &mut Track, cpu: &mut Processo
     else {
         unreachable!();
     };
+    // The state is saved while the two pages cannot leave, for the processor is still counted.
     save(epc, tcs_frame, ssa_frame, cpu.acc);
     unseat(secs, track, cpu, tcs, epoch);
 }
@@ -81,6 +82,7 @@ fn unseat(secs: &mut Secs, track: &mut Track, cpu: &mut Processor, tcs: u32, epo
     ensures track { track.new ≡ left track.old epoch }
     ensures cpu { cpu.new ≡ outside cpu.old }
 {
+    // The translations go before the track forgets the processor: once it is not counted, its enclave's pages may leave.
     cpu.mode = Mode::Outside;
     cpu.cache.clear();
     secs.free_tcs(tcs);

@@ -3,8 +3,8 @@
 #![tactic(auto)]
 
 pub mod enter;
-mod entry;
 pub mod exit;
 mod tcs;
 #[cfg(test)]
 mod tests;
+mod way_in;

@@ -7,13 +7,14 @@ use crate::exit::{aex, eexit};
 use cached_translations::processor::{Mode, Processor};
 use epcm_entry::entry_view::EntryView;
 use epcm_entry::epc::Epc;
-use secs_state::secs::{Secs, is_lawful};
-use sgx_types::names::{Frame, Kind, Memory, Page, Perm};
+use secs_state::secs::Secs;
+use sgx_types::lawful::is_lawful;
+use sgx_types::names::{Frame, Kind, Memory, PROCESSORS, Page, Perm};
 use sgx_types::refusals::Refusal;
 use std::alloc::Global;
 use std::process::Abort;
 use std::test::Fail;
-use track_epoch::track::{PROCESSORS, Track};
+use track_epoch::track::Track;
 
 const NONE: Perm = Perm {
     r: false,

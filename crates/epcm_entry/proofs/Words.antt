@@ -8,7 +8,8 @@ use Rattle.std.proofs.lemmas.List.{length-replicate, length-take, length-drop, g
 use Rattle.std.proofs.lemmas.List.Elements.{All-nil, All-cons, All-head, All-tail, All-map, All-weaker, All-replicate, All-set}
 use Rattle.std.proofs.lemmas.List.Folds.{flat_map-map}
 use Rattle.std.proofs.lemmas.Bool.{cases_lt}
-use Rattle.epcm_entry.specs.Words.{words_of, bytes_of, zero_words, IsWord, IsPage}
+use Rattle.sgx_types.specs.Layouts.{bytes_of}
+use Rattle.epcm_entry.specs.Words.{words_of, zero_words, IsWord, IsPage}
 
 -- bytes below 256
 abbrev IsBytes : List ℕ → Type 0

@@ -9,7 +9,8 @@ use Rattle.sgx_types.specs.declared.names.Perm.{Perm}
 use Rattle.epcm_entry.specs.declared.entry_view.EntryView.{EntryView}
 use Rattle.epcm_entry.specs.declared.entry_view.EntryView.TheVariants.{Free, Loading}
 use Rattle.epcm_entry.specs.EntryView.{is_free, holding, with_block, outgoing}
-use Rattle.epcm_entry.specs.Words.{zero_words, bytes_of}
+use Rattle.sgx_types.specs.Layouts.{bytes_of}
+use Rattle.epcm_entry.specs.Words.{zero_words}
 
 -- a frame's EPCM entry and its 512 words
 pub record EpcFrame : Type 0 where

@@ -1,16 +1,11 @@
 -- The 512 words of a frame and its 4096 bytes, 8 bytes a word, low byte first.
 use Rattle.std.specs.Prelude.{◌≡◌, ◌<◌, ◌/◌, ℕ, List, All, map, length, replicate, slice_index}
-use Rattle.std.specs.Int.{w64, to_le_bytes, from_le_bytes}
-use Rattle.std.specs.List.{flat_map}
+use Rattle.std.specs.Int.{w64, from_le_bytes}
 use Rattle.std.specs.Simd.{first_chunks}
 
 -- the words that bytes make
 unfoldable pub words_of : List ℕ → List ℕ
 words_of bytes = map (from_le_bytes w64) (first_chunks 8 (length bytes / 8) bytes)
-
--- the bytes of words
-abbrev pub bytes_of : List ℕ → List ℕ
-bytes_of words = flat_map (to_le_bytes w64) words
 
 -- the words of a frame that holds nothing
 unfoldable pub zero_words : List ℕ

@@ -20,6 +20,8 @@ use Rattle.version_array.specs.declared.va_page.VaSlot.{VaSlot}
 use Rattle.version_array.specs.Slots.{IsSlot, with_busy, with_version, is_busy_at}
 use Rattle.version_array.specs.Versions.{is_spent_at}
 use Rattle.version_array.proofs.TableLaws.{slot_kept}
+use Rattle.sgx_types.proofs.Truths.{neither}
+use Rattle.sgx_types.proofs.Truths.{neither}
 use Rattle.evict_reload.specs.Sights.{AreVaPages, slot_sight}
 use Rattle.evict_reload.specs.Effects.{with_ended, with_plain}
 use Rattle.evict_reload.proofs.SlotLaws.{is_slot}
@@ -29,10 +31,6 @@ use Rattle.evict_reload.proofs.PageLaws.{pages-with_entry, pages-with_words, pag
 first_fails : (b : Bool) (r : Refusal) (rest : Option Refusal) → cond b (Some r) rest ≡ None → (b ≡ false) × (rest ≡ None)
 first_fails true r rest e = cc
 first_fails false r rest e = (refl, e)
-
-neither : (a b : Bool) → (a || b) ≡ false → (a ≡ false) × (b ≡ false)
-neither true b e = cc
-neither false b e = (refl, e)
 
 not_va : (content : Content) → is_valid content ≡ false → is_va content ≡ false
 not_va Free e = refl

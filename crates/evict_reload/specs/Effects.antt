@@ -27,14 +27,14 @@ use Rattle.evict_reload.specs.Sights.{added_in}
 -- ---- EBLOCK
 
 -- the epoch of an enclave
-abbrev pub epoch_in : Option Tracking → ℕ
-epoch_in None = 0
-epoch_in (Some t) = t.epoch
+abbrev pub epoch_tracked : Option Tracking → ℕ
+epoch_tracked None = 0
+epoch_tracked (Some t) = t.epoch
 
 -- the same by the enclave's number, if there is one
 abbrev pub epoch_of : List Tracking → Option ℕ → ℕ
 epoch_of tracks None = 0
-epoch_of tracks (Some enclave) = epoch_in (track_of tracks enclave)
+epoch_of tracks (Some enclave) = epoch_tracked (track_of tracks enclave)
 
 -- the page in a frame blocked at its enclave's epoch
 abbrev pub with_blocked : List EpcFrame → List Tracking → ℕ → List EpcFrame

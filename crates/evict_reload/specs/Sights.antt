@@ -13,7 +13,7 @@ use Rattle.epcm_entry.specs.Epc.{EpcFrame, entry_at}
 use Rattle.epcm_entry.specs.Sights.{sight_in}
 use Rattle.secs_state.specs.Secs.{SecsState, added_at}
 use Rattle.secs_state.specs.Table.{enclave_at}
-use Rattle.track_epoch.specs.declared.track.TheConstants.{LAST_EPOCH}
+use Rattle.sgx_types.specs.declared.names.TheConstants.{LAST_EPOCH}
 use Rattle.track_epoch.specs.Tracking.{Tracking, number_older, number_up_to}
 use Rattle.track_epoch.specs.Tracks.{track_of}
 use Rattle.version_array.specs.declared.va_page.VaSlot.{VaSlot}

@@ -2,7 +2,7 @@ ghost use Rattle.std.specs.Prelude.{◌≡◌, ◌+◌, IfOk, OnOk, OnErr};
 ghost use Rattle.sgx_types.specs.Table.{refusal_in, first_of_row, track_row};
 ghost use Rattle.track_epoch.specs.Tracks.{track_of};
 ghost use Rattle.evict_reload.specs.Sights.{track_sight};
-ghost use Rattle.evict_reload.specs.Effects.{epoch_in, with_tracked};
+ghost use Rattle.evict_reload.specs.Effects.{epoch_tracked, with_tracked};
 
 use secs_state::table::SecsTable;
 use sgx_types::refusals::Refusal;
@@ -15,7 +15,7 @@ use track_epoch::tracks::Tracks;
 #[tactic(auto, using(crate::proofs::TrackLaws::kept_on_refusal))]
 pub fn etrack(tracks: &mut Tracks, secs: &SecsTable, enclave: u16) -> Result<u64, Refusal>
     ensures row { refusal_in result ≡ first_of_row (track_row (track_sight secs.now tracks.old enclave)) }
-    ensures answer { IfOk result (λ epoch. epoch ≡ epoch_in (track_of tracks.old enclave) + 1) }
+    ensures answer { IfOk result (λ epoch. epoch ≡ epoch_tracked (track_of tracks.old enclave) + 1) }
     ensures done { OnOk result (tracks.new ≡ with_tracked tracks.old enclave) }
     ensures refused { OnErr result (tracks.new ≡ tracks.old) }
 {

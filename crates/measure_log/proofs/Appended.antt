@@ -2,7 +2,8 @@
 use Rattle.std.proofs.Common.{◌≡◌, ℕ, List, [], ◌++◌, append_assoc, refl, sym, ap, ◌∙◌}
 use Rattle.std.specs.Prelude.{codes}
 use Rattle.std.specs.Int.{w32, w64, to_le_bytes}
-use Rattle.measure_log.specs.Blocks.{zeros, ecreate_block, eadd_block, eextend_block}
+use Rattle.sgx_types.specs.Layouts.{zeros}
+use Rattle.measure_log.specs.Blocks.{ecreate_block, eadd_block, eextend_block}
 
 -- four pieces behind a log
 four_pieces : (log a b c d : List ℕ) → log ++ a ++ b ++ c ++ d ≡ log ++ (a ++ b ++ c ++ d)

@@ -15,10 +15,10 @@ use Rattle.sgx_types.specs.declared.names.Frame.{Frame}
 use Rattle.sgx_types.specs.declared.names.Page.{Page}
 use Rattle.sgx_types.specs.declared.names.Kind.TheVariants.{Reg}
 use Rattle.sgx_types.specs.declared.names.Perm.{Perm}
-use Rattle.sgx_types.specs.Flat.{flat, words_of}
+use Rattle.sgx_types.specs.Flat.{bytes_at, flat, words_of}
 use Rattle.measure_log.specs.Blocks.{ecreate_block, eadd_block, eextend_block, chunk_of}
 use Rattle.measure_log.specs.Log.{log_of}
-use Rattle.measure_log.specs.Rule.{bytes_of, log, measurement, MeasureRule}
+use Rattle.measure_log.specs.Rule.{log, measurement, MeasureRule}
 
 -- ECREATE of an enclave of 65536 bytes
 ecreate_worked : ecreate_block 0x10000 ≡ (0x45 ∷ 0x43 ∷ 0x52 ∷ 0x45 ∷ 0x41 ∷ 0x54 ∷ 0x45 ∷ 0 ∷ 1 ∷ 0 ∷ 0 ∷ 0 ∷ 0 ∷ 0 ∷ 1 ∷ 0 ∷ 0 ∷ 0 ∷ 0 ∷ 0 ∷ []) ++ replicate 44 0
@@ -72,7 +72,7 @@ words_worked : words_of (flat built) page_two ≡ replicate 512 7
 unfolding lib.Count.ones
 words_worked = refl
 
-bytes_worked : bytes_of built page_two ≡ page_bytes
+bytes_worked : bytes_at built page_two ≡ page_bytes
 bytes_worked = ap (flat_map (to_le_bytes w64)) words_worked
 
 first_bytes : take 9 page_bytes ≡ 7 ∷ 0 ∷ 0 ∷ 0 ∷ 0 ∷ 0 ∷ 0 ∷ 0 ∷ 7 ∷ []

@@ -1,10 +1,7 @@
 -- The blocks that the build of an enclave appends to its measurement log, as bytes; numbers have their low byte first.
-use Rattle.std.specs.Prelude.{ℕ, ◌*◌, List, ◌++◌, take, drop, replicate, codes}
+use Rattle.std.specs.Prelude.{ℕ, ◌*◌, List, ◌++◌, take, drop, codes}
 use Rattle.std.specs.Int.{w32, w64, to_le_bytes}
-
--- zero bytes
-abbrev pub zeros : ℕ → List ℕ
-zeros count = replicate count 0
+use Rattle.sgx_types.specs.Layouts.{zeros}
 
 -- ECREATE of an enclave of this size in bytes; an SSA frame is one page
 unfoldable pub ecreate_block : ℕ → List ℕ

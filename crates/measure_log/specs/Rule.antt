@@ -1,7 +1,5 @@
 -- The rule of the measurement: what `init` answers, by the entries before it, which stand newest first.
 use Rattle.std.specs.Prelude.{ℕ, ◌≡◌, ◌≢◌, List, Option, Some, None}
-use Rattle.std.specs.List.{flat_map}
-use Rattle.std.specs.Int.{w64, to_le_bytes}
 use Rattle.sgx_types.specs.declared.entries.Entry.{Entry}
 use Rattle.sgx_types.specs.declared.entries.Event.{Event}
 use Rattle.sgx_types.specs.declared.entries.Event.TheVariants.{Did, Refused}
@@ -10,7 +8,7 @@ use Rattle.sgx_types.specs.declared.entries.Answer.TheVariants.{Hash}
 use Rattle.sgx_types.specs.declared.refusals.Refusal.TheVariants.{BadMeasure}
 use Rattle.sgx_types.specs.declared.names.Page.{Page}
 use Rattle.sgx_types.specs.Frames.{Content, Holds, content}
-use Rattle.sgx_types.specs.Flat.{flat, words_of}
+use Rattle.sgx_types.specs.Flat.{bytes_at}
 use Rattle.measure_log.specs.Log.{log_of}
 use Rattle.measure_log.specs.Measure.{measurement_of}
 
@@ -23,13 +21,9 @@ page_held _ = None
 abbrev pub page_in : List Entry → ℕ → Option Page
 page_in past frame = page_held (content past frame)
 
--- a page's bytes in flat memory: each word's 8 bytes, the low byte first
-abbrev pub bytes_of : List Entry → Page → List ℕ
-bytes_of past page = flat_map (to_le_bytes w64) (words_of (flat past) page)
-
 -- the measurement log of an enclave
 abbrev pub log : List Entry → ℕ → List ℕ
-log = log_of page_in bytes_of
+log = log_of page_in bytes_at
 
 -- the SHA-256 of that log
 abbrev pub measurement : List Entry → ℕ → List ℕ

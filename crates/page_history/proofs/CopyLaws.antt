@@ -18,22 +18,22 @@ use Rattle.sgx_types.specs.Flat.{FlatPage, added_as, flat}
 use Rattle.sgx_types.specs.Frames.{Content, Free, IsVa, SecsOf, Holds, IsLoading, added, content, is_page, page_at, reloaded, same_page}
 use Rattle.sgx_types.specs.Rules.{RefusalRule}
 use Rattle.sgx_types.specs.Sights.{sight_at}
-use Rattle.sgx_types.specs.Slots.{open_slot, same_slot, version_in}
+use Rattle.sgx_types.specs.Slots.{open_slot, same_slot, slot_of, version_in}
 use Rattle.sgx_types.specs.Starts.{Start, open_start}
 use Rattle.sgx_types.specs.Table.{EnclaveSight, FrameSight, add_row, create_row, eldstart_row, epa_row, first_of_row, is_valid}
 use Rattle.page_history.specs.Copies.{InFrame, InSlot, OneLiveCopy, copy, copy_after, in_slot}
 use Rattle.page_history.specs.Fresh.{FreshRule, IsLastOut, Out, last_out, out_after}
-use Rattle.page_history.specs.Moves.{EndsIn, MovesRule, Numbers, slot_sight_at}
+use Rattle.sgx_types.specs.Making.{Making}
+use Rattle.page_history.specs.Moves.{EndsIn, MovesRule, slot_sight_at}
 use Rattle.page_history.specs.Once.{DrawnOnce, Gone, IsGone, KeepsMoves, StartsApart, gone, gone_after}
 use Rattle.page_history.proofs.DrawnLaws.{drawn_once}
 use Rattle.page_history.proofs.FlatLaws.{added_flat}
-use Rattle.page_history.proofs.OpenStarts.{any_head, any_rest, entry_of, none_holds, same_pages, same_slots, slot_of_start}
+use Rattle.sgx_types.proofs.Pages.{same_page-refl, same_pages, same_slots}
+use Rattle.sgx_types.proofs.Rows.{none_holds}
+use Rattle.page_history.proofs.OpenStarts.{any_head, any_rest, entry_of}
 use Rattle.page_history.proofs.StartLaws.{starts_apart}
 
 -- ---- names
-
-same_page-refl : (a : Page) → same_page a a ≡ true
-same_page-refl a = rw (eq-eqb a.enclave a.enclave refl, eq-eqb a.number a.number refl) refl
 
 same_slot-refl : (a : SlotAt) → same_slot a a ≡ true
 same_slot-refl a = rw (eq-eqb a.frame.0 a.frame.0 refl, eq-eqb a.index a.index refl) refl
@@ -256,8 +256,8 @@ live_ewb past live a f g v tag start held opened empty above = record {
     some = λ h. rw opened (some h (same_page g h));
     framed = λ n h. framed n h (f.0 == n) refl (same_page g h) refl;
     back = λ n h. back n h (f.0 == n) refl (same_page g h) refl;
-    slotted = λ t w h. rw (opened, slot) (slotted t w h (same_page g h) refl (same_slot s t) refl);
-    filled = λ t. rw (opened, slot) (filled t (same_slot s t) refl);
+    slotted = λ t w h. rw opened (slotted t w h (same_page g h) refl (same_slot s t) refl);
+    filled = λ t. rw opened (filled t (same_slot s t) refl);
     alone = λ t x y h i. rw opened (alone t x y h i (same_page g h) refl (same_page g i) refl);
   };
   known = λ h. rw opened (known h (same_page g h) refl);
@@ -265,9 +265,6 @@ live_ewb past live a f g v tag start held opened empty above = record {
   where
     s : SlotAt
     s = start.slot
-
-    slot : open_slot past f.0 ≡ Some s
-    slot = slot_of_start past f.0 ∙ ap (option_map (λ (x : Start). x.slot)) opened
 
     was : copy past g ≡ Some (InFrame f.0)
     was = live.one.framed f.0 g held
@@ -346,7 +343,7 @@ live_eld past live a f g told v tag start loading opened was = record {
     c = reloaded g (added past g)
 
     slot : open_slot past f.0 ≡ Some s
-    slot = slot_of_start past f.0 ∙ ap (option_map (λ (x : Start). x.slot)) opened
+    slot = ap slot_of opened
 
     held : (o : Option (Kind × Perm)) → is_some o ≡ true → (h : Page) → is_page (reloaded g o) h ≡ same_page g h
     held None none h = cc
@@ -397,7 +394,7 @@ no_value None h = refl
 no_value (Some x) h = absurd (h refl)
 
 -- an entry that keeps the rules leaves each page one live copy
-live_more : (k : Numbers) (past : List Entry) (e : Entry) → 1 ≤ k.first_version → KeepsMoves k past → RefusalRule k.frames past e → MovesRule k past e → FreshRule k.first_version past e
+live_more : (k : Making) (past : List Entry) (e : Entry) → 1 ≤ k.first_version → KeepsMoves k past → RefusalRule k.frames past e → MovesRule k past e → FreshRule k.first_version past e
     → IsLive past → IsLive (e ∷ past)
 live_more k past e low keeps refusal moves fresh live = by_event e.event refusal moves fresh
   where
@@ -456,7 +453,7 @@ live_more k past e low keeps refusal moves fresh live = by_event e.event refusal
     by_event ev refusal moves fresh = live_still past (entry_of a ev) (λ g. refl) (λ n g. refl) (λ s. refl) (λ g. refl) live
 
 -- where the rules are kept, each page that was added has one live copy, and no other page has one
-pub all_live : (k : Numbers) (past : List Entry) → 1 ≤ k.first_version → KeepsMoves k past → IsLive past
+pub all_live : (k : Making) (past : List Entry) → 1 ≤ k.first_version → KeepsMoves k past → IsLive past
 all_live k [] low keeps = record {
   one = record {
     some = λ g is. cc;
@@ -473,5 +470,5 @@ all_live k (e ∷ past) low keeps =
     live_more k past e low before keeps.refusal.0 keeps.moves.0 keeps.fresh.0 (all_live k past low before)
 
 -- .. of which the contract tells the first
-pub live_copies : (k : Numbers) (past : List Entry) → 1 ≤ k.first_version → KeepsMoves k past → OneLiveCopy past
+pub live_copies : (k : Making) (past : List Entry) → 1 ≤ k.first_version → KeepsMoves k past → OneLiveCopy past
 live_copies k past low keeps = (all_live k past low keeps).one

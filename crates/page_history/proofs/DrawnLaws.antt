@@ -14,7 +14,7 @@ use Rattle.sgx_types.specs.declared.names.SlotAt.{SlotAt}
 use Rattle.sgx_types.specs.Rules.{EvictRule, RisingRule}
 use Rattle.sgx_types.specs.Slots.{is_draw, next_version}
 use Rattle.sgx_types.specs.Starts.{Start, open_start, version_told}
-use Rattle.page_history.specs.Moves.{Numbers}
+use Rattle.sgx_types.specs.Making.{Making}
 use Rattle.page_history.specs.Once.{DrawnOnce, Gone, IsGone, KeepsMoves, gone}
 use Rattle.page_history.proofs.OpenStarts.{any_cases, apart_frames, ended_cases, entry_of, opened_cases}
 
@@ -152,11 +152,11 @@ drawn_still first past actor (Refused (Eld f) why) rising evict h = fewer_drawn 
 drawn_still first past actor event rising evict h = fewer_drawn first past (entry_of actor event) (λ n x is writes. is) (λ x is. is) refl h
 
 -- the rules were kept before the last entry
-pub keeps_before : (k : Numbers) (e : Entry) (past : List Entry) → KeepsMoves k (e ∷ past) → KeepsMoves k past
+pub keeps_before : (k : Making) (e : Entry) (past : List Entry) → KeepsMoves k (e ∷ past) → KeepsMoves k past
 keeps_before k e past h = record { refusal = h.refusal.1; flat = h.flat.1; moves = h.moves.1; evict = h.evict.1; fresh = h.fresh.1 }
 
 -- where the rules are kept, each version is drawn once
-pub drawn_once : (k : Numbers) (past : List Entry) → KeepsMoves k past → DrawnOnce k.first_version past
+pub drawn_once : (k : Making) (past : List Entry) → KeepsMoves k past → DrawnOnce k.first_version past
 drawn_once k [] h = record {
   from = λ n x is writes. cc;
   started = λ n x is writes. cc;

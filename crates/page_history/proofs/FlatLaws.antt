@@ -20,7 +20,10 @@ use Rattle.sgx_types.specs.Rules.{Along, FlatRule}
 use Rattle.sgx_types.specs.Sealed.{header_of}
 use Rattle.sgx_types.specs.Table.{EnclaveSight, FrameSight, add_row, first_of_row}
 use Rattle.page_history.specs.Moves.{IsHeader}
-use Rattle.page_history.proofs.OpenStarts.{NoneHolds, entry_of, eqb-swap, none_holds, same_pages}
+use Rattle.sgx_types.proofs.Pages.{same_page-swap, same_pages}
+use Rattle.sgx_types.proofs.Rows.{NoneHolds, none_holds}
+use Rattle.sgx_types.proofs.Truths.{eqb-swap}
+use Rattle.page_history.proofs.OpenStarts.{entry_of}
 
 -- changed words are of the same kind and permissions
 rewritten_kind : (b : Bool) (change : List ℕ → List ℕ) (o : Option FlatPage) → added_as (cond b (rewritten change o) o) ≡ added_as o
@@ -65,10 +68,6 @@ memory_kinds actors.Reclaimer action m g h = refl
 -- .. whether flat memory takes it or not
 event_kinds : (actor : Actor) (action : Action) (answer : Answer) (m : FlatMemory) (g : Page) → is_add action ≡ false → added_as ((event_after actor (Did action answer) m).pages g) ≡ added_as (m.pages g)
 event_kinds actor action answer m g h = cond_both (accepts m actor action) (memory_after actor action m) m (λ (now : FlatMemory). added_as (now.pages g) ≡ added_as (m.pages g)) (λ _. memory_kinds actor action m g h) (λ _. refl)
-
--- two pages are the same either way round
-same_page-swap : (a b : Page) → same_page a b ≡ same_page b a
-same_page-swap a b = rw (eqb-swap a.enclave b.enclave, eqb-swap a.number b.number) refl
 
 -- the kind and permissions of one more page
 added_one : (b : Bool) (x : FlatPage) (o : Option FlatPage) → cond b (Some (x.kind, x.perm)) (added_as o) ≡ added_as (cond b (Some x) o)

@@ -13,14 +13,16 @@ use Rattle.sgx_types.specs.declared.names.SlotAt.{SlotAt}
 use Rattle.sgx_types.specs.Flat.{FlatEnclave, FlatMemory, FlatPage, flat}
 use Rattle.sgx_types.specs.Frames.{same_page}
 use Rattle.sgx_types.specs.Rules.{Along, EvictRule}
+use Rattle.sgx_types.specs.Layouts.{bytes_of}
 use Rattle.sgx_types.specs.Sealed.{Sealed, header_of}
 use Rattle.sgx_types.specs.Starts.{open_start}
 use Rattle.seal_record.specs.Cipher.{tag, sealed}
 use Rattle.seal_record.specs.Records.{Made}
 use Rattle.page_history.specs.Fresh.{Out, last_out}
-use Rattle.page_history.specs.Moves.{IsHeader, Numbers}
+use Rattle.sgx_types.specs.Making.{Making}
+use Rattle.page_history.specs.Moves.{IsHeader}
 use Rattle.page_history.specs.Once.{DrawnOnce, Gone, IsGone, IsLastMade, IsMade, IsOfPage, KeepsMoves, MadeOnce, gone}
-use Rattle.page_history.specs.Records.{IsSealed, SealedRule, made_by, made_with, more_made, page_bytes, record_by, record_in}
+use Rattle.page_history.specs.Records.{IsSealed, SealedRule, made_by, made_with, more_made, record_by, record_in}
 use Rattle.page_history.proofs.DrawnLaws.{drawn_once, keeps_before}
 use Rattle.page_history.proofs.FlatLaws.{header_still}
 use Rattle.page_history.proofs.OpenStarts.{any_front, any_head, any_last, any_rest, ended_cases, entry_of, opened_cases}
@@ -58,7 +60,7 @@ sealed_of key version m g rec = by_values (m.enclaves g.enclave) (m.pages g) ref
     by_values None page made added is = cc
     by_values (Some x) None made added is = cc
     by_values (Some x) (Some y) made added is =
-        let its : Sealed = sealed key version (header_of x.base g y.kind y.perm) (page_bytes y.words) in
+        let its : Sealed = sealed key version (header_of x.base g y.kind y.perm) (bytes_of y.words) in
         let same : its ≡ rec = cc in
         subst (IsSealedOf key version m g) same (record { header = record { enclave = x; made = made; page = y; added = added; headed = refl }; tagged = refl })
 
@@ -150,7 +152,7 @@ records_still first key past actor (Did (Eld f) (Moved page version digest)) evi
 records_still first key past actor event evict its drawn h = kept_records key past actor event (λ x is. is) (λ one is. is) (λ one is. is) (λ g o is. is) h
 
 -- where the rules are kept, each record that was made is of one page
-pub made_once : (k : Numbers) (key : List ℕ) (past : List Entry) → KeepsMoves k past → Along (SealedRule key) past → MadeOnce key past
+pub made_once : (k : Making) (key : List ℕ) (past : List Entry) → KeepsMoves k past → Along (SealedRule key) past → MadeOnce key past
 made_once k key [] h its = record {
   own = λ one is. let no : ⊥ = omega (arith, is.2) in absurd no;
   once = λ one other is too same. let no : ⊥ = omega (arith, is.2) in absurd no;

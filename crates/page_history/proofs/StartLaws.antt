@@ -16,14 +16,18 @@ use Rattle.sgx_types.specs.Flat.{FlatPage, added_as, enclave_sight, flat}
 use Rattle.sgx_types.specs.Frames.{Content, Holds, IsLoading, IsVa, SecsOf, added, content, page_at, same_page}
 use Rattle.sgx_types.specs.Rules.{Along, FlatRule, RefusalRule}
 use Rattle.sgx_types.specs.Sights.{row_at, sight_at}
-use Rattle.sgx_types.specs.Slots.{busy_after, is_slot_busy, names_slot, open_slot, same_slot, version_after, version_in}
+use Rattle.sgx_types.specs.Slots.{busy_after, is_slot_busy, names_slot, open_slot, same_slot, slot_of, version_after, version_in}
 use Rattle.sgx_types.specs.Starts.{Start, open_start, opened_by, version_told}
 use Rattle.sgx_types.specs.Table.{EnclaveSight, FrameSight, add_row, is_busy, is_loading}
-use Rattle.page_history.specs.Moves.{MovesRule, Numbers, move_row_at}
+use Rattle.sgx_types.specs.Making.{Making}
+use Rattle.page_history.specs.Moves.{MovesRule, move_row_at}
 use Rattle.page_history.specs.Once.{KeepsMoves, StartsApart}
 use Rattle.page_history.proofs.DrawnLaws.{keeps_before}
 use Rattle.page_history.proofs.FlatLaws.{added_flat}
-use Rattle.page_history.proofs.OpenStarts.{NoneHolds, apart_frames, ended_cases, entry_of, neither, none_holds, not_false, opened_cases, same_slots, slot_of_start}
+use Rattle.sgx_types.proofs.Pages.{same_slots}
+use Rattle.sgx_types.proofs.Rows.{NoneHolds, none_holds}
+use Rattle.sgx_types.proofs.Truths.{neither, not_false}
+use Rattle.page_history.proofs.OpenStarts.{apart_frames, ended_cases, entry_of, opened_cases}
 
 -- ---- entries that leave the starts
 
@@ -53,7 +57,7 @@ kept_loading : (s : FrameSight) → is_busy s ≡ false → s.content ≡ IsLoad
 kept_loading s idle loads = let k = neither s.is_sealing (is_loading s.content) idle in false≢true (sym k.1 ∙ ap is_loading loads)
 
 -- .. and so each loading frame is left
-taken_idle : (k : Numbers) (past : List Entry) (f n : ℕ) (new : Content) → is_busy (sight_at k.frames past f) ≡ false → content past n ≡ IsLoading → cond (f == n) new (content past n) ≡ IsLoading
+taken_idle : (k : Making) (past : List Entry) (f n : ℕ) (new : Content) → is_busy (sight_at k.frames past f) ≡ false → content past n ≡ IsLoading → cond (f == n) new (content past n) ≡ IsLoading
 taken_idle k past f n new idle loads =
     cond_both (f == n) new (content past n) (λ v. v ≡ IsLoading) (λ same. absurd (kept_loading (sight_at k.frames past f) idle (ap (content past) (eqb-true f n same) ∙ loads))) (λ _. loads)
 
@@ -76,13 +80,13 @@ module _ (past : List Entry) (e : Entry) (f : ℕ) (h : StartsApart past) where
 
   -- an open start of another frame has another slot
   other_slot : (n : ℕ) (x : Start) → (f == n) ≡ false → open_start past n ≡ Some x → names_slot (open_slot past f) x.slot ≡ false
-  other_slot n x isnt is = rw (slot_of_start past f) (by_start (open_start past f) refl)
+  other_slot n x isnt is = by_start (open_start past f) refl
     where
       by_test : (y : Start) (b : Bool) → open_start past f ≡ Some y → same_slot y.slot x.slot ≡ b → b ≡ false
       by_test y true there same = absurd (apart_frames f n isnt (h.alone f n y x there is same))
       by_test y false there same = refl
 
-      by_start : (o : Option Start) → open_start past f ≡ o → names_slot (option_map (λ (z : Start). z.slot) o) x.slot ≡ false
+      by_start : (o : Option Start) → open_start past f ≡ o → names_slot (slot_of o) x.slot ≡ false
       by_start None there = refl
       by_start (Some y) there = by_test y (same_slot y.slot x.slot) there refl
 
@@ -183,7 +187,7 @@ above_zero zero h = let no : true ≡ false = h in absurd (false≢true (sym no)
 above_zero (suc n) h = omega arith
 
 -- an entry that keeps the rules leaves the starts apart
-starts_still : (k : Numbers) (past : List Entry) (actor : Actor) (event : Event) → RefusalRule k.frames past (entry_of actor event) → MovesRule k past (entry_of actor event) → Along FlatRule past → StartsApart past
+starts_still : (k : Making) (past : List Entry) (actor : Actor) (event : Event) → RefusalRule k.frames past (entry_of actor event) → MovesRule k past (entry_of actor event) → Along FlatRule past → StartsApart past
     → StartsApart (entry_of actor event ∷ past)
 starts_still k past actor (Did (Epa f) answer) refusal moves answers h =
     let row = none_holds (row_at k.frames past actor (Epa f)) refusal.0 in
@@ -249,7 +253,7 @@ starts_still k past actor event refusal moves answers h =
     kept_apart past (entry_of actor event) (record { opens = λ n o. refl; busies = λ opened slot b. refl; versions = λ opened slot v. refl }) (λ g is. is) (λ n is. is) h
 
 -- where the rules are kept, each open start has its slot for itself
-pub starts_apart : (k : Numbers) (past : List Entry) → KeepsMoves k past → StartsApart past
+pub starts_apart : (k : Making) (past : List Entry) → KeepsMoves k past → StartsApart past
 starts_apart k [] h = record {
   busy = λ n x is. cc;
   alone = λ m n x y is too same. cc;

@@ -12,6 +12,7 @@ use Rattle.sgx_types.specs.declared.names.Kind.{Kind}
 use Rattle.sgx_types.specs.declared.names.Page.{Page}
 use Rattle.sgx_types.specs.declared.names.Perm.{Perm}
 use Rattle.sgx_types.specs.declared.names.SlotAt.{SlotAt}
+use Rattle.sgx_types.specs.declared.names.TheConstants.{LAST_EPOCH}
 use Rattle.sgx_types.specs.declared.record.Header.{Header}
 use Rattle.sgx_types.specs.declared.refusals.Refusal.{Refusal}
 use Rattle.sgx_types.specs.declared.refusals.Refusal.TheVariants as why
@@ -19,6 +20,7 @@ use Rattle.sgx_types.specs.Epochs.{epoch, epoch_in, older_at}
 use Rattle.sgx_types.specs.Eviction.{is_drained, kept_back}
 use Rattle.sgx_types.specs.Flat.{FlatEnclave, FlatMemory, FlatPage, flat}
 use Rattle.sgx_types.specs.Frames.{Holds, content}
+use Rattle.sgx_types.specs.Making.{Making}
 use Rattle.sgx_types.specs.Sealed.{header_of}
 use Rattle.sgx_types.specs.Sights.{sight_at}
 use Rattle.sgx_types.specs.Slots.{is_slot_busy, next_version, version_in}
@@ -27,15 +29,11 @@ use Rattle.sgx_types.specs.Table.{Case, allowed, DrainSight, SlotSight, TrackSig
 
 -- ---- what the rows see
 
--- the last epoch of an enclave
-abbrev pub last_epoch : ℕ
-last_epoch = 1099511627775
-
 abbrev pub track_sight_at : ℕ → List Entry → ℕ → TrackSight
 track_sight_at first past enclave = record {
   is_created = is_some ((flat past).enclaves enclave);
   older = older_at past enclave;
-  is_spent = epoch first past enclave == last_epoch;
+  is_spent = epoch first past enclave == LAST_EPOCH;
 }
 
 abbrev pub slot_sight_at : ℕ → List Entry → SlotAt → SlotSight
@@ -53,14 +51,8 @@ drain_sight_at first past n = record {
   is_drained = is_drained past n;
 }
 
--- the numbers of a machine's making that the rows look at
-pub record Numbers : Type 0 where
-  pub frames : ℕ
-  pub first_epoch : ℕ
-  pub first_version : ℕ
-
 -- the row of an instruction that moves pages
-abbrev pub move_row_at : Numbers → List Entry → Action → List Case
+abbrev pub move_row_at : Making → List Entry → Action → List Case
 move_row_at k past (Block f) = block_row (sight_at k.frames past f.0)
 move_row_at k past (Track enclave) = track_row (track_sight_at k.first_epoch past enclave)
 move_row_at k past (EwbStart f slot) =
@@ -133,7 +125,7 @@ IsMove (EwbStart f slot) = Unit {0}
 IsMove (EldStart f page slot) = Unit {0}
 IsMove _ = ⊥
 
-abbrev pub MovesRule : Numbers → List Entry → Entry → Type 0
+abbrev pub MovesRule : Making → List Entry → Entry → Type 0
 MovesRule k past e = by_event e.event
   where
     by_event : Event → Type 0

@@ -16,13 +16,14 @@ use Rattle.sgx_types.specs.Starts.{Start, open_start}
 use Rattle.seal_record.specs.Cipher.{tag}
 use Rattle.seal_record.specs.Records.{Made, made_of, tag_of}
 use Rattle.page_history.specs.Fresh.{FreshRule, Out, last_out}
-use Rattle.page_history.specs.Moves.{IsHeader, MovesRule, Numbers}
+use Rattle.sgx_types.specs.Making.{Making}
+use Rattle.page_history.specs.Moves.{IsHeader, MovesRule}
 use Rattle.page_history.specs.Records.{made_by}
 
 -- ---- the rules together
 
 -- the rules on instructions and versions
-pub record KeepsMoves (k : Numbers) (past : List Entry) : Type 0 where
+pub record KeepsMoves (k : Making) (past : List Entry) : Type 0 where
   pub refusal : Along (RefusalRule k.frames) past
   pub flat : Along FlatRule past
   pub moves : Along (MovesRule k) past

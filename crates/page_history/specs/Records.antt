@@ -1,7 +1,5 @@
 -- The records that write-outs give, by the entries and flat memory, and the rule Sealed.
 use Rattle.std.specs.Prelude.{ℕ, ◌≡◌, List, [], ◌∷◌, ◌++◌, Option, Some, None}
-use Rattle.std.specs.List.{flat_map}
-use Rattle.std.specs.Int.{w64, to_le_bytes}
 use Rattle.sgx_types.specs.declared.entries.Action.TheVariants.{Ewb}
 use Rattle.sgx_types.specs.declared.entries.Answer.{Answer}
 use Rattle.sgx_types.specs.declared.entries.Answer.TheVariants as answers
@@ -10,17 +8,14 @@ use Rattle.sgx_types.specs.declared.entries.Event.{Event}
 use Rattle.sgx_types.specs.declared.entries.Event.TheVariants.{Did}
 use Rattle.sgx_types.specs.declared.names.Page.{Page}
 use Rattle.sgx_types.specs.Flat.{FlatEnclave, FlatMemory, FlatPage, flat}
+use Rattle.sgx_types.specs.Layouts.{bytes_of}
 use Rattle.sgx_types.specs.Sealed.{Sealed, header_of}
 use Rattle.seal_record.specs.Cipher.{sealed}
 use Rattle.seal_record.specs.Records.{Made}
 
--- the bytes of a page's words, each with its low byte first
-abbrev pub page_bytes : List ℕ → List ℕ
-page_bytes words = flat_map (to_le_bytes w64) words
-
 -- the record of a page under a key and a version, by what flat memory has of the page
 abbrev pub record_by : List ℕ → ℕ → Page → Option FlatEnclave → Option FlatPage → Option Sealed
-record_by key version g (Some enclave) (Some page) = Some (sealed key version (header_of enclave.base g page.kind page.perm) (page_bytes page.words))
+record_by key version g (Some enclave) (Some page) = Some (sealed key version (header_of enclave.base g page.kind page.perm) (bytes_of page.words))
 record_by key version g _ _ = None
 
 abbrev pub record_in : List ℕ → ℕ → FlatMemory → Page → Option Sealed

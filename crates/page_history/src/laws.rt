@@ -4,22 +4,22 @@ ghost use Rattle.std.specs.Prelude.{ℕ, ◌≤◌, List};
 ghost use Rattle.sgx_types.specs.declared.entries.Entry.{Entry};
 ghost use Rattle.sgx_types.specs.Rules.{Along};
 ghost use Rattle.page_history.specs.Copies.{OneLiveCopy};
-ghost use Rattle.page_history.specs.Moves.{Numbers};
+ghost use Rattle.sgx_types.specs.Making.{Making};
 ghost use Rattle.page_history.specs.Once.{DrawnOnce, KeepsMoves, MadeOnce, StartsApart};
 ghost use Rattle.page_history.specs.Records.{SealedRule};
 
 /// Where the rules are kept, each version is drawn once, and each open start has its slot for itself.
 pub fn versions_are_drawn_once()
-    ensures drawn { (k : Numbers) (past : List Entry) → KeepsMoves k past → DrawnOnce k.first_version past }
-    ensures apart { (k : Numbers) (past : List Entry) → KeepsMoves k past → StartsApart past }
+    ensures drawn { (k : Making) (past : List Entry) → KeepsMoves k past → DrawnOnce k.first_version past }
+    ensures apart { (k : Making) (past : List Entry) → KeepsMoves k past → StartsApart past }
 {}
 
 /// Where the rules are kept, each page that was added has exactly one live copy: one frame, or one slot with its version.
 pub fn one_live_copy()
-    ensures { (k : Numbers) (past : List Entry) → 1 ≤ k.first_version → KeepsMoves k past → OneLiveCopy past }
+    ensures { (k : Making) (past : List Entry) → 1 ≤ k.first_version → KeepsMoves k past → OneLiveCopy past }
 {}
 
 /// Where the rules are kept, each record that was made is one page's, and no two have one version.
 pub fn records_are_made_once()
-    ensures { (k : Numbers) (key : List ℕ) (past : List Entry) → KeepsMoves k past → Along (SealedRule key) past → MadeOnce key past }
+    ensures { (k : Making) (key : List ℕ) (past : List Entry) → KeepsMoves k past → Along (SealedRule key) past → MadeOnce key past }
 {}

@@ -23,7 +23,7 @@ use Rattle.sgx_types.specs.Flat.{FlatEnclave, enclave_sight_of, marked, tcs_fiel
 use Rattle.sgx_types.specs.Sights.{seat_of}
 use Rattle.sgx_types.specs.Slots.{same_slot}
 use Rattle.sgx_types.specs.Starts.{Start}
-use Rattle.track_epoch.specs.declared.track.TheConstants.{LAST_EPOCH}
+use Rattle.sgx_types.specs.declared.names.TheConstants.{LAST_EPOCH}
 
 pub record State : Type 0 where
   pub frames : ℕ

@@ -2,7 +2,7 @@ ghost use Rattle.std.specs.Prelude.{◌≡◌, ◌≤◌, [], IfOk, None, replic
 ghost use Rattle.paging_machine.specs.Parts.{idle, made, state_of};
 ghost use Rattle.paging_machine.specs.Shape.{Follows, making_of};
 ghost use Rattle.paging_machine.specs.Histories.{UpholdsAll};
-ghost use Rattle.track_epoch.specs.declared.track.TheConstants.{LAST_EPOCH};
+ghost use Rattle.sgx_types.specs.declared.names.TheConstants.{LAST_EPOCH};
 
 use crate::machine::Machine;
 use crate::starts::Start;

@@ -1,5 +1,5 @@
 -- The cipher and the tag of a sealed record, over lists of bytes; numbers have their low byte first.
-use Rattle.std.specs.Prelude.{ℕ, List, [], ◌∷◌, ◌++◌, replicate, bit_xor}
+use Rattle.std.specs.Prelude.{ℕ, List, [], ◌∷◌, ◌++◌, bit_xor}
 use Rattle.std.specs.List.{flat_map, range_with_len}
 use Rattle.std.specs.Int.{w64, to_le_bytes}
 use Rattle.sha2.specs.Sha256.{sha256}
@@ -31,7 +31,3 @@ tag key version header bytes = sha256 (key ++ to_le_bytes w64 version ++ header_
 -- the sealed record of a page's bytes
 abbrev pub sealed : List ℕ → ℕ → Header → List ℕ → Sealed
 sealed key version header plain = record { header = header; cipher = cipher key version plain; tag = tag key version header (cipher key version plain) }
-
--- so many zero bytes
-unfoldable pub zeros : ℕ → List ℕ
-zeros count = replicate count 0

@@ -1,5 +1,6 @@
 ghost use Rattle.std.specs.Prelude.{◌≡◌, IfOk, length};
-ghost use Rattle.seal_record.specs.Cipher.{sealed, zeros};
+ghost use Rattle.seal_record.specs.Cipher.{sealed};
+ghost use Rattle.sgx_types.specs.Layouts.{zeros};
 
 use crate::cipher::encipher;
 use crate::tag::tag_of;
@@ -32,7 +33,6 @@ pub struct SealedWork {
 
 impl SealWork {
     /// A page of zeros under a zero key, version and header.
-    #[tactic(auto, unfolding(crate::specs::Cipher::zeros))]
     pub fn new(alloc: Global) -> Result<SealWork, Memory>
         ensures key { IfOk result (λ work. work.key ≡ zeros 32) }
         ensures version { IfOk result (λ work. work.version ≡ 0) }

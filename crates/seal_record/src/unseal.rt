@@ -1,5 +1,6 @@
 ghost use Rattle.std.specs.Prelude.{◌≡◌, IfOk, length};
-ghost use Rattle.seal_record.specs.Cipher.{cipher, tag, zeros};
+ghost use Rattle.seal_record.specs.Cipher.{cipher, tag};
+ghost use Rattle.sgx_types.specs.Layouts.{zeros};
 
 use crate::cipher::encipher;
 use crate::tag::tag_of;
@@ -33,7 +34,6 @@ pub struct UnsealedWork {
 
 impl UnsealWork {
     /// A record to be opened under a zero key and version.
-    #[tactic(auto, unfolding(crate::specs::Cipher::zeros))]
     pub fn new(alloc: Global, rec: Record) -> Result<UnsealWork, Memory>
         ensures key { IfOk result (λ work. work.key ≡ zeros 32) }
         ensures version { IfOk result (λ work. work.version ≡ 0) }

@@ -1,4 +1,3 @@
-pub mod Lawful
 pub mod Secs
 pub mod Kept
 pub mod Table

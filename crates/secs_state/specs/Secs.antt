@@ -2,7 +2,7 @@
 use Rattle.std.specs.Prelude.{◌≡◌, ℕ, ◌/◌, Bool, true, false, List, length, replicate, Option, None, Some, slice_index_or, slice_set}
 use Rattle.sgx_types.specs.declared.names.Kind.{Kind}
 use Rattle.sgx_types.specs.declared.names.Perm.{Perm}
-use Rattle.secs_state.specs.Lawful.{is_lawful}
+use Rattle.sgx_types.specs.Table.{is_lawful}
 
 pub record SecsState : Type 0 where
   pub enclave : ℕ

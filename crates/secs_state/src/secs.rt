@@ -1,23 +1,10 @@
 ghost use Rattle.std.specs.Prelude.{◌≡◌, ◌≢◌, ◌+◌, ◌-◌, ◌*◌, ◌<◌, ◌^◌, true, false, None, IfOk, IsSome, OnSome};
-ghost use Rattle.secs_state.specs.Lawful.{is_lawful};
+ghost use Rattle.sgx_types.specs.Table.{is_lawful};
 ghost use Rattle.secs_state.specs.Secs.{IsSecs, page_count, created, added_at, is_busy_at, with_init, with_page, with_busy, with_children};
 
-use sgx_types::names::{Kind, Memory, Perm};
+use sgx_types::names::{Kind, Memory, PAGE_BYTES, Perm};
 use std::alloc::Global;
 use std::marker::Model;
-
-const PAGE_BYTES: u64 = 4096;
-
-/// Whether an enclave may have this range: the size in bytes is a power of two from 2 pages to 4096 pages, and the
-/// base is a multiple of it. The upper bound is this project's own.
-pub fn is_lawful(base: u64, size: u64) -> bool
-    ensures { result ≡ is_lawful base size }
-{
-    size.is_power_of_two()
-        && 2 * PAGE_BYTES <= size
-        && size <= 4096 * PAGE_BYTES
-        && base % size == 0
-}
 
 /// The state of one enclave, as its SECS keeps it (Intel SDM volume 3D, SECS): its range in bytes, which pages were
 /// added with which kind and permissions, which TCS pages are busy, and how many pages are resident.
@@ -174,6 +161,7 @@ impl Secs {
 #[cfg(test)]
 mod tests {
     use super::*;
+    use sgx_types::lawful::is_lawful;
     use std::test::Fail;
 
     const WRITABLE: Perm = Perm {
@@ -181,28 +169,6 @@ mod tests {
         w: true,
         x: false,
     };
-
-    #[test]
-    fn ranges_are_powers_of_two_at_their_multiples(rt: HostRuntime) {
-        let rows = [
-            (0, 8192, true),
-            (0x4000, 8192, true),
-            (0x1000, 8192, false),
-            (0, 4096, false),
-            (0x1000_0000, 1 << 24, true),
-            (0, 1 << 25, false),
-            (0x3000, 0x3000, false),
-            (0, 0, false),
-            (u64::MAX - 0xffff, 0x1_0000, true),
-        ];
-        for (base, size, lawful) in rows {
-            assert_eq!(rt;
-                is_lawful(base, size),
-                lawful,
-                "{size} bytes from {base} on"
-            );
-        }
-    }
 
     #[test]
     fn keeps_each_page_by_its_number(rt: HostRuntime) -> Result<(), Fail> {

@@ -99,7 +99,7 @@ impl SecsTable {
 #[cfg(test)]
 mod tests {
     use super::*;
-    use crate::secs::is_lawful;
+    use sgx_types::lawful::is_lawful;
     use std::test::Fail;
 
     #[test]

@@ -1,6 +1,9 @@
 pub mod Chunks
 pub mod CountLaws
 pub mod Keystone
+pub mod Pages
+pub mod Rows
+pub mod Truths
 mod Worked
 mod WorkedEviction
 pub mod Records

@@ -17,6 +17,7 @@ use Rattle.sgx_types.specs.declared.names.Kind.{Kind}
 use Rattle.sgx_types.specs.declared.names.Kind.TheVariants as kinds
 use Rattle.sgx_types.specs.declared.names.Perm.{Perm}
 use Rattle.sgx_types.specs.Frames.{Content, Free, Holds, same_page, page_at}
+use Rattle.sgx_types.specs.Layouts.{bytes_of}
 use Rattle.sgx_types.specs.Table.{Case, allowed, first_of_row, FrameSight, EnclaveSight, EnterSight, TcsSight, fault_of, create_row, add_row, extend_row, init_row, enter_row, resume_row, exit_row, aex_row, load_row, store_row, xadd_row, set_row, plus_row, pf_row, outload_row, outstore_row}
 
 -- ---- the memory
@@ -364,3 +365,7 @@ event_after actor _ m = m
 abbrev pub flat : List Entry → FlatMemory
 flat [] = fresh
 flat (e ∷ past) = event_after e.actor e.event (flat past)
+
+-- a page's bytes in flat memory before a place
+abbrev pub bytes_at : List Entry → Page → List ℕ
+bytes_at past page = bytes_of (words_of (flat past) page)

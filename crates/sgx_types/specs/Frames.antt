@@ -17,6 +17,10 @@ pub data Content : Type 0 where
   Holds : (page : Page) → (kind : Kind) → (perm : Perm) → Content
   IsLoading : Content
 
+-- no permission, which a TCS, SECS or VA page has
+abbrev pub no_perm : Perm
+no_perm = record { r = false; w = false; x = false }
+
 abbrev pub same_page : Page → Page → Bool
 same_page a b = (a.enclave == b.enclave) && (a.number == b.number)
 

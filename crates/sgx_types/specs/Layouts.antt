@@ -1,11 +1,20 @@
--- The bytes of SECINFO and of a TCS page.
-use Rattle.std.specs.Prelude.{ℕ, ◌+◌, ◌*◌, ◌==◌, if◌then◌else◌, List, Result, Ok, Err, drop, length, take}
-use Rattle.std.specs.Int.{w32, w64, from_le_bytes}
+-- The bytes of words, of SECINFO and of a TCS page.
+use Rattle.std.specs.Prelude.{ℕ, ◌+◌, ◌*◌, ◌==◌, if◌then◌else◌, List, Result, Ok, Err, drop, length, replicate, take}
+use Rattle.std.specs.List.{flat_map}
+use Rattle.std.specs.Int.{w32, w64, from_le_bytes, to_le_bytes}
 use Rattle.sgx_types.specs.declared.layouts.BadLength.{BadLength}
 use Rattle.sgx_types.specs.declared.layouts.TcsFields.{TcsFields}
 use Rattle.sgx_types.specs.declared.names.Kind.{Kind}
 use Rattle.sgx_types.specs.declared.names.Kind.TheVariants as kinds
 use Rattle.sgx_types.specs.declared.names.Perm.{Perm}
+
+-- the bytes of words of 64 bits, each with its low byte first
+abbrev pub bytes_of : List ℕ → List ℕ
+bytes_of words = flat_map (to_le_bytes w64) words
+
+-- so many zero bytes
+abbrev pub zeros : ℕ → List ℕ
+zeros count = replicate count 0
 
 -- the number of a page type
 abbrev pub number_of : Kind → ℕ

@@ -1,5 +1,4 @@
--- The slots of version array pages by the entries before a place: which starts of EWB and ELDU are open, and which version
--- each slot holds.
+-- The slots of version array pages by the entries before a place: which open starts name them, and which version each holds.
 use Rattle.std.specs.Prelude.{ℕ, ◌==◌, ◌+◌, ◌&&◌, Bool, true, false, if◌then◌else◌, List, [], ◌∷◌, Option, Some, None}
 use Rattle.sgx_types.specs.declared.entries.Entry.{Entry}
 use Rattle.sgx_types.specs.declared.entries.Event.{Event}
@@ -7,22 +6,19 @@ use Rattle.sgx_types.specs.declared.entries.Event.TheVariants.{Did, Refused}
 use Rattle.sgx_types.specs.declared.entries.Action.TheVariants.{EwbStart, Ewb, EldStart, Eld}
 use Rattle.sgx_types.specs.declared.entries.Answer.TheVariants.{Moved}
 use Rattle.sgx_types.specs.declared.names.SlotAt.{SlotAt}
+use Rattle.sgx_types.specs.Starts.{Start, open_start}
 
 abbrev pub same_slot : SlotAt → SlotAt → Bool
 same_slot a b = (a.frame.0 == b.frame.0) && (a.index == b.index)
 
-abbrev pub start_after : Event → ℕ → Option SlotAt → Option SlotAt
-start_after (Did (EwbStart f slot) answer) n before = if f.0 == n then Some slot else before
-start_after (Did (EldStart f page slot) answer) n before = if f.0 == n then Some slot else before
-start_after (Did (Ewb f) answer) n before = if f.0 == n then None else before
-start_after (Did (Eld f) answer) n before = if f.0 == n then None else before
-start_after (Refused (Eld f) why) n before = if f.0 == n then None else before
-start_after _ n before = before
+-- the slot that a start named
+abbrev pub slot_of : Option Start → Option SlotAt
+slot_of None = None
+slot_of (Some start) = Some start.slot
 
 -- the slot that the open start of a frame named, None where no start of it is open
 abbrev pub open_slot : List Entry → ℕ → Option SlotAt
-open_slot [] n = None
-open_slot (e ∷ past) n = start_after e.event n (open_slot past n)
+open_slot past n = slot_of (open_start past n)
 
 abbrev pub names_slot : Option SlotAt → SlotAt → Bool
 names_slot None s = false

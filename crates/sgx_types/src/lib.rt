@@ -2,6 +2,7 @@
 #![tactic(auto)]
 
 pub mod entries;
+pub mod lawful;
 pub mod laws;
 pub mod layouts;
 pub mod names;

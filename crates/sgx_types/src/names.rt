@@ -4,6 +4,15 @@ use std::alloc::{AllocError, AllocFailed};
 #[derive(Clone, Copy, Debug, PartialEq, Eq)]
 pub struct Frame(pub u32);
 
+/// The bytes of a page, and of a frame.
+pub const PAGE_BYTES: u64 = 4096;
+
+/// A machine has at most so many logical processors (this project's own).
+pub const PROCESSORS: u32 = 16;
+
+/// The greatest epoch of an enclave, 2^40 - 1 (this project's own). An enclave that has reached it can be tracked no more.
+pub const LAST_EPOCH: u64 = (1 << 40) - 1;
+
 /// A logical processor, by its number from 0 to 15.
 #[derive(Clone, Copy, Debug, PartialEq, Eq)]
 pub struct Cpu(pub u8);
@@ -38,6 +47,15 @@ pub struct Perm {
     pub r: bool,
     pub w: bool,
     pub x: bool,
+}
+
+impl Perm {
+    /// No permission, which a TCS, SECS or VA page has.
+    pub const NONE: Perm = Perm {
+        r: false,
+        w: false,
+        x: false,
+    };
 }
 
 /// The type of an EPC page: PT_SECS, PT_TCS, PT_REG or PT_VA (Intel SDM volume 3D, EPCM).

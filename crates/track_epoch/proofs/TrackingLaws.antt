@@ -7,7 +7,7 @@ use Rattle.std.proofs.lemmas.List.{length_push}
 use Rattle.std.proofs.lemmas.List.Elements.{All-nil, All-cons, All-head, All-tail, All-push}
 use Rattle.std.proofs.lemmas.List.Sums.{sum_by_push, sum_by-cons}
 use Rattle.std.proofs.lemmas.List.Sorted.{IsNonDecreasingBy-push}
-use Rattle.track_epoch.specs.declared.track.TheConstants.{LAST_EPOCH, PROCESSORS}
+use Rattle.sgx_types.specs.declared.names.TheConstants.{LAST_EPOCH, PROCESSORS}
 use Rattle.track_epoch.specs.Counters.{noted_by}
 use Rattle.track_epoch.specs.Tracking.{Tracking, starting_at, entered, without, left, tracked, number_older, number_newer, number_up_to, IsDrained, IsRecent, IsTracking}
 

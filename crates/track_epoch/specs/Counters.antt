@@ -1,7 +1,7 @@
 -- The tracking of an enclave as two counts.
 use Rattle.std.specs.Prelude.{ℕ, ◌+◌, ◌-◌, ◌≤◌, List, ◌++◌, replicate}
 use Rattle.track_epoch.specs.declared.track.Track.TheInside.{Inside}
-use Rattle.track_epoch.specs.declared.track.TheConstants.{LAST_EPOCH, PROCESSORS}
+use Rattle.sgx_types.specs.declared.names.TheConstants.{LAST_EPOCH, PROCESSORS}
 use Rattle.track_epoch.specs.Tracking.{Tracking}
 
 -- the older ones noted the epoch before, the newer ones this epoch

@@ -3,7 +3,7 @@ use Rattle.std.specs.Prelude.{ℕ, ◌+◌, ◌<◌, ◌≤◌, ◌==◌, if◌t
 use Rattle.std.specs.List.Sorted.{IsNonDecreasing}
 use Rattle.sgx_types.specs.declared.refusals.Refusal.{Refusal}
 use Rattle.sgx_types.specs.declared.refusals.Refusal.TheVariants.{PrevTrk, EpochSpent}
-use Rattle.track_epoch.specs.declared.track.TheConstants.{LAST_EPOCH, PROCESSORS}
+use Rattle.sgx_types.specs.declared.names.TheConstants.{LAST_EPOCH, PROCESSORS}
 
 -- the epoch of an enclave, and one noted epoch for each processor inside, in rising order
 pub record Tracking : Type 0 where

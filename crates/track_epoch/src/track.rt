@@ -1,14 +1,9 @@
 ghost use Rattle.std.specs.Prelude.{◌≡◌, ◌==◌, ◌&&◌, ◌+◌, ◌<◌, ◌≤◌, ◌↔◌, if◌then◌else◌, IsTrue, OnOk, OnErr, Contains, length, nat_lt, nat_le};
 ghost use Rattle.track_epoch.specs.Tracking.{starting_at, entered, left, tracked, track_answer, number_older, number_newer, number_up_to, IsDrained, IsTracking};
 
+use sgx_types::names::{LAST_EPOCH, PROCESSORS};
 use sgx_types::refusals::Refusal;
 use std::marker::Model;
-
-/// The greatest epoch, 2^40 - 1 (this project's own). An enclave that has reached it can be tracked no more.
-pub const LAST_EPOCH: u64 = (1 << 40) - 1;
-
-/// How many processors are inside an enclave at most (this project's own).
-pub const PROCESSORS: u32 = 16;
 
 /// The tracking of one enclave, which Intel SDM volume 3D leaves to the processor (ETRACK, EWB); this one, by epochs,
 /// is this project's own. A processor notes the enclave's epoch when it enters. Each track begins a new epoch, and

@@ -3,7 +3,8 @@ ghost use Rattle.std.specs.Borrow.{sem};
 ghost use Rattle.track_epoch.specs.Tracking.{starting_at};
 ghost use Rattle.track_epoch.specs.Tracks.{track_of, LendsTrack};
 
-use crate::track::{LAST_EPOCH, Track};
+use crate::track::Track;
+use sgx_types::names::LAST_EPOCH;
 use std::marker::Model;
 
 /// How many enclaves there are at most (this project's own). They are numbered from 1.

@@ -10,25 +10,25 @@ use cached_translations::processor::{Mode, Processor};
 use epcm_entry::epc::Epc;
 use secs_state::secs::Secs;
 use sgx_types::layouts::TcsFields;
-use sgx_types::names::Frame;
+use sgx_types::names::{Frame, PROCESSORS};
 use sgx_types::refusals::Refusal;
-use track_epoch::track::{PROCESSORS, Track};
+use track_epoch::track::Track;
 
 /// The two ways into an enclave: with a new state, or with the one that was saved last.
 #[derive(Clone, Copy, Debug, PartialEq, Eq)]
-pub enum Entry {
+pub enum WayIn {
     Enter,
     Resume,
 }
 
-impl Entry {
+impl WayIn {
     // Whether no state save frame is left for a new state, or none is in use.
     fn lacks_frame(self, fields: TcsFields) -> bool
         ensures { result ≡ (frame_case self (seen_fields fields)).holds }
     {
         match self {
-            Entry::Enter => fields.cssa == fields.nssa,
-            Entry::Resume => fields.cssa == 0,
+            WayIn::Enter => fields.cssa == fields.nssa,
+            WayIn::Resume => fields.cssa == 0,
         }
     }
 
@@ -37,8 +37,8 @@ impl Entry {
         ensures { result ≡ (frame_case self (seen_fields fields)).why }
     {
         match self {
-            Entry::Enter => Refusal::NoFrame,
-            Entry::Resume => Refusal::NoSaved,
+            WayIn::Enter => Refusal::NoFrame,
+            WayIn::Resume => Refusal::NoSaved,
         }
     }
 
@@ -49,8 +49,8 @@ impl Entry {
     {
         let next = fields.ossa / 4096 + u64::from(fields.cssa);
         match self {
-            Entry::Enter => next,
-            Entry::Resume => next - 1,
+            WayIn::Enter => next,
+            WayIn::Resume => next - 1,
         }
     }
 
@@ -141,6 +141,8 @@ pub fn seat(
     ensures track { track.new ≡ entered track.old }
     ensures cpu { cpu.new ≡ with_entered secs.old.enclave tcs tcs_frame ssa_frame track.old.epoch acc }
 {
+    // The processor is counted and holds nothing before it can take a translation: a track that comes then finds it among those
+    // that it waits for.
     cpu.mode = Mode::Inside {
         enclave: secs.enclave(),
         tcs,

@@ -1,0 +1,23 @@
+-- Facts on the cases of a row of the instruction table.
+use Rattle.std.proofs.Common.{◌≡◌, Bool, true, false, cond, refl, Option, Some, None, List, [], ◌∷◌}
+use Rattle.sgx_types.specs.Table.{Case, first_of_row}
+
+-- no case of a row holds
+abbrev pub NoneHolds : List Case → Type 0
+NoneHolds [] = Unit {0}
+NoneHolds (c ∷ cases) = (c.holds ≡ false) × NoneHolds cases
+
+-- a row that refuses nothing has no case that holds
+pub none_holds : (cases : List Case) → first_of_row cases ≡ None → NoneHolds cases
+none_holds [] h = tt
+none_holds (c ∷ cases) h = by_test c.holds h (none_holds cases)
+  where
+    by_test : (b : Bool) → cond b (Some c.why) (first_of_row cases) ≡ None → (first_of_row cases ≡ None → NoneHolds cases)
+        → (b ≡ false) × NoneHolds cases
+    by_test true e more = cc
+    by_test false e more = (refl, more e)
+
+-- .. and a row of which no case holds refuses nothing
+pub none_refused : (cases : List Case) → NoneHolds cases → first_of_row cases ≡ None
+none_refused [] h = refl
+none_refused (c ∷ cases) h = rw h.0 (none_refused cases h.1)

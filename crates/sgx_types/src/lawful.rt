@@ -1,0 +1,86 @@
+//! What an enclave and its pages may be: the enclave's range, and a page's kind, permissions and place.
+
+ghost use Rattle.std.specs.Prelude.{◌≡◌};
+ghost use Rattle.sgx_types.specs.Table.{is_addable, is_enclave, is_lawful, is_lawful_perm, is_within};
+
+use crate::entries::PageInit;
+use crate::names::{Kind, PAGE_BYTES, Perm};
+
+/// Whether an enclave may have this number: 1 to 8. This is the project's own.
+pub fn is_enclave(enclave: u16) -> bool
+    ensures { result ≡ is_enclave enclave }
+{
+    1 <= enclave && enclave <= 8
+}
+
+/// Whether an enclave may have this range in bytes: the size is a power of two from 2 pages to 4096 pages, and the base is
+/// a multiple of it (Intel SDM volume 3D, ECREATE). The upper bound is this project's own.
+pub fn is_lawful(base: u64, size: u64) -> bool
+    ensures { result ≡ is_lawful base size }
+{
+    size.is_power_of_two()
+        && 2 * PAGE_BYTES <= size
+        && size <= 4096 * PAGE_BYTES
+        && base % size == 0
+}
+
+/// Whether a page of this kind can be added, and with these bytes: a TCS with its fields, or a REG page with words.
+pub fn is_addable(kind: Kind, init: PageInit) -> bool
+    ensures { result ≡ is_addable kind init }
+{
+    matches!(
+        (kind, init),
+        (Kind::Tcs, PageInit::Tcs { .. }) | (Kind::Reg, PageInit::Words(_))
+    )
+}
+
+/// Whether a page of this kind may have these permissions: W never without R, and a TCS has none (Intel SDM volume 3D,
+/// EADD).
+pub fn is_lawful_perm(kind: Kind, perm: Perm) -> bool
+    ensures { result ≡ is_lawful_perm kind perm }
+{
+    match kind {
+        Kind::Tcs => !perm.r && !perm.w && !perm.x,
+        _ => perm.r || !perm.w,
+    }
+}
+
+/// Whether a page lies in an enclave of `size` bytes, and with a TCS page its state save frames, of which there is one.
+pub fn is_within(size: u64, number: u32, init: PageInit) -> bool
+    ensures { result ≡ is_within size number init }
+{
+    let pages = size / PAGE_BYTES;
+    match init {
+        PageInit::Words(_) => u64::from(number) < pages,
+        PageInit::Tcs { ossa, nssa } => {
+            u64::from(number) < pages && u64::from(ossa) + u64::from(nssa) <= pages && nssa != 0
+        }
+    }
+}
+
+#[cfg(test)]
+mod tests {
+    use super::*;
+
+    #[test]
+    fn ranges_are_powers_of_two_at_their_multiples(rt: HostRuntime) {
+        let rows = [
+            (0, 8192, true),
+            (0x4000, 8192, true),
+            (0x1000, 8192, false),
+            (0, 4096, false),
+            (0x1000_0000, 1 << 24, true),
+            (0, 1 << 25, false),
+            (0x3000, 0x3000, false),
+            (0, 0, false),
+            (u64::MAX - 0xffff, 0x1_0000, true),
+        ];
+        for (base, size, lawful) in rows {
+            assert_eq!(rt;
+                is_lawful(base, size),
+                lawful,
+                "{size} bytes from {base} on"
+            );
+        }
+    }
+}
