@@ -6,5 +6,3 @@ pub mod enter;
 mod entry;
 pub mod exit;
 mod tcs;
-#[cfg(test)]
-mod tests;
