@@ -1,14 +1,14 @@
 ghost use Rattle.std.specs.Prelude.{◌≤◌};
 
-use crate::failed_edges::{FailedSink, FailedSource};
-use crate::faults::Failed;
-use crate::giving::give_all;
-use crate::mem_sink::{CAPACITY, MemSink};
-use crate::mem_source::MemSource;
-use crate::reading::{ReadEnd, read_all};
-use crate::sinks::Sink;
-use crate::sources::Source;
-use crate::std_edges::{StdSink, StdSource};
+use io_edges::failed_edges::{FailedSink, FailedSource};
+use io_edges::faults::Failed;
+use io_edges::giving::give_all;
+use io_edges::mem_sink::{CAPACITY, MemSink};
+use io_edges::mem_source::MemSource;
+use io_edges::reading::{ReadEnd, read_all};
+use io_edges::sinks::Sink;
+use io_edges::sources::Source;
+use io_edges::std_edges::{StdSink, StdSource};
 use std::alloc::Global;
 use std::io;
 use std::io::{ErrorKind, Read, Write};

@@ -1,7 +1,7 @@
 ghost use Rattle.std.specs.Prelude.{◌≡◌, length};
 
-use crate::seal::{SealWork, SealedWork, seal};
-use crate::unseal::{UnsealWork, UnsealedWork, unseal};
+use seal_record::seal::{SealWork, SealedWork, seal};
+use seal_record::unseal::{UnsealWork, UnsealedWork, unseal};
 use sgx_types::record::{Header, Record};
 use std::test::Fail;
 
