@@ -59,19 +59,3 @@ impl Processor {
         })
     }
 }
-
-#[cfg(test)]
-mod tests {
-    use super::*;
-    use std::test::Fail;
-
-    #[test]
-    fn a_processor_starts_outside(rt: HostRuntime) -> Result<(), Fail> {
-        let cpu = Processor::new(rt.alloc())?;
-        assert_eq!(rt; cpu.mode, Mode::Outside);
-        assert!(rt; !cpu.mode.is_inside());
-        assert_eq!(rt; cpu.acc, 0);
-        assert!(rt; cpu.cache.is_empty());
-        Ok(())
-    }
-}

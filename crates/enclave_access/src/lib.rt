@@ -5,6 +5,4 @@
 pub mod access;
 pub mod fill;
 pub mod outside;
-#[cfg(test)]
-mod tests;
 mod translate;

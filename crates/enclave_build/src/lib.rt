@@ -6,5 +6,3 @@ pub mod build_refusal;
 pub mod create;
 pub mod extend;
 pub mod init;
-#[cfg(test)]
-mod tests;

@@ -5,6 +5,4 @@
 pub mod enter;
 pub mod exit;
 mod tcs;
-#[cfg(test)]
-mod tests;
 mod way_in;

@@ -5,7 +5,5 @@
 pub mod block;
 pub mod reload;
 mod slot;
-#[cfg(test)]
-mod tests;
 pub mod track;
 pub mod write_out;

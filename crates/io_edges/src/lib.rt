@@ -12,5 +12,3 @@ pub mod reading;
 pub mod sinks;
 pub mod sources;
 pub mod std_edges;
-#[cfg(test)]
-mod tests;

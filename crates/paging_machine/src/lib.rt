@@ -13,5 +13,3 @@ mod making;
 mod paging;
 mod register;
 pub mod starts;
-#[cfg(test)]
-mod tests;

@@ -1,6 +1,6 @@
-ghost use Rattle.std.specs.Prelude.{◌≡◌, ◌<◌, ◌≤◌, ◌^◌, ◌%◌, ◌/◌, count_by, length, is_some, nat_le};
+ghost use Rattle.std.specs.Prelude.{◌≡◌, ◌<◌, ◌≤◌, ◌^◌, ◌%◌, ◌/◌, count_by, length, is_some, nat_le, true, IsTrue};
 ghost use Rattle.std.specs.Option.{option_map};
-ghost use Rattle.sgx_types.specs.Frames.{least_free, page_at};
+ghost use Rattle.sgx_types.specs.Frames.{IsLoading, least_free, page_at};
 ghost use Rattle.sgx_types.specs.Table.{allows, is_lawful_access, is_ready};
 ghost use Rattle.sgx_types.specs.Flat.{enclave_sight_of};
 ghost use Rattle.epcm_entry.specs.Epc.{is_free_frame};
@@ -11,6 +11,7 @@ ghost use Rattle.paging_machine.specs.State.{number_noting};
 
 use crate::starts::Start;
 use cached_translations::processor::{Mode, Processor};
+use epcm_entry::entry_view::EntryView;
 use epcm_entry::epc::Epc;
 use measure_log::measure::Measure;
 use secs_state::table::SecsTable;
@@ -109,6 +110,24 @@ impl Machine {
         ensures { result ≡ count_by is_free_frame self.now.epc }
     {
         self.epc.free_count()
+    }
+
+    /// Whether the page in a frame has started to go out, and its write-out has not ended.
+    pub fn is_leaving(&self, frame: Frame) -> bool
+        ensures { IsTrue result → (state_of self.now).is_sealing frame.0 ≡ true }
+    {
+        frame.0 < self.frames()
+            && matches!(
+                self.epc.entry(frame),
+                EntryView::Valid { sealing: true, .. }
+            )
+    }
+
+    /// Whether a page has started to come into a frame, and its load has not ended.
+    pub fn is_coming(&self, frame: Frame) -> bool
+        ensures { IsTrue result → (state_of self.now).content frame.0 ≡ IsLoading }
+    {
+        frame.0 < self.frames() && matches!(self.epc.entry(frame), EntryView::Loading)
     }
 
     /// The fields of the TCS page in a frame, None exactly where the frame holds no TCS.

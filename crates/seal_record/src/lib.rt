@@ -5,6 +5,4 @@ pub mod cipher;
 pub mod records;
 pub mod seal;
 mod tag;
-#[cfg(test)]
-mod tests;
 pub mod unseal;

@@ -95,30 +95,3 @@ impl SecsTable {
         }
     }
 }
-
-#[cfg(test)]
-mod tests {
-    use super::*;
-    use sgx_types::lawful::is_lawful;
-    use std::test::Fail;
-
-    #[test]
-    fn holds_eight_enclaves(rt: HostRuntime) -> Result<(), Fail> {
-        assert!(rt; is_lawful(0, 8192));
-        let mut table = SecsTable::new();
-        for enclave in 1..9 {
-            assert!(rt; table.get(enclave).is_none());
-            table.insert(Secs::new(rt.alloc(), enclave, 0, 8192)?);
-        }
-        table.get_mut(5).ok_or("no enclave 5")?.set_init();
-        for enclave in 1..9 {
-            let secs = table.get(enclave).ok_or("no such enclave")?;
-            assert_eq!(rt; secs.enclave(), enclave);
-            assert_eq!(rt; secs.is_init(), enclave == 5);
-        }
-        assert!(rt; table.get(0).is_none());
-        assert!(rt; table.get(9).is_none());
-        assert!(rt; table.get_mut(9).is_none());
-        Ok(())
-    }
-}

@@ -57,30 +57,3 @@ pub fn is_within(size: u64, number: u32, init: PageInit) -> bool
         }
     }
 }
-
-#[cfg(test)]
-mod tests {
-    use super::*;
-
-    #[test]
-    fn ranges_are_powers_of_two_at_their_multiples(rt: HostRuntime) {
-        let rows = [
-            (0, 8192, true),
-            (0x4000, 8192, true),
-            (0x1000, 8192, false),
-            (0, 4096, false),
-            (0x1000_0000, 1 << 24, true),
-            (0, 1 << 25, false),
-            (0x3000, 0x3000, false),
-            (0, 0, false),
-            (u64::MAX - 0xffff, 0x1_0000, true),
-        ];
-        for (base, size, lawful) in rows {
-            assert_eq!(rt;
-                is_lawful(base, size),
-                lawful,
-                "{size} bytes from {base} on"
-            );
-        }
-    }
-}

@@ -127,36 +127,3 @@ impl Track {
         Ok(self.epoch)
     }
 }
-
-#[cfg(test)]
-mod tests {
-    use super::*;
-
-    #[test]
-    fn an_older_processor_keeps_a_page_back(rt: HostRuntime) {
-        let mut track = Track::new(5);
-        assert_eq!(rt; track.enter(), 5);
-        assert_eq!(rt; track.track(), Ok(6));
-        assert_eq!(rt; track.enter(), 6);
-        assert_eq!(rt; track.older(), 1);
-        assert_eq!(rt; track.at_or_below(5), 1);
-        assert_eq!(rt; track.at_or_below(6), 2);
-        assert!(rt; !track.drained(5));
-        assert_eq!(rt; track.track(), Err(Refusal::PrevTrk { older: 1 }));
-        track.leave(5);
-        assert!(rt; track.drained(5));
-        assert_eq!(rt; track.track(), Ok(7));
-        assert_eq!(rt; track.older(), 1);
-    }
-
-    #[test]
-    fn the_last_epoch_is_not_passed(rt: HostRuntime) {
-        let mut track = Track::new(1_099_511_627_774);
-        track.enter();
-        assert_eq!(rt; track.track(), Ok(1_099_511_627_775));
-        assert_eq!(rt; track.track(), Err(Refusal::PrevTrk { older: 1 }));
-        track.leave(1_099_511_627_774);
-        assert_eq!(rt; track.track(), Err(Refusal::EpochSpent));
-        assert_eq!(rt; track.epoch(), 1_099_511_627_775);
-    }
-}

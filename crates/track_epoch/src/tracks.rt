@@ -57,29 +57,3 @@ impl Tracks {
         &mut self.each[usize::from(enclave) - 1]
     }
 }
-
-#[cfg(test)]
-mod tests {
-    use super::*;
-
-    #[test]
-    fn enclaves_are_apart(rt: HostRuntime) {
-        let mut tracks = Tracks::new(7);
-        tracks.get_mut(3).enter();
-        tracks.get_mut(8).enter();
-        assert!(rt; tracks.get_mut(8).track().is_ok());
-        for (enclave, epoch, older) in [(1, 7, 0), (3, 7, 0), (8, 8, 1)] {
-            assert_eq!(rt;
-                tracks.get(enclave).epoch(),
-                epoch,
-                "epoch of enclave {enclave}"
-            );
-            assert_eq!(rt;
-                tracks.get(enclave).older(),
-                older,
-                "older in enclave {enclave}"
-            );
-        }
-        assert_eq!(rt; tracks.get(3).at_or_below(7), 1);
-    }
-}

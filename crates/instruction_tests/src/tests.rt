@@ -1,0 +1,5 @@
+mod accesses;
+mod builds;
+mod entries;
+mod evictions;
+mod perms;

@@ -1,0 +1,51 @@
+use epcm_entry::entry_view::EntryView;
+use sgx_types::entries::PageInit;
+use sgx_types::names::{Kind, Perm};
+use sgx_types::refusals::Refusal;
+
+// A step, and what it tells.
+pub type Row = (Step, Told);
+
+// Each is of the enclave that was created last.
+#[derive(Clone, Copy)]
+pub enum Step {
+    // A load into a frame starts.
+    ClaimLoad(u32),
+    // Whether the enclave exists, its frame, number, base and size.
+    Create(bool, u32, u16, u64, u64),
+    // The number of a page, its frame, kind, permissions and bytes.
+    Add(u32, u32, Kind, Perm, PageInit),
+    // A frame and a chunk of its page.
+    Extend(u32, u8),
+    Init(Option<[u8; 32]>),
+    // Whether Init is done, where no digest is expected.
+    CanInit,
+    Entry(u32),
+    // A frame and the index of a word in it.
+    Word(u32, u16),
+    // As what a page was added.
+    Added(u32),
+    Children,
+}
+
+#[derive(Clone, Copy, Debug, PartialEq)]
+pub enum Told {
+    Done,
+    Refused(Refusal),
+    // The number, base and size of an enclave, and whether it is initialised.
+    Created(u16, u64, u64, bool),
+    Digest([u8; 32]),
+    Entry(EntryView),
+    Added(Option<(Kind, Perm)>),
+    Number(u64),
+    Is(bool),
+}
+
+impl Told {
+    pub fn of_done(answer: Result<(), Refusal>) -> Told {
+        match answer {
+            Ok(()) => Told::Done,
+            Err(refusal) => Told::Refused(refusal),
+        }
+    }
+}

@@ -1,0 +1,239 @@
+mod rows;
+mod world;
+
+use self::rows::Row;
+use self::rows::Step::*;
+use self::rows::Told::{Done, Forged, Is, Left, Number, Refused};
+use self::world::play;
+use super::perms::READ_WRITE;
+use epcm_entry::entry_view::EntryView;
+use sgx_types::names::{Kind, Page};
+use sgx_types::refusals::Refusal;
+use std::test::Fail;
+
+// The bytes 1 to 8, low byte first.
+const RISING: u64 = 0x0807_0605_0403_0201;
+
+const PAGE_2: Page = Page {
+    enclave: 1,
+    number: 2,
+};
+
+const PAGE_5: Page = Page {
+    enclave: 1,
+    number: 5,
+};
+
+const PAGE_7: Page = Page {
+    enclave: 1,
+    number: 7,
+};
+
+const HELD: EntryView = EntryView::Valid {
+    page: PAGE_2,
+    kind: Kind::Reg,
+    perm: READ_WRITE,
+    blocked: None,
+    sealing: false,
+};
+
+// Frame 0 holds a version array page, frame 2 the SECS of enclave 1, and frame 1 its page 2.
+const BEGUN: &[Row] = &[
+    (PutVa(0), Done),
+    (Put(2, 0, Kind::Secs), Done),
+    (Put(1, 2, Kind::Reg), Done),
+];
+
+const GOES_AND_COMES: &[Row] = &[
+    (Fill(1, RISING), Done),
+    (StartOut(1, 0, 0), Refused(Refusal::PageNotBlocked)),
+    (Block(1), Done),
+    (Block(1), Refused(Refusal::BlkState)),
+    (
+        StartOut(1, 0, 0),
+        Refused(Refusal::NotTracked { epoch: 1, older: 0 }),
+    ),
+    (Track(1), Number(2)),
+    (StartOut(1, 0, 0), Number(1)),
+    (EndOut(1, 0, 1), Left(PAGE_2, 0x1_2000)),
+    (Entry(1), FREE),
+    (Version(0), Number(1)),
+    (IsBusy(0), Is(false)),
+    (StartIn(3, 1, 2, 0, 0), Number(1)),
+    (Entry(3), LOADING),
+    (EndIn(3, 2, 0, 1), Done),
+    (Entry(3), rows::Told::Entry(HELD)),
+    (IsFilled(3, RISING), Is(true)),
+    (Version(0), Number(0)),
+    (IsBusy(0), Is(false)),
+];
+
+const FREE: rows::Told = rows::Told::Entry(EntryView::Free);
+
+const LOADING: rows::Told = rows::Told::Entry(EntryView::Loading);
+
+// A page is blocked, tracked, written out and loaded into another frame.
+#[test]
+fn a_page_goes_out_and_comes_back(rt: HostRuntime) -> Result<(), Fail> {
+    play(&rt, rt.alloc(), 4, 1, &[BEGUN, GOES_AND_COMES])?;
+    Ok(())
+}
+
+const STARTED: &[Row] = &[
+    (Block(1), Done),
+    (Track(1), Number(2)),
+    (StartOut(1, 0, 0), Number(1)),
+    (Block(1), Refused(Refusal::Conflict)),
+    (IsBusy(0), Is(true)),
+];
+
+// A start leaves the frame and the slot busy.
+#[test]
+fn a_started_frame_is_busy(rt: HostRuntime) -> Result<(), Fail> {
+    play(&rt, rt.alloc(), 4, 1, &[BEGUN, STARTED])?;
+    Ok(())
+}
+
+// Eight frames, and enclave 1 has epoch 2. Frame 1 holds a page that is not blocked, 3 one that may go out, 4 one that is
+// sealing, with slot 1 busy, and 7 one that is blocked since the last track. Frame 5 is Loading from slot 3, and 6 is free.
+// Slots 3 and 4 have the versions 2 and 3; that of slot 4 is of page 7, whose record is kept.
+const TROUBLED: &[Row] = &[
+    (Put(3, 3, Kind::Reg), Done),
+    (Put(4, 4, Kind::Reg), Done),
+    (Put(5, 5, Kind::Reg), Done),
+    (Put(6, 7, Kind::Reg), Done),
+    (Put(7, 6, Kind::Reg), Done),
+    (Block(3), Done),
+    (Block(4), Done),
+    (Block(5), Done),
+    (Block(6), Done),
+    (Track(1), Number(2)),
+    (Block(7), Done),
+    (StartOut(4, 0, 1), Number(1)),
+    (StartOut(5, 0, 3), Number(2)),
+    (EndOut(5, 3, 2), Left(PAGE_5, 0x1_5000)),
+    (StartOut(6, 0, 4), Number(3)),
+    (EndOut(6, 4, 3), Left(PAGE_7, 0x1_7000)),
+    (StartIn(5, 1, 5, 0, 3), Number(2)),
+];
+
+const BLOCKS: &[Row] = &[
+    (Block(8), Refused(Refusal::BadRange)),
+    (Block(4), Refused(Refusal::Conflict)),
+    (Block(5), Refused(Refusal::Conflict)),
+    (Block(6), Refused(Refusal::PgInvld)),
+    (Block(2), Refused(Refusal::PgIsSecs)),
+    (Block(0), Refused(Refusal::NotBlockable)),
+    (Block(3), Refused(Refusal::BlkState)),
+];
+
+#[test]
+fn a_block_tells_why_not(rt: HostRuntime) -> Result<(), Fail> {
+    play(&rt, rt.alloc(), 8, 1, &[BEGUN, TROUBLED, BLOCKS])?;
+    Ok(())
+}
+
+const TRACKS: &[Row] = &[
+    (Track(0), Refused(Refusal::Absent)),
+    (Track(2), Refused(Refusal::Absent)),
+    (Track(9), Refused(Refusal::Absent)),
+    (Enter, Done),
+    (Track(1), Number(1_099_511_627_775)),
+    (Track(1), Refused(Refusal::PrevTrk { older: 1 })),
+];
+
+const LAST_TRACK: &[Row] = &[(Track(1), Refused(Refusal::EpochSpent))];
+
+// One before the last epoch, and at it.
+#[test]
+fn a_track_tells_why_not(rt: HostRuntime) -> Result<(), Fail> {
+    play(&rt, rt.alloc(), 4, 1_099_511_627_774, &[TRACKS])?;
+    play(&rt, rt.alloc(), 4, 1_099_511_627_775, &[LAST_TRACK])?;
+    Ok(())
+}
+
+const STARTS_OUT: &[Row] = &[
+    (Enter, Done),
+    (StartOut(8, 0, 0), Refused(Refusal::BadRange)),
+    (StartOut(1, 8, 0), Refused(Refusal::BadRange)),
+    (StartOut(1, 0, 512), Refused(Refusal::BadRange)),
+    (StartOut(4, 0, 0), Refused(Refusal::Conflict)),
+    (StartOut(1, 0, 1), Refused(Refusal::Conflict)),
+    (StartOut(6, 0, 0), Refused(Refusal::PgInvld)),
+    (StartOut(2, 0, 0), Refused(Refusal::BadKind)),
+    (StartOut(0, 0, 0), Refused(Refusal::BadKind)),
+    (StartOut(3, 1, 0), Refused(Refusal::BadKind)),
+    (StartOut(1, 0, 0), Refused(Refusal::PageNotBlocked)),
+    (
+        StartOut(7, 0, 0),
+        Refused(Refusal::NotTracked { epoch: 2, older: 1 }),
+    ),
+    (
+        StartOut(3, 0, 4),
+        Refused(Refusal::SlotOccupied { version: 3 }),
+    ),
+    (SpendVersions, Number(u64::MAX)),
+    (StartOut(3, 0, 0), Refused(Refusal::VersionSpent)),
+    (
+        StartOut(3, 0, 4),
+        Refused(Refusal::SlotOccupied { version: 3 }),
+    ),
+];
+
+#[test]
+fn a_start_of_a_write_out_tells_why_not(rt: HostRuntime) -> Result<(), Fail> {
+    play(&rt, rt.alloc(), 8, 1, &[BEGUN, TROUBLED, STARTS_OUT])?;
+    Ok(())
+}
+
+const STARTS_IN: &[Row] = &[
+    (StartIn(8, 1, 7, 0, 4), Refused(Refusal::BadRange)),
+    (StartIn(6, 1, 7, 8, 4), Refused(Refusal::BadRange)),
+    (StartIn(6, 1, 7, 0, 512), Refused(Refusal::BadRange)),
+    (StartIn(6, 1, 10, 0, 4), Refused(Refusal::Absent)),
+    (StartIn(4, 1, 7, 0, 4), Refused(Refusal::Conflict)),
+    (StartIn(5, 1, 7, 0, 4), Refused(Refusal::Conflict)),
+    (StartIn(6, 1, 7, 0, 1), Refused(Refusal::Conflict)),
+    (StartIn(1, 1, 7, 0, 4), Refused(Refusal::FrameBusy)),
+    (StartIn(0, 1, 7, 0, 4), Refused(Refusal::FrameBusy)),
+    (StartIn(6, 1, 7, 1, 4), Refused(Refusal::BadKind)),
+    (StartIn(6, 1, 7, 6, 4), Refused(Refusal::BadKind)),
+    (StartIn(6, 1, 7, 0, 0), Refused(Refusal::SlotEmpty)),
+    (StartIn(6, 2, 7, 0, 4), Refused(Refusal::Absent)),
+    (StartIn(6, 1, 7, 0, 4), Number(3)),
+];
+
+#[test]
+fn a_start_of_a_reload_tells_why_not(rt: HostRuntime) -> Result<(), Fail> {
+    play(&rt, rt.alloc(), 8, 1, &[BEGUN, TROUBLED, STARTS_IN])?;
+    Ok(())
+}
+
+const OTHER_HEADER: Refusal = Refusal::BadHeader {
+    enclave: 1,
+    address: 0x1_7000,
+    flags: 0x203,
+};
+
+const ENDS_IN: &[Row] = &[
+    (StartIn(6, 1, 7, 0, 4), Number(3)),
+    (EndIn(6, 7, 4, 2), Forged(true)),
+    (Entry(6), FREE),
+    (Version(4), Number(3)),
+    (IsBusy(4), Is(false)),
+    (StartIn(6, 1, 8, 0, 4), Number(3)),
+    (EndIn(6, 8, 4, 3), Refused(OTHER_HEADER)),
+    (Entry(6), FREE),
+    (Version(4), Number(3)),
+    (IsBusy(4), Is(false)),
+    (StartIn(6, 1, 7, 0, 4), Number(3)),
+    (EndIn(6, 7, 4, 3), Done),
+    (Version(4), Number(0)),
+];
+
+// A refused commit leaves the frame free and the version in its slot, so that the page can be loaded from another record.
+#[test]
+fn a_commit_of_a_reload_tells_why_not(rt: HostRuntime) -> Result<(), Fail> {
+    play(&rt, rt.alloc(), 8, 1, &[BEGUN, TROUBLED, ENDS_IN])?;
+    Ok(())
+}

@@ -1,0 +1,68 @@
+use epcm_entry::entry_view::EntryView;
+use sgx_types::names::{Kind, Page};
+use sgx_types::refusals::Refusal;
+
+// A step, and what it tells.
+pub type Row = (Step, Told);
+
+// Frames, and the numbers of enclaves, pages and slots, stand in the order of the instruction's arguments.
+#[derive(Clone, Copy)]
+pub enum Step {
+    // A version array page in a frame.
+    PutVa(u32),
+    // Another page of enclave 1 in a frame.
+    Put(u32, u32, Kind),
+    // Every word of a frame.
+    Fill(u32, u64),
+    Block(u32),
+    Track(u16),
+    // A processor enters enclave 1.
+    Enter,
+    // A frame, and the frame and the index of its slot.
+    StartOut(u32, u32, u16),
+    // A frame, the index of a slot of frame 0, and the version to seal under. The record is kept.
+    EndOut(u32, u16, u64),
+    // A frame, the enclave and the number of its page, and the frame and the index of the slot.
+    StartIn(u32, u16, u32, u32, u16),
+    // A frame, the page's number, the index of a slot of frame 0, and the version to open the kept record under.
+    EndIn(u32, u32, u16, u64),
+    // The last version is drawn.
+    SpendVersions,
+    Entry(u32),
+    // Whether each word of a frame is this.
+    IsFilled(u32, u64),
+    // The version in a slot of frame 0.
+    Version(u16),
+    // Whether a slot of frame 0 is busy.
+    IsBusy(u16),
+}
+
+#[derive(Clone, Copy, Debug, PartialEq)]
+pub enum Told {
+    Done,
+    Nothing,
+    Number(u64),
+    Refused(Refusal),
+    // The page that went out, and the address in its record.
+    Left(Page, u64),
+    // The tag is refused, and whether the refusal names the record's own tag and the one that was computed.
+    Forged(bool),
+    Entry(EntryView),
+    Is(bool),
+}
+
+impl Told {
+    pub fn of_done(answer: Result<(), Refusal>) -> Told {
+        match answer {
+            Ok(()) => Told::Done,
+            Err(refusal) => Told::Refused(refusal),
+        }
+    }
+
+    pub fn of_number(answer: Result<u64, Refusal>) -> Told {
+        match answer {
+            Ok(number) => Told::Number(number),
+            Err(refusal) => Told::Refused(refusal),
+        }
+    }
+}

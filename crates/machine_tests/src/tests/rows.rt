@@ -1,0 +1,93 @@
+use super::instructions::Instruction;
+use cached_translations::processor::Mode;
+use sgx_types::entries::{AccessOp, Actor, Answer};
+use sgx_types::layouts::TcsFields;
+use sgx_types::names::{Cpu, Frame, Perm};
+use sgx_types::refusals::Refusal;
+
+pub const BUILDER: Actor = Actor::Builder;
+
+pub const FIRST: Actor = Actor::Cpu(Cpu(0));
+
+pub const SECOND: Actor = Actor::Cpu(Cpu(1));
+
+pub const RECLAIMER: Actor = Actor::Reclaimer;
+
+pub const DONE: Result<Answer, Refusal> = Ok(Answer::Plain);
+
+pub const NONE: Perm = Perm {
+    r: false,
+    w: false,
+    x: false,
+};
+
+pub const READ: Perm = Perm {
+    r: true,
+    w: false,
+    x: false,
+};
+
+pub const WRITE: Perm = Perm {
+    r: false,
+    w: true,
+    x: false,
+};
+
+pub const READ_WRITE: Perm = Perm {
+    r: true,
+    w: true,
+    x: false,
+};
+
+pub const READ_EXECUTE: Perm = Perm {
+    r: true,
+    w: false,
+    x: true,
+};
+
+// One line of a test.
+#[derive(Clone, Copy)]
+pub enum Row {
+    // An instruction, and what it has to answer.
+    Step(Actor, Instruction, Result<Answer, Refusal>),
+    // The end of the write-out of a frame, whose record is kept for an EndIn.
+    EndOut(u32, Answer),
+    // .. with sealed work of which one byte is not the page's.
+    EndOutOther(u32, Answer),
+    // The end of the load of a frame, with the record that was kept.
+    EndIn(u32, Result<Answer, Refusal>),
+    // What the machine has to tell of itself.
+    Tells(Reader, Told),
+    // The REG pages from a number to below another are added, page n in frame n + 1, each of one word's copies.
+    AddEach(u32, u32, u64),
+    // The first processor misses each of these pages, fills in its translation from frame n + 1, and loads the word.
+    TouchEach(u32, u32, u64),
+}
+
+// What the machine is asked of itself.
+#[derive(Clone, Copy)]
+pub enum Reader {
+    Frames,
+    FirstFree,
+    FreeCount,
+    // The fields of the TCS page in a frame.
+    Fields(u32),
+    // Outside, or inside an enclave.
+    Stands(u8),
+    // Whether a processor holds a translation of a page, by its number.
+    Holds(u8, u32),
+    // How many processors are inside an enclave with an epoch at or below one.
+    Older(u16, u64),
+    IsInit(u16),
+    // Whether an access of a page can succeed, by the enclave and the number of the page.
+    Lawful(u16, u32, AccessOp),
+}
+
+#[derive(Clone, Copy, Debug, PartialEq)]
+pub enum Told {
+    Count(u32),
+    Free(Option<Frame>),
+    Tcs(Option<TcsFields>),
+    Mode(Mode),
+    Is(bool),
+}

@@ -1,0 +1,13 @@
+mod edges;
+mod enclaves;
+mod entries;
+mod frames;
+mod layouts;
+mod logs;
+mod names;
+mod processors;
+mod records;
+mod refusals;
+mod seals;
+mod slots;
+mod tracks;

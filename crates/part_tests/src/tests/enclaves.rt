@@ -1,0 +1,82 @@
+use secs_state::secs::Secs;
+use secs_state::table::SecsTable;
+use sgx_types::lawful::is_lawful;
+use sgx_types::names::{Kind, Perm};
+use std::test::Fail;
+
+const WRITABLE: Perm = Perm {
+    r: true,
+    w: true,
+    x: false,
+};
+
+#[test]
+fn ranges_are_powers_of_two_at_their_multiples(rt: HostRuntime) {
+    let rows = [
+        (0, 8192, true),
+        (0x4000, 8192, true),
+        (0x1000, 8192, false),
+        (0, 4096, false),
+        (0x1000_0000, 1 << 24, true),
+        (0, 1 << 25, false),
+        (0x3000, 0x3000, false),
+        (0, 0, false),
+        (u64::MAX - 0xffff, 0x1_0000, true),
+    ];
+    for (base, size, lawful) in rows {
+        assert_eq!(rt;
+            is_lawful(base, size),
+            lawful,
+            "{size} bytes from {base} on"
+        );
+    }
+}
+
+#[test]
+fn keeps_each_page_by_its_number(rt: HostRuntime) -> Result<(), Fail> {
+    assert!(rt; is_lawful(0x1_0000, 0x1_0000));
+    let mut secs = Secs::new(rt.alloc(), 3, 0x1_0000, 0x1_0000)?;
+    assert_eq!(rt;
+        (secs.enclave(), secs.base(), secs.size()),
+        (3, 0x1_0000, 0x1_0000)
+    );
+    secs.note_added(2, Kind::Reg, WRITABLE);
+    assert_eq!(rt; secs.added(2), Some((Kind::Reg, WRITABLE)));
+    assert_eq!(rt; secs.added(1), None);
+    assert_eq!(rt; secs.added(16), None);
+    secs.take_tcs(2);
+    assert_eq!(rt;
+        (secs.tcs_busy(2), secs.tcs_busy(1), secs.tcs_busy(16)),
+        (true, false, false)
+    );
+    secs.free_tcs(2);
+    assert!(rt; !secs.tcs_busy(2));
+    assert!(rt; !secs.is_init());
+    secs.set_init();
+    assert!(rt; secs.is_init());
+    secs.child_added();
+    secs.child_added();
+    secs.child_left();
+    assert_eq!(rt; secs.children(), 1);
+    Ok(())
+}
+
+#[test]
+fn holds_eight_enclaves(rt: HostRuntime) -> Result<(), Fail> {
+    assert!(rt; is_lawful(0, 8192));
+    let mut table = SecsTable::new();
+    for enclave in 1..9 {
+        assert!(rt; table.get(enclave).is_none());
+        table.insert(Secs::new(rt.alloc(), enclave, 0, 8192)?);
+    }
+    table.get_mut(5).ok_or("no enclave 5")?.set_init();
+    for enclave in 1..9 {
+        let secs = table.get(enclave).ok_or("no such enclave")?;
+        assert_eq!(rt; secs.enclave(), enclave);
+        assert_eq!(rt; secs.is_init(), enclave == 5);
+    }
+    assert!(rt; table.get(0).is_none());
+    assert!(rt; table.get(9).is_none());
+    assert!(rt; table.get_mut(9).is_none());
+    Ok(())
+}

@@ -1,0 +1,99 @@
+use epcm_entry::entry_view::EntryView;
+use epcm_entry::epc::Epc;
+use sgx_types::names::{Frame, Kind, Page, Perm};
+use sgx_types::refusals::Refusal;
+use std::process::Abort;
+use std::test::Fail;
+
+const PAGE: Page = Page {
+    enclave: 1,
+    number: 2,
+};
+
+const PERM: Perm = Perm {
+    r: true,
+    w: true,
+    x: false,
+};
+
+fn hold_page(rt: &impl Abort, epc: &mut Epc, number: u32) {
+    let frame = Frame(number);
+    assert!(rt; number < epc.frames());
+    assert_eq!(rt; epc.entry(frame), EntryView::Free);
+    epc.set(frame, PAGE, Kind::Reg, PERM);
+}
+
+fn free(rt: &impl Abort, epc: &mut Epc, number: u32) {
+    assert!(rt; number < epc.frames());
+    epc.clear(Frame(number));
+}
+
+// Frames, those taken from 0 on, those of them given back, and then the least free frame and the number of free ones.
+#[test]
+fn finds_the_least_free_frame(rt: HostRuntime) -> Result<(), Fail> {
+    let rows: [(u32, u32, &[u32], Option<Frame>, u32); 10] = [
+        (0, 0, &[], None, 0),
+        (1, 0, &[], Some(Frame(0)), 1),
+        (1, 1, &[], None, 0),
+        (64, 63, &[], Some(Frame(63)), 1),
+        (64, 64, &[], None, 0),
+        (65, 64, &[], Some(Frame(64)), 1),
+        (200, 200, &[199, 130], Some(Frame(130)), 2),
+        (200, 128, &[127, 64], Some(Frame(64)), 74),
+        (4096, 4096, &[4095], Some(Frame(4095)), 1),
+        (4096, 4095, &[0], Some(Frame(0)), 2),
+    ];
+    for (frames, taken, freed, first, count) in rows {
+        assert!(rt; frames <= 4096);
+        let mut epc = Epc::new(rt.alloc(), frames)?;
+        for number in 0..taken {
+            hold_page(&rt, &mut epc, number);
+        }
+        for number in freed {
+            free(&rt, &mut epc, *number);
+        }
+        assert_eq!(rt; epc.first_free(), first, "{frames} frames, {taken} taken");
+        assert_eq!(rt; epc.free_count(), count, "{frames} frames, {taken} taken");
+    }
+    Ok(())
+}
+
+#[test]
+fn words_are_bytes_low_first(rt: HostRuntime) -> Result<(), Fail> {
+    let mut epc = Epc::new(rt.alloc(), 2)?;
+    epc.set_word(Frame(1), 511, 0x0807_0605_0403_0201);
+    assert_eq!(rt;
+        &epc.bytes(Frame(1))[4088..],
+        [1, 2, 3, 4, 5, 6, 7, 8].as_slice()
+    );
+    assert_eq!(rt; epc.word(Frame(1), 511), 0x0807_0605_0403_0201);
+    let mut from = [0; 4096];
+    from[9] = 2;
+    epc.set_bytes(Frame(0), &from);
+    assert_eq!(rt; epc.word(Frame(0), 1), 512);
+    epc.clear(Frame(1));
+    assert_eq!(rt; epc.word(Frame(1), 511), 0);
+    assert_eq!(rt; epc.word(Frame(0), 1), 512);
+    Ok(())
+}
+
+#[test]
+fn claims_a_frame_once(rt: HostRuntime) -> Result<(), Fail> {
+    let mut epc = Epc::new(rt.alloc(), 2)?;
+    assert_eq!(rt; epc.claim_load(Frame(0)), Ok(()));
+    assert_eq!(rt; epc.claim_load(Frame(0)), Err(Refusal::Conflict));
+    assert_eq!(rt; epc.entry(Frame(0)), EntryView::Loading);
+    epc.set(Frame(0), PAGE, Kind::Reg, PERM);
+    epc.block(Frame(0), 7);
+    assert_eq!(rt; epc.claim_seal(Frame(0)), Ok(()));
+    assert_eq!(rt; epc.claim_seal(Frame(0)), Err(Refusal::Conflict));
+    let sealing = EntryView::Valid {
+        page: PAGE,
+        kind: Kind::Reg,
+        perm: PERM,
+        blocked: Some(7),
+        sealing: true,
+    };
+    assert_eq!(rt; epc.entry(Frame(0)), sealing);
+    Ok(())
+}
