@@ -9,13 +9,9 @@ use Rattle.flat_machine.specs.declared.table.PlainPage.{PlainPage}
 use Rattle.flat_machine.specs.declared.flat.Processor.{Processor}
 use Rattle.flat_machine.specs.declared.flat.Enclave.{Enclave}
 use Rattle.flat_machine.specs.Parts.{FlatParts, look, with_slot, with_word, with_busy_mark, page_of, busy_of, cpu_of, memory_of, idle, enclave_of}
-use Rattle.flat_machine.proofs.Lists.{get_or-set_if, eqb-swap, both_true, like}
-
--- a page by its enclave and its number
-pub same_page-true : (a b : Page) → same_page a b ≡ true → a ≡ b
-same_page-true a b h =
-    let both = both_true (a.enclave == b.enclave) (a.number == b.number) h in
-    (λ i. record { enclave = eqb-true a.enclave b.enclave both.0 i; number = eqb-true a.number b.number both.1 i })
+use Rattle.sgx_types.proofs.Pages.{same_pages}
+use Rattle.sgx_types.proofs.Truths.{eqb-swap}
+use Rattle.flat_machine.proofs.Lists.{get_or-set_if, like}
 
 -- a written place, read at each page
 pub slot_written : (tables : List (List (Option PlainPage))) (e n : ℕ) (v : Option PlainPage) → e < length tables → n < length (get_or tables e []) → (q : Page)
@@ -44,7 +40,7 @@ slot_changed tables e n f none q = by_place (cases_lt e (length tables)) (cases_
     absent is same =
         ap (λ ts. look ts q) same
         ∙ cond_both (same_page q (page_at e n)) (f (look tables q)) (look tables q) (λ x. look tables q ≡ x)
-        (λ here. let there : look tables q ≡ None = ap (λ g. look tables g) (same_page-true q (page_at e n) here) ∙ is in there ∙ sym none ∙ ap f (sym there)) (λ _. refl)
+        (λ here. let there : look tables q ≡ None = ap (λ g. look tables g) (same_pages q (page_at e n) here) ∙ is in there ∙ sym none ∙ ap f (sym there)) (λ _. refl)
 
     set_row : (xs : List (List (Option PlainPage))) (i : ℕ) → set xs i (get_or xs i []) ≡ xs
     set_row [] i = refl
@@ -56,7 +52,7 @@ slot_changed tables e n f none q = by_place (cases_lt e (length tables)) (cases_
     by_place (inl low) (inl in_table) =
         slot_written tables e n (f (look tables (page_at e n))) low in_table q
         ∙ cond_both (same_page q (page_at e n)) (f (look tables q)) (look tables q) (λ x. cond (same_page q (page_at e n)) (f (look tables (page_at e n))) (look tables q) ≡ x)
-        (λ here. rw here (ap (λ g. f (look tables g)) (sym (same_page-true q (page_at e n) here)))) (λ other. rw other refl)
+        (λ here. rw here (ap (λ g. f (look tables g)) (sym (same_pages q (page_at e n) here)))) (λ other. rw other refl)
     by_place (inl low) (inr past) =
         absent (get_or_past (get_or tables e []) n None past)
         (ap (λ row. set tables e row) (set_past (get_or tables e []) n (f (look tables (page_at e n))) past) ∙ set_row tables e)
@@ -130,7 +126,7 @@ memory_mark d e n b h = λ t. record (memory_of d) { pages = λ q. pages q t; is
     busy q = ap busy_of (changed q) ∙ by_test (same_page q (page_at e n)) refl
       where
         by_test : (s : Bool) → same_page q (page_at e n) ≡ s → busy_of (cond s (with_busy_mark (look d.tables q) b) (look d.tables q)) ≡ cond s b (busy_of (look d.tables q))
-        by_test true same = mark_busy (look d.tables q) b (λ is. ap (λ g. is_some (page_of (look d.tables g))) (same_page-true q (page_at e n) same) ∙ h is)
+        by_test true same = mark_busy (look d.tables q) b (λ is. ap (λ g. is_some (page_of (look d.tables g))) (same_pages q (page_at e n) same) ∙ h is)
         by_test false other = refl
 
 -- a written processor

@@ -29,24 +29,6 @@ get_or-set_if xs i n a d low =
 pub zero_word : (pages : List (Option PlainPage)) (n i : ℕ) → get_or pages n None ≡ None → i < 512 → 0 ≡ get_or (words_in (get_or pages n None)) i 0
 zero_word pages n i none low = rw none (sym (like 512 i 0))
 
-apart : (f n : ℕ) → (f ≡ n → ⊥) → (f == n) ≡ false
-apart f n h = by_test (f == n) refl
-  where
-    by_test : (b : Bool) → (f == n) ≡ b → b ≡ false
-    by_test true e = absurd (h (eqb-true f n e))
-    by_test false e = refl
-
-pub eqb-swap : (a b : ℕ) → (a == b) ≡ (b == a)
-eqb-swap a b = by_test (a == b) refl
-  where
-    by_test : (x : Bool) → (a == b) ≡ x → x ≡ (b == a)
-    by_test true e = sym (eq-eqb b a (sym (eqb-true a b e)))
-    by_test false e = sym (apart b a (λ same. false≢true (sym e ∙ eq-eqb a b (sym same))))
-
-pub both_true : (a b : Bool) → (a && b) ≡ true → (a ≡ true) × (b ≡ true)
-both_true true b h = (refl, h)
-both_true false b h = cc
-
 -- an item that was read from its place
 pub read_at : {X : Type 0} (xs : List X) (i : ℕ) (x d : X) → i < length xs → x ≡ get_or xs i x → x ≡ get_or xs i d
 read_at [] i x d low is = absurd (omega (arith, low))

@@ -15,29 +15,11 @@ use Rattle.flat_machine.specs.declared.table.PlainPage.{PlainPage}
 use Rattle.flat_machine.specs.declared.flat.Enclave.{Enclave}
 use Rattle.flat_machine.specs.Parts.{FlatParts, look, with_slot, page_of, busy_of, enclave_of, memory_of, seat}
 use Rattle.flat_machine.specs.Whole.{page_count}
-use Rattle.flat_machine.proofs.Lists.{get_or-set_if, eqb-swap, both_true, like}
-use Rattle.flat_machine.proofs.Columns.{same_page-true, slot_written}
-
--- no case of a row holds
-abbrev pub NoneHolds : List Case → Type 0
-NoneHolds [] = Unit {0}
-NoneHolds (c ∷ cases) = (c.holds ≡ false) × NoneHolds cases
-
-pub none_holds : (cases : List Case) → first_of_row cases ≡ None → NoneHolds cases
-none_holds [] h = tt
-none_holds (c ∷ cases) h = by_test c.holds h (none_holds cases)
-  where
-    by_test : (b : Bool) → cond b (Some c.why) (first_of_row cases) ≡ None → (first_of_row cases ≡ None → NoneHolds cases) → (b ≡ false) × NoneHolds cases
-    by_test true e more = cc
-    by_test false e more = (refl, more e)
-
-neither : (a b : Bool) → (a || b) ≡ false → (a ≡ false) × (b ≡ false)
-neither true b h = cc
-neither false b h = (refl, h)
-
-not_false : (b : Bool) → not b ≡ false → b ≡ true
-not_false true h = refl
-not_false false h = cc
+use Rattle.sgx_types.proofs.Pages.{same_pages}
+use Rattle.sgx_types.proofs.Rows.{NoneHolds, none_holds}
+use Rattle.sgx_types.proofs.Truths.{both_true, eqb-swap, neither, not_false}
+use Rattle.flat_machine.proofs.Lists.{get_or-set_if, like}
+use Rattle.flat_machine.proofs.Columns.{slot_written}
 
 -- ---- init
 
@@ -145,7 +127,7 @@ memory_added d e n x idle none low in_table = λ t. record (memory_of d) { pages
     busy q = ap busy_of (slot_written d.tables e n (Some x) low in_table q) ∙ by_test (same_page q (page_at e n)) refl
       where
         by_test : (s : Bool) → same_page q (page_at e n) ≡ s → busy_of (cond s (Some x) (look d.tables q)) ≡ busy_of (look d.tables q)
-        by_test true same = idle ∙ sym (ap busy_of (ap (look d.tables) (same_page-true q (page_at e n) same) ∙ none))
+        by_test true same = idle ∙ sym (ap busy_of (ap (look d.tables) (same_pages q (page_at e n) same) ∙ none))
         by_test false other = refl
 
 -- ---- exits

@@ -9,6 +9,7 @@ use Rattle.sgx_types.specs.declared.refusals.Refusal.{Refusal}
 use Rattle.sgx_types.specs.declared.entries.AccessOp.{AccessOp}
 use Rattle.sgx_types.specs.declared.entries.AccessOp.TheVariants as accesses
 use Rattle.sgx_types.specs.declared.names.Perm.{Perm}
+use Rattle.sgx_types.specs.declared.names.TheConstants.{PROCESSORS}
 use Rattle.sgx_types.specs.Table.{Case, first_of_row, allows_read, allows_write, allows_update}
 use Rattle.sgx_types.specs.Flat.{FlatMemory, is_processors, flat_cpu_row, flat_build_row, accepts, flat_answer, memory_after}
 use Rattle.flat_machine.specs.declared.reply.FlatReply.{FlatReply}
@@ -16,7 +17,7 @@ use Rattle.flat_machine.specs.declared.reply.FlatReply.TheVariants.{Did, Refused
 
 -- a processor from 0 to 15
 abbrev pub IsProcessor : Actor → Type 0
-IsProcessor (Cpu p) = p.0 < 16
+IsProcessor (Cpu p) = p.0 < PROCESSORS
 IsProcessor _ = ⊥
 
 -- an instruction of a processor is one of a processor from 0 to 15

@@ -1,5 +1,6 @@
 -- What is true of every flat memory.
 use Rattle.std.specs.Prelude.{ℕ, ◌≡◌, ◌/◌, [], Option, Some, None, length, slice_index_or}
+use Rattle.sgx_types.specs.declared.names.TheConstants.{PROCESSORS}
 use Rattle.flat_machine.specs.declared.flat.Enclave.{Enclave}
 use Rattle.flat_machine.specs.declared.flat.Flat.TheInside.{Inside}
 use Rattle.flat_machine.specs.Parts.{FlatParts}
@@ -16,5 +17,5 @@ page_count (Some x) = x.size / 4096
 pub record IsWhole (m : Inside) : Type 0 where
   pub enclaves_len : length m.enclaves.items ≡ 9
   pub tables_len : length m.tables.items ≡ 9
-  pub cpus_len : length m.cpus.items ≡ 16
+  pub cpus_len : length m.cpus.items ≡ PROCESSORS
   pub pages_len : (e : ℕ) → length (slice_index_or m.tables.items e []) ≡ page_count (slice_index_or m.enclaves.items e None)

@@ -11,13 +11,13 @@ use crate::flat::{Flat, Mode, Processor};
 use crate::reply::FlatReply;
 use crate::table::Added;
 use sgx_types::entries::{AccessOp, Answer, PfWhy};
-use sgx_types::names::{Cpu, Kind, Perm};
+use sgx_types::names::{Cpu, Kind, PROCESSORS, Perm};
 use sgx_types::refusals::Refusal;
 
 impl Flat {
     /// A processor reads a word of its enclave.
     pub(crate) fn load(&self, cpu: Cpu, off: u64) -> FlatReply
-        requires { cpu.0 < 16 }
+        requires { cpu.0 < PROCESSORS }
         ensures { result ≡ replied (first_of_row (load_row off (is_some ((memory_of self.now).cpus cpu.0).inside) (flat_translation (memory_of self.now) ((memory_of self.now).cpus cpu.0).inside off)))
             (answers.Value (word_seen (memory_of self.now) ((memory_of self.now).cpus cpu.0).inside off)) }
     {
@@ -29,7 +29,7 @@ impl Flat {
 
     /// A processor writes a word of its enclave.
     pub(crate) fn store(&mut self, cpu: Cpu, off: u64, value: u64) -> FlatReply
-        requires { cpu.0 < 16 }
+        requires { cpu.0 < PROCESSORS }
         ensures reply { result ≡ replied (first_of_row (store_row off (is_some ((memory_of self.old).cpus cpu.0).inside) (flat_translation (memory_of self.old) ((memory_of self.old).cpus cpu.0).inside off))) answers.Plain }
         ensures memory { memory_of self.new ≡ taken (first_of_row (store_row off (is_some ((memory_of self.old).cpus cpu.0).inside) (flat_translation (memory_of self.old) ((memory_of self.old).cpus cpu.0).inside off)))
             (stored (memory_of self.old) ((memory_of self.old).cpus cpu.0).inside off value) (memory_of self.old) }
@@ -43,7 +43,7 @@ impl Flat {
 
     /// A processor adds to a word of its enclave, and takes what it was.
     pub(crate) fn xadd(&mut self, cpu: Cpu, off: u64, value: u64) -> FlatReply
-        requires { cpu.0 < 16 }
+        requires { cpu.0 < PROCESSORS }
         ensures reply { result ≡ replied (first_of_row (xadd_row off (is_some ((memory_of self.old).cpus cpu.0).inside) (flat_translation (memory_of self.old) ((memory_of self.old).cpus cpu.0).inside off)))
             (answers.Value (word_seen (memory_of self.old) ((memory_of self.old).cpus cpu.0).inside off)) }
         ensures memory { memory_of self.new ≡ taken (first_of_row (xadd_row off (is_some ((memory_of self.old).cpus cpu.0).inside) (flat_translation (memory_of self.old) ((memory_of self.old).cpus cpu.0).inside off)))
@@ -59,7 +59,7 @@ impl Flat {
 
     /// A processor inside sets its accumulator.
     pub(crate) fn set(&mut self, cpu: Cpu, value: u64) -> FlatReply
-        requires { cpu.0 < 16 }
+        requires { cpu.0 < PROCESSORS }
         ensures reply { result ≡ replied (first_of_row (set_row (is_some ((memory_of self.old).cpus cpu.0).inside))) answers.Plain }
         ensures memory { memory_of self.new ≡ taken (first_of_row (set_row (is_some ((memory_of self.old).cpus cpu.0).inside))) (with_acc (memory_of self.old) cpu.0 value) (memory_of self.old) }
     {
@@ -72,7 +72,7 @@ impl Flat {
 
     /// A processor inside adds to its accumulator, mod 2^64.
     pub(crate) fn plus(&mut self, cpu: Cpu, value: u64) -> FlatReply
-        requires { cpu.0 < 16 }
+        requires { cpu.0 < PROCESSORS }
         ensures reply { result ≡ replied (first_of_row (plus_row (is_some ((memory_of self.old).cpus cpu.0).inside))) (answers.Value (sum_of ((memory_of self.old).cpus cpu.0).acc value)) }
         ensures memory { memory_of self.new ≡ taken (first_of_row (plus_row (is_some ((memory_of self.old).cpus cpu.0).inside))) (with_acc (memory_of self.old) cpu.0 (sum_of ((memory_of self.old).cpus cpu.0).acc value)) (memory_of self.old) }
     {
@@ -86,7 +86,7 @@ impl Flat {
 
     /// A processor learns that no reload can help an access.
     pub(crate) fn fault(&self, cpu: Cpu, op: AccessOp, off: u64) -> FlatReply
-        requires { cpu.0 < 16 }
+        requires { cpu.0 < PROCESSORS }
         ensures { result ≡ replied (first_of_row (pf_row op off (is_some ((memory_of self.now).cpus cpu.0).inside) (added_at_offset (memory_of self.now) ((memory_of self.now).cpus cpu.0).inside off)))
             (answers.Pf (fault_of (added_at_offset (memory_of self.now) ((memory_of self.now).cpus cpu.0).inside off))) }
     {
@@ -105,7 +105,7 @@ impl Flat {
 
     /// From outside, an enclave's memory reads as all ones.
     pub(crate) fn out_load(&self, cpu: Cpu) -> FlatReply
-        requires { cpu.0 < 16 }
+        requires { cpu.0 < PROCESSORS }
         ensures { result ≡ replied (first_of_row (outload_row (is_some ((memory_of self.now).cpus cpu.0).inside))) (answers.Value all_ones) }
     {
         if self.is_inside(cpu) {
@@ -116,7 +116,7 @@ impl Flat {
 
     /// From outside, nothing is kept in an enclave's memory.
     pub(crate) fn out_store(&self, cpu: Cpu) -> FlatReply
-        requires { cpu.0 < 16 }
+        requires { cpu.0 < PROCESSORS }
         ensures { result ≡ replied (first_of_row (outstore_row (is_some ((memory_of self.now).cpus cpu.0).inside))) answers.Plain }
     {
         if self.is_inside(cpu) {
@@ -126,7 +126,7 @@ impl Flat {
     }
 
     fn is_inside(&self, cpu: Cpu) -> bool
-        requires { cpu.0 < 16 }
+        requires { cpu.0 < PROCESSORS }
         ensures { result ≡ is_some ((memory_of self.now).cpus cpu.0).inside }
     {
         matches!(self.mode(cpu), Mode::Inside { .. })
@@ -134,7 +134,7 @@ impl Flat {
 
     // The first case that holds of the row of an access.
     fn access_refusal(&self, cpu: Cpu, off: u64, op: AccessOp) -> Option<Refusal>
-        requires { cpu.0 < 16 }
+        requires { cpu.0 < PROCESSORS }
         ensures { result ≡ first_of_row (access_row off (is_some ((memory_of self.now).cpus cpu.0).inside) (flat_translation (memory_of self.now) ((memory_of self.now).cpus cpu.0).inside off)
             (allowed_by op (flat_translation (memory_of self.now) ((memory_of self.now).cpus cpu.0).inside off))) }
     {
@@ -155,7 +155,7 @@ impl Flat {
 
     // The word at an offset in the enclave that a processor is inside, 0 outside.
     fn word_seen(&self, cpu: Cpu, off: u64) -> u64
-        requires { cpu.0 < 16 }
+        requires { cpu.0 < PROCESSORS }
         ensures { result ≡ word_seen (memory_of self.now) ((memory_of self.now).cpus cpu.0).inside off }
     {
         match self.mode(cpu) {
@@ -170,7 +170,7 @@ impl Flat {
 
     // Writes that word, outside nothing.
     fn write_seen(&mut self, cpu: Cpu, off: u64, value: u64)
-        requires { cpu.0 < 16 }
+        requires { cpu.0 < PROCESSORS }
         ensures { memory_of self.new ≡ stored (memory_of self.old) ((memory_of self.old).cpus cpu.0).inside off value }
     {
         if let Mode::Inside { enclave, .. } = self.mode(cpu) {
@@ -179,7 +179,7 @@ impl Flat {
     }
 
     fn set_acc(&mut self, cpu: Cpu, acc: u64)
-        requires { cpu.0 < 16 }
+        requires { cpu.0 < PROCESSORS }
         ensures { memory_of self.new ≡ with_acc (memory_of self.old) cpu.0 acc }
     {
         let mode = self.mode(cpu);

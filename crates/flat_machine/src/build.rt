@@ -1,7 +1,7 @@
-ghost use Rattle.std.specs.Prelude.{◌≡◌, ◌%◌, ◌==◌, ◌<◌, false, is_some, IfOk, OnOk, OnErr};
+ghost use Rattle.std.specs.Prelude.{◌≡◌, ◌<◌, false, is_some, IfOk, OnOk, OnErr};
 ghost use Rattle.sgx_types.specs.declared.entries.Answer.TheVariants as answers;
 ghost use Rattle.sgx_types.specs.Frames.{page_at};
-ghost use Rattle.sgx_types.specs.Table.{is_enclave, is_lawful, is_lawful_size, is_addable, is_lawful_perm, is_within, first_of_row, create_row, add_row, extend_row, init_row};
+ghost use Rattle.sgx_types.specs.Table.{first_of_row, create_row, add_row, extend_row, init_row};
 ghost use Rattle.sgx_types.specs.Flat.{open_frame, some_page, enclave_sight, first_words, with_enclave, with_page, initialised};
 ghost use Rattle.flat_machine.specs.Parts.{memory_of};
 ghost use Rattle.flat_machine.specs.Step.{replied, taken};
@@ -11,6 +11,7 @@ use crate::reply::FlatReply;
 use crate::table::{PlainPage, Table};
 use crate::words::Words;
 use sgx_types::entries::{Answer, PageInit};
+use sgx_types::lawful::{is_addable, is_enclave, is_lawful, is_lawful_perm, is_within};
 use sgx_types::names::{Kind, Memory, Perm};
 use sgx_types::refusals::Refusal;
 use std::alloc::Global;
@@ -199,59 +200,5 @@ fn take_room(alloc: Global, spare: &mut Vec<Words>) -> Result<Words, Memory> {
     match spare.pop() {
         Some(words) => Ok(words),
         None => Words::new(alloc),
-    }
-}
-
-fn is_enclave(enclave: u16) -> bool
-    ensures { result ≡ is_enclave enclave }
-{
-    1 <= enclave && enclave <= 8
-}
-
-fn is_lawful_size(size: u64) -> bool
-    ensures { result ≡ is_lawful_size size }
-{
-    size.is_power_of_two() && 8192 <= size && size <= 1 << 24
-}
-
-fn is_lawful(base: u64, size: u64) -> bool
-    ensures { result ≡ is_lawful base size }
-{
-    is_lawful_size(size) && is_multiple(base, size)
-}
-
-fn is_multiple(base: u64, size: u64) -> bool
-    ensures { 0 < size → result ≡ (base % size == 0) }
-{
-    size != 0 && base % size == 0
-}
-
-fn is_addable(kind: Kind, init: PageInit) -> bool
-    ensures { result ≡ is_addable kind init }
-{
-    matches!(
-        (kind, init),
-        (Kind::Tcs, PageInit::Tcs { .. }) | (Kind::Reg, PageInit::Words(_))
-    )
-}
-
-fn is_lawful_perm(kind: Kind, perm: Perm) -> bool
-    ensures { result ≡ is_lawful_perm kind perm }
-{
-    match kind {
-        Kind::Tcs => !perm.r && !perm.w && !perm.x,
-        _ => perm.r || !perm.w,
-    }
-}
-
-fn is_within(size: u64, number: u32, init: PageInit) -> bool
-    ensures { result ≡ is_within size number init }
-{
-    let pages = size / 4096;
-    match init {
-        PageInit::Words(_) => u64::from(number) < pages,
-        PageInit::Tcs { ossa, nssa } => {
-            u64::from(number) < pages && u64::from(ossa) + u64::from(nssa) <= pages && nssa != 0
-        }
     }
 }

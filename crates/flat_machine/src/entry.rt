@@ -10,13 +10,13 @@ use crate::flat::{Flat, Mode, Processor};
 use crate::reply::FlatReply;
 use sgx_types::entries::Answer;
 use sgx_types::layouts::TcsFields;
-use sgx_types::names::{Cpu, Kind};
+use sgx_types::names::{Cpu, Kind, PROCESSORS};
 use sgx_types::refusals::Refusal;
 
 impl Flat {
     /// A processor goes into an enclave by a free TCS page (EENTER).
     pub(crate) fn enter(&mut self, cpu: Cpu, enclave: u16, tcs: u32) -> FlatReply
-        requires { cpu.0 < 16 }
+        requires { cpu.0 < PROCESSORS }
         ensures reply { result ≡ replied (first_of_row (flat_enter_row (memory_of self.old) cpu.0 enclave tcs)) (answers.Cssa (fields_in (memory_of self.old) enclave tcs).cssa) }
         ensures memory { memory_of self.new ≡ taken (first_of_row (flat_enter_row (memory_of self.old) cpu.0 enclave tcs))
             (entered (memory_of self.old) cpu.0 enclave tcs (fields_in (memory_of self.old) enclave tcs).cssa) (memory_of self.old) }
@@ -40,7 +40,7 @@ impl Flat {
 
     /// A processor goes on where it was taken out last (ERESUME).
     pub(crate) fn resume(&mut self, cpu: Cpu, enclave: u16, tcs: u32) -> FlatReply
-        requires { cpu.0 < 16 }
+        requires { cpu.0 < PROCESSORS }
         ensures reply { result ≡ replied (first_of_row (flat_resume_row (memory_of self.old) cpu.0 enclave tcs)) (answers.Value (resumed_word (memory_of self.old) enclave tcs)) }
         ensures memory { memory_of self.new ≡ taken (first_of_row (flat_resume_row (memory_of self.old) cpu.0 enclave tcs)) (resumed (memory_of self.old) cpu.0 enclave tcs) (memory_of self.old) }
     {
@@ -62,7 +62,7 @@ impl Flat {
 
     /// A processor leaves its enclave (EEXIT).
     pub(crate) fn exit(&mut self, cpu: Cpu) -> FlatReply
-        requires { cpu.0 < 16 }
+        requires { cpu.0 < PROCESSORS }
         ensures reply { result ≡ replied (first_of_row (exit_row (is_some ((memory_of self.old).cpus cpu.0).inside))) answers.Plain }
         ensures memory { memory_of self.new ≡ taken (first_of_row (exit_row (is_some ((memory_of self.old).cpus cpu.0).inside))) (left (memory_of self.old) cpu.0) (memory_of self.old) }
     {
@@ -75,7 +75,7 @@ impl Flat {
 
     /// A processor is taken out of its enclave, and its state is saved there (asynchronous exit).
     pub(crate) fn aex(&mut self, cpu: Cpu) -> FlatReply
-        requires { cpu.0 < 16 }
+        requires { cpu.0 < PROCESSORS }
         ensures reply { result ≡ replied (first_of_row (aex_row (is_some ((memory_of self.old).cpus cpu.0).inside))) answers.Plain }
         ensures memory { memory_of self.new ≡ taken (first_of_row (aex_row (is_some ((memory_of self.old).cpus cpu.0).inside)))
             (left (saved (memory_of self.old) ((memory_of self.old).cpus cpu.0).acc ((memory_of self.old).cpus cpu.0).inside) cpu.0) (memory_of self.old) }
@@ -99,7 +99,7 @@ impl Flat {
         why: Refusal,
         saved: u64,
     ) -> Option<Refusal>
-        requires { cpu.0 < 16 }
+        requires { cpu.0 < PROCESSORS }
         ensures { result ≡ first_of_row (entry_row enclave tcs (flat_enter_sight (memory_of self.now) cpu.0 enclave tcs saved) (when lacks why) saved) }
     {
         if let Mode::Inside { .. } = self.mode(cpu) {
@@ -165,7 +165,7 @@ impl Flat {
 
     // A processor is inside by a TCS page.
     fn seat(&mut self, cpu: Cpu, enclave: u16, tcs: u32, acc: u64)
-        requires cpu_in { cpu.0 < 16 }
+        requires cpu_in { cpu.0 < PROCESSORS }
         requires added { is_some ((memory_of self.old).pages (page_at enclave tcs)) ≡ true }
         ensures { memory_of self.new ≡ entered (memory_of self.old) cpu.0 enclave tcs acc }
     {
@@ -176,7 +176,7 @@ impl Flat {
 
     // A processor is inside again with the accumulator that was saved last, and one state save frame fewer is in use.
     fn take_back(&mut self, cpu: Cpu, enclave: u16, tcs: u32) -> u64
-        requires cpu_in { cpu.0 < 16 }
+        requires cpu_in { cpu.0 < PROCESSORS }
         requires added { is_some ((memory_of self.old).pages (page_at enclave tcs)) ≡ true }
         ensures answer { result ≡ resumed_word (memory_of self.old) enclave tcs }
         ensures done { memory_of self.new ≡ resumed (memory_of self.old) cpu.0 enclave tcs }
@@ -191,7 +191,7 @@ impl Flat {
 
     // A processor that is inside by a TCS page leaves.
     fn leave(&mut self, cpu: Cpu, enclave: u16, tcs: u32)
-        requires cpu_in { cpu.0 < 16 }
+        requires cpu_in { cpu.0 < PROCESSORS }
         requires inside { ((memory_of self.old).cpus cpu.0).inside ≡ Some (seat enclave tcs) }
         ensures { memory_of self.new ≡ left (memory_of self.old) cpu.0 }
     {

@@ -7,14 +7,12 @@ ghost use Rattle.flat_machine.specs.Bytes.{bytes_in};
 use crate::table::{Added, Table};
 use crate::words::Words;
 use job_grammar::jobs::Job;
-use sgx_types::names::{Cpu, Kind, Memory, Page, Perm};
+use sgx_types::names::{Cpu, Kind, Memory, PROCESSORS, Page, Perm};
 use std::alloc::Global;
 use std::marker::Model;
 
 // One place for each enclave from 1 to 8; place 0 stays empty.
 const PLACES: usize = 9;
-
-const CPUS: usize = 16;
 
 /// What is known of a created enclave: its base and size in bytes, and whether it is initialised.
 #[derive(Clone, Copy, Debug, PartialEq, Eq)]
@@ -136,7 +134,7 @@ impl Flat {
 
     /// How a processor stands.
     pub(crate) fn mode(&self, cpu: Cpu) -> Mode
-        requires { cpu.0 < 16 }
+        requires { cpu.0 < PROCESSORS }
         ensures { inside_of result ≡ ((memory_of self.now).cpus cpu.0).inside }
     {
         self.cpus[usize::from(cpu.0)].mode
@@ -144,7 +142,7 @@ impl Flat {
 
     /// A processor's accumulator.
     pub(crate) fn acc(&self, cpu: Cpu) -> u64
-        requires { cpu.0 < 16 }
+        requires { cpu.0 < PROCESSORS }
         ensures { result ≡ ((memory_of self.now).cpus cpu.0).acc }
     {
         self.cpus[usize::from(cpu.0)].acc
@@ -152,7 +150,7 @@ impl Flat {
 
     /// A processor stands and has its accumulator so.
     pub(crate) fn set_cpu(&mut self, cpu: Cpu, processor: Processor)
-        requires { cpu.0 < 16 }
+        requires { cpu.0 < PROCESSORS }
         ensures { memory_of self.new ≡ with_cpu (memory_of self.old) cpu.0 (cpu_of processor) }
     {
         self.cpus[usize::from(cpu.0)] = processor;
@@ -228,13 +226,13 @@ fn no_tables(alloc: Global) -> Result<Vec<Table>, Memory>
 }
 
 fn idle_processors(alloc: Global) -> Result<Vec<Processor>, Memory>
-    ensures { IfOk result (λ cpus. cpus.items ≡ replicate 16 idle) }
+    ensures { IfOk result (λ cpus. cpus.items ≡ replicate PROCESSORS idle) }
 {
     let idle = Processor {
         mode: Mode::Outside,
         acc: 0,
     };
-    Ok(vec![in alloc; idle; CPUS]?)
+    Ok(vec![in alloc; idle; PROCESSORS as usize]?)
 }
 
 // The words of as many pages as the job has.

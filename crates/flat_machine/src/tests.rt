@@ -8,7 +8,7 @@ use crate::flat::Flat;
 use crate::reply::FlatReply::{self, Did, Refused};
 use job_grammar::reader::read_job;
 use sgx_types::entries::{AccessOp, Action, Actor, Answer, Cause, PageInit, PfWhy};
-use sgx_types::names::{Cpu, Frame, Kind, Memory, Page, Perm};
+use sgx_types::names::{Cpu, Frame, Kind, Memory, PROCESSORS, Page, Perm};
 use sgx_types::refusals::Refusal;
 use std::alloc::Global;
 use std::process::Abort;
@@ -133,7 +133,7 @@ fn can_apply(actor: Actor, action: &Action) -> bool
             | Action::Pf { .. }
             | Action::OutLoad { .. }
             | Action::OutStore { .. },
-        ) => cpu.0 < 16,
+        ) => u32::from(cpu.0) < PROCESSORS,
         _ => false,
     }
 }

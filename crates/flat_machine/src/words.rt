@@ -1,6 +1,6 @@
 ghost use Rattle.std.specs.Prelude.{◌≡◌, ◌<◌, length, replicate, slice_index, slice_set, IfOk};
 ghost use Rattle.sgx_types.specs.Flat.{first_words};
-ghost use Rattle.flat_machine.specs.Bytes.{bytes_of};
+ghost use Rattle.sgx_types.specs.Layouts.{bytes_of};
 
 use sgx_types::entries::PageInit;
 use sgx_types::names::Memory;
