@@ -18,7 +18,8 @@ use Rattle.job_grammar.specs.declared.jobs.Op.{Op}
 use Rattle.job_grammar.specs.declared.jobs.Op.TheVariants as ops
 use Rattle.job_grammar.specs.declared.lines.Line.{Line}
 use Rattle.job_grammar.specs.declared.lines.Line.TheVariants as lines
-use Rattle.job_grammar.specs.Text.{hexadecimal, letter, perm_word, plain_word, page_words, op_words}
+use Rattle.job_grammar.specs.Text.{plain_word, page_words, op_words}
+use Rattle.text_words.specs.Words.{hexadecimal, letter, perm_word}
 use Rattle.job_grammar.specs.Lines.{line_words}
 use Rattle.job_grammar.specs.Valid.{IsDigest}
 use Rattle.job_grammar.specs.Reading.{small_of, letter_of, perm_with, perm_of, digest_of, plain_of, keyword_of, epc_line, enclave_line, tcs_line, reg_line, expect_line, cpu_line, enter_line, resume_line, exit_line, timer_line, load_line, store_line, xadd_line, set_line, plus_line, outload_line, outstore_line, line_of}

@@ -5,7 +5,7 @@ use Rattle.std.proofs.lemmas.Bool.{and_parts, ltb-true, ne_eqb, not_from_false}
 use Rattle.std.proofs.lemmas.List.{take_all}
 use Rattle.std.proofs.lemmas.List.Elements.{All-nil, All-cons, All-append}
 use Rattle.std.proofs.lemmas.List.Splits.{slice_split_none, slice_split_at}
-use Rattle.job_grammar.specs.Text.{Words, line_text}
+use Rattle.text_words.specs.Words.{Words, line_text}
 use Rattle.job_grammar.specs.Reading.{words_of}
 
 -- a word has bytes, each above the space

@@ -12,7 +12,7 @@ use Rattle.job_grammar.specs.declared.lines.Line.{Line}
 use Rattle.job_grammar.specs.declared.lines.Line.TheVariants as lines
 use Rattle.job_grammar.specs.declared.words.Keyword.{Keyword}
 use Rattle.job_grammar.specs.declared.words.Keyword.TheVariants as keywords
-use Rattle.job_grammar.specs.Text.{Words}
+use Rattle.text_words.specs.Words.{Words}
 
 -- what f makes of a value, where there is one
 infixl 10 ◌>>=◌

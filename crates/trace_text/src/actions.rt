@@ -1,17 +1,16 @@
 ghost use Rattle.std.specs.Prelude.{◌≡◌, [], ◌∷◌, OnOk};
 ghost use Rattle.std.specs.Fmt.{decimal};
-ghost use Rattle.job_grammar.specs.Text.{hexadecimal};
-ghost use Rattle.sgxpage.specs.TraceText.{action_words, enclave_word, init_words};
-ghost use Rattle.sgxpage.specs.Words.{with_words};
+ghost use Rattle.text_words.specs.Words.{enclave_word, hexadecimal, with_words};
+ghost use Rattle.trace_text.specs.TraceText.{action_words, init_words};
 
 use crate::names::{access_name, cause_name, kind_name, perms_name};
-use crate::words::Word::{Decimal, Digest, Enclave, Hexadecimal, Name};
-use crate::words::push_words;
 use sgx_types::entries::{AccessOp, Action, PageInit};
 use sgx_types::names::{Frame, Kind, Memory, Page, Perm, SlotAt};
+use text_words::words::Word::{Decimal, Digest, Enclave, Hexadecimal, Name};
+use text_words::words::push_words;
 
 /// Writes an instruction's words: its name, and its operands in their order.
-pub fn push_action(action: &Action, onto: &mut Vec<u8>) -> Result<(), Memory>
+pub(crate) fn push_action(action: &Action, onto: &mut Vec<u8>) -> Result<(), Memory>
     ensures { OnOk result (onto.new.items ≡ with_words onto.old.items (action_words action.now)) }
 {
     match *action {

@@ -1,15 +1,15 @@
 ghost use Rattle.std.specs.Prelude.{◌≡◌, ◌++◌, drop, reverse, OnOk, IfOk};
-ghost use Rattle.sgxpage.specs.TraceText.{actor_word, answer_words, entry_text, event_words, refusal_words, trace_of};
-ghost use Rattle.sgxpage.specs.Words.{with_words};
+ghost use Rattle.trace_text.specs.TraceText.{actor_word, answer_words, entry_text, event_words, refusal_words, trace_of};
+ghost use Rattle.text_words.specs.Words.{with_words};
 
 use crate::actions::push_action;
 use crate::names::{fault_name, look_name, refusal_name, stop_name};
-use crate::words::Word::{Decimal, Digest, Enclave, Name};
-use crate::words::{push_line, push_word, push_words};
 use sgx_types::entries::{Actor, Answer, Entry, Event};
 use sgx_types::names::Memory;
 use sgx_types::refusals::Refusal;
 use std::alloc::Global;
+use text_words::words::Word::{Decimal, Digest, Enclave, Name};
+use text_words::words::{push_line, push_word, push_words};
 
 /// The text of a trace, whose entries are given oldest first.
 #[tactic(auto, using(crate::proofs::EntryLaws::entries_text_more), unfolding(crate::specs::TraceText::trace_of))]
@@ -25,8 +25,9 @@ pub fn print_trace(alloc: Global, entries: &[Entry]) -> Result<Vec<u8>, Memory>
     Ok(text)
 }
 
-#[tactic(auto, using(crate::proofs::LineLaws::line_text_cons), unfolding(crate::specs::TraceText::entry_text))]
-fn push_entry(entry: &Entry, onto: &mut Vec<u8>) -> Result<(), Memory>
+/// Writes the line of an entry.
+#[tactic(auto, using(text_words::proofs::LineLaws::line_text_cons), unfolding(crate::specs::TraceText::entry_text))]
+pub fn push_entry(entry: &Entry, onto: &mut Vec<u8>) -> Result<(), Memory>
     ensures { OnOk result (onto.new.items ≡ onto.old.items ++ entry_text entry.now) }
 {
     push_actor(&entry.actor, onto)?;
@@ -48,7 +49,7 @@ fn push_actor(actor: &Actor, onto: &mut Vec<u8>) -> Result<(), Memory>
     }
 }
 
-#[tactic(auto, using(crate::proofs::LineLaws::with_words_append))]
+#[tactic(auto, using(text_words::proofs::LineLaws::with_words_append))]
 fn push_event(event: &Event, onto: &mut Vec<u8>) -> Result<(), Memory>
     ensures { OnOk result (onto.new.items ≡ with_words onto.old.items (event_words event.now)) }
 {
@@ -107,7 +108,7 @@ fn push_answer(answer: &Answer, onto: &mut Vec<u8>) -> Result<(), Memory>
 }
 
 /// Writes a refusal's name and its numbers.
-#[tactic(auto, using(crate::proofs::LineLaws::with_words_named))]
+#[tactic(auto, using(text_words::proofs::LineLaws::with_words_named))]
 fn push_refusal(refusal: &Refusal, onto: &mut Vec<u8>) -> Result<(), Memory>
     ensures { OnOk result (onto.new.items ≡ with_words onto.old.items (refusal_words refusal.now)) }
 {
@@ -140,6 +141,3 @@ fn push_refusal_fields(refusal: &Refusal, onto: &mut Vec<u8>) -> Result<(), Memo
         _ => Ok(()),
     }
 }
-
-#[cfg(test)]
-mod tests;

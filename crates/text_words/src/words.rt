@@ -1,8 +1,6 @@
 ghost use Rattle.std.specs.Prelude.{◌≡◌, ◌≤◌, ◌<◌, ◌∷◌, ◌++◌, false, map, OnOk};
 ghost use Rattle.std.specs.Fmt.{digits, digit_glyph};
-ghost use Rattle.job_grammar.specs.Text.{hexadecimal, line_text};
-ghost use Rattle.sgxpage.specs.TraceText.{enclave_word, digest_word};
-ghost use Rattle.sgxpage.specs.Words.{word_text, with_words};
+ghost use Rattle.text_words.specs.Words.{digest_word, enclave_word, hexadecimal, line_text, with_words, word_text};
 
 use sgx_types::names::{Frame, Memory};
 
@@ -17,7 +15,7 @@ pub enum Word {
 }
 
 impl From<Frame> for Word {
-    ghost use Rattle.sgxpage.specs.declared.words.Word.TheVariants as variants;
+    ghost use Rattle.text_words.specs.declared.words.Word.TheVariants as variants;
 
     ghost from_gives = { λ frame word. word ≡ variants.Decimal frame.0 };
 

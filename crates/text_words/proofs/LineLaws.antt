@@ -2,9 +2,8 @@
 use Rattle.std.proofs.Common.{◌≡◌, ℕ, ◌+◌, ◌<◌, List, [], ◌∷◌, ◌++◌, length, map, take, drop, get_or, refl, sym, ap, ◌∙◌}
 use Rattle.std.specs.List.{join_with_byte}
 use Rattle.std.proofs.lemmas.List.{append_assoc, map_more}
-use Rattle.job_grammar.specs.Text.{Words, line_text}
-use Rattle.sgxpage.specs.declared.words.Word.{Word}
-use Rattle.sgxpage.specs.Words.{word_text, with_words}
+use Rattle.text_words.specs.declared.words.Word.{Word}
+use Rattle.text_words.specs.Words.{Words, line_text, with_words, word_text}
 
 pub with_words_append : (text : List ℕ) (words others : Words) → with_words (with_words text words) others ≡ with_words text (words ++ others)
 with_words_append text [] others = refl

@@ -9,7 +9,7 @@ use Rattle.sgx_types.specs.declared.names.Page.{Page}
 use Rattle.sgx_types.specs.Frames.{Content, Put, added, put_by, held_after, content, is_sealing, same_page, is_page, page_at}
 use Rattle.sgx_types.specs.Processors.{Pair}
 use Rattle.sgx_types.specs.Rules.{Along, AtEachPlace, FlatRule, NoPageTwice, NoneStale, IsCurrent}
-use Rattle.sgxpage.specs.WorkedTraces.{first_trace, first_build, fill, enter, frame_beyond, frame_twice, page_twice, adds_exchanged, epa_by_reclaimer, no_fill, fill_from_other_frame}
+use Rattle.worked_traces.specs.Traces.{first_trace, first_build, fill, enter, frame_beyond, frame_twice, page_twice, adds_exchanged, epa_by_reclaimer, no_fill, fill_from_other_frame}
 
 -- the count of a number's bits stays closed elsewhere
 pub first_size_is_lawful : is_power_of_two 0x10000 ≡ true

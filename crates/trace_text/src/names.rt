@@ -1,12 +1,11 @@
-ghost use Rattle.std.specs.Prelude.{◌≡◌, [], ◌∷◌, take};
-ghost use Rattle.sgxpage.specs.TraceText.{kind_word, perms_word, cause_word, access_word, fault_word, look_word, stop_word};
-ghost use Rattle.sgxpage.specs.OutText.{refusal_name};
+ghost use Rattle.std.specs.Prelude.{◌≡◌, [], ◌∷◌};
+ghost use Rattle.trace_text.specs.TraceText.{access_word, cause_word, fault_word, kind_word, look_word, perms_word, refusal_name, stop_word};
 
 use sgx_types::entries::{AccessOp, BusWhy, Cause, Look, PfWhy};
 use sgx_types::names::{Kind, Perm};
 use sgx_types::refusals::Refusal;
 
-pub fn kind_name(kind: Kind) -> &'static str
+pub(crate) fn kind_name(kind: Kind) -> &'static str
     ensures { result.now ≡ kind_word kind }
 {
     match kind {
@@ -17,7 +16,7 @@ pub fn kind_name(kind: Kind) -> &'static str
     }
 }
 
-pub fn perms_name(perm: Perm) -> &'static str
+pub(crate) fn perms_name(perm: Perm) -> &'static str
     ensures { result.now ≡ perms_word perm }
 {
     match (perm.r, perm.w, perm.x) {
@@ -32,7 +31,7 @@ pub fn perms_name(perm: Perm) -> &'static str
     }
 }
 
-pub fn cause_name(cause: Cause) -> &'static str
+pub(crate) fn cause_name(cause: Cause) -> &'static str
     ensures { result.now ≡ cause_word cause }
 {
     match cause {
@@ -43,7 +42,7 @@ pub fn cause_name(cause: Cause) -> &'static str
     }
 }
 
-pub fn access_name(access: AccessOp) -> &'static str
+pub(crate) fn access_name(access: AccessOp) -> &'static str
     ensures { result.now ≡ access_word access }
 {
     match access {
@@ -63,7 +62,7 @@ pub fn fault_name(fault: PfWhy) -> &'static str
     }
 }
 
-pub fn look_name(look: Look) -> &'static str
+pub(crate) fn look_name(look: Look) -> &'static str
     ensures { result.now ≡ look_word look }
 {
     match look {
@@ -74,7 +73,7 @@ pub fn look_name(look: Look) -> &'static str
     }
 }
 
-pub fn stop_name(stop: BusWhy) -> &'static str
+pub(crate) fn stop_name(stop: BusWhy) -> &'static str
     ensures { result.now ≡ stop_word stop }
 {
     match stop {

@@ -1,0 +1,4 @@
+// The words of lines of text, as jobs, traces and replies spell them.
+#![tactic(auto)]
+
+pub mod words;
