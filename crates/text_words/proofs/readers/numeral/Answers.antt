@@ -1,8 +1,8 @@
 use Rattle.std.proofs.Common.{arith}
 use Rattle.std.proofs.lemmas.Int.Digits.{digits_value_more, digits_more}
 use Rattle.std.proofs.lemmas.List.{take_all}
-use Rattle.job_grammar.proofs.Numerals.{AllDigits-at, front_fits}
-use Rattle.job_grammar.proofs.numbers.numeral.Goals as goal
+use Rattle.text_words.proofs.Numerals.{AllDigits-at, front_fits}
+use Rattle.text_words.proofs.readers.numeral.Goals as goal
 
 pub returns-in_err-digit : goal.returns-in_err-digit
 returns-in_err-digit c =

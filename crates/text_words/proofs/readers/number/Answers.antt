@@ -1,6 +1,6 @@
-use Rattle.job_grammar.specs.Reading.{number_of}
-use Rattle.job_grammar.proofs.Numerals.{numeral_of-is}
-use Rattle.job_grammar.proofs.numbers.number.Goals as goal
+use Rattle.text_words.specs.Reading.{number_of}
+use Rattle.text_words.proofs.Numerals.{numeral_of-is}
+use Rattle.text_words.proofs.readers.number.Goals as goal
 
 pub returns-in-Some : goal.returns-in-Some
 unfolding number_of

@@ -9,7 +9,7 @@ use Rattle.std.proofs.lemmas.Fmt.{digits_is_IsNumeral}
 use Rattle.std.proofs.lemmas.Int.Digits.{digits_value_more}
 use Rattle.std.proofs.lemmas.Str.Parse.{digits_value-take-le}
 use Rattle.text_words.specs.Words.{hexadecimal}
-use Rattle.job_grammar.specs.Reading.{is_numeral, numeral_of, number_of}
+use Rattle.text_words.specs.Reading.{is_numeral, numeral_of, number_of}
 
 pub AllDigits-at : (radix : ℕ) (ds : List ℕ) (i : ℕ) → AllDigits radix ds → i < length ds → digit_value (get_or ds i 0) < radix
 AllDigits-at radix [] i all lt = absurd (omega arith)

@@ -1,6 +1,6 @@
 use Rattle.std.proofs.Common.{◌≡◌, ◌<◌, ◌^◌, ℕ, List, take}
 use Rattle.std.specs.Str.Parse.{AllDigits, digits_value}
-use Rattle.job_grammar.proofs.numbers.numeral.Given as goal
+use Rattle.text_words.proofs.readers.numeral.Given as goal
 
 -- the digits so far, whose value is n
 pub record SoFar (radix : ℕ) (front : List ℕ) (n : ℕ) : Type 0 where

@@ -2,11 +2,9 @@
 use Rattle.std.proofs.Common.{◌≡◌, ℕ, suc, ◌<◌, ◌≤◌, Bool, true, false, eqb, ltb, not, ◌&&◌, List, [], ◌∷◌, ◌++◌, length, map, filter, flat_map, All, refl, ap, ◌∙◌, append_assoc, arith}
 use Rattle.std.specs.List.{AllByRecursion, join_with_byte, slice_split, list_all}
 use Rattle.std.proofs.lemmas.Bool.{and_parts, ltb-true, ne_eqb, not_from_false}
-use Rattle.std.proofs.lemmas.List.{take_all}
 use Rattle.std.proofs.lemmas.List.Elements.{All-nil, All-cons, All-append}
 use Rattle.std.proofs.lemmas.List.Splits.{slice_split_none, slice_split_at}
 use Rattle.text_words.specs.Words.{Words, line_text}
-use Rattle.job_grammar.specs.Reading.{words_of}
 
 -- a word has bytes, each above the space
 abbrev pub is_word : List ℕ → Bool
@@ -48,7 +46,7 @@ abbrev parts_of : Words → Words
 parts_of [] = [] ∷ []
 parts_of (word ∷ words) = word ∷ words
 
-split-join : (words : Words) → AreWords words → slice_split (λ b. eqb b 32) (join_with_byte 32 words) ≡ parts_of words
+pub split-join : (words : Words) → AreWords words → slice_split (λ b. eqb b 32) (join_with_byte 32 words) ≡ parts_of words
 split-join [] h = refl
 split-join (word ∷ []) h = slice_split_none (λ b. eqb b 32) word (word-apart 32 word (omega arith) h.0)
 split-join (word ∷ next ∷ words) h =
@@ -59,14 +57,9 @@ filter-words : (words : Words) → AreWords words → filter (λ word. not (eqb 
 filter-words [] h = refl
 filter-words (word ∷ words) h = rw (word-some word h.0, filter-words words h.1) refl
 
-filter-parts : (words : Words) → AreWords words → filter (λ word. not (eqb (length word) 0)) (parts_of words) ≡ words
+pub filter-parts : (words : Words) → AreWords words → filter (λ word. not (eqb (length word) 0)) (parts_of words) ≡ words
 filter-parts [] h = refl
 filter-parts (word ∷ words) h = filter-words (word ∷ words) h
-
-pub words_of-join : (words : Words) → AreWords words → length words ≤ 7 → words_of (join_with_byte 32 words) ≡ words
-unfolding words_of
-words_of-join words h few =
-    rw (split-join words h, filter-parts words h) (take_all 7 words few)
 
 -- ---- lines of a text
 
