@@ -1,15 +1,12 @@
--- What block, track, write-out and reload leave, and the row of the commit of a reload.
-use Rattle.std.specs.Prelude.{ℕ, ◌==◌, ◌&&◌, not, Bool, false, List, Option, Some, None}
-use Rattle.std.specs.Str.{bytes_eq}
+-- What block, track, write-out and reload leave.
+use Rattle.std.specs.Prelude.{ℕ, false, List, Option, Some, None}
 use Rattle.sgx_types.specs.declared.names.Kind.{Kind}
 use Rattle.sgx_types.specs.declared.names.Page.{Page}
 use Rattle.sgx_types.specs.declared.names.Perm.{Perm}
 use Rattle.sgx_types.specs.declared.names.SlotAt.{SlotAt}
 use Rattle.sgx_types.specs.declared.record.Header.{Header}
-use Rattle.sgx_types.specs.declared.refusals.Refusal.TheVariants as why
 use Rattle.sgx_types.specs.Frames.{enclave_in}
-use Rattle.sgx_types.specs.Sealed.{Sealed, header_of}
-use Rattle.sgx_types.specs.Table.{Case, allowed, when, ◌otherwise◌}
+use Rattle.sgx_types.specs.Sealed.{header_of}
 use Rattle.epcm_entry.specs.declared.entry_view.EntryView.{EntryView}
 use Rattle.epcm_entry.specs.declared.entry_view.EntryView.TheVariants as views
 use Rattle.epcm_entry.specs.Epc.{EpcFrame, with_page, with_words}
@@ -71,21 +68,6 @@ header_by _ page _ = None
 -- the same by the enclaves' states
 abbrev pub header_in : List (Option SecsState) → Page → Option Header
 header_in table page = header_by (enclave_at table page.enclave) page (added_in table page)
-
--- the two headers are one
-abbrev pub same_header : Header → Header → Bool
-same_header a b = (a.enclave == b.enclave) && (a.address == b.address) && (a.flags == b.flags)
-
-abbrev pub is_header : Option Header → Header → Bool
-is_header None given = false
-is_header (Some header) given = same_header given header
-
--- the commit of ELDU, by the record, the tag that is computed of it, and the header of the page
-abbrev pub eld_row : Sealed → List ℕ → Option Header → List Case
-eld_row rec computed header =
-    when (not (bytes_eq rec.tag computed)) (why.MacFail rec.tag computed)
-    otherwise when (not (is_header header rec.header)) (why.BadHeader rec.header.enclave rec.header.address rec.header.flags)
-    otherwise allowed
 
 -- the frame holds a page with these bytes, as what it was added
 abbrev pub with_plain : List EpcFrame → ℕ → Page → Option (Kind × Perm) → List ℕ → List EpcFrame

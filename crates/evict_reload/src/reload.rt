@@ -6,7 +6,8 @@ ghost use Rattle.epcm_entry.specs.Sights.{sight_in};
 ghost use Rattle.epcm_entry.specs.Words.{words_of};
 ghost use Rattle.version_array.specs.Slots.{IsSlot, version_in, with_busy};
 ghost use Rattle.evict_reload.specs.Sights.{AreVaPages, is_added, added_in, slot_sight};
-ghost use Rattle.evict_reload.specs.Effects.{eld_row, header_in, with_ended, with_reloaded};
+ghost use Rattle.seal_record.specs.Row.{eld_row};
+ghost use Rattle.evict_reload.specs.Effects.{header_in, with_ended, with_reloaded};
 
 use crate::slot::{is_out_of_range, is_slot_busy};
 use epcm_entry::epc::Epc;

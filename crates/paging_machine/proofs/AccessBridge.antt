@@ -21,18 +21,18 @@ use Rattle.cached_translations.specs.Translations.{translation_of, with_translat
 use Rattle.enclave_access.specs.Access.{LeadsBelow, perm_of, perm_at, with_filled, word_through, with_word_in, with_stored}
 use Rattle.enclave_access.proofs.AccessLaws.{leads_below}
 use Rattle.paging_machine.specs.declared.machine.Machine.TheInside.{Inside}
-use Rattle.paging_machine.specs.State.{State, sight, seat_enclave, translation, perm_of_held, rewritten, frame_in, word_at, with_acc, after_fill, after_store}
-use Rattle.paging_machine.specs.Stands.{IsTranslation, IsSound}
-use Rattle.paging_machine.specs.Steps.{no_perm}
+use Rattle.paging_laws.specs.State.{State, sight, seat_enclave, translation, perm_of_held, rewritten, frame_in, word_at, with_acc, after_fill, after_store}
+use Rattle.paging_laws.specs.Stands.{IsTranslation, IsSound}
+use Rattle.paging_laws.specs.Steps.{no_perm}
 use Rattle.paging_machine.specs.Parts.{Parts, cpu_at, seat_of_mode, state_of}
 use Rattle.paging_machine.specs.Whole.{IsWithin, IsWhole, parts_of}
-use Rattle.paging_machine.proofs.Tools.{none_holds}
-use Rattle.paging_machine.proofs.Carry.{seat_at}
-use Rattle.paging_machine.proofs.SoundLaws.{sound-written}
-use Rattle.paging_machine.proofs.AccessLaws.{All-with_translation, fill_within, found_there, sound-fill}
-use Rattle.paging_machine.proofs.RegisterLaws.{sound-acc}
-use Rattle.paging_machine.proofs.StepLaws.{fill_perm}
-use Rattle.paging_machine.proofs.GuardLaws.{guarded_fill, guarded_acc, guarded_words}
+use Rattle.paging_laws.proofs.Tools.{none_holds}
+use Rattle.paging_laws.proofs.Carry.{seat_at}
+use Rattle.paging_laws.proofs.SoundLaws.{sound-written}
+use Rattle.paging_laws.proofs.AccessLaws.{All-with_translation, fill_within, found_there, sound-fill}
+use Rattle.paging_laws.proofs.RegisterLaws.{sound-acc}
+use Rattle.paging_laws.proofs.StepLaws.{fill_perm}
+use Rattle.paging_laws.proofs.GuardLaws.{guarded_fill, guarded_acc, guarded_words}
 use Rattle.paging_machine.proofs.Keeping.{IsKept}
 use Rattle.paging_machine.proofs.ProcessorBridge.{is_some-mode, enclave-mode, words_state, fill_state, acc_state}
 use Rattle.paging_machine.proofs.TrackLaws.{tracked_same}

@@ -34,13 +34,13 @@ use Rattle.version_array.specs.Slots.{page_at as page_at_va, with_page as with_v
 use Rattle.version_array.proofs.TableLaws.{version_in-with_page, is_busy_at-with_page}
 use Rattle.evict_reload.specs.Sights.{AreVaPages}
 use Rattle.evict_reload.proofs.PageLaws.{pages-with_entry, pages-with_words}
-use Rattle.paging_machine.specs.Guarded.{IsPaged}
-use Rattle.paging_machine.specs.State.{after_epa, after_create, after_add, after_extend, after_init}
+use Rattle.paging_laws.specs.Guarded.{IsPaged}
+use Rattle.paging_laws.specs.State.{after_epa, after_create, after_add, after_extend, after_init}
 use Rattle.paging_machine.specs.Parts.{Parts, enclave_of, added_in, is_busy_in, state_of}
 use Rattle.paging_machine.specs.Whole.{IsSecsOf, IsTable}
-use Rattle.paging_machine.proofs.Tools.{none_holds, neither, not_false, both_true, none_there}
+use Rattle.paging_laws.proofs.Tools.{none_holds, neither, not_false, both_true, none_there}
 use Rattle.paging_machine.proofs.Columns.{like, through, same_at, numbered, enclave_column, enclave_kept, page_column, measure_set}
-use Rattle.paging_machine.proofs.BuildLaws.{is_free_frame}
+use Rattle.paging_laws.proofs.BuildLaws.{is_free_frame}
 
 -- ---- a frame that a row takes
 

@@ -31,10 +31,10 @@ use Rattle.version_array.specs.Slots.{with_page as with_va_page}
 use Rattle.version_array.proofs.TableLaws.{IsVaTable-with_page}
 use Rattle.evict_reload.proofs.PageLaws.{pages-with_va}
 use Rattle.paging_machine.specs.declared.machine.Machine.TheInside.{Inside}
-use Rattle.paging_machine.specs.State.{State, row_of, is_closed, after_epa, after_add}
+use Rattle.paging_laws.specs.State.{State, row_of, is_closed, after_epa, after_add}
 use Rattle.paging_machine.specs.Parts.{Parts, enclave_of, added_in, state_of}
 use Rattle.paging_machine.specs.Whole.{IsTable, IsWhole, parts_of}
-use Rattle.paging_machine.specs.Steps.{IsStep, IsExtended, IsJudged, refused_by}
+use Rattle.paging_laws.specs.Steps.{IsStep, IsExtended, IsJudged, refused_by}
 use Rattle.paging_machine.proofs.Columns.{get_or-default, numbered}
 use Rattle.paging_machine.proofs.Keeping.{kept_put}
 use Rattle.paging_machine.proofs.BuildBridge.{Takes, epa_state, adds, add_state, extend_state}

@@ -33,14 +33,15 @@ use Rattle.seal_record.specs.declared.seal.SealedWork.{SealedWork}
 use Rattle.seal_record.specs.declared.unseal.UnsealedWork.{UnsealedWork}
 use Rattle.version_array.specs.declared.va_page.VaSlot.{VaSlot}
 use Rattle.version_array.specs.Slots.{with_busy}
-use Rattle.evict_reload.specs.Effects.{page_of, with_ended, with_plain, with_reloaded, header_by, header_in, eld_row}
+use Rattle.evict_reload.specs.Effects.{page_of, with_ended, with_plain, with_reloaded, header_by, header_in}
+use Rattle.seal_record.specs.Row.{eld_row}
 use Rattle.evict_reload.proofs.PageLaws.{pages-with_entry, pages-with_words, pages-cleared}
 use Rattle.paging_machine.specs.declared.machine.Machine.TheInside.{Inside}
 use Rattle.paging_machine.specs.declared.starts.Start as opened
-use Rattle.paging_machine.specs.Guarded.{IsOpen, IsPaged}
-use Rattle.paging_machine.specs.State.{State, after_ewb, after_eld, after_failed_eld}
+use Rattle.paging_laws.specs.Guarded.{IsOpen, IsPaged}
+use Rattle.paging_laws.specs.State.{State, after_ewb, after_eld, after_failed_eld}
 use Rattle.paging_machine.specs.Parts.{Parts, enclave_of, added_in, start_of, state_of}
-use Rattle.paging_machine.specs.Steps.{SealsPage, IsWrittenOut, IsComing, IsReloaded, commit_row, did_by, refused_by}
+use Rattle.paging_laws.specs.Steps.{SealsPage, IsWrittenOut, IsComing, IsReloaded, commit_row, did_by, refused_by}
 use Rattle.paging_machine.specs.Whole.{IsWhole, parts_of}
 use Rattle.paging_machine.proofs.Keeping.{kept_ewb, kept_eld, kept_failed_eld}
 use Rattle.paging_machine.proofs.PagingSights.{added_same}

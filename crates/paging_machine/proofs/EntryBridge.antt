@@ -25,20 +25,20 @@ use Rattle.enclave_access.specs.Access.{LeadsBelow}
 use Rattle.entry_exit.specs.Entry.{IsItsEnclave, HasItsTcs, CountsIt, HasItsFrames, fields_at, with_entered, with_resumed, with_saved, with_its_saved, with_tcs_left, with_left, outside}
 use Rattle.entry_exit.specs.Entry.{enter_sight as seen_sight}
 use Rattle.paging_machine.specs.declared.machine.Machine.TheInside.{Inside}
-use Rattle.paging_machine.specs.State.{State, enter_sight, with_inside, rewritten, cssa_in, after_enter, after_resume, after_exit, after_aex}
-use Rattle.paging_machine.specs.State.{with_saved as state_saved}
+use Rattle.paging_laws.specs.State.{State, enter_sight, with_inside, rewritten, cssa_in, after_enter, after_resume, after_exit, after_aex}
+use Rattle.paging_laws.specs.State.{with_saved as state_saved}
 use Rattle.evict_reload.specs.Sights.{AreVaPages}
 use Rattle.evict_reload.proofs.PageLaws.{pages-with_words}
-use Rattle.paging_machine.specs.Guarded.{IsGuarded}
-use Rattle.paging_machine.specs.Stands.{IsUsable, IsSound}
+use Rattle.paging_laws.specs.Guarded.{IsGuarded}
+use Rattle.paging_laws.specs.Stands.{IsUsable, IsSound}
 use Rattle.paging_machine.specs.Parts.{Parts, cpu_at, enclave_of, is_busy_in, seat_of_mode, state_of}
 use Rattle.paging_machine.specs.Whole.{IsWithin, IsWhole, parts_of}
-use Rattle.paging_machine.proofs.Tools.{not_false}
-use Rattle.paging_machine.proofs.Carry.{seat_at}
+use Rattle.paging_laws.proofs.Tools.{not_false}
+use Rattle.paging_laws.proofs.Carry.{seat_at}
 use Rattle.paging_machine.proofs.Columns.{numbered, table_written}
-use Rattle.paging_machine.proofs.EntryLaws.{enters, enter_saves, enter_saved, resume_saves, resume_saved, sound-enter, sound-resume}
-use Rattle.paging_machine.proofs.ExitLaws.{sound-exit, sound-aex}
-use Rattle.paging_machine.proofs.GuardLaws.{guarded_enter, guarded_resume, guarded_exit, guarded_aex}
+use Rattle.paging_laws.proofs.EntryLaws.{enters, enter_saves, enter_saved, resume_saves, resume_saved, sound-enter, sound-resume}
+use Rattle.paging_laws.proofs.ExitLaws.{sound-exit, sound-aex}
+use Rattle.paging_laws.proofs.GuardLaws.{guarded_enter, guarded_resume, guarded_exit, guarded_aex}
 use Rattle.paging_machine.proofs.Keeping.{IsKept}
 use Rattle.paging_machine.proofs.ProcessorBridge.{is_some-mode, free_past, page_added, added_there, seat_added, words_state, inside_state, exit_state, marked_own}
 use Rattle.paging_machine.proofs.TrackLaws.{tracked_entered, tracked_left, counted}

@@ -1,4 +1,4 @@
--- A machine that has done nothing yet stands for no entry.
+-- A machine as it is made is a fresh one: it stands for no entry, and keeps what every machine keeps.
 use Rattle.std.proofs.Common.{ℕ, zero, suc, ◌≡◌, ◌==◌, ◌-◌, ◌≤◌, ◌+◌, refl, sym, ap, subst, ◌∙◌, true, false, cond, mul-zero, ◌<◌, List, [], ◌∷◌, ◌++◌, Option, Some, None, length, replicate, get_or}
 use Rattle.std.specs.Prelude.{Bool, count_by}
 use Rattle.std.proofs.lemmas.Bool.{cond_both}
@@ -22,15 +22,17 @@ use Rattle.version_array.proofs.TableLaws.{IsVaTable-none}
 use Rattle.evict_reload.specs.Sights.{AreVaPages}
 use Rattle.evict_reload.proofs.PageLaws.{pages-none}
 use Rattle.paging_machine.specs.declared.starts.Start as starts
-use Rattle.paging_machine.specs.Guarded.{IsGuarded}
-use Rattle.paging_machine.specs.Shape.{making_of, Follows}
-use Rattle.paging_machine.specs.State.{fresh}
-use Rattle.paging_machine.specs.Stands.{IsSound, Upholds}
+use Rattle.paging_laws.specs.Guarded.{IsGuarded}
+use Rattle.paging_laws.specs.Histories.{UpholdsAll}
+use Rattle.paging_laws.specs.Shape.{making_of, Follows}
+use Rattle.paging_laws.specs.State.{fresh}
+use Rattle.paging_laws.specs.Stands.{IsSound, IsMeasured, IsFramed}
 use Rattle.paging_machine.specs.Parts.{Parts, made, idle, is_noted, state_of, enclave_of, added_in, is_busy_in, seat_of_mode, noted_by, epoch_from, start_of}
-use Rattle.paging_machine.specs.Whole.{IsTable, IsMeasured, IsFramed, IsWithin, IsTracked, IsWhole, parts_of}
+use Rattle.paging_machine.specs.Whole.{IsTable, IsWithin, IsTracked, IsWhole, parts_of}
 use Rattle.paging_machine.specs.declared.machine.Machine.TheInside.{Inside}
 use Rattle.paging_machine.proofs.Columns.{like}
-use Rattle.paging_machine.proofs.FollowLaws.{fresh_follows}
+use Rattle.paging_laws.proofs.FollowLaws.{fresh_follows}
+use Rattle.paging_laws.proofs.WholeLaws.{fresh_all}
 
 -- one item more
 pub replicate_more : {X : Type 0} (n : ℕ) (x : X) → replicate n x ++ x ∷ [] ≡ replicate (n + 1) x
@@ -75,30 +77,9 @@ made_state frames cpus key epoch version = λ i. record {
   first_version = version;
 }
 
-pub fresh_upheld : (frames cpus : ℕ) (key : List ℕ) (epoch version : ℕ) → Upholds (fresh frames cpus key epoch version) []
-fresh_upheld frames cpus key epoch version = record {
-  stands = record {
-    content = λ n. refl;
-    is_blocked = λ n. refl;
-    is_sealing = λ n. refl;
-    enclaves = λ e. refl;
-    added = λ g. refl;
-    is_busy = λ g. refl;
-    measure = λ e. refl;
-    inside = λ p. refl;
-    acc = λ p. refl;
-    cache = λ p. refl;
-    words = λ n g kind perm is. cc;
-    flat_inside = λ p. refl;
-  };
-  rules = record {
-    refusal = tt;
-    flat = tt;
-    fits = record { entries = tt; pages = λ m n g is. cc };
-    stale = record { entries = tt; places = λ p. tt };
-  };
-  measure = tt;
-}
+-- .. and so stands in all for no entry
+pub made_all : (d : Parts) (frames cpus : ℕ) (key : List ℕ) (epoch version : ℕ) → 1 ≤ version → d ≡ made frames cpus key epoch version → UpholdsAll (making_of (state_of d)) (state_of d) [] []
+made_all d frames cpus key epoch version low is = subst (λ s. UpholdsAll (making_of s) s [] []) (sym (ap state_of is ∙ made_state frames cpus key epoch version)) (fresh_all frames cpus key epoch version low)
 
 pub made_follows : (d : Parts) (frames cpus : ℕ) (key : List ℕ) (epoch version : ℕ) → d ≡ made frames cpus key epoch version → Follows (making_of (state_of d)) (state_of d) []
 made_follows d frames cpus key epoch version is = subst (λ s. Follows (making_of s) s []) (sym (ap state_of is ∙ made_state frames cpus key epoch version)) (fresh_follows frames cpus key epoch version)

@@ -12,15 +12,15 @@ use Rattle.sgx_types.specs.Flat.{FlatEnclave, marked}
 use Rattle.sgx_types.specs.Starts.{Start}
 use Rattle.sgx_types.specs.Table.{block_row, track_row, ewbstart_row, eldstart_row, first_of_row}
 use Rattle.measure_log.specs.declared.measure.Measure.{Measure}
-use Rattle.paging_machine.specs.State.{State, sight, track_sight, slot_sight, drain_sight, is_version_spent, with_content, after_create, after_add, after_extend, after_init, after_block, after_track, after_ewbstart, after_eldstart, after_ewb, after_eld, after_failed_eld}
-use Rattle.paging_machine.specs.Stands.{IsSound}
-use Rattle.paging_machine.specs.Guarded.{IsPaged, IsGuarded}
-use Rattle.paging_machine.specs.Whole.{IsMeasured, IsFramed, IsWithin}
-use Rattle.paging_machine.proofs.Carry.{same_page-refl}
-use Rattle.paging_machine.proofs.SoundLaws.{sound-put}
-use Rattle.paging_machine.proofs.BuildLaws.{sound_add}
-use Rattle.paging_machine.proofs.GuardLaws.{guarded_put, guarded_create, guarded_add, guarded_extend, guarded_init, guarded_block, guarded_track, guarded_ewbstart, guarded_eldstart, guarded_ewb, guarded_eld, guarded_failed_eld}
-use Rattle.paging_machine.proofs.PagingSound.{sound_block, sound_track, sound_ewbstart, sound_eldstart, sound_ewb, sound_eld, sound_failed_eld}
+use Rattle.paging_laws.specs.State.{State, sight, track_sight, slot_sight, drain_sight, is_version_spent, with_content, after_create, after_add, after_extend, after_init, after_block, after_track, after_ewbstart, after_eldstart, after_ewb, after_eld, after_failed_eld}
+use Rattle.paging_laws.specs.Stands.{IsSound, IsMeasured, IsFramed}
+use Rattle.paging_laws.specs.Guarded.{IsPaged, IsGuarded}
+use Rattle.paging_machine.specs.Whole.{IsWithin}
+use Rattle.paging_laws.proofs.Carry.{same_page-refl}
+use Rattle.paging_laws.proofs.SoundLaws.{sound-put}
+use Rattle.paging_laws.proofs.BuildLaws.{sound_add}
+use Rattle.paging_laws.proofs.GuardLaws.{guarded_put, guarded_create, guarded_add, guarded_extend, guarded_init, guarded_block, guarded_track, guarded_ewbstart, guarded_eldstart, guarded_ewb, guarded_eld, guarded_failed_eld}
+use Rattle.paging_laws.proofs.PagingSound.{sound_block, sound_track, sound_ewbstart, sound_eldstart, sound_ewb, sound_eld, sound_failed_eld}
 
 pub record IsKept (s : State) : Type 0 where
   pub measured : IsMeasured s

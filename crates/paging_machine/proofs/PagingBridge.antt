@@ -32,13 +32,13 @@ use Rattle.evict_reload.specs.Effects.{epoch_of, with_blocked, with_next, with_t
 use Rattle.evict_reload.specs.Sights as parts
 use Rattle.evict_reload.specs.Sights.{AreVaPages, IsNumbered, track_seen}
 use Rattle.evict_reload.proofs.PageLaws.{pages-with_entry, pages-with_slot, is_va-with_block, is_va-outgoing}
-use Rattle.paging_machine.specs.Guarded.{IsPaged}
-use Rattle.paging_machine.specs.State.{epoch_in, after_block, after_track, after_ewbstart, after_eldstart, after_ewb, after_eld, after_failed_eld}
+use Rattle.paging_laws.specs.Guarded.{IsPaged}
+use Rattle.paging_laws.specs.State.{epoch_in, after_block, after_track, after_ewbstart, after_eldstart, after_ewb, after_eld, after_failed_eld}
 use Rattle.paging_machine.specs.declared.starts.Start as opened
 use Rattle.paging_machine.specs.Parts.{Parts, is_noted, start_of, epoch_from, state_of}
 use Rattle.paging_machine.specs.Whole.{IsTracked, IsWhole, parts_of}
 use Rattle.paging_machine.specs.declared.machine.Machine.TheInside.{Inside}
-use Rattle.paging_machine.proofs.Tools.{none_holds, neither}
+use Rattle.paging_laws.proofs.Tools.{none_holds, neither}
 use Rattle.paging_machine.proofs.Columns.{get_or-set_if, through, same_at, numbered}
 use Rattle.paging_machine.proofs.Keeping.{kept_block, kept_track, kept_ewbstart, kept_eldstart}
 use Rattle.paging_machine.proofs.PagingSights.{epoch_seen, frame_numbered, track_there, track_row_at, ewbstart_row_at, eldstart_row_at}

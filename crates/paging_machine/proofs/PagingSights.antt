@@ -28,18 +28,19 @@ use Rattle.secs_state.specs.Secs.{SecsState, added_at, page_count}
 use Rattle.secs_state.specs.Table.{enclave_at}
 use Rattle.secs_state.proofs.Columns.{added_below}
 use Rattle.sgx_types.specs.Starts.{Start}
-use Rattle.paging_machine.specs.Guarded.{IsGuarded, WritesOut, Loads}
+use Rattle.paging_laws.specs.Stands.{IsFramed}
+use Rattle.paging_laws.specs.Guarded.{IsGuarded, WritesOut, Loads}
 use Rattle.track_epoch.specs.Tracking.{Tracking}
 use Rattle.track_epoch.specs.Tracks.{track_of}
 use Rattle.version_array.specs.Versions.{is_spent_at}
 use Rattle.evict_reload.specs.Sights as parts
 use Rattle.evict_reload.specs.Sights.{IsNumbered, drain_of}
 use Rattle.evict_reload.specs.Effects as effects
-use Rattle.paging_machine.specs.State.{State, sight, is_noting, number_noting, epoch_in, number_up_to, has_passed, track_sight, slot_sight, drain_sight, is_version_spent}
+use Rattle.paging_laws.specs.State.{State, sight, is_noting, number_noting, epoch_in, number_up_to, has_passed, track_sight, slot_sight, drain_sight, is_version_spent}
 use Rattle.paging_machine.specs.Parts.{Parts, idle, cpu_at, seat_of_mode, noted_by, is_noted, added_in, enclave_of, state_of}
-use Rattle.paging_machine.specs.Whole.{IsFramed, IsTable, IsTracked}
+use Rattle.paging_machine.specs.Whole.{IsTable, IsTracked}
 use Rattle.paging_machine.proofs.Columns.{numbered}
-use Rattle.paging_machine.proofs.Tools.{both_true}
+use Rattle.paging_laws.proofs.Tools.{both_true}
 
 -- ---- counts
 

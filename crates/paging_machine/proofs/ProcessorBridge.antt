@@ -24,13 +24,15 @@ use Rattle.cached_translations.specs.Translations.{with_translation}
 use Rattle.track_epoch.specs.Tracking.{Tracking, entered, left}
 use Rattle.track_epoch.specs.Tracks.{track_of, with_track}
 use Rattle.track_epoch.proofs.TracksLaws.{track_of-with_track}
+use Rattle.measure_log.specs.Rule.{page_held}
 use Rattle.entry_exit.specs.Entry.{IsAdded}
-use Rattle.paging_machine.specs.State.{State, seat_enclave, is_seated_by, rewritten, with_inside, with_acc, after_exit, after_fill}
+use Rattle.paging_laws.specs.State.{State, seat_enclave, is_seated_by, rewritten, with_inside, with_acc, after_exit, after_fill}
 use Rattle.paging_machine.specs.Parts.{Parts, added_in, enclave_of, epoch_from, is_busy_in, idle, cpu_at, noted_by, seat_of_mode, state_of}
-use Rattle.paging_machine.specs.Whole.{IsSecsOf, IsTable, IsFramed}
-use Rattle.paging_machine.specs.Stands.{IsSound}
+use Rattle.paging_machine.specs.Whole.{IsSecsOf, IsTable}
+use Rattle.paging_laws.specs.Stands.{IsSound, IsFramed}
+use Rattle.paging_laws.proofs.ExtendLaws.{IsMade}
 use Rattle.paging_machine.proofs.Columns.{get_or-set_if, get_or-default, same_at, numbered, enclave_kept, page_column}
-use Rattle.paging_machine.proofs.Carry.{same_page-true, seat_at}
+use Rattle.paging_laws.proofs.Carry.{same_page-true, seat_at}
 
 -- ---- how a processor stands
 
@@ -58,6 +60,21 @@ page_added s framed n g is = by_content (s.content n) refl is
   where
     by_content : (c : Content) → s.content n ≡ c → is_page c g ≡ true → is_some (s.added g) ≡ true
     by_content (Holds page kind perm) e k = let same : page ≡ g = same_page-true page g k in rw (← same) (framed n page kind perm e)
+    by_content Free e k = cc
+    by_content IsVa e k = cc
+    by_content (SecsOf enclave) e k = cc
+    by_content IsLoading e k = cc
+
+-- .. and that enclave was created
+pub pages_made : (d : Parts) → IsFramed (state_of d) → IsMade (state_of d)
+pages_made d framed n g is = by_content ((state_of d).content n) refl is
+  where
+    by_enclave : (o : Option SecsState) (number : ℕ) → is_some (added_in o number) ≡ true → is_some (enclave_of o) ≡ true
+    by_enclave None number k = cc k
+    by_enclave (Some x) number k = refl
+
+    by_content : (c : Content) → (state_of d).content n ≡ c → page_held c ≡ Some g → is_some (enclave_of (enclave_at d.secs g.enclave)) ≡ true
+    by_content (Holds page kind perm) e k = let same : page ≡ g = cc in by_enclave (enclave_at d.secs g.enclave) g.number (rw same at (framed n page kind perm e))
     by_content Free e k = cc
     by_content IsVa e k = cc
     by_content (SecsOf enclave) e k = cc

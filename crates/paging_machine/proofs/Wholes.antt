@@ -10,18 +10,18 @@ use Rattle.secs_state.specs.Secs.{SecsState}
 use Rattle.secs_state.specs.Table.{enclave_at, with_enclave}
 use Rattle.measure_log.specs.declared.measure.Measure.{Measure}
 use Rattle.paging_machine.specs.declared.machine.Machine.TheInside.{Inside}
-use Rattle.paging_machine.specs.State.{State}
+use Rattle.paging_laws.specs.State.{State}
 use Rattle.cached_translations.specs.declared.processor.Processor.{Processor}
 use Rattle.track_epoch.specs.Tracking.{Tracking}
 use Rattle.track_epoch.specs.Tracks.{track_of, with_track}
 use Rattle.track_epoch.proofs.TracksLaws.{with_track-track_of}
 use Rattle.version_array.specs.Slots.{IsVaTable}
 use Rattle.evict_reload.specs.Sights.{AreVaPages}
-use Rattle.paging_machine.specs.Guarded.{IsGuarded}
+use Rattle.paging_laws.specs.Guarded.{IsGuarded}
 use Rattle.paging_machine.specs.Parts.{Parts, idle, cpu_at, state_of}
-use Rattle.paging_machine.specs.Stands.{IsSound}
-use Rattle.paging_machine.specs.Steps.{IsStep}
-use Rattle.paging_machine.specs.Whole.{IsTable, IsMeasured, IsFramed, IsWithin, IsTracked, IsWhole, parts_of}
+use Rattle.paging_laws.specs.Stands.{IsSound, IsMeasured, IsFramed}
+use Rattle.paging_laws.specs.Steps.{IsStep}
+use Rattle.paging_machine.specs.Whole.{IsTable, IsWithin, IsTracked, IsWhole, parts_of}
 use Rattle.paging_machine.proofs.Columns.{enclave_same, numbered}
 use Rattle.paging_machine.proofs.Keeping.{IsKept, kept_as}
 

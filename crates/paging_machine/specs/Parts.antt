@@ -22,7 +22,7 @@ use Rattle.version_array.specs.declared.va_page.VaSlot.{VaSlot}
 use Rattle.version_array.specs.Slots.{is_busy_at as is_slot_busy_at, version_in}
 use Rattle.sgx_types.specs.Starts.{Start}
 use Rattle.paging_machine.specs.declared.starts.Start as starts
-use Rattle.paging_machine.specs.State.{State}
+use Rattle.paging_laws.specs.State.{State}
 
 -- the EPC, the state of each enclave, their running measurements by the enclave's number, their tracks, the version array
 -- pages, the next version, the open start of each frame, the processors, and the numbers of the making

@@ -1,9 +1,5 @@
 -- What is true of every machine.
-use Rattle.std.specs.Prelude.{ℕ, ◌≡◌, ◌≤◌, Bool, true, List, Option, Some, is_some, length, count_by}
-use Rattle.sgx_types.specs.declared.names.Page.{Page}
-use Rattle.sgx_types.specs.declared.names.Kind.{Kind}
-use Rattle.sgx_types.specs.declared.names.Perm.{Perm}
-use Rattle.sgx_types.specs.Frames.{Holds}
+use Rattle.std.specs.Prelude.{ℕ, ◌≡◌, ◌≤◌, Bool, List, Option, Some, length, count_by}
 use Rattle.secs_state.specs.Secs.{SecsState, IsSecs}
 use Rattle.secs_state.specs.Table.{enclave_at}
 use Rattle.track_epoch.specs.Tracking.{Tracking}
@@ -12,11 +8,11 @@ use Rattle.cached_translations.specs.declared.processor.Processor.{Processor}
 use Rattle.enclave_access.specs.Access.{LeadsBelow}
 use Rattle.evict_reload.specs.Sights.{AreVaPages}
 use Rattle.version_array.specs.Slots.{IsVaTable}
-use Rattle.paging_machine.specs.Guarded.{IsGuarded}
+use Rattle.paging_laws.specs.Guarded.{IsGuarded}
 use Rattle.paging_machine.specs.declared.machine.Machine.TheInside.{Inside}
 use Rattle.paging_machine.specs.Parts.{Parts, is_noted, state_of}
-use Rattle.paging_machine.specs.State.{State}
-use Rattle.paging_machine.specs.Stands.{IsSound}
+use Rattle.paging_laws.specs.State.{State}
+use Rattle.paging_laws.specs.Stands.{IsSound, IsMeasured, IsFramed}
 
 abbrev pub parts_of : Inside → Parts
 parts_of m = record {
@@ -42,14 +38,6 @@ pub record IsSecsOf (enclave : ℕ) (secs : SecsState) : Type 0 where
 pub record IsTable (table : List (Option SecsState)) : Type 0 where
   pub places : length table ≡ 8
   pub own : (e : ℕ) (x : SecsState) → enclave_at table e ≡ Some x → IsSecsOf e x
-
--- each created enclave has a running measurement
-abbrev pub IsMeasured : State → Type 0
-IsMeasured s = (e : ℕ) → is_some (s.enclaves e) ≡ true → is_some (s.measure e) ≡ true
-
--- each page in a frame was added to its enclave
-abbrev pub IsFramed : State → Type 0
-IsFramed s = (n : ℕ) (g : Page) (kind : Kind) (perm : Perm) → s.content n ≡ Holds g kind perm → is_some (s.added g) ≡ true
 
 -- each translation leads to a frame of the EPC
 abbrev pub IsWithin : State → Type 0

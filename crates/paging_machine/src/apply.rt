@@ -2,10 +2,10 @@ ghost use Rattle.std.specs.Prelude.{◌≡◌, IfOk, OnErr, length, List, ◌∷
 ghost use Rattle.sgx_types.specs.declared.entries.Entry.{Entry};
 ghost use Rattle.paging_machine.specs.Parts.{state_of};
 ghost use Rattle.sgx_types.specs.Rules.{LoadsAwayRule};
-ghost use Rattle.paging_machine.specs.Shape.{Making, Follows, FitsApart};
+ghost use Rattle.paging_laws.specs.Shape.{Making, Follows, FitsApart};
 ghost use Rattle.seal_record.specs.Records.{Made};
-ghost use Rattle.paging_machine.specs.Histories.{UpholdsAll};
-ghost use Rattle.paging_machine.specs.Steps.{IsStep, CanApply, MayNeedMemory, did_by, refused_by};
+ghost use Rattle.paging_laws.specs.Histories.{UpholdsAll};
+ghost use Rattle.paging_laws.specs.Steps.{IsStep, CanApply, MayNeedMemory, did_by, refused_by};
 
 use crate::machine::Machine;
 use sgx_types::entries::{Action, Actor, Answer, Entry, Event};

@@ -4,9 +4,9 @@ ghost use Rattle.sgx_types.specs.declared.refusals.Refusal.TheVariants as why;
 ghost use Rattle.epcm_entry.specs.Sights.{sight_in};
 ghost use Rattle.sgx_types.specs.declared.entries.Action.TheVariants as actions;
 ghost use Rattle.paging_machine.specs.Parts.{state_of};
-ghost use Rattle.paging_machine.specs.Stands.{IsSound};
-ghost use Rattle.paging_machine.specs.State.{sight, after_epa};
-ghost use Rattle.paging_machine.specs.Steps.{IsStep};
+ghost use Rattle.paging_laws.specs.Stands.{IsSound};
+ghost use Rattle.paging_laws.specs.State.{sight, after_epa};
+ghost use Rattle.paging_laws.specs.Steps.{IsStep};
 
 use crate::apply::{done, refused};
 use crate::machine::Machine;

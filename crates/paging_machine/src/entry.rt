@@ -6,7 +6,7 @@ ghost use Rattle.sgx_types.specs.declared.refusals.Refusal.TheVariants as why;
 ghost use Rattle.epcm_entry.specs.Sights.{sight_in};
 ghost use Rattle.cached_translations.specs.Modes.{is_inside};
 ghost use Rattle.paging_machine.specs.Parts.{state_of};
-ghost use Rattle.paging_machine.specs.Steps.{IsStep};
+ghost use Rattle.paging_laws.specs.Steps.{IsStep};
 
 use crate::apply::{done, refused};
 use crate::machine::Machine;

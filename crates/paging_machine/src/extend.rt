@@ -3,7 +3,7 @@ ghost use Rattle.sgx_types.specs.declared.entries.Action.TheVariants as actions;
 ghost use Rattle.epcm_entry.specs.Sights.{held};
 ghost use Rattle.measure_log.specs.Rule.{page_held};
 ghost use Rattle.paging_machine.specs.Parts.{state_of};
-ghost use Rattle.paging_machine.specs.Steps.{IsStep};
+ghost use Rattle.paging_laws.specs.Steps.{IsStep};
 
 use crate::apply::{done, refused};
 use crate::machine::Machine;

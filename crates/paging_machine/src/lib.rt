@@ -7,7 +7,6 @@ mod build;
 mod commits;
 mod entry;
 mod extend;
-pub mod laws;
 pub mod machine;
 mod making;
 mod paging;

@@ -6,8 +6,8 @@ ghost use Rattle.sgx_types.specs.Flat.{enclave_sight_of};
 ghost use Rattle.epcm_entry.specs.Epc.{is_free_frame};
 ghost use Rattle.cached_translations.specs.Translations.{translation_of};
 ghost use Rattle.paging_machine.specs.Parts.{state_of, cpu_at, tcs_of};
-ghost use Rattle.paging_machine.specs.Stands.{IsSound};
-ghost use Rattle.paging_machine.specs.State.{number_noting};
+ghost use Rattle.paging_laws.specs.Stands.{IsSound};
+ghost use Rattle.paging_laws.specs.State.{number_noting};
 
 use crate::starts::Start;
 use cached_translations::processor::{Mode, Processor};

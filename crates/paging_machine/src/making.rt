@@ -1,7 +1,7 @@
 ghost use Rattle.std.specs.Prelude.{◌≡◌, ◌≤◌, [], IfOk, None, replicate};
 ghost use Rattle.paging_machine.specs.Parts.{idle, made, state_of};
-ghost use Rattle.paging_machine.specs.Shape.{Follows, making_of};
-ghost use Rattle.paging_machine.specs.Histories.{UpholdsAll};
+ghost use Rattle.paging_laws.specs.Shape.{Follows, making_of};
+ghost use Rattle.paging_laws.specs.Histories.{UpholdsAll};
 ghost use Rattle.sgx_types.specs.declared.names.TheConstants.{LAST_EPOCH};
 
 use crate::machine::Machine;

@@ -4,7 +4,7 @@ use Rattle.sgx_types.specs.declared.entries.Actor.{Actor}
 use Rattle.sgx_types.specs.declared.entries.Actor.TheVariants as actors
 use Rattle.sgx_types.specs.declared.entries.Action.{Action}
 use Rattle.sgx_types.specs.declared.entries.Action.TheVariants.{Epa, Create, Add, Extend, Init, Enter, Resume, Exit, Aex, Fill, Load, Store, Xadd, Set, Plus, Pf, OutLoad, OutStore}
-use Rattle.paging_machine.specs.Steps.{CanApply}
+use Rattle.paging_laws.specs.Steps.{CanApply}
 use Rattle.sgxpage.specs.Asking.{CanAsk}
 
 pub can_do : (cpus : ℕ) (a : Actor) (action : Action) → CanAsk cpus a action → CanApply cpus a action

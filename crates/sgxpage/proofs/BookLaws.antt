@@ -12,8 +12,8 @@ use Rattle.sgx_types.specs.Table.{first_of_row}
 use Rattle.job_grammar.specs.Script.{action_of}
 use Rattle.measure_log.specs.Rule.{IsExpected, IsOther}
 use Rattle.sgx_types.specs.Processors.{Seat}
-use Rattle.paging_machine.specs.State.{State, row_of, after_init, with_saved}
-use Rattle.paging_machine.specs.Steps.{IsDone, IsStep, after_of, did_by, refused_by}
+use Rattle.paging_laws.specs.State.{State, row_of, after_init, with_saved}
+use Rattle.paging_laws.specs.Steps.{IsDone, IsStep, after_of, did_by, refused_by}
 
 -- an entry of this actor and instruction, which keeps the number of frames
 pub record IsOf (actor : Actor) (action : Action) (e : Entry) (frames frames' : ℕ) : Type 0 where

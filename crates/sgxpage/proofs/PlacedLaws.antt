@@ -21,11 +21,11 @@ use Rattle.sgx_types.specs.Table.{EnclaveSight, add_row, first_of_row}
 use Rattle.sgx_types.specs.Flat.{FlatMemory, Inside, accepts, added_as, enclave_sight, fields_in, first_words, flat, memory_after, open_frame, saved, stored, with_cssa, with_page, with_words}
 use Rattle.sgx_types.specs.Rules.{KeepsRules}
 use Rattle.job_grammar.specs.Script.{action_of}
-use Rattle.paging_machine.specs.Steps.{did_by, refused_by}
+use Rattle.paging_laws.specs.Steps.{did_by, refused_by}
 use Rattle.sgxpage.specs.Asking.{CanAsk}
-use Rattle.paging_machine.proofs.Tools.{apart, none_holds, none_there, same_pages}
-use Rattle.paging_machine.proofs.Carry.{flat_done, same_page-refl}
-use Rattle.paging_machine.proofs.WordLaws.{added-changed}
+use Rattle.paging_laws.proofs.Tools.{apart, none_holds, none_there, same_pages}
+use Rattle.paging_laws.proofs.Carry.{flat_done, same_page-refl}
+use Rattle.paging_laws.proofs.WordLaws.{added-changed}
 use Rattle.sgxpage.specs.Books.{IsPlaced}
 use Rattle.sgxpage.proofs.OptionLaws.{some_same, taken_none}
 

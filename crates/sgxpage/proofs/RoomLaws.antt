@@ -21,10 +21,10 @@ use Rattle.job_grammar.specs.declared.jobs.PageLine.TheVariants as lines
 use Rattle.job_grammar.specs.Jobs.{JobView, lines_at, tcs_line}
 use Rattle.job_grammar.specs.Script.{action_of, is_seated_at, is_system, saved}
 use Rattle.job_grammar.specs.Valid.{IsValid}
-use Rattle.paging_machine.specs.Steps.{did_by}
-use Rattle.paging_machine.proofs.Contents.{tcs_no_reg}
-use Rattle.paging_machine.proofs.EntryLaws.{enters}
-use Rattle.paging_machine.proofs.Tools.{none_there, not_false}
+use Rattle.paging_laws.specs.Steps.{did_by}
+use Rattle.paging_laws.proofs.Contents.{tcs_no_reg}
+use Rattle.paging_laws.proofs.EntryLaws.{enters}
+use Rattle.paging_laws.proofs.Tools.{none_there, not_false}
 use Rattle.sgxpage.specs.Books.{BookView, IsNext}
 use Rattle.sgxpage.specs.Playing.{HasRoom, Rests, used}
 use Rattle.sgxpage.proofs.PlayPages.{some_frames}

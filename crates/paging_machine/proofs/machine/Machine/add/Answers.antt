@@ -5,7 +5,7 @@ use Rattle.enclave_build.specs.Build.{with_added}
 use Rattle.enclave_build.proofs.Columns.{length-with_added}
 use Rattle.paging_machine.specs.Whole.{parts_of}
 use Rattle.paging_machine.specs.Parts.{state_of}
-use Rattle.paging_machine.specs.State.{after_add}
+use Rattle.paging_laws.specs.State.{after_add}
 use Rattle.paging_machine.proofs.Columns.{numbered, table_written}
 use Rattle.paging_machine.proofs.BuildBridge.{adds, added_own, add_pages, paged}
 use Rattle.paging_machine.proofs.BuildSteps.{measure_place, measure_there, add_row_at, add_written}

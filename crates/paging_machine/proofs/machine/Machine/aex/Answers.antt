@@ -4,7 +4,7 @@ use Rattle.cached_translations.specs.Modes.{enclave_inside}
 use Rattle.track_epoch.specs.Tracks.{track_of}
 use Rattle.paging_machine.specs.Whole.{parts_of}
 use Rattle.paging_machine.specs.Parts.{state_of, cpu_at}
-use Rattle.paging_machine.specs.State.{row_of, after_aex}
+use Rattle.paging_laws.specs.State.{row_of, after_aex}
 use Rattle.paging_machine.proofs.ProcessorBridge.{cpu_there}
 use Rattle.paging_machine.proofs.EntryBridge.{inside_at, inside_allowed, its_enclave, its_tcs, its_count, its_frames, aex_leaves}
 use Rattle.paging_machine.proofs.Wholes.{whole, done_step, by_view}

@@ -5,16 +5,16 @@ use Rattle.sgx_types.specs.declared.entries.Action.{Action}
 use Rattle.sgx_types.specs.Rules.{LoadsAwayRule}
 use Rattle.paging_machine.specs.declared.machine.Machine.TheInside.{Inside}
 use Rattle.paging_machine.specs.Parts.{Parts, state_of}
-use Rattle.paging_machine.specs.Shape.{Making, Follows, FitsApart}
+use Rattle.paging_laws.specs.Shape.{Making, Follows, FitsApart}
 use Rattle.seal_record.specs.Records.{Made}
-use Rattle.paging_machine.specs.Histories.{UpholdsAll}
-use Rattle.paging_machine.specs.State.{State}
-use Rattle.paging_machine.specs.Steps.{IsStep, CanApply}
+use Rattle.paging_laws.specs.Histories.{UpholdsAll}
+use Rattle.paging_laws.specs.State.{State}
+use Rattle.paging_laws.specs.Steps.{IsStep, CanApply}
 use Rattle.paging_machine.specs.Whole.{IsWhole, parts_of}
-use Rattle.paging_machine.proofs.ExtendLaws.{pages_made}
-use Rattle.paging_machine.proofs.FitLaws.{step_fits}
-use Rattle.paging_machine.proofs.FollowLaws.{step_follows}
-use Rattle.paging_machine.proofs.WholeLaws.{step_all}
+use Rattle.paging_machine.proofs.ProcessorBridge.{pages_made}
+use Rattle.paging_laws.proofs.FitLaws.{step_fits}
+use Rattle.paging_laws.proofs.FollowLaws.{step_follows}
+use Rattle.paging_laws.proofs.WholeLaws.{step_all}
 use Rattle.paging_machine.proofs.machine.Machine.apply.Goals as goal
 
 -- what every machine keeps is all that a step's laws ask

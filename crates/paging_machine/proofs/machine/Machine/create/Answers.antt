@@ -6,8 +6,8 @@ use Rattle.secs_state.specs.Secs.{created}
 use Rattle.secs_state.specs.Table.{enclave_at}
 use Rattle.paging_machine.specs.Whole.{parts_of}
 use Rattle.paging_machine.specs.Parts.{state_of}
-use Rattle.paging_machine.specs.State.{after_create}
-use Rattle.paging_machine.proofs.Tools.{none_holds}
+use Rattle.paging_laws.specs.State.{after_create}
+use Rattle.paging_laws.proofs.Tools.{none_holds}
 use Rattle.paging_machine.proofs.Columns.{table_written}
 use Rattle.paging_machine.proofs.BuildBridge.{creates, created_own, no_enclave, create_state, create_pages}
 use Rattle.paging_machine.proofs.Keeping.{kept_create}

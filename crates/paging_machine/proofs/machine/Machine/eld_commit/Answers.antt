@@ -5,12 +5,12 @@ use Rattle.sgx_types.specs.declared.entries.Action.TheVariants.{Eld}
 use Rattle.sgx_types.specs.declared.entries.Answer.TheVariants.{Moved}
 use Rattle.paging_machine.specs.Whole.{parts_of}
 use Rattle.paging_machine.specs.Parts.{state_of}
-use Rattle.paging_machine.specs.Steps.{did_by}
+use Rattle.paging_laws.specs.Steps.{did_by}
 use Rattle.paging_machine.proofs.CommitBridge.{Ended, IsOpened, ended_back, ended_refused, low_in}
-use Rattle.paging_machine.proofs.FitLaws.{reloaded_fits}
-use Rattle.paging_machine.proofs.FollowLaws.{reloaded_follows}
+use Rattle.paging_laws.proofs.FitLaws.{reloaded_fits}
+use Rattle.paging_laws.proofs.FollowLaws.{reloaded_follows}
 use Rattle.paging_machine.proofs.Keeping.{kept_as}
-use Rattle.paging_machine.proofs.WholeLaws.{reloaded_all}
+use Rattle.paging_laws.proofs.WholeLaws.{reloaded_all}
 use Rattle.paging_machine.proofs.Wholes.{whole}
 use Rattle.paging_machine.proofs.machine.Machine.eld_commit.Goals as goal
 

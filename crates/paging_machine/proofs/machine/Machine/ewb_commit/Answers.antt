@@ -2,14 +2,14 @@ use Rattle.std.proofs.Common.{◌≡◌, ◌∙◌, true, ap, None, set}
 use Rattle.sgx_types.specs.declared.entries.Action.TheVariants.{Ewb}
 use Rattle.sgx_types.specs.declared.entries.Answer.TheVariants.{Moved}
 use Rattle.sgx_types.specs.Sealed.{Sealed}
-use Rattle.paging_machine.specs.Steps.{did_by}
+use Rattle.paging_laws.specs.Steps.{did_by}
 use Rattle.paging_machine.specs.Whole.{parts_of}
 use Rattle.paging_machine.specs.Parts.{state_of}
 use Rattle.paging_machine.proofs.CommitBridge.{Written, written, low_out}
-use Rattle.paging_machine.proofs.FitLaws.{written_fits}
-use Rattle.paging_machine.proofs.FollowLaws.{written_follows}
+use Rattle.paging_laws.proofs.FitLaws.{written_fits}
+use Rattle.paging_laws.proofs.FollowLaws.{written_follows}
 use Rattle.paging_machine.proofs.Keeping.{kept_as}
-use Rattle.paging_machine.proofs.WholeLaws.{written_all}
+use Rattle.paging_laws.proofs.WholeLaws.{written_all}
 use Rattle.paging_machine.proofs.Wholes.{whole}
 use Rattle.paging_machine.proofs.machine.Machine.ewb_commit.Goals as goal
 

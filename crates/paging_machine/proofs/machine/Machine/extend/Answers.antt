@@ -5,7 +5,7 @@ use Rattle.secs_state.specs.Table.{enclave_at}
 use Rattle.measure_log.specs.Rule.{page_held}
 use Rattle.paging_machine.specs.Whole.{parts_of}
 use Rattle.paging_machine.specs.Parts.{state_of}
-use Rattle.paging_machine.specs.State.{after_extend}
+use Rattle.paging_laws.specs.State.{after_extend}
 use Rattle.paging_machine.proofs.BuildBridge.{extend_state}
 use Rattle.paging_machine.proofs.BuildSteps.{owner, measure_place, measure_there, extend_row_at, extend_done}
 use Rattle.paging_machine.proofs.Keeping.{kept_extend}

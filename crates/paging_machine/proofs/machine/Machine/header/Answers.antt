@@ -5,7 +5,7 @@ use Rattle.epcm_entry.specs.declared.entry_view.EntryView.TheVariants as views
 use Rattle.epcm_entry.specs.Epc.{entry_at}
 use Rattle.paging_machine.specs.Whole.{parts_of}
 use Rattle.paging_machine.specs.Parts.{enclave_of, state_of}
-use Rattle.paging_machine.specs.Steps.{IsHeaderIn}
+use Rattle.paging_laws.specs.Steps.{IsHeaderIn}
 use Rattle.paging_machine.proofs.PagingSights.{leaving_held, page_below}
 use Rattle.paging_machine.proofs.machine.Machine.header.Goals as goal
 

@@ -1,6 +1,5 @@
 use Rattle.std.proofs.Common.{refl}
-use Rattle.paging_machine.proofs.Fresh.{whole_made, made_follows}
-use Rattle.paging_machine.proofs.WholeLaws.{made_all}
+use Rattle.paging_machine.proofs.Fresh.{whole_made, made_all, made_follows}
 use Rattle.paging_machine.proofs.machine.Machine.new.Goals as goal
 
 pub invariant_of-result : goal.invariant_of-result

@@ -9,8 +9,8 @@ use Rattle.cached_translations.specs.Modes.{is_inside}
 use Rattle.track_epoch.specs.Tracks.{track_of}
 use Rattle.paging_machine.specs.Whole.{parts_of}
 use Rattle.paging_machine.specs.Parts.{state_of, cpu_at}
-use Rattle.paging_machine.specs.State.{after_resume}
-use Rattle.paging_machine.specs.Steps.{did_by}
+use Rattle.paging_laws.specs.State.{after_resume}
+use Rattle.paging_laws.specs.Steps.{did_by}
 use Rattle.paging_machine.proofs.Columns.{numbered}
 use Rattle.paging_machine.proofs.ProcessorBridge.{cpu_there, frame_added}
 use Rattle.paging_machine.proofs.TrackLaws.{room}

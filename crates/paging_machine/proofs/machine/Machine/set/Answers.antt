@@ -1,7 +1,7 @@
 use Rattle.std.proofs.Common.{◌≡◌, ◌<◌, true, refl, sym, length}
 use Rattle.paging_machine.specs.Whole.{parts_of}
 use Rattle.paging_machine.specs.Parts.{state_of, cpu_at}
-use Rattle.paging_machine.specs.State.{with_acc}
+use Rattle.paging_laws.specs.State.{with_acc}
 use Rattle.paging_machine.proofs.ProcessorBridge.{cpu_there}
 use Rattle.paging_machine.proofs.AccessBridge.{inside_only, acc_leaves}
 use Rattle.paging_machine.proofs.Wholes.{whole, done_step}

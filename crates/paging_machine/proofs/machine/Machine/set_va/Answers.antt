@@ -1,6 +1,6 @@
 use Rattle.paging_machine.specs.Whole.{parts_of}
 use Rattle.paging_machine.specs.Parts.{state_of}
-use Rattle.paging_machine.specs.State.{after_epa}
+use Rattle.paging_laws.specs.State.{after_epa}
 use Rattle.paging_machine.proofs.BuildBridge.{takes-epa}
 use Rattle.paging_machine.proofs.BuildSteps.{epa_leaves}
 use Rattle.paging_machine.proofs.Wholes.{whole}

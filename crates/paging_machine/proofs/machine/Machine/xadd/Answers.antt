@@ -1,7 +1,7 @@
 use Rattle.std.proofs.Common.{◌≡◌, ◌<◌, ◌∙◌, Some, None, sym, ap, length}
 use Rattle.paging_machine.specs.Whole.{parts_of}
 use Rattle.paging_machine.specs.Parts.{state_of, cpu_at}
-use Rattle.paging_machine.specs.State.{row_of, word_at, after_xadd}
+use Rattle.paging_laws.specs.State.{row_of, word_at, after_xadd}
 use Rattle.paging_machine.proofs.ProcessorBridge.{cpu_there}
 use Rattle.paging_machine.proofs.AccessBridge.{access_row_at, through, store_leaves, word_seen}
 use Rattle.paging_machine.proofs.Wholes.{whole, whole_same, done_step, refused_step, by_view}
@@ -10,7 +10,7 @@ use Rattle.sgx_types.specs.declared.entries.Action.TheVariants.{Xadd}
 use Rattle.sgx_types.specs.Flat.{sum_of}
 use Rattle.enclave_access.specs.Access.{with_stored}
 use Rattle.sgx_types.specs.declared.entries.Answer.TheVariants.{Value}
-use Rattle.paging_machine.specs.Steps.{did_by}
+use Rattle.paging_laws.specs.Steps.{did_by}
 use Rattle.sgx_types.specs.Table.{first_of_row, allows_update}
 use Rattle.paging_machine.proofs.machine.Machine.xadd.Goals.{in-Ok, in-Err}
 use Rattle.paging_machine.proofs.machine.Machine.xadd.Goals as goal

@@ -3,7 +3,7 @@ use Rattle.std.proofs.lemmas.List.{reverse-append}
 use Rattle.sgx_types.specs.declared.entries.Entry.{Entry}
 use Rattle.sgx_types.specs.Frames.{Free, content}
 use Rattle.paging_machine.specs.Parts.{Parts, state_of}
-use Rattle.paging_machine.specs.Stands.{Upholds}
+use Rattle.paging_laws.specs.Stands.{Upholds}
 use Rattle.sgxpage.specs.Asking.{CanAsk}
 use Rattle.paging_machine.proofs.ProcessorBridge.{free_past}
 use Rattle.sgxpage.specs.Homes.{home_by, home_in}

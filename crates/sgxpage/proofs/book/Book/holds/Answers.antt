@@ -1,7 +1,7 @@
 use Rattle.std.proofs.Common.{ap, sym, ◌∙◌}
 use Rattle.sgx_types.specs.Processors.{holds_number}
 use Rattle.paging_machine.specs.Parts.{cpu_at}
-use Rattle.paging_machine.proofs.AccessLaws.{holds_number-map}
+use Rattle.paging_laws.proofs.AccessLaws.{holds_number-map}
 use Rattle.sgxpage.proofs.book.Book.holds.Goals as goal
 
 pub returns : goal.returns

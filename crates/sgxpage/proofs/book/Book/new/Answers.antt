@@ -1,5 +1,5 @@
 use Rattle.paging_machine.specs.Parts.{state_of}
-use Rattle.paging_machine.specs.Shape.{making_of}
+use Rattle.paging_laws.specs.Shape.{making_of}
 use Rattle.sgxpage.proofs.CalmLaws.{calm_fresh}
 use Rattle.sgxpage.proofs.HomeLaws.{homes_fresh}
 use Rattle.sgxpage.proofs.book.Book.new.Goals as goal

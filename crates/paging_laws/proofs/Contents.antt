@@ -1,0 +1,54 @@
+-- What a frame holds that holds a given page.
+use Rattle.std.proofs.Common.{◌≡◌, true, sym, ap, ◌∙◌}
+use Rattle.sgx_types.specs.declared.names.Page.{Page}
+use Rattle.sgx_types.specs.declared.names.Kind.{Kind}
+use Rattle.sgx_types.specs.declared.names.Kind.TheVariants as kinds
+use Rattle.sgx_types.specs.declared.names.Perm.{Perm}
+use Rattle.sgx_types.specs.Frames.{Content, Free, IsVa, SecsOf, Holds, IsLoading, is_page}
+use Rattle.sgx_types.specs.Table.{is_tcs, is_reg}
+use Rattle.paging_laws.proofs.Tools.{same_pages}
+
+pub record IsKindOf (c : Content) (g : Page) (kind : Kind) : Type 0 where
+  pub perm : Perm
+  pub holds : c ≡ Holds g kind perm
+
+pub tcs_there : (c : Content) (g : Page) → is_page c g ≡ true → is_tcs c ≡ true → IsKindOf c g kinds.Tcs
+tcs_there (Holds page kinds.Tcs perm) g here is = record { perm = perm; holds = ap (λ q. Holds q kinds.Tcs perm) (same_pages page g here) }
+tcs_there (Holds page kinds.Secs perm) g here is = cc
+tcs_there (Holds page kinds.Reg perm) g here is = cc
+tcs_there (Holds page kinds.Va perm) g here is = cc
+tcs_there Free g here is = cc
+tcs_there IsVa g here is = cc
+tcs_there (SecsOf enclave) g here is = cc
+tcs_there IsLoading g here is = cc
+
+pub reg_there : (c : Content) (g : Page) → is_page c g ≡ true → is_reg c ≡ true → IsKindOf c g kinds.Reg
+reg_there (Holds page kinds.Reg perm) g here is = record { perm = perm; holds = ap (λ q. Holds q kinds.Reg perm) (same_pages page g here) }
+reg_there (Holds page kinds.Secs perm) g here is = cc
+reg_there (Holds page kinds.Tcs perm) g here is = cc
+reg_there (Holds page kinds.Va perm) g here is = cc
+reg_there Free g here is = cc
+reg_there IsVa g here is = cc
+reg_there (SecsOf enclave) g here is = cc
+reg_there IsLoading g here is = cc
+
+-- a frame holds one page
+pub one_page : (c : Content) (g h : Page) → is_page c g ≡ true → is_page c h ≡ true → (g.enclave ≡ h.enclave) × (g.number ≡ h.number)
+one_page (Holds page kind perm) g h here there =
+    let same : g ≡ h = sym (same_pages page g here) ∙ same_pages page h there in
+    (ap (λ (q : Page). q.enclave) same, ap (λ (q : Page). q.number) same)
+one_page Free g h here there = cc
+one_page IsVa g h here there = cc
+one_page (SecsOf enclave) g h here there = cc
+one_page IsLoading g h here there = cc
+
+-- .. of one kind
+pub tcs_no_reg : (c : Content) → is_tcs c ≡ true → is_reg c ≡ true → ⊥
+tcs_no_reg (Holds page kinds.Tcs perm) is other = cc
+tcs_no_reg (Holds page kinds.Secs perm) is other = cc
+tcs_no_reg (Holds page kinds.Reg perm) is other = cc
+tcs_no_reg (Holds page kinds.Va perm) is other = cc
+tcs_no_reg Free is other = cc
+tcs_no_reg IsVa is other = cc
+tcs_no_reg (SecsOf enclave) is other = cc
+tcs_no_reg IsLoading is other = cc

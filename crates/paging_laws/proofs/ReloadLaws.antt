@@ -1,0 +1,201 @@
+-- A load that its commit's row allows brings back what went out last: the page's version, its tag and its bytes.
+use Rattle.std.proofs.Common.{◌≡◌, ℕ, ◌+◌, ◌*◌, ◌<◌, ◌≤◌, ◌==◌, ◌&&◌, true, refl, sym, ap, subst, ◌∙◌, arith, Some, None, List, [], ◌∷◌, ◌++◌, length, All, Any}
+use Rattle.std.proofs.lemmas.Bool.{eqb-true}
+use Rattle.std.proofs.lemmas.List.{get_or_default}
+use Rattle.std.proofs.lemmas.Slice.Eq.{bytes_eq-Decides}
+use Rattle.sgx_types.specs.declared.entries.Entry.{Entry}
+use Rattle.sgx_types.specs.declared.entries.Actor.{Actor}
+use Rattle.sgx_types.specs.declared.entries.Action.TheVariants.{Eld}
+use Rattle.sgx_types.specs.declared.entries.Answer.TheVariants as answers
+use Rattle.sgx_types.specs.declared.names.Frame.{Frame}
+use Rattle.sgx_types.specs.declared.names.Kind.{Kind}
+use Rattle.sgx_types.specs.declared.names.Page.{Page}
+use Rattle.sgx_types.specs.declared.names.Perm.{Perm}
+use Rattle.sgx_types.specs.declared.record.Header.{Header}
+use Rattle.sgx_types.specs.Flat.{FlatEnclave, flat}
+use Rattle.sgx_types.specs.Flat as memory
+use Rattle.sgx_types.specs.Rules.{Along, RefusalRule}
+use Rattle.sgx_types.specs.Sealed.{Sealed, header_of}
+use Rattle.sgx_types.specs.Slots.{version_in}
+use Rattle.sgx_types.specs.Starts.{Start, open_start}
+use Rattle.sgx_types.specs.Table.{first_of_row}
+use Rattle.epcm_entry.specs.Words.{words_of}
+use Rattle.seal_record.specs.Row.{same_header}
+use Rattle.seal_record.specs.Cipher.{cipher, tag}
+use Rattle.seal_record.specs.Records.{Given, Made, Tagged, Unforged, given_of, made_of, tag_of}
+use Rattle.seal_record.proofs.CipherLaws.{cipher_twice}
+use Rattle.seal_record.proofs.RecordLaws.{fitting_made}
+use Rattle.page_history.specs.Copies.{InSlot, copy}
+use Rattle.page_history.specs.Fresh.{IsLastOut, ReloadRule}
+use Rattle.page_history.specs.Moves.{Numbers}
+use Rattle.page_history.specs.Once.{Gone, IsMade, IsOfPage, KeepsMoves, MadeOnce}
+use Rattle.page_history.specs.Records.{SealedRule, made_by, page_bytes}
+use Rattle.page_history.proofs.CopyLaws.{copy_is_last, live_copies, went_out}
+use Rattle.page_history.proofs.DrawnLaws.{drawn_once}
+use Rattle.page_history.proofs.RecordLaws.{made_once}
+use Rattle.page_history.proofs.StartLaws.{starts_apart}
+use Rattle.paging_laws.specs.Histories.{OutsideBytes, UpholdsAll, looked_at, looked_at_by, numbers_of}
+use Rattle.paging_laws.specs.Shape.{Making}
+use Rattle.paging_laws.specs.State.{State, after_eld}
+use Rattle.paging_laws.specs.Steps.{IsComing, IsReloaded, commit_row, did_by}
+use Rattle.paging_laws.proofs.Tools.{both_true, none_holds, not_false}
+
+-- ---- the page of a header
+
+-- headers are one only where pages are
+header_page : (a b : ℕ) (g h : Page) (kind other : Kind) (perm its : Perm) → (g.enclave ≡ h.enclave → a ≡ b) → header_of a g kind perm ≡ header_of b h other its → g ≡ h
+header_page a b g h kind other perm its bases same =
+    let enclave : g.enclave ≡ h.enclave = ap (λ (x : Header). x.enclave) same in
+    let base : a ≡ b = bases enclave in
+    let address : a + 4096 * g.number ≡ b + 4096 * h.number = ap (λ (x : Header). x.address) same in
+    let number : g.number ≡ h.number = omega (arith, base, address) in
+    λ i. record { enclave = enclave i; number = number i }
+
+-- an enclave has one base
+one_base : (x y : FlatEnclave) → Some x ≡ Some y → x.base ≡ y.base
+one_base x y e = let same : x ≡ y = cc in ap (λ (z : FlatEnclave). z.base) same
+
+-- ---- the record of a load
+
+-- a record has a page's header, by the base that its enclave was created with
+pub record HasHeader (past : List Entry) (g : Page) (header : Header) : Type 0 where
+  pub enclave : FlatEnclave
+  pub made : (flat past).enclaves g.enclave ≡ Some enclave
+  pub kind : Kind
+  pub perm : Perm
+  pub headed : header ≡ header_of enclave.base g kind perm
+
+-- a record that fits brings a page back as it went out last
+pub record BringsBack (key : List ℕ) (past : List Entry) (n : ℕ) (g : Page) (version : ℕ) (rec : Sealed) : Type 0 where
+  pub last : IsLastOut past n g version rec.tag
+  pub words : words_of (cipher key version rec.cipher) ≡ memory.words_of (flat past) g
+
+-- what the commit of a load looks at
+abbrev given_with : ℕ → ℕ → Sealed → Given
+given_with count version rec = record { made = count; version = version; header = rec.header; cipher = rec.cipher; tag = rec.tag }
+
+module _ (k : Numbers) (key : List ℕ) (past : List Entry) (positive : 1 ≤ k.first_version) (rules : KeepsMoves k past) (sealed : Along (SealedRule key) past) (outside : OutsideBytes key past) where
+  -- each record that was made carries its own tag
+  own_tags : All (λ one. one.tag ≡ tag_of key (made_of one)) (made_by key past)
+  own_tags i d low =
+      let once = made_once k key past rules sealed in
+      (once.own _ (i, _, low, get_or_default (made_by key past) i _ _ low, refl)).tagged
+
+  -- a record that fits a page whose start found its version is the record of the page's last write-out
+  pub brought_back : (n : ℕ) (start : Start) (g : Page) (rec : Sealed) (given : List Given) → open_start past n ≡ Some start → start.loads ≡ Some g
+      → HasHeader past g rec.header → rec.tag ≡ tag key start.version rec.header rec.cipher
+      → Unforged key (made_by key past) (given ++ given_with (length (made_by key past)) start.version rec ∷ []) → BringsBack key past n g start.version rec
+  brought_back n start g rec given opened loads headed fits unforged =
+      by_made (fitting_made key (made_by key past) given last own_tags refl unforged fits)
+    where
+      version : ℕ
+      version = start.version
+
+      last : Given
+      last = given_with (length (made_by key past)) version rec
+
+      once : MadeOnce key past
+      once = made_once k key past rules sealed
+
+      found : (version_in past start.slot ≡ version) × (0 < version)
+      found = (starts_apart k past rules).found n start g opened loads
+
+      by_made : Any (λ one. made_of one ≡ given_of last) (made_by key past) → BringsBack key past n g version rec
+      by_made (i, one, low, here, same) =
+          let made : IsMade key past one = (i, one, low, here, refl) in
+          let own : IsOfPage key past one = once.own one made in
+          let its_version : one.version ≡ version = ap (λ (x : Tagged). x.version) same in
+          let its_header : one.header ≡ rec.header = ap (λ (x : Tagged). x.header) same in
+          let its_cipher : one.cipher ≡ rec.cipher = ap (λ (x : Tagged). x.cipher) same in
+          -- the record is the page's
+          let its_page : own.page ≡ g =
+          header_page own.header.enclave.base headed.enclave.base own.page g own.header.page.kind headed.kind own.header.page.perm headed.perm
+          (λ in_one. one_base own.header.enclave headed.enclave (sym own.header.made ∙ ap (flat past).enclaves in_one ∙ headed.made)) (sym own.header.headed ∙ its_header ∙ headed.headed) in
+          -- .. and so is the slot's version
+          let filled = (live_copies k past positive rules).filled start.slot (rw found.0 found.1) in
+          let there : copy past filled.0 ≡ Some (InSlot start.slot version) = filled.1 ∙ ap (λ v. Some (InSlot start.slot v)) found.0 in
+          let alike = (drawn_once k past rules).once _ _ (went_out past filled.0 start.slot version there) own.gone (sym its_version) in
+          let its_own : filled.0 ≡ g = ap (λ (x : Gone). x.page) alike ∙ its_page in
+          let out : copy past g ≡ Some (InSlot start.slot version) = ap (copy past) (sym its_own) ∙ there in
+          -- the tag is that of the page's last write-out
+          let under = copy_is_last past g start.slot version out in
+          let last_made = once.last g _ under.1 in
+          let last_same : last_made.0 ≡ one = once.once last_made.0 one last_made.1.made made (last_made.1.version ∙ sym its_version) in
+          let its_tag : under.0 ≡ rec.tag = sym last_made.1.tag ∙ ap (λ (x : Made). x.tag) last_same ∙ own.tagged ∙ ap (tag_of key) same ∙ sym fits in
+          -- the bytes are the page's
+          let bytes = outside g start.slot version out in
+          let bytes_same : bytes.0 ≡ one = once.once bytes.0 one bytes.1.made made (bytes.1.version ∙ sym its_version) in
+          let enciphered : rec.cipher ≡ cipher key version (page_bytes (memory.words_of (flat past) g)) = sym its_cipher ∙ ap (λ (x : Made). x.cipher) (sym bytes_same) ∙ bytes.1.cipher in
+          record {
+            last = record { last = under.1 ∙ ap (λ t. Some (record { version = version; tag = t })) its_tag; slot = rw opened found.0 };
+            words = ap (λ c. words_of (cipher key version c)) enciphered ∙ ap words_of (cipher_twice key version (page_bytes (memory.words_of (flat past) g)) bytes.1.size) ∙ bytes.1.back;
+          }
+
+-- ---- the machine
+
+-- a row that refuses nothing finds the computed tag and the page's header
+pub record Allows (computed : List ℕ) (own : Header) (rec : Sealed) : Type 0 where
+  pub tag : rec.tag ≡ computed
+  pub header : rec.header ≡ own
+
+one_header : (a b : Header) → same_header a b ≡ true → a ≡ b
+one_header a b is =
+    let first = both_true ((a.enclave == b.enclave) && (a.address == b.address)) (a.flags == b.flags) is in
+    let second = both_true (a.enclave == b.enclave) (a.address == b.address) first.0 in
+    λ i. record { enclave = eqb-true a.enclave b.enclave second.0 i; address = eqb-true a.address b.address second.1 i; flags = eqb-true a.flags b.flags first.1 i }
+
+pub row_allows : (s : State) (f : ℕ) (coming : IsComing s f) (rec : Sealed) → first_of_row (commit_row s f coming rec) ≡ None
+    → Allows (tag s.key coming.start.version rec.header rec.cipher) coming.header rec
+row_allows s f coming rec allowed =
+    let k = none_holds (commit_row s f coming rec) allowed in
+    record {
+      tag = (bytes_eq-Decides rec.tag (tag s.key coming.start.version rec.header rec.cipher)).0 (not_false _ k.0);
+      header = one_header rec.header coming.header (not_false _ k.1.0);
+    }
+
+-- a machine that stands in all for its entries keeps the rules on instructions and versions
+pub keeps_moves : (made : Making) (s : State) (past : List Entry) (records : List Made) → UpholdsAll made s past records → KeepsMoves (numbers_of made) past
+keeps_moves made s past records h = record {
+  refusal = subst (λ frames. Along (RefusalRule frames) past) (ap (λ (m : Making). m.frames) h.follows.shape.making) h.upheld.rules.refusal;
+  flat = h.upheld.rules.flat;
+  moves = h.moves;
+  evict = h.follows.evict;
+  fresh = h.fresh;
+}
+
+-- a record that the commit's row allows brings the page back that its frame waits for
+pub reload_back : (made : Making) (s : State) (past : List Entry) (records : List Made) (given : List Given) (f : ℕ) (coming : IsComing s f) (rec : Sealed)
+    → first_of_row (commit_row s f coming rec) ≡ None → UpholdsAll made s past records → Unforged made.key records (given ++ looked_at s f records rec)
+    → BringsBack made.key past f coming.page coming.start.version rec
+reload_back made s past records given f coming rec allowed h unforged =
+    let allows = row_allows s f coming rec allowed in
+    let key : s.key ≡ made.key = ap (λ (m : Making). m.key) h.follows.shape.making in
+    let opened : open_start past f ≡ Some coming.start = sym (h.follows.shape.columns.start f) ∙ coming.opened in
+    let headed : HasHeader past coming.page rec.header = record {
+      enclave = coming.enclave;
+      made = sym (h.upheld.stands.enclaves coming.page.enclave) ∙ coming.made;
+      kind = coming.kind;
+      perm = coming.perm;
+      headed = allows.header ∙ coming.headed;
+    } in
+    let fits : rec.tag ≡ tag made.key coming.start.version rec.header rec.cipher = allows.tag ∙ ap (λ k. tag k coming.start.version rec.header rec.cipher) key in
+    let looked : looked_at s f records rec ≡ given_with (length records) coming.start.version rec ∷ [] = ap (λ o. looked_at_by o records rec) coming.opened in
+    let last : Unforged made.key records (given ++ given_with (length records) coming.start.version rec ∷ []) = subst (λ more. Unforged made.key records (given ++ more)) looked unforged in
+    let all : Unforged made.key (made_by made.key past) (given ++ given_with (length (made_by made.key past)) coming.start.version rec ∷ []) =
+    subst (λ (list : List Made). Unforged made.key list (given ++ given_with (length list) coming.start.version rec ∷ [])) h.records last in
+    brought_back (numbers_of made) made.key past h.positive (keeps_moves made s past records h) h.sealed h.outside f coming.start coming.page rec given opened coming.loads headed fits all
+
+-- its entry keeps the rule on reloads
+pub reload_fresh : (made : Making) (s t : State) (past : List Entry) (records : List Made) (given : List Given) (a : Actor) (f : Frame) (rec : Sealed) (e : Entry) (back : IsReloaded s a f rec e t)
+    → first_of_row (commit_row s f.0 back.coming rec) ≡ None → UpholdsAll made s past records → Unforged made.key records (given ++ looked_at s f.0 records rec) → ReloadRule past e
+reload_fresh made s t past records given a f rec e back allowed h unforged =
+    let row : (e ≡ did_by a (Eld f) (answers.Moved back.coming.page back.coming.start.version rec.tag)) × (t ≡ after_eld s f.0 back.coming.start back.coming.page back.coming.kind back.coming.perm (words_of (cipher s.key back.coming.start.version rec.cipher)))
+    = rw allowed at back.row in
+    rw row.0 (reload_back made s past records given f.0 back.coming rec allowed h unforged).last
+
+-- and its words are the page's flat words
+pub reload_words : (made : Making) (s : State) (past : List Entry) (records : List Made) (given : List Given) (f : ℕ) (coming : IsComing s f) (rec : Sealed)
+    → first_of_row (commit_row s f coming rec) ≡ None → UpholdsAll made s past records → Unforged made.key records (given ++ looked_at s f records rec)
+    → words_of (cipher s.key coming.start.version rec.cipher) ≡ memory.words_of (flat past) coming.page
+reload_words made s past records given f coming rec allowed h unforged =
+    ap (λ (m : Making). words_of (cipher m.key coming.start.version rec.cipher)) h.follows.shape.making ∙ (reload_back made s past records given f coming rec allowed h unforged).words

@@ -1,0 +1,86 @@
+-- The words of frames and of the pages in them, where a page's words are changed in both.
+use Rattle.std.proofs.Common.{◌≡◌, ℕ, ◌+◌, ◌*◌, ◌/◌, ◌%◌, ◌^◌, ◌<◌, ◌==◌, Bool, true, false, cond, refl, sym, ap, ◌∙◌, arith, Option, Some, None, List, length, get_or, set, replicate}
+use Rattle.std.proofs.lemmas.Bool.{false≢true, eqb-true}
+use Rattle.std.proofs.lemmas.List.{get_or-set_same, get_or-set_other, length-set, length-replicate}
+use Rattle.sgx_types.specs.declared.entries.PageInit.{PageInit}
+use Rattle.sgx_types.specs.declared.entries.PageInit.TheVariants as inits
+use Rattle.sgx_types.specs.declared.names.Page.{Page}
+use Rattle.sgx_types.specs.declared.names.Kind.{Kind}
+use Rattle.sgx_types.specs.declared.names.Perm.{Perm}
+use Rattle.sgx_types.specs.Frames.{Content, Holds, is_page, same_page}
+use Rattle.sgx_types.specs.Flat.{FlatMemory, FlatPage, added_as, first_words, tcs_fields, with_cssa, with_words}
+use Rattle.sgx_types.specs.Flat.{rewritten as rewritten_page}
+use Rattle.sgx_types.specs.declared.entries.Entry.{Entry}
+use Rattle.sgx_types.specs.Rules.{NoPageTwice}
+use Rattle.paging_laws.specs.State.{State, rewritten}
+use Rattle.paging_laws.specs.Stands.{Stands}
+use Rattle.paging_laws.proofs.Tools.{equal, same_pages}
+use Rattle.paging_laws.proofs.Carry.{same_page-refl}
+
+-- a frame that holds a page has that page's words
+abbrev pub HoldsWords : (ℕ → Content) → (ℕ → List ℕ) → FlatMemory → Type 0
+HoldsWords content words m = (n : ℕ) (g : Page) (kind : Kind) (perm : Perm) → content n ≡ Holds g kind perm → m.pages g ≡ Some (record { kind = kind; perm = perm; words = words n })
+
+-- no page stands in two frames
+abbrev pub IsOnce : (ℕ → Content) → Type 0
+IsOnce content = (m n : ℕ) (g : Page) → is_page (content m) g ≡ true → is_page (content n) g ≡ true → m ≡ n
+
+pub once_in_state : (s : State) (past : List Entry) → Stands s past → NoPageTwice past → IsOnce s.content
+once_in_state s past stands once m n g at_m at_n = once m n g (rw (← stands.content m) at_m) (rw (← stands.content n) at_n)
+
+-- a page's words are changed, in its frame and in flat memory
+pub words_changed : (content : ℕ → Content) (words : ℕ → List ℕ) (m : FlatMemory) (f : ℕ) (g : Page) (change : List ℕ → List ℕ) → HoldsWords content words m → IsOnce content → is_page (content f) g ≡ true
+    → HoldsWords content (rewritten words f change) (with_words m g change)
+words_changed content words m f g change holds once there n q kind perm at = by_frame (f == n) refl
+  where
+    here : f ≡ n → same_page q g ≡ true
+    here same =
+        let found : is_page (Holds q kind perm) g ≡ true = rw (same, at) at there in
+        let e : q ≡ g = same_pages q g found in
+        rw e (same_page-refl g.enclave g.number)
+
+    elsewhere : (f == n) ≡ false → (x : Bool) → same_page q g ≡ x → x ≡ false
+    elsewhere other false e = refl
+    elsewhere other true e =
+        let same : q ≡ g = same_pages q g e in
+        let found : is_page (content n) g ≡ true = rw (at, same) (same_page-refl g.enclave g.number) in
+        absurd (false≢true (sym other ∙ equal f n (once f n g there found)))
+
+    by_frame : (x : Bool) → (f == n) ≡ x
+        → cond (same_page q g) (rewritten_page change (m.pages q)) (m.pages q) ≡ Some (let p : FlatPage = record { kind = kind; perm = perm; words = cond x (change (words n)) (words n) } in p)
+    by_frame true e = rw (here (eqb-true f n e), holds n q kind perm at) refl
+    by_frame false e = rw (elsewhere e (same_page q g) refl) (holds n q kind perm at)
+
+-- .. and each page is as it was added
+pub added-changed : (m : FlatMemory) (g : Page) (change : List ℕ → List ℕ) (q : Page) → added_as ((with_words m g change).pages q) ≡ added_as (m.pages q)
+added-changed m g change q = by_page (same_page q g) (m.pages q)
+  where
+    by_page : (x : Bool) (o : Option FlatPage) → added_as (cond x (rewritten_page change o) o) ≡ added_as o
+    by_page false o = refl
+    by_page true None = refl
+    by_page true (Some p) = refl
+
+-- ---- the fields of a TCS page with another CSSA
+
+pub ossa-with_cssa : (words : List ℕ) (c : ℕ) → (tcs_fields (with_cssa words c)).ossa ≡ (tcs_fields words).ossa
+ossa-with_cssa words c = ap (λ w. w / 4096) (get_or-set_other words 3 2 _ 0 (λ e. omega arith))
+
+low_half : (c k : ℕ) → (c % 2 ^ 32 + k * 2 ^ 32) % 2 ^ 32 ≡ c % 2 ^ 32
+low_half c k = omega arith
+
+pub cssa-with_cssa : (words : List ℕ) (c : ℕ) → length words ≡ 512 → (tcs_fields (with_cssa words c)).cssa ≡ c % 2 ^ 32
+cssa-with_cssa words c sized = ap (λ w. w % 2 ^ 32) (get_or-set_same words 3 _ 0 (omega arith)) ∙ low_half c (get_or words 3 0 / 2 ^ 32)
+
+pub cssa_small : (words : List ℕ) → (tcs_fields words).cssa < 2 ^ 32
+cssa_small words = omega arith
+
+-- ---- how many words there are
+
+pub length-with_cssa : (words : List ℕ) (c : ℕ) → length (with_cssa words c) ≡ length words
+length-with_cssa words c = length-set words 3 _
+
+pub length-first_words : (init : PageInit) → length (first_words init) ≡ 512
+length-first_words (inits.Words v) = length-replicate 512 v
+length-first_words (inits.Tcs ossa nssa) =
+    let blank : List ℕ = replicate 512 0 in
+    length-set (set blank 2 (ossa * 4096)) 3 (nssa * 2 ^ 32) ∙ length-set blank 2 (ossa * 4096) ∙ length-replicate {A = ℕ} 512 0

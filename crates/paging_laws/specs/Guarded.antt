@@ -1,0 +1,77 @@
+-- What tracking and open starts keep of every state: no processor can still use the translation of a page that goes out,
+-- and each frame that is busy has its start.
+use Rattle.std.specs.Prelude.{ℕ, ◌≡◌, ◌+◌, ◌<◌, ◌≤◌, true, Option, Some, None, IfSome, is_some, List}
+use Rattle.std.specs.List.{All}
+use Rattle.std.specs.Option.{IsSomeAnd}
+use Rattle.sgx_types.specs.declared.names.Kind.{Kind}
+use Rattle.sgx_types.specs.declared.names.Kind.TheVariants as kinds
+use Rattle.sgx_types.specs.declared.names.Page.{Page}
+use Rattle.sgx_types.specs.declared.names.Perm.{Perm}
+use Rattle.sgx_types.specs.Frames.{Content, IsVa, IsLoading, enclave_in, page_at}
+use Rattle.sgx_types.specs.Processors.{Seat}
+use Rattle.sgx_types.specs.Starts.{Start}
+use Rattle.cached_translations.specs.declared.cache.Translation.{Translation}
+use Rattle.paging_laws.specs.State.{State, epoch_in}
+
+-- ---- tracking
+
+-- a block, if there is one, was no earlier than this epoch
+abbrev pub IsNoEarlier : ℕ → Option ℕ → Type 0
+IsNoEarlier epoch blocked = IfSome blocked (λ b. epoch ≤ b)
+
+-- a processor inside has noted its enclave's epoch or the one before it, and the frames that it uses were blocked no earlier
+pub record HasNoted (epoch : ℕ → ℕ) (blocked : ℕ → Option ℕ) (noted : ℕ) (held : List Translation) (seat : Seat) : Type 0 where
+  pub not_ahead : noted ≤ epoch seat.enclave
+  pub not_behind : epoch seat.enclave ≤ noted + 1
+  pub tcs : IsNoEarlier noted (blocked seat.tcs_frame)
+  pub ssa : IsNoEarlier noted (blocked seat.ssa_frame)
+  pub cache : All (λ t. IsNoEarlier noted (blocked t.frame.0)) held
+
+-- the enclave of a page that was blocked at an epoch was tracked since, and every processor inside it entered after that
+pub record IsDrainedAt (inside : ℕ → Option Seat) (noted : ℕ → ℕ) (enclave : Option ℕ) (now b : ℕ) : Type 0 where
+  pub tracked : b < now
+  pub left : (p : ℕ) → IfSome (inside p) (λ seat. enclave ≡ Some seat.enclave → b < noted p)
+
+-- ---- TCS pages
+
+-- a processor is inside by this TCS page
+pub record IsTakenIn (s : State) (g : Page) : Type 0 where
+  pub cpu : ℕ
+  pub by : IsSomeAnd (s.inside cpu) (λ seat. page_at seat.enclave seat.tcs ≡ g)
+
+-- ---- starts
+
+-- the kinds of the pages of an enclave's own memory
+abbrev pub IsPaged : Kind → Type 0
+IsPaged kinds.Tcs = Unit {0}
+IsPaged kinds.Reg = Unit {0}
+IsPaged _ = ⊥
+
+-- a start names a slot of a version array page, and loads a page that was added
+pub record IsOpen (content : ℕ → Content) (added : Page → Option (Kind × Perm)) (start : Start) : Type 0 where
+  pub paged : content start.slot.frame.0 ≡ IsVa
+  pub within : start.slot.index < 512
+  pub loads : IfSome start.loads (λ g. is_some (added g) ≡ true)
+
+abbrev pub WritesOut : Start → Type 0
+WritesOut start = start.loads ≡ None
+
+abbrev pub Loads : Start → Type 0
+Loads start = is_some start.loads ≡ true
+
+pub record IsGuarded (s : State) : Type 0 where
+  -- there are 16 processors at most
+  pub few : (p : ℕ) → 16 ≤ p → s.inside p ≡ None
+  pub noted : (p : ℕ) → IfSome (s.inside p) (HasNoted s.epoch s.blocked (s.noted p) (s.cache p))
+  -- no block is of an epoch to come
+  pub blocks : (n : ℕ) → IfSome (s.blocked n) (λ b. b ≤ epoch_in s n)
+  -- a page on its way out is drained
+  pub sealing : (n : ℕ) → s.is_sealing n ≡ true → IfSome (s.blocked n) (IsDrainedAt s.inside s.noted (enclave_in (s.content n)) (epoch_in s n))
+  -- a TCS page is busy only where a processor is inside by it
+  pub taken : (g : Page) → s.is_busy g ≡ true → IsTakenIn s g
+  pub opened : (n : ℕ) → IfSome (s.start n) (IsOpen s.content s.added)
+  pub written : (n : ℕ) → s.is_sealing n ≡ true → IsSomeAnd (s.start n) WritesOut
+  pub loaded : (n : ℕ) → s.content n ≡ IsLoading → IsSomeAnd (s.start n) Loads
+  -- a page of an enclave is a TCS or a REG page, and only such a page goes out
+  pub kinds : (g : Page) → IfSome (s.added g) (λ x. IsPaged x.0)
+  pub goes_out : (n : ℕ) → s.is_sealing n ≡ true → is_some (enclave_in (s.content n)) ≡ true

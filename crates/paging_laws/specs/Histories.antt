@@ -1,0 +1,64 @@
+-- A machine that stands in all for its entries and for the records that its write-outs gave: what it keeps where no record is
+-- forged.
+use Rattle.std.specs.Prelude.{ℕ, ◌≡◌, ◌≤◌, List, [], ◌∷◌, Option, Some, None, length}
+use Rattle.sgx_types.specs.declared.entries.Action.TheVariants.{Ewb}
+use Rattle.sgx_types.specs.declared.entries.Answer.TheVariants.{Moved}
+use Rattle.sgx_types.specs.declared.entries.Entry.{Entry}
+use Rattle.sgx_types.specs.declared.entries.Event.{Event}
+use Rattle.sgx_types.specs.declared.entries.Event.TheVariants.{Did}
+use Rattle.sgx_types.specs.declared.names.Page.{Page}
+use Rattle.sgx_types.specs.declared.names.SlotAt.{SlotAt}
+use Rattle.sgx_types.specs.Flat.{flat, words_of}
+use Rattle.sgx_types.specs.Rules.{Along}
+use Rattle.sgx_types.specs.Sealed.{Sealed}
+use Rattle.sgx_types.specs.Starts.{Start}
+use Rattle.epcm_entry.specs.Words as words
+use Rattle.seal_record.specs.Cipher.{cipher}
+use Rattle.seal_record.specs.Records.{Given, Made}
+use Rattle.page_history.specs.Copies.{InSlot, copy}
+use Rattle.page_history.specs.Fresh.{FreshRule}
+use Rattle.page_history.specs.Moves.{MovesRule, Numbers}
+use Rattle.page_history.specs.Once.{IsMade}
+use Rattle.page_history.specs.Records.{SealedRule, made_by, made_with, page_bytes}
+use Rattle.paging_laws.specs.Shape.{Follows, Making}
+use Rattle.paging_laws.specs.Stands.{Upholds}
+use Rattle.paging_laws.specs.State.{State}
+
+abbrev pub numbers_of : Making → Numbers
+numbers_of made = record { frames = made.frames; first_epoch = made.first_epoch; first_version = made.first_version }
+
+-- a record that was made under this version has the flat bytes of a page
+pub record HasBytes (key : List ℕ) (past : List Entry) (g : Page) (under : ℕ) (one : Made) : Type 0 where
+  pub made : IsMade key past one
+  pub version : one.version ≡ under
+  pub cipher : one.cipher ≡ cipher key under (page_bytes (words_of (flat past) g))
+  pub size : length (page_bytes (words_of (flat past) g)) ≡ 4096
+  -- its words are those of its bytes
+  pub back : words.words_of (page_bytes (words_of (flat past) g)) ≡ words_of (flat past) g
+
+-- the record of each page that is outside has the page's flat bytes
+abbrev pub OutsideBytes : List ℕ → List Entry → Type 0
+OutsideBytes key past = (g : Page) (slot : SlotAt) (v : ℕ) → copy past g ≡ Some (InSlot slot v) → (one : Made) × HasBytes key past g v one
+
+pub record UpholdsAll (made : Making) (s : State) (past : List Entry) (given : List Made) : Type 0 where
+  pub positive : 1 ≤ made.first_version
+  pub follows : Follows made s past
+  pub upheld : Upholds s past
+  pub moves : Along (MovesRule (numbers_of made)) past
+  pub fresh : Along (FreshRule made.first_version) past
+  pub sealed : Along (SealedRule made.key) past
+  pub records : given ≡ made_by made.key past
+  pub outside : OutsideBytes made.key past
+
+-- the record that a write-out gave, with the version that it tells
+abbrev pub given_out : Event → Sealed → List Made
+given_out (Did (Ewb f) (Moved page version tag)) rec = made_with version rec ∷ []
+given_out _ rec = []
+
+-- a record that the commit of a load looks at, under the version that its start found
+abbrev pub looked_at_by : Option Start → List Made → Sealed → List Given
+looked_at_by None records rec = []
+looked_at_by (Some start) records rec = record { made = length records; version = start.version; header = rec.header; cipher = rec.cipher; tag = rec.tag } ∷ []
+
+abbrev pub looked_at : State → ℕ → List Made → Sealed → List Given
+looked_at s f records rec = looked_at_by (s.start f) records rec

@@ -1,0 +1,7 @@
+pub mod State
+pub mod Stands
+pub mod Steps
+pub mod Guarded
+pub mod Shape
+pub mod Runs
+pub mod Histories
