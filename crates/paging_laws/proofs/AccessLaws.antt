@@ -17,12 +17,15 @@ use Rattle.sgx_types.specs.Processors.{Seat, Stay, stay, holds_number, with_pair
 use Rattle.sgx_types.specs.Table.{FrameSight, is_busy, is_loading, is_reg, perm_in, allows_read, allows_write, allows_update, access_row, fill_row, first_of_row}
 use Rattle.sgx_types.specs.Flat.{FlatMemory, flat, accepts, added_as, flat_translation, memory_after, stored, sum_of, with_words, word_index, word_seen}
 use Rattle.sgx_types.specs.Sights.{sight_at, enclave_of_stay, translation_at}
+use Rattle.sgx_types.proofs.Rows.{none_holds}
+use Rattle.sgx_types.proofs.Truths.{neither, not_false}
+use Rattle.sgx_types.proofs.Pages.{same_page-at}
 use Rattle.cached_translations.specs.declared.cache.Translation.{Translation}
 use Rattle.cached_translations.specs.Translations.{translation_of, with_translation, newest as newest_translations}
 use Rattle.paging_laws.specs.State.{State, sight, seat_enclave, perm_of_held, translation, row_of, frame_in, rewritten, after_fill, after_store, after_xadd, word_at}
 use Rattle.paging_laws.specs.Stands.{StandsBy, Stands, IsTranslation, IsSeated, IsSound, Upholds, pair_of, seat_of_stay, inside_of_stay}
-use Rattle.paging_laws.proofs.Tools.{none_holds, neither, not_false, each_there}
-use Rattle.paging_laws.proofs.Carry.{did_by, seat_at, same_page-refl, stands_done, upholds_more, held_before, once_before}
+use Rattle.paging_laws.proofs.Tools.{each_there}
+use Rattle.paging_laws.proofs.Carry.{did_by, seat_at, stands_done, upholds_more, held_before, once_before}
 use Rattle.paging_laws.proofs.Contents.{IsKindOf, reg_there}
 use Rattle.paging_laws.proofs.SoundLaws.{sound-written}
 use Rattle.paging_laws.proofs.WordLaws.{HoldsWords, once_in_state, words_changed, added-changed}
@@ -324,7 +327,7 @@ writes s past p off value sound h k =
     let change = with_word_at off value in
     let frame : frame_in (translation_of (s.cache p) (off / 4096)) ≡ f = ap frame_in k.at in
     let holds : s.content f ≡ Holds g kinds.Reg k.found.perm = k.holds ∙ ap (λ n. Holds (page_at k.seat.enclave n) kinds.Reg k.found.perm) k.number in
-    let here : is_page (s.content f) g ≡ true = rw holds (same_page-refl k.seat.enclave (off / 4096)) in
+    let here : is_page (s.content f) g ≡ true = rw holds (same_page-at k.seat.enclave (off / 4096)) in
     let reg : is_reg (s.content f) ≡ true = rw holds refl in
     let state : after_store s p off value ≡ record s { words = rewritten s.words f change } = ap (λ n. record s { words = rewritten s.words n change }) frame in
     let memory : stored m (m.cpus p).inside off value ≡ with_words m g change = ap (λ o. stored m o off value) k.flat_inside in

@@ -18,17 +18,20 @@ use Rattle.sgx_types.specs.Flat.{FlatEnclave, FlatPage, FlatMemory, added_as, fl
 use Rattle.sgx_types.specs.Sights.{sight_at}
 use Rattle.sgx_types.specs.Rules.{NoPageTwice}
 use Rattle.sgx_types.specs.Layouts.{flags_of}
+use Rattle.sgx_types.proofs.Rows.{none_holds, none_refused}
+use Rattle.sgx_types.proofs.Truths.{apart, neither}
+use Rattle.sgx_types.proofs.Pages.{same_page-at, same_pages}
 use Rattle.measure_log.specs.declared.measure.Measure.{Measure}
 use Rattle.measure_log.specs.Blocks.{ecreate_block, eadd_block}
 use Rattle.measure_log.specs.Measure.{HoldsLog, TakesIn}
 use Rattle.measure_log.specs.Rule.{log, MeasureRule}
 use Rattle.paging_laws.specs.State.{State, sight, row_of, after_epa, after_create, after_add, after_init}
 use Rattle.paging_laws.specs.Stands.{StandsBy, Stands, IsUsable, IsSound, Upholds}
-use Rattle.paging_laws.proofs.Tools.{none_holds, none_refused, neither, both_false, is_none-None, none_there, apart}
+use Rattle.paging_laws.proofs.Tools.{both_false, is_none-None, none_there}
 use Rattle.paging_laws.proofs.MeasureLaws.{begins, goes_on, stays}
 use Rattle.paging_laws.proofs.SoundLaws.{sound-put}
 use Rattle.paging_laws.proofs.WordLaws.{length-first_words}
-use Rattle.paging_laws.proofs.Carry.{did_by, seat_at, stands_done, same_page-true, same_page-refl, IsHeld, upholds_more, held_before, once_before}
+use Rattle.paging_laws.proofs.Carry.{did_by, seat_at, stands_done, IsHeld, upholds_more, held_before, once_before}
 
 -- what a row sees of a frame in the state, and by the entries
 pub sight_agrees : (s : State) (past : List Entry) → Stands s past → (n : ℕ) → sight s n ≡ sight_at s.frames past n
@@ -213,7 +216,7 @@ unadded_apart s past stands g new n = by_content (content past n) (stands.conten
     by_content (Holds page kind perm) e = by_test (same_page page g) refl
       where
         by_test : (b : Bool) → same_page page g ≡ b → b ≡ false
-        by_test true same = absurd (let at = stands.words n page kind perm e in cc (at, new, same_page-true page g same))
+        by_test true same = absurd (let at = stands.words n page kind perm e in cc (at, new, same_pages page g same))
         by_test false other = refl
     by_content Free e = refl
     by_content IsVa e = refl
@@ -228,10 +231,10 @@ once-add past f g kind perm new once m n q =
     (λ at_m here.
     cond_both (f == n) (Holds g kind perm) (content past n) (λ v. is_page v q ≡ true → m ≡ n)
     (λ at_n there. sym (eqb-true f m at_m) ∙ eqb-true f n at_n)
-    (λ _ there. let same = same_page-true g q here in absurd (false≢true (sym (new n) ∙ rw same there))))
+    (λ _ there. let same = same_pages g q here in absurd (false≢true (sym (new n) ∙ rw same there))))
     (λ _ here.
     cond_both (f == n) (Holds g kind perm) (content past n) (λ v. is_page v q ≡ true → m ≡ n)
-    (λ _ there. let same = same_page-true g q there in absurd (false≢true (sym (new m) ∙ rw same here)))
+    (λ _ there. let same = same_pages g q there in absurd (false≢true (sym (new m) ∙ rw same here)))
     (λ _ there. once m n q here there))
 
 -- the words of the frames, and of the pages in them, with a new page in a frame
@@ -248,14 +251,14 @@ words-add s past m f g kind perm init longer stands new n q k p =
     here : Holds g kind perm ≡ Holds q k p → cond (same_page q g) (Some (record { kind = kind; perm = perm; words = first_words init })) (m.pages q) ≡ Some (record { kind = k; perm = p; words = first_words init })
     here at =
         let same : g ≡ q = cc in
-        let found : same_page q g ≡ true = rw (← same) (same_page-refl g.enclave g.number) in
+        let found : same_page q g ≡ true = rw (← same) (same_page-at g.enclave g.number) in
         let kinds : kind ≡ k = cc in
         let perms : perm ≡ p = cc in
         rw (found, kinds, perms) refl
 
     elsewhere : s.content n ≡ Holds q k p → (b : Bool) → same_page q g ≡ b
         → cond b (Some (record { kind = kind; perm = perm; words = first_words init })) (m.pages q) ≡ Some (record { kind = k; perm = p; words = s.words n })
-    elsewhere at true same = absurd (let there = stands.words n q k p at in let is : q ≡ g = same_page-true q g same in cc (there, new, is))
+    elsewhere at true same = absurd (let there = stands.words n q k p at in let is : q ≡ g = same_pages q g same in cc (there, new, is))
     elsewhere at false other = stands.words n q k p at
 
 -- a page in a free frame, with its first words

@@ -15,10 +15,12 @@ use Rattle.sgx_types.specs.Processors.{Seat, Stay, stay}
 use Rattle.sgx_types.specs.Flat.{FlatMemory, flat, accepts, memory_after, event_after}
 use Rattle.measure_log.specs.Rule.{MeasureRule}
 use Rattle.sgx_types.specs.Rules.{Along, RefusalRule, FlatRule, FitsRule, NoPageTwice, IsCurrent, IsUndisturbed, NoneStale, StaleRule, KeepsRules}
+use Rattle.sgx_types.proofs.Truths.{both_true}
+use Rattle.sgx_types.proofs.Pages.{same_page-at}
 use Rattle.cached_translations.specs.declared.cache.Translation.{Translation}
 use Rattle.paging_laws.specs.State.{State}
 use Rattle.paging_laws.specs.Stands.{StandsBy, Stands, IsTranslation, IsSeated, IsSound, Upholds, pair_of}
-use Rattle.paging_laws.proofs.Tools.{both_true, last_place}
+use Rattle.paging_laws.proofs.Tools.{last_place}
 
 abbrev pub did_by : Actor → Action → Answer → Entry
 did_by actor action answer = record { actor = actor; event = Did action answer }
@@ -32,12 +34,6 @@ IsHeld past = (p : ℕ) → IfSome (stay past p) (λ t. (content past t.seat.tcs
 
 pub held_of : (past : List Entry) → NoneStale past → IsHeld past
 held_of past h p = IfSome_then (stay past p) (h p) (λ t k. (k.tcs.held, k.ssa.held))
-
-pub same_page-true : (a b : Page) → same_page a b ≡ true → a ≡ b
-same_page-true a b h = let k = both_true (a.enclave == b.enclave) (a.number == b.number) h in λ i. record { enclave = eqb-true a.enclave b.enclave k.0 i; number = eqb-true a.number b.number k.1 i }
-
-pub same_page-refl : (enclave number : ℕ) → same_page (page_at enclave number) (page_at enclave number) ≡ true
-same_page-refl enclave number = search rules
 
 -- a sound state that stands for entries shows that no translation is stale
 pub none_stale : (s : State) (past : List Entry) → IsSound s → Stands s past → IsHeld past → NoneStale past
@@ -62,7 +58,7 @@ none_stale s past sound stands held p = by_stay (stay past p) refl (held p)
             (λ x. IsTranslation enclave x (s.content x.frame.0) (s.is_sealing x.frame.0))
             (λ x. IsCurrent enclave (pair_of x) (content past x.frame.0) (is_sealing past x.frame.0))
             (λ x i. record {
-              page = rw (sym (stands.content x.frame.0) ∙ i.page) (same_page-refl enclave x.number);
+              page = rw (sym (stands.content x.frame.0) ∙ i.page) (same_page-at enclave x.number);
               settled = sym (stands.is_sealing x.frame.0) ∙ i.settled;
             })
             xs h)

@@ -18,9 +18,11 @@ use Rattle.sgx_types.specs.Processors.{Seat, stay, stay_from, translations}
 use Rattle.sgx_types.specs.Table.{Case, when, FrameSight, EnterSight, TcsSight, EnclaveSight, is_busy, is_loading, is_tcs, is_reg, is_made, is_ready, perm_in, allows_update, entry_row, enter_row, resume_row, first_of_row}
 use Rattle.sgx_types.specs.Flat.{FlatCpu, page_words, flat_content, flat, accepts, enclave_sight_of, tcs_fields, fields_in, with_cssa, with_words, words_of, flat_enter_sight, resumed_word, entered, memory_after}
 use Rattle.sgx_types.specs.Sights.{enter_sight_at, seat_of}
+use Rattle.sgx_types.proofs.Rows.{none_holds, none_refused}
+use Rattle.sgx_types.proofs.Truths.{neither, not_false}
 use Rattle.paging_laws.specs.State.{State, enter_sight, row_of, cssa_in, saved_word, rewritten, after_enter, after_resume}
 use Rattle.paging_laws.specs.Stands.{Stands, IsUsable, IsSeated, IsSound, Upholds, pair_of, seat_of_stay, inside_of_stay, next_save}
-use Rattle.paging_laws.proofs.Tools.{none_holds, none_refused, neither, both_false, not_false, equal}
+use Rattle.paging_laws.proofs.Tools.{both_false, equal}
 use Rattle.paging_laws.proofs.Carry.{did_by, stands_done, upholds_more, held_before, once_before}
 use Rattle.paging_laws.proofs.Contents.{IsKindOf, tcs_there, reg_there}
 use Rattle.paging_laws.proofs.SoundLaws.{sound-inside, sized-rewritten}

@@ -13,9 +13,10 @@ use Rattle.sgx_types.specs.Frames.{content, page_at}
 use Rattle.sgx_types.specs.Processors.{Seat, Stay, stay, translations}
 use Rattle.sgx_types.specs.Table.{TcsSight, inside_row, first_of_row}
 use Rattle.sgx_types.specs.Flat.{FlatCpu, Inside, flat, accepts, fields_in, left, saved, tcs_fields, with_cssa, with_words, page_words, memory_after}
+use Rattle.sgx_types.proofs.Truths.{apart}
 use Rattle.paging_laws.specs.State.{State, row_of, cssa_in, rewritten, with_saved, after_exit, after_aex}
 use Rattle.paging_laws.specs.Stands.{IsSound, Upholds, pair_of, seat_of_stay, inside_of_stay, next_save}
-use Rattle.paging_laws.proofs.Tools.{apart, equal}
+use Rattle.paging_laws.proofs.Tools.{equal}
 use Rattle.paging_laws.proofs.Carry.{did_by, seat_at, stands_done, upholds_more, held_before, once_before}
 use Rattle.paging_laws.proofs.Contents.{one_page, tcs_there, tcs_no_reg}
 use Rattle.paging_laws.proofs.SoundLaws.{sound-left, sized-rewritten}

@@ -13,7 +13,9 @@ use Rattle.sgx_types.specs.declared.names.Page.{Page}
 use Rattle.sgx_types.specs.Frames.{Content, Free, IsVa, SecsOf, Holds, IsLoading, enclave_in}
 use Rattle.sgx_types.specs.Table.{extend_row, first_of_row}
 use Rattle.sgx_types.specs.Flat.{flat, accepts, some_page, page_words}
-use Rattle.epcm_entry.specs.Words.{bytes_of}
+use Rattle.sgx_types.proofs.Rows.{none_holds, none_refused}
+use Rattle.sgx_types.proofs.Truths.{neither}
+use Rattle.sgx_types.specs.Layouts.{bytes_of}
 use Rattle.measure_log.specs.declared.measure.Measure.{Measure}
 use Rattle.measure_log.specs.Blocks.{eextend_block, chunk_of}
 use Rattle.measure_log.specs.Measure.{TakesIn}
@@ -22,7 +24,7 @@ use Rattle.measure_log.specs.Rule.{page_held, page_in, log}
 use Rattle.measure_log.specs.Rule as rule
 use Rattle.paging_laws.specs.State.{State, sight, is_closed, row_of, after_extend}
 use Rattle.paging_laws.specs.Stands.{Stands, IsSound, Upholds}
-use Rattle.paging_laws.proofs.Tools.{none_holds, none_refused, neither, is_none-None}
+use Rattle.paging_laws.proofs.Tools.{is_none-None}
 use Rattle.paging_laws.proofs.MeasureLaws.{goes_on}
 use Rattle.paging_laws.proofs.Carry.{did_by, stands_done, upholds_more, held_before, once_before}
 use Rattle.paging_laws.proofs.Refused.{extend_agrees}

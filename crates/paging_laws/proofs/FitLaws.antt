@@ -25,15 +25,19 @@ use Rattle.sgx_types.specs.Table.{Case, EnclaveSight, FrameSight, is_busy, is_en
 use Rattle.sgx_types.specs.Processors.{Seat}
 use Rattle.sgx_types.specs.Sealed.{Sealed}
 use Rattle.sgx_types.specs.Sights.{seat_of}
+use Rattle.sgx_types.proofs.Rows.{none_holds}
+use Rattle.sgx_types.proofs.Truths.{neither}
+use Rattle.sgx_types.proofs.Pages.{same_pages}
+use Rattle.sgx_types.specs.Making.{Making}
 use Rattle.epcm_entry.specs.Words.{words_of}
 use Rattle.measure_log.specs.Rule.{IsExpected, IsOther}
 use Rattle.seal_record.specs.Cipher.{cipher}
 use Rattle.paging_laws.specs.Guarded.{IsGuarded, IsOpen}
-use Rattle.paging_laws.specs.Shape.{Making, HasColumns, Follows, FitsApart}
+use Rattle.paging_laws.specs.Shape.{HasColumns, Follows, FitsApart}
 use Rattle.paging_laws.specs.Stands.{IsSound, IsFramed}
 use Rattle.paging_laws.specs.State.{State, row_of, sight, enter_sight, seat_enclave, after_init, after_eld, after_failed_eld}
 use Rattle.paging_laws.specs.Steps.{CanApply, IsDone, IsStep, IsComing, IsWrittenOut, IsReloaded, commit_row, did_by, refused_by}
-use Rattle.paging_laws.proofs.Tools.{none_holds, neither, last_place, same_pages}
+use Rattle.paging_laws.proofs.Tools.{last_place}
 
 -- a test that cannot succeed fails
 never : (b : Bool) → (b ≡ true → ⊥) → b ≡ false

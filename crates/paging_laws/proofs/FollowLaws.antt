@@ -20,7 +20,7 @@ use Rattle.sgx_types.specs.declared.names.Perm.{Perm}
 use Rattle.sgx_types.specs.declared.names.SlotAt.{SlotAt}
 use Rattle.sgx_types.specs.declared.refusals.Refusal.{Refusal}
 use Rattle.sgx_types.specs.declared.refusals.Refusal.TheVariants as why
-use Rattle.sgx_types.specs.Frames.{Content, Free, IsVa, SecsOf, Holds, IsLoading, added, content, enclave_in, page_at, reloaded}
+use Rattle.sgx_types.specs.Frames.{Content, Free, IsVa, SecsOf, Holds, IsLoading, added, content, enclave_in, page_at, reloaded, no_perm}
 use Rattle.sgx_types.specs.Processors.{Seat, Stay, stay, stay_from, holds_number, translations}
 use Rattle.sgx_types.specs.Rules.{EvictRule, RisingRule, StaleRule}
 use Rattle.sgx_types.specs.Sealed.{Sealed}
@@ -28,6 +28,9 @@ use Rattle.sgx_types.specs.Sights.{seat_of}
 use Rattle.sgx_types.specs.Starts.{Start}
 use Rattle.sgx_types.specs.Table.{EnclaveSight, FrameSight, is_valid, perm_in, access_row, add_row, allows_read, allows_update, allows_write, create_row, eldstart_row, epa_row, ewbstart_row, first_of_row}
 use Rattle.sgx_types.specs.Flat.{enclave_sight_of}
+use Rattle.sgx_types.proofs.Rows.{none_holds}
+use Rattle.sgx_types.proofs.Truths.{apart, not_false}
+use Rattle.sgx_types.specs.Making.{Making}
 use Rattle.epcm_entry.specs.Words.{words_of}
 use Rattle.seal_record.specs.Cipher.{cipher}
 use Rattle.measure_log.specs.declared.measure.Measure.{Measure}
@@ -35,11 +38,10 @@ use Rattle.cached_translations.specs.declared.cache.Translation.{Translation}
 use Rattle.cached_translations.specs.Translations.{translation_of}
 use Rattle.paging_laws.specs.Guarded.{IsGuarded, WritesOut}
 use Rattle.paging_laws.specs.Runs.{Run, nothing, step, written, reloaded as comes_back}
-use Rattle.paging_laws.specs.Shape.{Making, making_of, HasColumns, Follows}
+use Rattle.paging_laws.specs.Shape.{making_of, HasColumns, Follows}
 use Rattle.paging_laws.specs.Stands.{IsUsable, IsSound}
 use Rattle.paging_laws.specs.State.{State, fresh, sight, slot_sight, drain_sight, is_version_spent, translation, perm_of_held, with_acc, with_inside, with_saved, word_at, cssa_in, saved_word, after_epa, after_create, after_add, after_extend, after_init, after_enter, after_resume, after_exit, after_aex, after_fill, after_store, after_xadd, after_block, after_track, after_ewbstart, after_eldstart, after_ewb, after_eld, after_failed_eld, row_of}
-use Rattle.paging_laws.specs.Steps.{did_by, refused_by, CanApply, IsStep, IsDone, IsWrittenOut, IsReloaded, commit_row, no_perm}
-use Rattle.paging_laws.proofs.Tools.{none_holds, not_false, apart}
+use Rattle.paging_laws.specs.Steps.{did_by, refused_by, CanApply, IsStep, IsDone, IsWrittenOut, IsReloaded, commit_row}
 use Rattle.paging_laws.proofs.Carry.{seat_at, IsHeld}
 use Rattle.paging_laws.proofs.ShapeColumns.{IsQuiet, is_eld, refused_quiet, did_quiet, quiet_columns, columns_beside, epa_columns, create_columns, add_columns, init_columns, enter_columns, resume_columns, exit_columns, aex_columns, fill_columns, block_columns, track_columns, ewbstart_columns, eldstart_columns, ewb_columns, eld_columns, failed_eld_columns, holds_number-pairs}
 use Rattle.paging_laws.proofs.ShapeLaws.{older_agrees, newer_agrees, drained_by, IsNextTo, held_by, follows_more}

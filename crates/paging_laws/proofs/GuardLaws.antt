@@ -17,14 +17,17 @@ use Rattle.sgx_types.specs.Frames.{Content, Free, IsVa, SecsOf, Holds, IsLoading
 use Rattle.sgx_types.specs.Processors.{Seat}
 use Rattle.sgx_types.specs.Starts.{Start}
 use Rattle.sgx_types.specs.Table.{FrameSight, is_addable, is_loading, is_secs, is_va, enter_row, resume_row, fill_row, block_row, track_row, ewbstart_row, eldstart_row, first_of_row}
+use Rattle.sgx_types.proofs.Rows.{none_holds}
+use Rattle.sgx_types.proofs.Truths.{apart, both_true, neither, not_false}
+use Rattle.sgx_types.proofs.Pages.{same_page-at, same_pages}
 use Rattle.measure_log.specs.declared.measure.Measure.{Measure}
 use Rattle.cached_translations.specs.declared.cache.Translation.{Translation}
 use Rattle.cached_translations.specs.Translations.{with_translation}
 use Rattle.paging_laws.specs.State.{State, sight, enter_sight, seat_enclave, is_noting, number_noting, epoch_in, track_sight, slot_sight, drain_sight, has_passed, is_version_spent, with_content, with_inside, with_saved, with_acc, is_seated_by, cssa_in, saved_word, after_create, after_add, after_extend, after_init, after_enter, after_resume, after_exit, after_aex, after_fill, after_block, after_track, after_ewbstart, after_eldstart, after_ewb, after_eld, after_failed_eld}
 use Rattle.paging_laws.specs.Stands.{IsTranslation, IsSeated, IsSound}
 use Rattle.paging_laws.specs.Guarded.{IsNoEarlier, HasNoted, IsDrainedAt, IsTakenIn, IsPaged, IsOpen, WritesOut, Loads, IsGuarded}
-use Rattle.paging_laws.proofs.Tools.{apart, equal, each_there, each_there_at, none_holds, none_there, neither, not_false, both_true, same_pages}
-use Rattle.paging_laws.proofs.Carry.{seat_at, same_page-refl}
+use Rattle.paging_laws.proofs.Tools.{equal, each_there, each_there_at, none_there}
+use Rattle.paging_laws.proofs.Carry.{seat_at}
 use Rattle.paging_laws.proofs.BuildLaws.{is_free_frame}
 use Rattle.paging_laws.proofs.EntryLaws.{enters, enter_saves, enter_saved, resume_saves, resume_saved}
 use Rattle.paging_laws.proofs.AccessLaws.{outside_refused, All-with_translation}
@@ -290,7 +293,7 @@ guarded_left s p words h = record {
   where
     own : (g : Page) (o : Option Seat) → is_seated_by o g ≡ false → IsBy g o → ⊥
     own g None other by = by
-    own g (Some seat) other by = false≢true (sym other ∙ subst (λ q. same_page q (page_at seat.enclave seat.tcs) ≡ true) by (same_page-refl seat.enclave seat.tcs))
+    own g (Some seat) other by = false≢true (sym other ∙ subst (λ q. same_page q (page_at seat.enclave seat.tcs) ≡ true) by (same_page-at seat.enclave seat.tcs))
 
     still : (g : Page) (q : ℕ) → is_seated_by (s.inside p) g ≡ false → IsBy g (s.inside q) → IsBy g (cond (p == q) None (s.inside q))
     still g q other by = cond_both (p == q) None (s.inside q) (IsBy g) (λ e. absurd (own g (s.inside p) other (subst (λ x. IsBy g (s.inside x)) (sym (eqb-true p q e)) by))) (λ _. by)

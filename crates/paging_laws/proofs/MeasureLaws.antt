@@ -9,12 +9,12 @@ use Rattle.sgx_types.specs.declared.refusals.Refusal.{Refusal}
 use Rattle.sgx_types.specs.declared.refusals.Refusal.TheVariants as why
 use Rattle.sgx_types.specs.Table.{EnclaveSight, init_row, first_of_row}
 use Rattle.sgx_types.specs.Flat.{FlatEnclave, marked}
+use Rattle.sgx_types.proofs.Truths.{eqb-swap}
 use Rattle.measure_log.specs.declared.measure.Measure.{Measure}
 use Rattle.measure_log.specs.Measure.{HoldsLog, TakesIn, FinishesTo, measurement_of}
 use Rattle.measure_log.specs.Rule.{MeasureRule}
 use Rattle.paging_laws.specs.Stands.{IsMeasuring}
 use Rattle.paging_laws.specs.Steps.{refused_by}
-use Rattle.paging_laws.proofs.Tools.{eqb-swap}
 
 -- a new enclave's measurement begins
 pub begins : (e enclave : ℕ) (o : Option FlatEnclave) (x : FlatEnclave) (m : Option Measure) (begun : Measure) (block l : List ℕ) → ((e ≡ enclave) → l ≡ []) → HoldsLog begun block → IsMeasuring o m l

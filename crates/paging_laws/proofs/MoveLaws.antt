@@ -22,17 +22,18 @@ use Rattle.sgx_types.specs.Sealed.{Sealed}
 use Rattle.sgx_types.specs.Sights.{row_at}
 use Rattle.sgx_types.specs.Starts.{Start}
 use Rattle.sgx_types.specs.Table.{first_of_row}
+use Rattle.sgx_types.proofs.Rows.{none_holds}
+use Rattle.sgx_types.specs.Making.{Making}
 use Rattle.epcm_entry.specs.Words.{words_of, zero_words}
 use Rattle.seal_record.specs.Cipher.{cipher}
 use Rattle.measure_log.specs.declared.measure.Measure.{Measure}
 use Rattle.measure_log.specs.Rule.{log, MeasureRule}
 use Rattle.page_history.specs.Moves.{IsMove}
 use Rattle.paging_laws.specs.Guarded.{IsGuarded}
-use Rattle.paging_laws.specs.Shape.{Making, making_of, HasColumns, Follows}
+use Rattle.paging_laws.specs.Shape.{making_of, HasColumns, Follows}
 use Rattle.paging_laws.specs.Stands.{IsMeasuring, StandsBy, Stands, IsSound, Upholds, inside_of_stay}
 use Rattle.paging_laws.specs.State.{State, row_of}
 use Rattle.paging_laws.specs.Steps.{IsComing, IsDone, IsReloaded, IsStep, IsWrittenOut, commit_row, did_by, refused_by}
-use Rattle.paging_laws.proofs.Tools.{none_holds}
 use Rattle.paging_laws.proofs.Carry.{upholds_more}
 use Rattle.paging_laws.proofs.FitLaws.{ewbstart_names, eldstart_names, eldstart_takes, open_below}
 use Rattle.paging_laws.proofs.ShapeLaws.{held_by}

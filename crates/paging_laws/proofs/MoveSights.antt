@@ -25,14 +25,14 @@ use Rattle.sgx_types.specs.Frames.{added, content, enclave_in, is_block, is_bloc
 use Rattle.sgx_types.specs.Sealed.{Sealed, header_of}
 use Rattle.sgx_types.specs.Table.{DrainSight, FrameSight, SlotSight, block_row, eldstart_row, ewbstart_row, first_of_row, track_row}
 use Rattle.sgx_types.proofs.Keystone.{epochs_tell}
+use Rattle.sgx_types.specs.Making.{Making}
 use Rattle.seal_record.specs.Row.{same_header}
 use Rattle.epcm_entry.specs.Words.{words_of}
 use Rattle.seal_record.specs.Cipher.{cipher, tag}
 use Rattle.measure_log.specs.Rule.{IsExpected, IsOther}
-use Rattle.page_history.specs.Moves.{DoesNotFit, EndsIn, EndsOut, IsBack, IsHeader, IsMove, IsNotBack, MoveForm, MovesRule, Numbers, drain_sight_at, move_row_at, slot_sight_at, track_sight_at}
+use Rattle.page_history.specs.Moves.{DoesNotFit, EndsIn, EndsOut, IsBack, IsHeader, IsMove, IsNotBack, MoveForm, MovesRule, drain_sight_at, move_row_at, slot_sight_at, track_sight_at}
 use Rattle.paging_laws.specs.Guarded.{IsGuarded, WritesOut}
-use Rattle.paging_laws.specs.Histories.{numbers_of}
-use Rattle.paging_laws.specs.Shape.{Making, making_of, HasColumns}
+use Rattle.paging_laws.specs.Shape.{making_of, HasColumns}
 use Rattle.paging_laws.specs.Stands.{Stands}
 use Rattle.paging_laws.specs.State.{State, after_eld, after_failed_eld, after_init, drain_sight, number_up_to, row_of, slot_sight, track_sight}
 use Rattle.paging_laws.specs.Steps.{CanApply, IsComing, IsDone, IsReloaded, IsStep, IsWrittenOut, commit_row, did_by, refused_by}
@@ -92,7 +92,7 @@ eldstart_same v v' b b' slot slot' e1 e2 e3 i = first_of_row (eldstart_row (e1 i
 
 -- the row of an instruction that moves pages, in the state and by the entries
 pub move_row_same : (s : State) (past : List Entry) (a : Actor) (action : Action) → IsMove action → HasColumns s past → Stands s past
-    → first_of_row (row_of s a action) ≡ first_of_row (move_row_at (numbers_of (making_of s)) past action)
+    → first_of_row (row_of s a action) ≡ first_of_row (move_row_at (making_of s) past action)
 move_row_same s past a (Block f) m h stands = ap (λ v. first_of_row (block_row v)) (sight_agrees s past stands f.0)
 move_row_same s past a (Track enclave) m h stands = ap (λ v. first_of_row (track_row v)) (track_sees s past h stands enclave)
 move_row_same s past a (EwbStart f slot) m h stands =
@@ -118,14 +118,14 @@ no_end cpus a (Eld f) can = absurd can
 no_end cpus a _ can = refl
 
 -- what the rule asks of an instruction that is done
-did_rule : (k : Numbers) (past : List Entry) (a : Actor) (action : Action) (answer : Answer) → is_end action ≡ false
+did_rule : (k : Making) (past : List Entry) (a : Actor) (action : Action) (answer : Answer) → is_end action ≡ false
     → (IsMove action → (first_of_row (move_row_at k past action) ≡ None) × MoveForm past action answer) → MovesRule k past (did_by a action answer)
 did_rule k past a (Ewb f) answer h rule = absurd (false≢true (sym h))
 did_rule k past a (Eld f) answer h rule = absurd (false≢true (sym h))
 did_rule k past a _ answer h rule = rule
 
 -- .. and of one that is refused
-refused_rule : (k : Numbers) (past : List Entry) (a : Actor) (action : Action) (r : Refusal) → is_end action ≡ false
+refused_rule : (k : Making) (past : List Entry) (a : Actor) (action : Action) (r : Refusal) → is_end action ≡ false
     → (IsMove action → first_of_row (move_row_at k past action) ≡ Some r) → MovesRule k past (refused_by a action r)
 refused_rule k past a (Ewb f) r h rule = absurd (false≢true (sym h))
 refused_rule k past a (Eld f) r h rule = absurd (false≢true (sym h))
@@ -133,8 +133,8 @@ refused_rule k past a _ r h rule = rule
 
 module _ (s t : State) (past : List Entry) (a : Actor) (h : HasColumns s past) (stands : Stands s past) where
   -- by the numbers of the machine's making
-  abbrev numbers : Numbers
-  numbers = numbers_of (making_of s)
+  abbrev numbers : Making
+  numbers = making_of s
 
   -- one that its row allows
   done_keeps : (action : Action) (e : Entry) → is_end action ≡ false → first_of_row (row_of s a action) ≡ None → IsDone s a action e t → MovesRule numbers past e
@@ -168,8 +168,8 @@ module _ (s t : State) (past : List Entry) (a : Actor) (h : HasColumns s past) (
 
 -- each instruction keeps the rule of the moves
 pub moves_rule : (s t : State) (made : Making) (past : List Entry) (cpus : ℕ) (a : Actor) (action : Action) (e : Entry) → CanApply cpus a action → HasColumns s past → Stands s past → making_of s ≡ made
-    → IsStep s a action e t → MovesRule (numbers_of made) past e
-moves_rule s t made past cpus a action e can h stands is k = subst (λ (m : Making). MovesRule (numbers_of m) past e) is (step_keeps s t past a h stands cpus action e can k)
+    → IsStep s a action e t → MovesRule made past e
+moves_rule s t made past cpus a action e can h stands is k = subst (λ (m : Making). MovesRule m past e) is (step_keeps s t past a h stands cpus action e can k)
 
 -- ---- the ends of starts
 
@@ -193,7 +193,7 @@ ends_out s t past a f e rec guarded sealing h out =
 
 -- .. and keeps the rule of the moves
 pub moves_written : (s t : State) (made : Making) (past : List Entry) (a : Actor) (f : Frame) (e : Entry) (rec : Sealed) → IsGuarded s → s.is_sealing f.0 ≡ true → HasColumns s past
-    → IsWrittenOut s a f e rec t → MovesRule (numbers_of made) past e
+    → IsWrittenOut s a f e rec t → MovesRule made past e
 moves_written s t made past a f e rec guarded sealing h out = rw out.entry (ends_out s t past a f e rec guarded sealing h out)
 
 -- what a frame waits for is what its start loads
@@ -270,10 +270,10 @@ IsRefusedBack s a f e t coming r = (e ≡ refused_by a (Eld f) r) × (t ≡ afte
 
 -- the commit of a load keeps the rule of the moves, whatever record was brought
 pub moves_reloaded : (s t : State) (made : Making) (past : List Entry) (a : Actor) (f : Frame) (rec : Sealed) (e : Entry) → HasColumns s past → Stands s past
-    → IsReloaded s a f rec e t → MovesRule (numbers_of made) past e
+    → IsReloaded s a f rec e t → MovesRule made past e
 moves_reloaded s t made past a f rec e h stands back = by_row (first_of_row (commit_row s f.0 back.coming rec)) refl back.row
   where
     by_row : (o : Option Refusal) → first_of_row (commit_row s f.0 back.coming rec) ≡ o
-        → MatchOption o (IsDoneBack s a f rec e t back.coming) (IsRefusedBack s a f e t back.coming) → MovesRule (numbers_of made) past e
+        → MatchOption o (IsDoneBack s a f rec e t back.coming) (IsRefusedBack s a f e t back.coming) → MovesRule made past e
     by_row None is done = rw done.0 (moves_reloaded_done s past f.0 back.coming back.coming.start.version rec.tag h)
     by_row (Some r) is refused = rw refused.0 (moves_reloaded_refused s past f.0 back.coming rec r h stands is)

@@ -29,25 +29,27 @@ use Rattle.sgx_types.specs.Flat.{FlatMemory, FlatPage, accepts, fields_in, flat,
 use Rattle.sgx_types.specs.Sealed.{Sealed, header_of}
 use Rattle.sgx_types.specs.Sights.{seat_of}
 use Rattle.sgx_types.specs.Starts.{Start, open_start}
+use Rattle.sgx_types.proofs.Truths.{not_false}
+use Rattle.sgx_types.proofs.Pages.{same_page-at, same_pages}
+use Rattle.sgx_types.specs.Making.{Making}
+use Rattle.sgx_types.specs.Layouts.{bytes_of}
 use Rattle.seal_record.specs.Cipher.{cipher, sealed}
 use Rattle.seal_record.specs.Records.{Made}
-use Rattle.epcm_entry.specs.Words.{bytes_of}
 use Rattle.epcm_entry.specs.Words.{words_of as words_in}
 use Rattle.page_history.specs.Copies.{Copy, InFrame, InSlot, OneLiveCopy, copy, in_slot}
 use Rattle.page_history.specs.Moves.{IsMove}
 use Rattle.page_history.specs.Once.{IsMade}
-use Rattle.page_history.specs.Records.{SealedRule, made_by, made_with, more_made, page_bytes, record_by, record_in}
+use Rattle.page_history.specs.Records.{SealedRule, made_by, made_with, more_made, record_by, record_in}
 use Rattle.paging_laws.specs.Histories.{HasBytes, OutsideBytes, given_out}
-use Rattle.paging_laws.specs.Shape.{Follows, Making}
+use Rattle.paging_laws.specs.Shape.{Follows}
 use Rattle.paging_laws.specs.Stands.{IsSound, Stands, inside_of_stay, next_save, seat_of_stay}
 use Rattle.paging_laws.specs.State.{State, enter_sight, row_of, after_eld, after_failed_eld, after_init}
 use Rattle.paging_laws.specs.Steps.{CanApply, IsDone, IsJudged, IsLeaving, IsReloaded, IsStep, IsWrittenOut, answer_of, commit_row, did_by, refused_by}
 use Rattle.measure_log.specs.Rule.{IsExpected, IsOther}
 use Rattle.paging_laws.proofs.AccessLaws.{Reads, access_allowed}
-use Rattle.paging_laws.proofs.Carry.{same_page-refl, seat_at}
+use Rattle.paging_laws.proofs.Carry.{seat_at}
 use Rattle.paging_laws.proofs.Contents.{tcs_there}
 use Rattle.paging_laws.proofs.EntryLaws.{enters, resume_saved, resume_saves}
-use Rattle.paging_laws.proofs.Tools.{not_false, same_pages}
 
 -- ---- entries that make no record
 
@@ -75,9 +77,9 @@ outside_more key past e keeps outside g slot v there = still (outside g slot v (
       record {
         made = subst (λ all. Any (λ other. other ≡ one) all) (sym (keeps.made key)) has.made;
         version = has.version;
-        cipher = has.cipher ∙ ap (λ words. cipher key v (page_bytes words)) same;
-        size = ap (λ words. length (page_bytes words)) (sym same) ∙ has.size;
-        back = ap (λ words. words_in (page_bytes words)) (sym same) ∙ has.back ∙ same;
+        cipher = has.cipher ∙ ap (λ words. cipher key v (bytes_of words)) same;
+        size = ap (λ words. length (bytes_of words)) (sym same) ∙ has.size;
+        back = ap (λ words. words_in (bytes_of words)) (sym same) ∙ has.back ∙ same;
       },
     )
 
@@ -151,7 +153,7 @@ add_words past a enclave number f kind perm init answer g slot v there = by_test
         let same : g ≡ page_at enclave number = same_pages g (page_at enclave number) e in
         let outside : cond (same_page (page_at enclave number) (page_at enclave number)) (Some (InFrame f.0)) (copy past g) ≡ Some (InSlot slot v) =
         ap (λ q. cond (same_page (page_at enclave number) q) (Some (InFrame f.0)) (copy past g)) (sym same) ∙ there in
-        let framed : Some (InFrame f.0) ≡ Some (InSlot slot v) = rw (same_page-refl enclave number) at outside in
+        let framed : Some (InFrame f.0) ≡ Some (InSlot slot v) = rw (same_page-at enclave number) at outside in
         absurd (cc framed)
 
 -- a word is written into the page of a translation, which is in a frame
@@ -161,7 +163,7 @@ stored_words s past p off value stands k one g slot v there =
     let m = flat past in
     let q = page_at k.seat.enclave (off / 4096) in
     let holds : content past k.found.frame.0 ≡ Holds q kinds.Reg k.found.perm = sym (stands.content k.found.frame.0) ∙ k.holds ∙ ap (λ n. Holds (page_at k.seat.enclave n) kinds.Reg k.found.perm) k.number in
-    let framed : is_page (content past k.found.frame.0) q ≡ true = rw holds (same_page-refl k.seat.enclave (off / 4096)) in
+    let framed : is_page (content past k.found.frame.0) q ≡ true = rw holds (same_page-at k.seat.enclave (off / 4096)) in
     ap (λ o. words_of (stored m o off value) g) k.flat_inside ∙ other_words m q g _ (framed_apart past one k.found.frame.0 q g slot v framed there)
 
 -- a resumption counts in the TCS page, which is in a frame
@@ -444,12 +446,12 @@ Any-front P xs ys (k, x, low, here, holds) =
     (k, x, longer, get_or_append_left xs ys x k low ∙ here, holds)
 
 -- a word has 8 bytes
-bytes_length : (words : List ℕ) → length (page_bytes words) ≡ 8 * length words
+bytes_length : (words : List ℕ) → length (bytes_of words) ≡ 8 * length words
 bytes_length [] = refl
-bytes_length (word ∷ words) = let eight : length (to_le_bytes w64 word) ≡ 8 = refl in length-append (to_le_bytes w64 word) (page_bytes words) ∙ omega (arith, eight, bytes_length words)
+bytes_length (word ∷ words) = let eight : length (to_le_bytes w64 word) ≡ 8 = refl in length-append (to_le_bytes w64 word) (bytes_of words) ∙ omega (arith, eight, bytes_length words)
 
 -- .. and a page 4096
-page_size : (words : List ℕ) → length words ≡ 512 → length (page_bytes words) ≡ 4096
+page_size : (words : List ℕ) → length words ≡ 512 → length (bytes_of words) ≡ 4096
 page_size words sized = omega (arith, bytes_length words)
 
 -- the record that goes out is that of the page's flat bytes
@@ -478,9 +480,9 @@ pub record GivesRecord (key : List ℕ) (past : List Entry) (e : Entry) (rec : S
 record IsOfPage (key : List ℕ) (past : List Entry) (n : ℕ) (page : Page) (start : Start) (rec : Sealed) : Type 0 where
   opened : open_start past n ≡ Some start
   in_flat : record_in key start.version (flat past) page ≡ Some rec
-  has : rec.cipher ≡ cipher key start.version (page_bytes (words_of (flat past) page))
-  size : length (page_bytes (words_of (flat past) page)) ≡ 4096
-  back : words_in (page_bytes (words_of (flat past) page)) ≡ words_of (flat past) page
+  has : rec.cipher ≡ cipher key start.version (bytes_of (words_of (flat past) page))
+  size : length (bytes_of (words_of (flat past) page)) ≡ 4096
+  back : words_in (bytes_of (words_of (flat past) page)) ≡ words_of (flat past) page
 
 -- a write-out that gives the record of its page's flat bytes
 gives : (key : List ℕ) (past : List Entry) (a : Actor) (f : Frame) (page : Page) (start : Start) (rec : Sealed) → IsOfPage key past f.0 page start rec
@@ -541,7 +543,7 @@ outside_written s t made past a f e rec out sound stands h =
     (gives made.key past a f head.page leaving.start rec (record {
       opened = sym (h.shape.columns.start f.0) ∙ leaving.opened;
       in_flat = recorded s made past f.0 leaving stands h ∙ ap Some (sym out.sealed);
-      has = ap (λ (x : Sealed). x.cipher) out.sealed ∙ ap (λ key. cipher key v (bytes_of words)) keyed ∙ ap (λ xs. cipher made.key v (page_bytes xs)) held;
-      size = ap (λ xs. length (page_bytes xs)) (sym held) ∙ page_size words (sound.sized f.0);
-      back = ap (λ xs. words_in (page_bytes xs)) (sym held) ∙ leaving.words ∙ held;
+      has = ap (λ (x : Sealed). x.cipher) out.sealed ∙ ap (λ key. cipher key v (bytes_of words)) keyed ∙ ap (λ xs. cipher made.key v (bytes_of xs)) held;
+      size = ap (λ xs. length (bytes_of xs)) (sym held) ∙ page_size words (sound.sized f.0);
+      back = ap (λ xs. words_in (bytes_of xs)) (sym held) ∙ leaving.words ∙ held;
     }))

@@ -13,12 +13,13 @@ use Rattle.sgx_types.specs.Frames.{Content, IsLoading, enclave_in}
 use Rattle.sgx_types.specs.Processors.{Seat}
 use Rattle.sgx_types.specs.Starts.{Start}
 use Rattle.sgx_types.specs.Table.{ewbstart_row, eldstart_row, first_of_row}
+use Rattle.sgx_types.proofs.Truths.{apart}
 use Rattle.epcm_entry.specs.Words.{zero_words}
 use Rattle.cached_translations.specs.declared.cache.Translation.{Translation}
 use Rattle.paging_laws.specs.State.{State, sight, epoch_in, slot_sight, drain_sight, is_version_spent, after_block, after_track, after_ewbstart, after_eldstart, after_ewb, after_eld, after_failed_eld}
 use Rattle.paging_laws.specs.Stands.{IsUsable, IsTranslation, IsSeated, IsSound}
 use Rattle.paging_laws.specs.Guarded.{IsNoEarlier, IsDrainedAt, IsGuarded}
-use Rattle.paging_laws.proofs.Tools.{apart, each_there}
+use Rattle.paging_laws.proofs.Tools.{each_there}
 use Rattle.paging_laws.proofs.Carry.{seat_at}
 use Rattle.paging_laws.proofs.GuardLaws.{all_both, noted_at, starts_out, starts_in, tracked_drained}
 

@@ -25,9 +25,9 @@ use Rattle.sgx_types.specs.Rules.{NoPageTwice, case_of, RefusalRule}
 use Rattle.measure_log.specs.Rule.{log, MeasureRule}
 use Rattle.sgx_types.specs.declared.entries.AccessOp.{AccessOp}
 use Rattle.sgx_types.specs.declared.entries.Cause.{Cause}
+use Rattle.sgx_types.proofs.Truths.{tested}
 use Rattle.paging_laws.specs.State.{State, enter_sight, seat_enclave, is_closed, row_of}
 use Rattle.paging_laws.specs.Stands.{Stands, IsSound, Upholds, seat_of_stay}
-use Rattle.paging_laws.proofs.Tools.{tested}
 use Rattle.paging_laws.proofs.Carry.{IsHeld, upholds_more, held_before, once_before}
 use Rattle.paging_laws.proofs.BuildLaws.{sight_agrees, is_some-added_as}
 use Rattle.paging_laws.proofs.Contents.{tcs_there}

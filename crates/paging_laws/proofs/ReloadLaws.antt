@@ -19,6 +19,10 @@ use Rattle.sgx_types.specs.Sealed.{Sealed, header_of}
 use Rattle.sgx_types.specs.Slots.{version_in}
 use Rattle.sgx_types.specs.Starts.{Start, open_start}
 use Rattle.sgx_types.specs.Table.{first_of_row}
+use Rattle.sgx_types.proofs.Rows.{none_holds}
+use Rattle.sgx_types.proofs.Truths.{both_true, not_false}
+use Rattle.sgx_types.specs.Making.{Making}
+use Rattle.sgx_types.specs.Layouts.{bytes_of}
 use Rattle.epcm_entry.specs.Words.{words_of}
 use Rattle.seal_record.specs.Row.{same_header}
 use Rattle.seal_record.specs.Cipher.{cipher, tag}
@@ -27,18 +31,15 @@ use Rattle.seal_record.proofs.CipherLaws.{cipher_twice}
 use Rattle.seal_record.proofs.RecordLaws.{fitting_made}
 use Rattle.page_history.specs.Copies.{InSlot, copy}
 use Rattle.page_history.specs.Fresh.{IsLastOut, ReloadRule}
-use Rattle.page_history.specs.Moves.{Numbers}
 use Rattle.page_history.specs.Once.{Gone, IsMade, IsOfPage, KeepsMoves, MadeOnce}
-use Rattle.page_history.specs.Records.{SealedRule, made_by, page_bytes}
+use Rattle.page_history.specs.Records.{SealedRule, made_by}
 use Rattle.page_history.proofs.CopyLaws.{copy_is_last, live_copies, went_out}
 use Rattle.page_history.proofs.DrawnLaws.{drawn_once}
 use Rattle.page_history.proofs.RecordLaws.{made_once}
 use Rattle.page_history.proofs.StartLaws.{starts_apart}
-use Rattle.paging_laws.specs.Histories.{OutsideBytes, UpholdsAll, looked_at, looked_at_by, numbers_of}
-use Rattle.paging_laws.specs.Shape.{Making}
+use Rattle.paging_laws.specs.Histories.{OutsideBytes, UpholdsAll, looked_at, looked_at_by}
 use Rattle.paging_laws.specs.State.{State, after_eld}
 use Rattle.paging_laws.specs.Steps.{IsComing, IsReloaded, commit_row, did_by}
-use Rattle.paging_laws.proofs.Tools.{both_true, none_holds, not_false}
 
 -- ---- the page of a header
 
@@ -74,7 +75,7 @@ pub record BringsBack (key : List ℕ) (past : List Entry) (n : ℕ) (g : Page) 
 abbrev given_with : ℕ → ℕ → Sealed → Given
 given_with count version rec = record { made = count; version = version; header = rec.header; cipher = rec.cipher; tag = rec.tag }
 
-module _ (k : Numbers) (key : List ℕ) (past : List Entry) (positive : 1 ≤ k.first_version) (rules : KeepsMoves k past) (sealed : Along (SealedRule key) past) (outside : OutsideBytes key past) where
+module _ (k : Making) (key : List ℕ) (past : List Entry) (positive : 1 ≤ k.first_version) (rules : KeepsMoves k past) (sealed : Along (SealedRule key) past) (outside : OutsideBytes key past) where
   -- each record that was made carries its own tag
   own_tags : All (λ one. one.tag ≡ tag_of key (made_of one)) (made_by key past)
   own_tags i d low =
@@ -125,10 +126,10 @@ module _ (k : Numbers) (key : List ℕ) (past : List Entry) (positive : 1 ≤ k.
           -- the bytes are the page's
           let bytes = outside g start.slot version out in
           let bytes_same : bytes.0 ≡ one = once.once bytes.0 one bytes.1.made made (bytes.1.version ∙ sym its_version) in
-          let enciphered : rec.cipher ≡ cipher key version (page_bytes (memory.words_of (flat past) g)) = sym its_cipher ∙ ap (λ (x : Made). x.cipher) (sym bytes_same) ∙ bytes.1.cipher in
+          let enciphered : rec.cipher ≡ cipher key version (bytes_of (memory.words_of (flat past) g)) = sym its_cipher ∙ ap (λ (x : Made). x.cipher) (sym bytes_same) ∙ bytes.1.cipher in
           record {
             last = record { last = under.1 ∙ ap (λ t. Some (record { version = version; tag = t })) its_tag; slot = rw opened found.0 };
-            words = ap (λ c. words_of (cipher key version c)) enciphered ∙ ap words_of (cipher_twice key version (page_bytes (memory.words_of (flat past) g)) bytes.1.size) ∙ bytes.1.back;
+            words = ap (λ c. words_of (cipher key version c)) enciphered ∙ ap words_of (cipher_twice key version (bytes_of (memory.words_of (flat past) g)) bytes.1.size) ∙ bytes.1.back;
           }
 
 -- ---- the machine
@@ -154,7 +155,7 @@ row_allows s f coming rec allowed =
     }
 
 -- a machine that stands in all for its entries keeps the rules on instructions and versions
-pub keeps_moves : (made : Making) (s : State) (past : List Entry) (records : List Made) → UpholdsAll made s past records → KeepsMoves (numbers_of made) past
+pub keeps_moves : (made : Making) (s : State) (past : List Entry) (records : List Made) → UpholdsAll made s past records → KeepsMoves made past
 keeps_moves made s past records h = record {
   refusal = subst (λ frames. Along (RefusalRule frames) past) (ap (λ (m : Making). m.frames) h.follows.shape.making) h.upheld.rules.refusal;
   flat = h.upheld.rules.flat;
@@ -183,7 +184,7 @@ reload_back made s past records given f coming rec allowed h unforged =
     let last : Unforged made.key records (given ++ given_with (length records) coming.start.version rec ∷ []) = subst (λ more. Unforged made.key records (given ++ more)) looked unforged in
     let all : Unforged made.key (made_by made.key past) (given ++ given_with (length (made_by made.key past)) coming.start.version rec ∷ []) =
     subst (λ (list : List Made). Unforged made.key list (given ++ given_with (length list) coming.start.version rec ∷ [])) h.records last in
-    brought_back (numbers_of made) made.key past h.positive (keeps_moves made s past records h) h.sealed h.outside f coming.start coming.page rec given opened coming.loads headed fits all
+    brought_back made made.key past h.positive (keeps_moves made s past records h) h.sealed h.outside f coming.start coming.page rec given opened coming.loads headed fits all
 
 -- its entry keeps the rule on reloads
 pub reload_fresh : (made : Making) (s t : State) (past : List Entry) (records : List Made) (given : List Given) (a : Actor) (f : Frame) (rec : Sealed) (e : Entry) (back : IsReloaded s a f rec e t)

@@ -26,8 +26,10 @@ use Rattle.sgx_types.specs.Flat.{FlatEnclave}
 use Rattle.sgx_types.specs.Frames.{added, added_by, content, enclave_in, is_block, page_at, is_sealing, put_by, same_page, sealing_after}
 use Rattle.sgx_types.specs.Processors.{Seat, stay, stay_from, Keeps, move_by, Pair, holds_number, with_pair, newest, translations, translations_after}
 use Rattle.sgx_types.specs.Sights.{seat_of}
-use Rattle.sgx_types.specs.Slots.{busy_after, is_draw, open_slot, start_after, version_after}
+use Rattle.sgx_types.specs.Slots.{busy_after, is_draw, open_slot, slot_of, version_after}
 use Rattle.sgx_types.specs.Starts.{Start, open_start, opened_by, version_told}
+use Rattle.sgx_types.proofs.Truths.{eqb-swap}
+use Rattle.sgx_types.proofs.Pages.{same_page-swap}
 use Rattle.measure_log.specs.declared.measure.Measure.{Measure}
 use Rattle.cached_translations.specs.declared.cache.Translation.{Translation}
 use Rattle.cached_translations.specs.Translations.{translation_of, with_translation, newest as newest_translations}
@@ -35,7 +37,6 @@ use Rattle.paging_laws.specs.Shape.{HasColumns, noted_inside}
 use Rattle.paging_laws.specs.Stands.{pair_of, seat_of_stay}
 use Rattle.paging_laws.specs.State.{State, with_inside, with_saved, after_epa, after_create, after_add, after_init, after_exit, after_aex, after_fill, after_block, after_track, after_ewbstart, after_eldstart, after_ewb, after_eld, after_failed_eld}
 use Rattle.paging_laws.specs.Steps.{did_by, refused_by}
-use Rattle.paging_laws.proofs.Tools.{eqb-swap}
 
 -- ---- what touches no column
 
@@ -195,10 +196,6 @@ create_columns s past a enclave f base size begun answer h = record {
   enclaves = λ e. rw h.enclaves refl;
   added = h.added;
 }
-
--- two pages are the same either way round
-same_page-swap : (a b : Page) → same_page a b ≡ same_page b a
-same_page-swap a b = rw (eqb-swap a.enclave b.enclave, eqb-swap a.number b.number) refl
 
 -- a page is added to an enclave, and put into a frame
 pub add_columns : (s : State) (past : List Entry) (a : Actor) (enclave number : ℕ) (f : Frame) (kind : Kind) (perm : Perm) (init : PageInit) (longer : Measure) (answer : Answer) → HasColumns s past
@@ -487,36 +484,9 @@ eldstart_columns s past a f page slot h = record {
 
 -- ---- the commits
 
-abbrev slot_in : Option Start → Option SlotAt
-slot_in o = option_map (λ (x : Start). x.slot) o
-
--- a start, where a test passes, and its slot
-slot-opened : (b : Bool) (x : Start) (o : Option Start) → cond b (Some x.slot) (slot_in o) ≡ slot_in (cond b (Some x) o)
-slot-opened true x o = refl
-slot-opened false x o = refl
-
--- .. and no start
-slot-ended : (b : Bool) (o : Option Start) → cond b None (slot_in o) ≡ slot_in (cond b None o)
-slot-ended true o = refl
-slot-ended false o = refl
-
--- an event leaves the slot of the start that it leaves
-slot-after : (e : Event) (n : ℕ) (o : Option Start) → start_after e n (slot_in o) ≡ slot_in (opened_by e n o)
-slot-after (Did (EwbStart f slot) answer) n o = slot-opened (f.0 == n) (record { slot = slot; version = version_told answer; loads = None }) o
-slot-after (Did (EldStart f page slot) answer) n o = slot-opened (f.0 == n) (record { slot = slot; version = version_told answer; loads = Some page }) o
-slot-after (Did (Ewb f) answer) n o = slot-ended (f.0 == n) o
-slot-after (Did (Eld f) answer) n o = slot-ended (f.0 == n) o
-slot-after (Refused (Eld f) why) n o = slot-ended (f.0 == n) o
-slot-after _ n o = refl
-
--- the slot that the open start of a frame named is the open start's
-pub open_slot-start : (past : List Entry) (n : ℕ) → open_slot past n ≡ option_map (λ (x : Start). x.slot) (open_start past n)
-open_slot-start [] n = refl
-open_slot-start (e ∷ past) n = rw (open_slot-start past n) (slot-after e.event n (open_start past n))
-
 -- the slot of an open start of the machine
 slot_of_start : (s : State) (past : List Entry) (f : ℕ) (start : Start) → HasColumns s past → s.start f ≡ Some start → open_slot past f ≡ Some start.slot
-slot_of_start s past f start h is = open_slot-start past f ∙ ap slot_in (sym (h.start f) ∙ is)
+slot_of_start s past f start h is = ap slot_of (sym (h.start f) ∙ is)
 
 -- a page is out
 pub ewb_columns : (s : State) (past : List Entry) (a : Actor) (f : Frame) (start : Start) (page : Page) (tag : List ℕ) → s.start f.0 ≡ Some start → HasColumns s past

@@ -15,13 +15,15 @@ use Rattle.sgx_types.specs.Processors.{Seat, Stay, stay}
 use Rattle.sgx_types.specs.Rules.{EvictRule, IsCurrent, IsUndisturbed, NoneStale, RisingRule, StaleRule}
 use Rattle.sgx_types.proofs.CountLaws.{count_below-agrees}
 use Rattle.sgx_types.proofs.Keystone.{epochs_tell}
+use Rattle.sgx_types.proofs.Pages.{same_page-at}
+use Rattle.sgx_types.specs.Making.{Making}
 use Rattle.cached_translations.specs.declared.cache.Translation.{Translation}
 use Rattle.paging_laws.specs.Guarded.{IsGuarded, IsTakenIn}
-use Rattle.paging_laws.specs.Shape.{Making, making_of, noted_inside, HasColumns, IsShaped, Follows}
+use Rattle.paging_laws.specs.Shape.{making_of, noted_inside, HasColumns, IsShaped, Follows}
 use Rattle.paging_laws.specs.Stands.{IsTranslation, IsSound, pair_of, seat_of_stay}
 use Rattle.paging_laws.specs.State.{State, is_noting, number_noting, has_passed}
 use Rattle.paging_laws.proofs.Tools.{last_place}
-use Rattle.paging_laws.proofs.Carry.{seat_at, same_page-refl, IsHeld, held_of}
+use Rattle.paging_laws.proofs.Carry.{seat_at, IsHeld, held_of}
 
 -- ---- how many processors inside are older, and how many newer
 
@@ -132,7 +134,7 @@ none_stale_by s past h sound held p = by_stay (stay past p) refl (held p)
         (λ x. IsTranslation enclave x (s.content x.frame.0) (s.is_sealing x.frame.0))
         (λ x. IsCurrent enclave (pair_of x) (content past x.frame.0) (is_sealing past x.frame.0))
         (λ x i. record {
-          page = rw (sym (h.content x.frame.0) ∙ i.page) (same_page-refl enclave x.number);
+          page = rw (sym (h.content x.frame.0) ∙ i.page) (same_page-at enclave x.number);
           settled = sym (h.is_sealing x.frame.0) ∙ i.settled;
         })
         xs k)

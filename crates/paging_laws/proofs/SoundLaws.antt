@@ -6,11 +6,13 @@ use Rattle.sgx_types.specs.declared.names.Page.{Page}
 use Rattle.sgx_types.specs.Frames.{Content, Free, page_at, same_page}
 use Rattle.sgx_types.specs.Processors.{Seat}
 use Rattle.sgx_types.specs.Table.{is_reg}
+use Rattle.sgx_types.proofs.Truths.{apart}
+use Rattle.sgx_types.proofs.Pages.{same_page-at, same_pages}
 use Rattle.cached_translations.specs.declared.cache.Translation.{Translation}
 use Rattle.paging_laws.specs.State.{State, with_content, with_inside, rewritten, after_exit, is_seated_by}
 use Rattle.paging_laws.specs.Stands.{IsUsable, IsTranslation, IsSeated, AreByOneTcs, IsSound}
-use Rattle.paging_laws.proofs.Tools.{apart, each_there, each_there_at, equal, same_pages}
-use Rattle.paging_laws.proofs.Carry.{seat_at, same_page-refl}
+use Rattle.paging_laws.proofs.Tools.{each_there, each_there_at, equal}
+use Rattle.paging_laws.proofs.Carry.{seat_at}
 use Rattle.paging_laws.proofs.Contents.{one_page, tcs_no_reg}
 
 -- the TCS page of a seat
@@ -73,7 +75,7 @@ sound-inside s p seat acc words sound idle new kept sized = record {
       ];
   busy = λ q.
       elim (p == q) as (λ b. IfSome (cond b (Some seat) (s.inside q)) (λ other. cond (same_page (tcs_of other) (tcs_of seat)) true (s.is_busy (tcs_of other)) ≡ true)) [
-        | true ↦ rw (same_page-refl seat.enclave seat.tcs) refl
+        | true ↦ rw (same_page-at seat.enclave seat.tcs) refl
         | false ↦ each_there s.inside (λ q other. cond (same_page (tcs_of other) (tcs_of seat)) true (s.is_busy (tcs_of other)) ≡ true)
             (λ q other is. cond_both (same_page (tcs_of other) (tcs_of seat)) true (s.is_busy (tcs_of other)) (λ b. b ≡ true) (λ _. refl) (λ _. busy_at s sound q other is)) q
       ];

@@ -10,17 +10,17 @@ use Rattle.sgx_types.specs.declared.names.Perm.{Perm}
 use Rattle.sgx_types.specs.declared.refusals.Refusal.{Refusal}
 use Rattle.sgx_types.specs.declared.refusals.Refusal.TheVariants as why
 use Rattle.sgx_types.specs.declared.names.Kind.TheVariants as kinds
-use Rattle.sgx_types.specs.Frames.{Content, Free, IsVa, SecsOf, Holds, IsLoading}
+use Rattle.sgx_types.specs.Frames.{Content, Free, IsVa, SecsOf, Holds, IsLoading, no_perm}
 use Rattle.sgx_types.specs.Processors.{Seat}
 use Rattle.sgx_types.specs.Table.{EnclaveSight, init_row, first_of_row, perm_in, is_reg, fill_row}
 use Rattle.sgx_types.specs.Rules.{case_of}
+use Rattle.sgx_types.proofs.Truths.{not_false}
 use Rattle.paging_laws.specs.State.{State, row_of, sight, seat_enclave, after_init}
 use Rattle.paging_laws.specs.Stands.{IsSound, Upholds}
 use Rattle.measure_log.specs.Rule.{log, measurement, IsExpected, IsOther}
-use Rattle.paging_laws.specs.Steps.{CanApply, IsStep, IsJudged, did_by, refused_by, no_perm}
+use Rattle.paging_laws.specs.Steps.{CanApply, IsStep, IsJudged, did_by, refused_by}
 use Rattle.paging_laws.proofs.MeasureLaws.{finished_as, quiet}
 use Rattle.paging_laws.proofs.BuildLaws.{epa_upheld, create_upheld, add_upheld, init_upheld, is_some-sight}
-use Rattle.paging_laws.proofs.Tools.{not_false}
 use Rattle.paging_laws.proofs.EntryLaws.{enter_upheld, resume_upheld}
 use Rattle.paging_laws.proofs.ExitLaws.{exit_upheld, aex_upheld}
 use Rattle.paging_laws.proofs.AccessLaws.{fills, outside_refused, fill_upheld, load_upheld, store_upheld, xadd_upheld}

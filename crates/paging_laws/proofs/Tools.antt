@@ -7,54 +7,6 @@ use Rattle.sgx_types.specs.Frames.{same_page}
 use Rattle.sgx_types.specs.Table.{Case, first_of_row}
 use Rattle.sgx_types.specs.Rules.{AtEachPlace}
 
--- no case of a row holds
-abbrev pub NoneHolds : List Case → Type 0
-NoneHolds [] = Unit {0}
-NoneHolds (c ∷ cases) = (c.holds ≡ false) × NoneHolds cases
-
-pub none_holds : (cases : List Case) → first_of_row cases ≡ None → NoneHolds cases
-none_holds [] h = tt
-none_holds (c ∷ cases) h = by_test c.holds h (none_holds cases)
-  where
-    by_test : (b : Bool) → cond b (Some c.why) (first_of_row cases) ≡ None → (first_of_row cases ≡ None → NoneHolds cases) → (b ≡ false) × NoneHolds cases
-    by_test true e more = cc
-    by_test false e more = (refl, more e)
-
-pub none_refused : (cases : List Case) → NoneHolds cases → first_of_row cases ≡ None
-none_refused [] h = refl
-none_refused (c ∷ cases) h = rw h.0 (none_refused cases h.1)
-
-pub both_true : (a b : Bool) → (a && b) ≡ true → (a ≡ true) × (b ≡ true)
-both_true true b h = (refl, h)
-both_true false b h = cc
-
-pub neither : (a b : Bool) → (a || b) ≡ false → (a ≡ false) × (b ≡ false)
-neither true b h = cc
-neither false b h = (refl, h)
-
-pub not_false : (b : Bool) → not b ≡ false → b ≡ true
-not_false true h = refl
-not_false false h = cc
-
-pub apart : (f n : ℕ) → (f ≡ n → ⊥) → (f == n) ≡ false
-apart f n h = by_test (f == n) refl
-  where
-    by_test : (b : Bool) → (f == n) ≡ b → b ≡ false
-    by_test true e = absurd (h (eqb-true f n e))
-    by_test false e = refl
-
-pub eqb-swap : (a b : ℕ) → (a == b) ≡ (b == a)
-eqb-swap a b = by_test (a == b) refl
-  where
-    by_test : (x : Bool) → (a == b) ≡ x → x ≡ (b == a)
-    by_test true e = sym (eq-eqb b a (sym (eqb-true a b e)))
-    by_test false e = sym (apart b a (λ same. false≢true (sym e ∙ eq-eqb a b (sym same))))
-
--- the two outcomes of a test
-pub tested : (b : Bool) → (b ≡ true) ⊎ (b ≡ false)
-tested true = inl refl
-tested false = inr refl
-
 pub last_place : (P : List Entry → Type 0) (past : List Entry) → AtEachPlace P past → P past
 last_place P [] h = h
 last_place P (e ∷ past) h = h.0
@@ -84,6 +36,3 @@ each_there_at (Some t) P h = h t refl
 
 pub equal : (a b : ℕ) → a ≡ b → (a == b) ≡ true
 equal a b e = eq-eqb a b e
-
-pub same_pages : (a b : Page) → same_page a b ≡ true → a ≡ b
-same_pages a b h = let k = both_true (a.enclave == b.enclave) (a.number == b.number) h in λ i. record { enclave = eqb-true a.enclave b.enclave k.0 i; number = eqb-true a.number b.number k.1 i }

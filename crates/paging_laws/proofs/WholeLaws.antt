@@ -13,6 +13,7 @@ use Rattle.sgx_types.specs.Frames.{IsLoading}
 use Rattle.sgx_types.specs.Rules.{FlatRule, NoPageTwice, RefusalRule}
 use Rattle.sgx_types.specs.Sealed.{Sealed}
 use Rattle.sgx_types.specs.Table.{first_of_row}
+use Rattle.sgx_types.specs.Making.{Making}
 use Rattle.seal_record.specs.Records.{Given, Made, Unforged}
 use Rattle.page_history.specs.Copies.{InFrame}
 use Rattle.page_history.specs.Fresh.{ReloadRule}
@@ -21,8 +22,8 @@ use Rattle.page_history.specs.Once.{KeepsMoves}
 use Rattle.page_history.specs.Records.{SealedRule, made_by}
 use Rattle.page_history.proofs.CopyLaws.{live_copies}
 use Rattle.paging_laws.specs.Guarded.{IsGuarded}
-use Rattle.paging_laws.specs.Histories.{OutsideBytes, UpholdsAll, given_out, looked_at, numbers_of}
-use Rattle.paging_laws.specs.Shape.{Follows, Making, making_of}
+use Rattle.paging_laws.specs.Histories.{OutsideBytes, UpholdsAll, given_out, looked_at}
+use Rattle.paging_laws.specs.Shape.{Follows, making_of}
 use Rattle.paging_laws.specs.Stands.{IsSound, Upholds}
 use Rattle.paging_laws.specs.State.{State, after_failed_eld, fresh}
 use Rattle.paging_laws.specs.Steps.{CanApply, IsReloaded, IsStep, IsWrittenOut, commit_row, did_by, refused_by}
@@ -92,9 +93,9 @@ step_reload past cpus a action e can (inr (r, told)) = subst (λ x. ReloadRule p
 same_frame : (m n : ℕ) → Some (InFrame m) ≡ Some (InFrame n) → m ≡ n
 same_frame m n e = cc
 
-module _ (s t : State) (made : Making) (past : List Entry) (records : List Made) (e : Entry) (h : UpholdsAll made s past records) (follows : Follows made t (e ∷ past)) (moved : MovesRule (numbers_of made) past e) (reload : ReloadRule past e) where
+module _ (s t : State) (made : Making) (past : List Entry) (records : List Made) (e : Entry) (h : UpholdsAll made s past records) (follows : Follows made t (e ∷ past)) (moved : MovesRule made past e) (reload : ReloadRule past e) where
   -- the rules on instructions and versions are kept with one entry more
-  keeps_more : KeepsRow made.frames past e → KeepsMoves (numbers_of made) (e ∷ past)
+  keeps_more : KeepsRow made.frames past e → KeepsMoves made (e ∷ past)
   keeps_more row =
       let k = keeps_moves made s past records h in
       record {
@@ -108,7 +109,7 @@ module _ (s t : State) (made : Making) (past : List Entry) (records : List Made)
   -- so that no page stands in two frames
   once_more : KeepsRow made.frames past e → NoPageTwice (e ∷ past)
   once_more row m n g here there =
-      let live = live_copies (numbers_of made) (e ∷ past) h.positive (keeps_more row) in
+      let live = live_copies made (e ∷ past) h.positive (keeps_more row) in
       same_frame m n (sym (live.framed m g here) ∙ live.framed n g there)
 
   -- and the machine goes on to stand for all
@@ -131,13 +132,13 @@ pub step_all : (s t : State) (made : Making) (past : List Entry) (records : List
     → IsSound t → IsGuarded t → IsStep s a action e t → UpholdsAll made s past records → UpholdsAll made t (e ∷ past) records
 step_all s t made past records cpus a action e few can sound guarded framed sound' guarded' k h =
     all_more s t made past records e h follows moved reload records (upheld (moves_or_not action)) (sealed_quiet made.key s t past cpus a action e can k)
-    (outside_step made.key s t past cpus a action e can sound k h.upheld.stands (live_copies (numbers_of made) past h.positive (keeps_moves made s past records h)) h.outside)
+    (outside_step made.key s t past cpus a action e can sound k h.upheld.stands (live_copies made past h.positive (keeps_moves made s past records h)) h.outside)
     (h.records ∙ sym (made_same made.key s t past cpus a action e can k))
   where
     follows : Follows made t (e ∷ past)
     follows = step_follows s t made past cpus a action e few can sound guarded sound' guarded' k h.follows
 
-    moved : MovesRule (numbers_of made) past e
+    moved : MovesRule made past e
     moved = moves_rule s t made past cpus a action e can h.follows.shape.columns h.upheld.stands h.follows.shape.making k
 
     reload : ReloadRule past e
@@ -161,7 +162,7 @@ written_all s t made past records a f e rec sound guarded sound' guarded' sealin
     follows : Follows made t (e ∷ past)
     follows = written_follows s t made past a f e rec sound guarded sound' guarded' sealing out h.follows
 
-    moved : MovesRule (numbers_of made) past e
+    moved : MovesRule made past e
     moved = moves_written s t made past a f e rec guarded sealing h.follows.shape.columns out
 
     reload : ReloadRule past e
@@ -183,7 +184,7 @@ reloaded_all s t made past records a f rec e sound guarded sound' guarded' loadi
     follows : Follows made t (e ∷ past)
     follows = reloaded_follows s t made past a f e rec sound guarded sound' guarded' loading back h.follows
 
-    moved : MovesRule (numbers_of made) past e
+    moved : MovesRule made past e
     moved = moves_reloaded s t made past a f rec e h.follows.shape.columns h.upheld.stands back
 
     reload : ReloadRule past e

@@ -12,10 +12,10 @@ use Rattle.sgx_types.specs.Flat.{FlatMemory, FlatPage, added_as, first_words, tc
 use Rattle.sgx_types.specs.Flat.{rewritten as rewritten_page}
 use Rattle.sgx_types.specs.declared.entries.Entry.{Entry}
 use Rattle.sgx_types.specs.Rules.{NoPageTwice}
+use Rattle.sgx_types.proofs.Pages.{same_page-at, same_pages}
 use Rattle.paging_laws.specs.State.{State, rewritten}
 use Rattle.paging_laws.specs.Stands.{Stands}
-use Rattle.paging_laws.proofs.Tools.{equal, same_pages}
-use Rattle.paging_laws.proofs.Carry.{same_page-refl}
+use Rattle.paging_laws.proofs.Tools.{equal}
 
 -- a frame that holds a page has that page's words
 abbrev pub HoldsWords : (ℕ → Content) → (ℕ → List ℕ) → FlatMemory → Type 0
@@ -37,13 +37,13 @@ words_changed content words m f g change holds once there n q kind perm at = by_
     here same =
         let found : is_page (Holds q kind perm) g ≡ true = rw (same, at) at there in
         let e : q ≡ g = same_pages q g found in
-        rw e (same_page-refl g.enclave g.number)
+        rw e (same_page-at g.enclave g.number)
 
     elsewhere : (f == n) ≡ false → (x : Bool) → same_page q g ≡ x → x ≡ false
     elsewhere other false e = refl
     elsewhere other true e =
         let same : q ≡ g = same_pages q g e in
-        let found : is_page (content n) g ≡ true = rw (at, same) (same_page-refl g.enclave g.number) in
+        let found : is_page (content n) g ≡ true = rw (at, same) (same_page-at g.enclave g.number) in
         absurd (false≢true (sym other ∙ equal f n (once f n g there found)))
 
     by_frame : (x : Bool) → (f == n) ≡ x

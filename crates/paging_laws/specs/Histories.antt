@@ -12,29 +12,28 @@ use Rattle.sgx_types.specs.Flat.{flat, words_of}
 use Rattle.sgx_types.specs.Rules.{Along}
 use Rattle.sgx_types.specs.Sealed.{Sealed}
 use Rattle.sgx_types.specs.Starts.{Start}
+use Rattle.sgx_types.specs.Making.{Making}
+use Rattle.sgx_types.specs.Layouts.{bytes_of}
 use Rattle.epcm_entry.specs.Words as words
 use Rattle.seal_record.specs.Cipher.{cipher}
 use Rattle.seal_record.specs.Records.{Given, Made}
 use Rattle.page_history.specs.Copies.{InSlot, copy}
 use Rattle.page_history.specs.Fresh.{FreshRule}
-use Rattle.page_history.specs.Moves.{MovesRule, Numbers}
+use Rattle.page_history.specs.Moves.{MovesRule}
 use Rattle.page_history.specs.Once.{IsMade}
-use Rattle.page_history.specs.Records.{SealedRule, made_by, made_with, page_bytes}
-use Rattle.paging_laws.specs.Shape.{Follows, Making}
+use Rattle.page_history.specs.Records.{SealedRule, made_by, made_with}
+use Rattle.paging_laws.specs.Shape.{Follows}
 use Rattle.paging_laws.specs.Stands.{Upholds}
 use Rattle.paging_laws.specs.State.{State}
-
-abbrev pub numbers_of : Making → Numbers
-numbers_of made = record { frames = made.frames; first_epoch = made.first_epoch; first_version = made.first_version }
 
 -- a record that was made under this version has the flat bytes of a page
 pub record HasBytes (key : List ℕ) (past : List Entry) (g : Page) (under : ℕ) (one : Made) : Type 0 where
   pub made : IsMade key past one
   pub version : one.version ≡ under
-  pub cipher : one.cipher ≡ cipher key under (page_bytes (words_of (flat past) g))
-  pub size : length (page_bytes (words_of (flat past) g)) ≡ 4096
+  pub cipher : one.cipher ≡ cipher key under (bytes_of (words_of (flat past) g))
+  pub size : length (bytes_of (words_of (flat past) g)) ≡ 4096
   -- its words are those of its bytes
-  pub back : words.words_of (page_bytes (words_of (flat past) g)) ≡ words_of (flat past) g
+  pub back : words.words_of (bytes_of (words_of (flat past) g)) ≡ words_of (flat past) g
 
 -- the record of each page that is outside has the page's flat bytes
 abbrev pub OutsideBytes : List ℕ → List Entry → Type 0
@@ -44,7 +43,7 @@ pub record UpholdsAll (made : Making) (s : State) (past : List Entry) (given : L
   pub positive : 1 ≤ made.first_version
   pub follows : Follows made s past
   pub upheld : Upholds s past
-  pub moves : Along (MovesRule (numbers_of made)) past
+  pub moves : Along (MovesRule made) past
   pub fresh : Along (FreshRule made.first_version) past
   pub sealed : Along (SealedRule made.key) past
   pub records : given ≡ made_by made.key past

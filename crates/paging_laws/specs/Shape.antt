@@ -10,16 +10,9 @@ use Rattle.sgx_types.specs.Processors.{Stay, stay, translations}
 use Rattle.sgx_types.specs.Rules.{Along, EvictRule, Fits, RisingRule, Stale}
 use Rattle.sgx_types.specs.Slots.{is_slot_busy, next_version, version_in}
 use Rattle.sgx_types.specs.Starts.{LoadsAreApart, open_start}
+use Rattle.sgx_types.specs.Making.{Making}
 use Rattle.paging_laws.specs.Stands.{pair_of, seat_of_stay}
 use Rattle.paging_laws.specs.State.{State, number_noting}
-
--- the numbers of a machine's making
-pub record Making : Type 0 where
-  pub frames : ℕ
-  pub cpus : ℕ
-  pub key : List ℕ
-  pub first_epoch : ℕ
-  pub first_version : ℕ
 
 abbrev pub making_of : State → Making
 making_of s = record { frames = s.frames; cpus = s.cpus; key = s.key; first_epoch = s.first_epoch; first_version = s.first_version }

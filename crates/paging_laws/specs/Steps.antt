@@ -16,15 +16,15 @@ use Rattle.sgx_types.specs.declared.names.Frame.{Frame}
 use Rattle.sgx_types.specs.declared.names.Kind.{Kind}
 use Rattle.sgx_types.specs.declared.names.Page.{Page}
 use Rattle.sgx_types.specs.declared.names.Perm.{Perm}
-use Rattle.sgx_types.specs.Frames.{Holds, page_at}
+use Rattle.sgx_types.specs.Frames.{Holds, page_at, no_perm}
 use Rattle.sgx_types.specs.declared.record.Header.{Header}
 use Rattle.sgx_types.specs.Table.{Case, first_of_row, perm_in, fault_of}
 use Rattle.sgx_types.specs.Flat.{FlatEnclave, all_ones, sum_of}
 use Rattle.sgx_types.specs.Sights.{seat_of}
-use Rattle.sgx_types.specs.Layouts.{flags_of}
+use Rattle.sgx_types.specs.Layouts.{flags_of, bytes_of}
 use Rattle.sgx_types.specs.Sealed.{Sealed, header_of}
 use Rattle.sgx_types.specs.Starts.{Start}
-use Rattle.epcm_entry.specs.Words.{bytes_of, words_of}
+use Rattle.epcm_entry.specs.Words.{words_of}
 use Rattle.seal_record.specs.Cipher.{cipher, sealed, tag}
 use Rattle.seal_record.specs.Row.{eld_row}
 use Rattle.measure_log.specs.declared.measure.Measure.{Measure}
@@ -70,9 +70,6 @@ abbrev pub MayNeedMemory : Action → Type 0
 MayNeedMemory (Epa f) = Unit {0}
 MayNeedMemory (Create enclave f base size) = Unit {0}
 MayNeedMemory _ = ⊥
-
-abbrev pub no_perm : Perm
-no_perm = record { r = false; w = false; x = false }
 
 -- what an instruction that its row allows answers, but for `init`
 abbrev pub answer_of : State → Actor → Action → Answer

@@ -8,6 +8,8 @@ use Rattle.sgx_types.specs.declared.names.Perm.{Perm}
 use Rattle.sgx_types.specs.Processors.{Seat}
 use Rattle.sgx_types.specs.Table.{access_row, inside_row, fill_row, is_reg, perm_in, first_of_row}
 use Rattle.sgx_types.specs.Flat.{word_index}
+use Rattle.sgx_types.proofs.Rows.{none_holds}
+use Rattle.sgx_types.specs.Frames.{no_perm}
 use Rattle.epcm_entry.specs.Epc.{EpcFrame}
 use Rattle.epcm_entry.specs.Sights.{sight_in}
 use Rattle.epcm_entry.proofs.Columns.{length-with_words}
@@ -23,10 +25,8 @@ use Rattle.enclave_access.proofs.AccessLaws.{leads_below}
 use Rattle.paging_machine.specs.declared.machine.Machine.TheInside.{Inside}
 use Rattle.paging_laws.specs.State.{State, sight, seat_enclave, translation, perm_of_held, rewritten, frame_in, word_at, with_acc, after_fill, after_store}
 use Rattle.paging_laws.specs.Stands.{IsTranslation, IsSound}
-use Rattle.paging_laws.specs.Steps.{no_perm}
 use Rattle.paging_machine.specs.Parts.{Parts, cpu_at, seat_of_mode, state_of}
 use Rattle.paging_machine.specs.Whole.{IsWithin, IsWhole, parts_of}
-use Rattle.paging_laws.proofs.Tools.{none_holds}
 use Rattle.paging_laws.proofs.Carry.{seat_at}
 use Rattle.paging_laws.proofs.SoundLaws.{sound-written}
 use Rattle.paging_laws.proofs.AccessLaws.{All-with_translation, fill_within, found_there, sound-fill}

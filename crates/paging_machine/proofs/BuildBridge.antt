@@ -14,13 +14,14 @@ use Rattle.sgx_types.specs.Frames.{Free, Holds, page_at}
 use Rattle.sgx_types.specs.Table as table
 use Rattle.sgx_types.specs.Table.{epa_row, create_row, add_row, first_of_row}
 use Rattle.sgx_types.specs.Flat.{first_words, marked}
+use Rattle.sgx_types.proofs.Rows.{none_holds}
+use Rattle.sgx_types.proofs.Truths.{both_true, neither, not_false}
 use Rattle.epcm_entry.specs.declared.entry_view.EntryView.{EntryView}
 use Rattle.epcm_entry.specs.declared.entry_view.EntryView.TheVariants as views
 use Rattle.epcm_entry.specs.EntryView.{is_valid, holding, block_of, goes_out}
 use Rattle.epcm_entry.specs.Epc.{EpcFrame, entry_at, with_page}
 use Rattle.epcm_entry.specs.Sights.{held, content_of, sight_in}
 use Rattle.epcm_entry.proofs.Columns.{length-with_entry, entry_at-with_entry, words_at-with_entry}
-use Rattle.secs_state.specs.Lawful as lawful
 use Rattle.secs_state.specs.Secs.{SecsState, page_count, created, with_init}
 use Rattle.secs_state.specs.Table.{enclave_at, with_enclave}
 use Rattle.secs_state.specs.Sights.{sight_of}
@@ -38,7 +39,7 @@ use Rattle.paging_laws.specs.Guarded.{IsPaged}
 use Rattle.paging_laws.specs.State.{after_epa, after_create, after_add, after_extend, after_init}
 use Rattle.paging_machine.specs.Parts.{Parts, enclave_of, added_in, is_busy_in, state_of}
 use Rattle.paging_machine.specs.Whole.{IsSecsOf, IsTable}
-use Rattle.paging_laws.proofs.Tools.{none_holds, neither, not_false, both_true, none_there}
+use Rattle.paging_laws.proofs.Tools.{none_there}
 use Rattle.paging_machine.proofs.Columns.{like, through, same_at, numbered, enclave_column, enclave_kept, page_column, measure_set}
 use Rattle.paging_laws.proofs.BuildLaws.{is_free_frame}
 
@@ -127,7 +128,7 @@ pub record Creates (epc : List EpcFrame) (f e base size : ℕ) : Type 0 where
   pub takes : Takes epc f
   pub first : 1 ≤ e
   pub last : e ≤ 8
-  pub lawful : lawful.is_lawful base size ≡ true
+  pub lawful : table.is_lawful base size ≡ true
 
 pub creates : (epc : List EpcFrame) (f e base size : ℕ) (b : Bool) → first_of_row (create_row e base size b (sight_in epc f)) ≡ None → Creates epc f e base size
 creates epc f e base size b allowed =
@@ -142,7 +143,7 @@ creates epc f e base size b allowed =
       lawful = not_false _ outer.1;
     }
 
-pub created_own : (e base size : ℕ) → lawful.is_lawful base size ≡ true → IsSecsOf e (created e base size)
+pub created_own : (e base size : ℕ) → table.is_lawful base size ≡ true → IsSecsOf e (created e base size)
 created_own e base size h = record { number = refl; sound = record { lawful = h; pages = length-replicate (page_count size) None; busy = length-replicate (page_count size) false } }
 
 pub create_state : (d : Parts) (e f base size : ℕ) (begun : Measure) → Creates d.epc f e base size → enclave_at d.secs e ≡ None → IsTable d.secs → e < length d.measures

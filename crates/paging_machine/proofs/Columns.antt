@@ -4,12 +4,12 @@ use Rattle.std.proofs.lemmas.Bool.{cond_both, cond-false, eqb-true, eq-eqb, ne_e
 use Rattle.std.proofs.lemmas.List.{get_or-set_same, get_or-set_other, get_or_past, set-get_or, get_or-replicate, length-replicate}
 use Rattle.sgx_types.specs.declared.names.Page.{Page}
 use Rattle.sgx_types.specs.Frames.{page_at, same_page}
+use Rattle.sgx_types.proofs.Truths.{eqb-swap}
 use Rattle.measure_log.specs.declared.measure.Measure.{Measure}
 use Rattle.secs_state.specs.Secs.{SecsState}
 use Rattle.secs_state.specs.Table.{enclave_at, with_enclave}
 use Rattle.secs_state.proofs.Columns.{enclave_at-with_enclave}
 use Rattle.paging_machine.specs.Whole.{IsSecsOf, IsTable}
-use Rattle.paging_laws.proofs.Tools.{eqb-swap}
 
 -- ---- lists
 

@@ -9,6 +9,7 @@ use Rattle.sgx_types.specs.Processors.{Seat}
 use Rattle.sgx_types.specs.Sights.{seat_of}
 use Rattle.sgx_types.specs.Table.{TcsSight, enter_row, resume_row, inside_row, first_of_row}
 use Rattle.sgx_types.specs.Flat.{enclave_sight_of, with_cssa}
+use Rattle.sgx_types.proofs.Truths.{not_false}
 use Rattle.epcm_entry.specs.Epc.{EpcFrame, word_at, with_word}
 use Rattle.epcm_entry.proofs.Columns.{length-with_words}
 use Rattle.secs_state.specs.Secs.{SecsState, added_at, with_busy}
@@ -33,7 +34,6 @@ use Rattle.paging_laws.specs.Guarded.{IsGuarded}
 use Rattle.paging_laws.specs.Stands.{IsUsable, IsSound}
 use Rattle.paging_machine.specs.Parts.{Parts, cpu_at, enclave_of, is_busy_in, seat_of_mode, state_of}
 use Rattle.paging_machine.specs.Whole.{IsWithin, IsWhole, parts_of}
-use Rattle.paging_laws.proofs.Tools.{not_false}
 use Rattle.paging_laws.proofs.Carry.{seat_at}
 use Rattle.paging_machine.proofs.Columns.{numbered, table_written}
 use Rattle.paging_laws.proofs.EntryLaws.{enters, enter_saves, enter_saved, resume_saves, resume_saved, sound-enter, sound-resume}

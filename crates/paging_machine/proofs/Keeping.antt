@@ -11,12 +11,12 @@ use Rattle.sgx_types.specs.Frames.{Content, Free, SecsOf, Holds, IsLoading, same
 use Rattle.sgx_types.specs.Flat.{FlatEnclave, marked}
 use Rattle.sgx_types.specs.Starts.{Start}
 use Rattle.sgx_types.specs.Table.{block_row, track_row, ewbstart_row, eldstart_row, first_of_row}
+use Rattle.sgx_types.proofs.Pages.{same_page-at}
 use Rattle.measure_log.specs.declared.measure.Measure.{Measure}
 use Rattle.paging_laws.specs.State.{State, sight, track_sight, slot_sight, drain_sight, is_version_spent, with_content, after_create, after_add, after_extend, after_init, after_block, after_track, after_ewbstart, after_eldstart, after_ewb, after_eld, after_failed_eld}
 use Rattle.paging_laws.specs.Stands.{IsSound, IsMeasured, IsFramed}
 use Rattle.paging_laws.specs.Guarded.{IsPaged, IsGuarded}
 use Rattle.paging_machine.specs.Whole.{IsWithin}
-use Rattle.paging_laws.proofs.Carry.{same_page-refl}
 use Rattle.paging_laws.proofs.SoundLaws.{sound-put}
 use Rattle.paging_laws.proofs.BuildLaws.{sound_add}
 use Rattle.paging_laws.proofs.GuardLaws.{guarded_put, guarded_create, guarded_add, guarded_extend, guarded_init, guarded_block, guarded_track, guarded_ewbstart, guarded_eldstart, guarded_ewb, guarded_eld, guarded_failed_eld}
@@ -76,7 +76,7 @@ kept_add s g f kind perm init longer free paged h = record {
   measured = measured_longer s g.enclave longer h.measured;
   framed = λ n q k p.
       cond_both (f == n) (Holds g kind perm) (s.content n) (λ v. v ≡ Holds q k p → is_some (cond (same_page q g) (Some (kind, perm)) (s.added q)) ≡ true)
-      (λ _ at. let same : g ≡ q = cc at in rw (← same, same_page-refl g.enclave g.number) refl)
+      (λ _ at. let same : g ≡ q = cc at in rw (← same, same_page-at g.enclave g.number) refl)
       (λ _ at. cond_both (same_page q g) (Some (kind, perm)) (s.added q) (λ v. is_some v ≡ true) (λ _. refl) (λ _. h.framed n q k p at));
   within = h.within;
   sound = sound_add s g f kind perm init longer h.sound free;

@@ -12,6 +12,8 @@ use Rattle.sgx_types.specs.Slots.{same_slot}
 use Rattle.sgx_types.specs.Starts.{Start}
 use Rattle.sgx_types.specs.Table as table
 use Rattle.sgx_types.specs.Table.{DrainSight, first_of_row, block_row, track_row, ewbstart_row, eldstart_row}
+use Rattle.sgx_types.proofs.Rows.{none_holds}
+use Rattle.sgx_types.proofs.Truths.{neither}
 use Rattle.epcm_entry.specs.declared.entry_view.EntryView.{EntryView}
 use Rattle.epcm_entry.specs.declared.entry_view.EntryView.TheVariants as views
 use Rattle.epcm_entry.specs.EntryView.{is_valid, holding, block_of, goes_out, with_block, outgoing}
@@ -38,7 +40,6 @@ use Rattle.paging_machine.specs.declared.starts.Start as opened
 use Rattle.paging_machine.specs.Parts.{Parts, is_noted, start_of, epoch_from, state_of}
 use Rattle.paging_machine.specs.Whole.{IsTracked, IsWhole, parts_of}
 use Rattle.paging_machine.specs.declared.machine.Machine.TheInside.{Inside}
-use Rattle.paging_laws.proofs.Tools.{none_holds, neither}
 use Rattle.paging_machine.proofs.Columns.{get_or-set_if, through, same_at, numbered}
 use Rattle.paging_machine.proofs.Keeping.{kept_block, kept_track, kept_ewbstart, kept_eldstart}
 use Rattle.paging_machine.proofs.PagingSights.{epoch_seen, frame_numbered, track_there, track_row_at, ewbstart_row_at, eldstart_row_at}

@@ -28,6 +28,7 @@ use Rattle.secs_state.specs.Secs.{SecsState, added_at, page_count}
 use Rattle.secs_state.specs.Table.{enclave_at}
 use Rattle.secs_state.proofs.Columns.{added_below}
 use Rattle.sgx_types.specs.Starts.{Start}
+use Rattle.sgx_types.proofs.Truths.{both_true}
 use Rattle.paging_laws.specs.Stands.{IsFramed}
 use Rattle.paging_laws.specs.Guarded.{IsGuarded, WritesOut, Loads}
 use Rattle.track_epoch.specs.Tracking.{Tracking}
@@ -40,7 +41,6 @@ use Rattle.paging_laws.specs.State.{State, sight, is_noting, number_noting, epoc
 use Rattle.paging_machine.specs.Parts.{Parts, idle, cpu_at, seat_of_mode, noted_by, is_noted, added_in, enclave_of, state_of}
 use Rattle.paging_machine.specs.Whole.{IsTable, IsTracked}
 use Rattle.paging_machine.proofs.Columns.{numbered}
-use Rattle.paging_laws.proofs.Tools.{both_true}
 
 -- ---- counts
 

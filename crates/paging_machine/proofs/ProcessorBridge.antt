@@ -8,6 +8,7 @@ use Rattle.sgx_types.specs.declared.names.Kind.{Kind}
 use Rattle.sgx_types.specs.declared.names.Perm.{Perm}
 use Rattle.sgx_types.specs.Frames.{Content, Free, IsVa, SecsOf, Holds, IsLoading, is_page, page_at, same_page}
 use Rattle.sgx_types.specs.Sights.{seat_of}
+use Rattle.sgx_types.proofs.Pages.{same_pages}
 use Rattle.epcm_entry.specs.EntryView.{block_of, goes_out}
 use Rattle.epcm_entry.specs.Epc.{EpcFrame, free_frame, entry_at, words_at, with_words}
 use Rattle.epcm_entry.specs.Sights.{held}
@@ -32,7 +33,7 @@ use Rattle.paging_machine.specs.Whole.{IsSecsOf, IsTable}
 use Rattle.paging_laws.specs.Stands.{IsSound, IsFramed}
 use Rattle.paging_laws.proofs.ExtendLaws.{IsMade}
 use Rattle.paging_machine.proofs.Columns.{get_or-set_if, get_or-default, same_at, numbered, enclave_kept, page_column}
-use Rattle.paging_laws.proofs.Carry.{same_page-true, seat_at}
+use Rattle.paging_laws.proofs.Carry.{seat_at}
 
 -- ---- how a processor stands
 
@@ -59,7 +60,7 @@ pub page_added : (s : State) → IsFramed s → (n : ℕ) (g : Page) → is_page
 page_added s framed n g is = by_content (s.content n) refl is
   where
     by_content : (c : Content) → s.content n ≡ c → is_page c g ≡ true → is_some (s.added g) ≡ true
-    by_content (Holds page kind perm) e k = let same : page ≡ g = same_page-true page g k in rw (← same) (framed n page kind perm e)
+    by_content (Holds page kind perm) e k = let same : page ≡ g = same_pages page g k in rw (← same) (framed n page kind perm e)
     by_content Free e k = cc
     by_content IsVa e k = cc
     by_content (SecsOf enclave) e k = cc

@@ -2,7 +2,8 @@ ghost use Rattle.std.specs.Prelude.{◌≡◌, IfOk, OnErr, length, List, ◌∷
 ghost use Rattle.sgx_types.specs.declared.entries.Entry.{Entry};
 ghost use Rattle.paging_machine.specs.Parts.{state_of};
 ghost use Rattle.sgx_types.specs.Rules.{LoadsAwayRule};
-ghost use Rattle.paging_laws.specs.Shape.{Making, Follows, FitsApart};
+ghost use Rattle.sgx_types.specs.Making.{Making};
+ghost use Rattle.paging_laws.specs.Shape.{Follows, FitsApart};
 ghost use Rattle.seal_record.specs.Records.{Made};
 ghost use Rattle.paging_laws.specs.Histories.{UpholdsAll};
 ghost use Rattle.paging_laws.specs.Steps.{IsStep, CanApply, MayNeedMemory, did_by, refused_by};

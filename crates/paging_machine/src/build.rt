@@ -61,7 +61,7 @@ impl Machine {
         ensures cpus { length self.new.cpus ≡ length self.old.cpus }
     {
         self.va.epa(alloc, frame)?;
-        self.epc.set(frame, NO_PAGE, Kind::Va, NO_PERM);
+        self.epc.set(frame, NO_PAGE, Kind::Va, Perm::NONE);
         Ok(())
     }
 
@@ -174,10 +174,4 @@ fn absent(epc: &Epc, frame: Frame) -> Refusal
 const NO_PAGE: Page = Page {
     enclave: 0,
     number: 0,
-};
-
-const NO_PERM: Perm = Perm {
-    r: false,
-    w: false,
-    x: false,
 };

@@ -2,10 +2,11 @@ ghost use Rattle.std.specs.Prelude.{◌≡◌, ◌∷◌, ◌++◌, true, Some, 
 ghost use Rattle.std.specs.Option.{IsSomeAnd};
 ghost use Rattle.sgx_types.specs.declared.entries.Entry.{Entry};
 ghost use Rattle.sgx_types.specs.Frames.{IsLoading};
+ghost use Rattle.sgx_types.specs.Making.{Making};
 ghost use Rattle.seal_record.specs.Records.{Given, Made, Unforged};
 ghost use Rattle.paging_laws.specs.Histories.{UpholdsAll, given_out, looked_at};
 ghost use Rattle.paging_machine.specs.Parts.{start_of, state_of};
-ghost use Rattle.paging_laws.specs.Shape.{Making, Follows, FitsApart};
+ghost use Rattle.paging_laws.specs.Shape.{Follows, FitsApart};
 ghost use Rattle.paging_laws.specs.Steps.{IsHeaderIn, IsReloaded, IsWrittenOut, SealsPage};
 
 use crate::apply::{done, refused};

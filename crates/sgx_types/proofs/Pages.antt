@@ -1,9 +1,9 @@
 -- Facts on the tests of pages and of slots.
-use Rattle.std.proofs.Common.{◌≡◌, ◌==◌, Bool, true, refl}
+use Rattle.std.proofs.Common.{◌≡◌, ◌==◌, ℕ, Bool, true, refl}
 use Rattle.std.proofs.lemmas.Bool.{eqb-true, eq-eqb}
 use Rattle.sgx_types.specs.declared.names.Page.{Page}
 use Rattle.sgx_types.specs.declared.names.SlotAt.{SlotAt}
-use Rattle.sgx_types.specs.Frames.{same_page}
+use Rattle.sgx_types.specs.Frames.{page_at, same_page}
 use Rattle.sgx_types.specs.Slots.{same_slot}
 use Rattle.sgx_types.proofs.Truths.{both_true, eqb-swap}
 
@@ -16,6 +16,9 @@ same_pages a b h =
 -- a page is the same as itself
 pub same_page-refl : (a : Page) → same_page a a ≡ true
 same_page-refl a = rw (eq-eqb a.enclave a.enclave refl, eq-eqb a.number a.number refl) refl
+
+pub same_page-at : (enclave number : ℕ) → same_page (page_at enclave number) (page_at enclave number) ≡ true
+same_page-at enclave number = same_page-refl (page_at enclave number)
 
 -- the test of two pages goes either way round
 pub same_page-swap : (a b : Page) → same_page a b ≡ same_page b a

@@ -20,11 +20,12 @@ use Rattle.sgx_types.specs.Table.{create_row, first_of_row}
 use Rattle.sgx_types.specs.Flat.{accepts, flat, first_words, initialised, open_frame, with_enclave, with_page}
 use Rattle.sgx_types.specs.Sights.{row_at, sight_at}
 use Rattle.sgx_types.specs.Rules.{KeepsRules, RefusalRule}
+use Rattle.sgx_types.proofs.Truths.{eqb-swap}
+use Rattle.sgx_types.proofs.Pages.{same_page-at}
 use Rattle.job_grammar.specs.Jobs.{JobView}
 use Rattle.job_grammar.specs.Script.{BuildStep, MakeVa, MakeSecs, AddPage, ExtendPage, Finish, action_of, build_of, builder_due, built, saved, saved_after, step_action, step_due}
 use Rattle.paging_laws.specs.Steps.{did_by, refused_by}
-use Rattle.paging_laws.proofs.Tools.{eqb-swap}
-use Rattle.paging_laws.proofs.Carry.{flat_done, same_page-refl}
+use Rattle.paging_laws.proofs.Carry.{flat_done}
 use Rattle.sgxpage.specs.Books.{BookView, IsCalm, IsNext, IsPlaced, GoesOn}
 use Rattle.sgxpage.specs.Building.{AreNext, AreTaken, Grows, IsHere, IsUnmade, MakesOnly, count_free, frames_taken, free_frames}
 use Rattle.sgxpage.proofs.OptionLaws.{some_same, taken_none}
@@ -191,7 +192,7 @@ page_made b b' g f kind perm init calm least taken next =
 pub page_placed : (b b' : BookView) (g : Page) (f : Frame) (kind : Kind) (perm : Perm) (init : PageInit) → IsCalm b.past → least_free b.frames (content b.past) ≡ Some f.0
     → AreTaken b.past (AddPage g.enclave g.number kind perm init ∷ []) → IsNext actors.Builder (Add g.enclave g.number f kind perm init) b b' → IsPlaced b'.past g kind perm
 page_placed b b' g f kind perm init calm least taken next =
-    next.goes.calm.placed g kind perm (rw (page_made b b' g f kind perm init calm least taken next, same_page-refl g.enclave g.number) refl)
+    next.goes.calm.placed g kind perm (rw (page_made b b' g f kind perm init calm least taken next, same_page-at g.enclave g.number) refl)
 
 -- ---- its measurement
 

@@ -8,11 +8,11 @@ use Rattle.std.proofs.lemmas.List.Sums.{sum_by-append, sum_by-cons, sum_by_more_
 use Rattle.std.proofs.lemmas.Option.{get_or_from_slice_get, slice_get-get_or, slice_get_within}
 use Rattle.std.proofs.Math.ListN.{get_or-map}
 use Rattle.sgx_types.specs.Table.{is_enclave}
+use Rattle.sgx_types.proofs.Truths.{apart}
 use Rattle.job_grammar.specs.declared.jobs.EnclaveJob.{EnclaveJob}
 use Rattle.job_grammar.specs.Jobs.{EnclaveView, JobView, va_pages, enclave_pages, enclave_view, lines_at, lines_in}
 use Rattle.job_grammar.specs.Script.{MakeVa, build_of, enclave_steps, enclaves_steps}
 use Rattle.job_grammar.specs.Valid.{IsFittingForm, IsValidEnclave}
-use Rattle.paging_laws.proofs.Tools.{apart}
 use Rattle.sgxpage.specs.Books.{BookView, IsCalm}
 use Rattle.sgxpage.specs.Building.{Grows, IsPlacedLine, IsUnmade, MakesOnly, frame_count, frames_taken, free_frames}
 use Rattle.sgxpage.proofs.EnclaveLaws.{enclave_taken}

@@ -18,10 +18,12 @@ use Rattle.sgx_types.specs.Frames.{is_blocked, is_sealing, is_block}
 use Rattle.sgx_types.specs.Table.{create_row, first_of_row, init_row, is_ready, is_enclave, is_lawful}
 use Rattle.sgx_types.specs.Flat.{FlatEnclave, FlatMemory, Inside, accepts, enclave_sight_of, flat, initialised, marked, memory_after, open_frame, saved, stored, with_enclave}
 use Rattle.sgx_types.specs.Rules.{KeepsRules}
+use Rattle.sgx_types.proofs.Rows.{none_holds}
+use Rattle.sgx_types.proofs.Truths.{eqb-swap, neither, not_false}
 use Rattle.job_grammar.specs.Script.{action_of, is_init_of, is_initialised}
 use Rattle.paging_laws.specs.Steps.{did_by, refused_by}
 use Rattle.sgxpage.specs.Asking.{CanAsk}
-use Rattle.paging_laws.proofs.Tools.{eqb-swap, neither, none_holds, none_there, not_false}
+use Rattle.paging_laws.proofs.Tools.{none_there}
 use Rattle.paging_laws.proofs.Carry.{flat_done}
 use Rattle.sgxpage.specs.Books.{IsCalm, IsLawful}
 use Rattle.sgxpage.proofs.OptionLaws.{some_same, taken_none}

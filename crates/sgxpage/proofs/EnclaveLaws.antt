@@ -13,15 +13,15 @@ use Rattle.sgx_types.specs.declared.entries.Actor.TheVariants as actors
 use Rattle.sgx_types.specs.declared.entries.PageInit.TheVariants as inits
 use Rattle.sgx_types.specs.declared.names.Kind.TheVariants as kinds
 use Rattle.sgx_types.specs.declared.names.Perm.{Perm}
-use Rattle.sgx_types.specs.Frames.{page_at}
+use Rattle.sgx_types.specs.Frames.{page_at, no_perm}
 use Rattle.sgx_types.specs.Table.{is_enclave}
 use Rattle.sgx_types.specs.Flat.{FlatEnclave, accepts, flat, with_enclave}
+use Rattle.sgx_types.proofs.Truths.{apart, eqb-swap}
 use Rattle.job_grammar.specs.declared.jobs.PageLine.{PageLine}
 use Rattle.job_grammar.specs.declared.jobs.PageLine.TheVariants as lines
 use Rattle.job_grammar.specs.Jobs.{EnclaveView, covers, first_page, page_count}
-use Rattle.job_grammar.specs.Script.{AddPage, Finish, MakeSecs, enclave_steps, line_steps, no_perm, step_action}
+use Rattle.job_grammar.specs.Script.{AddPage, Finish, MakeSecs, enclave_steps, line_steps, step_action}
 use Rattle.job_grammar.specs.Valid.{IsValidEnclave, IsValidLine}
-use Rattle.paging_laws.proofs.Tools.{apart, eqb-swap}
 use Rattle.sgxpage.specs.Books.{BookView}
 use Rattle.sgxpage.specs.Building.{AddsOnly, AreTaken, Grows, IsPlacedLine, IsUnmade, MakesOnly, frame_count, frames_taken, free_frames, line_adds}
 use Rattle.sgxpage.proofs.GrowthLaws.{grows_append, lines_kept}

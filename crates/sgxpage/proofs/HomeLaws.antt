@@ -25,11 +25,13 @@ use Rattle.sgx_types.specs.declared.entries.PageInit.TheVariants as inits
 use Rattle.sgx_types.specs.Table.{FrameSight, add_row, first_of_row, is_lawful, is_lawful_size, is_within}
 use Rattle.sgx_types.specs.Flat.{FlatEnclave, enclave_sight_of, flat}
 use Rattle.sgx_types.specs.Rules.{KeepsRules}
+use Rattle.sgx_types.proofs.Rows.{none_holds}
+use Rattle.sgx_types.proofs.Truths.{both_true, not_false}
+use Rattle.sgx_types.proofs.Pages.{same_pages}
 use Rattle.job_grammar.specs.Script.{action_of, frame_at, leaves_by, saved}
 use Rattle.job_grammar.specs.Script.{saved_after as saved_by}
 use Rattle.paging_laws.specs.Steps.{did_by}
 use Rattle.sgxpage.specs.Asking.{CanAsk}
-use Rattle.paging_laws.proofs.Tools.{both_true, none_holds, not_false, same_pages}
 use Rattle.sgxpage.specs.declared.homes.Home.{Home}
 use Rattle.sgxpage.specs.Books.{IsCalm, IsLawful}
 use Rattle.sgxpage.specs.Homes.{has_home, home_after, home_at, home_by, home_in, home_left, no_home, place_of, with_fewer, with_frame, with_more}

@@ -20,11 +20,14 @@ use Rattle.sgx_types.specs.Frames.{Content, Free, IsVa, SecsOf, Holds, content, 
 use Rattle.sgx_types.specs.Table.{EnclaveSight, add_row, first_of_row}
 use Rattle.sgx_types.specs.Flat.{FlatMemory, Inside, accepts, added_as, enclave_sight, fields_in, first_words, flat, memory_after, open_frame, saved, stored, with_cssa, with_page, with_words}
 use Rattle.sgx_types.specs.Rules.{KeepsRules}
+use Rattle.sgx_types.proofs.Rows.{none_holds}
+use Rattle.sgx_types.proofs.Truths.{apart}
+use Rattle.sgx_types.proofs.Pages.{same_page-at, same_pages}
 use Rattle.job_grammar.specs.Script.{action_of}
 use Rattle.paging_laws.specs.Steps.{did_by, refused_by}
 use Rattle.sgxpage.specs.Asking.{CanAsk}
-use Rattle.paging_laws.proofs.Tools.{apart, none_holds, none_there, same_pages}
-use Rattle.paging_laws.proofs.Carry.{flat_done, same_page-refl}
+use Rattle.paging_laws.proofs.Tools.{none_there}
+use Rattle.paging_laws.proofs.Carry.{flat_done}
 use Rattle.paging_laws.proofs.WordLaws.{added-changed}
 use Rattle.sgxpage.specs.Books.{IsPlaced}
 use Rattle.sgxpage.proofs.OptionLaws.{some_same, taken_none}
@@ -123,9 +126,9 @@ module _ (past : List Entry) (a : Actor) (enclave number : ℕ) (f : Frame) (kin
   pub new_placed : IsPlaced (e ∷ past) new kind perm
   new_placed = record {
     frame = f.0;
-    there = rw (same_page-refl enclave number) refl;
+    there = rw (same_page-at enclave number) refl;
     held = rw (eq-eqb f.0 f.0 refl) refl;
-    added = rw (after, same_page-refl enclave number) refl;
+    added = rw (after, same_page-at enclave number) refl;
   }
 
   all_placed : AllPlaced past → AllPlaced (e ∷ past)

@@ -22,13 +22,13 @@ use Rattle.sgx_types.specs.Table.{fill_row, first_of_row, is_lawful_access}
 use Rattle.sgx_types.specs.Flat.{added_as, flat}
 use Rattle.sgx_types.specs.Sights.{enclave_of_stay, sight_at}
 use Rattle.sgx_types.specs.Rules.{RefusalRule}
+use Rattle.sgx_types.proofs.Rows.{NoneHolds, none_refused}
+use Rattle.sgx_types.proofs.Pages.{same_page-at}
 use Rattle.job_grammar.specs.declared.jobs.Op.{Op}
 use Rattle.job_grammar.specs.declared.jobs.Op.TheVariants as ops
 use Rattle.job_grammar.specs.Jobs.{JobView}
 use Rattle.job_grammar.specs.Script.{access_due, action_of, inner_access, interrupted_after, is_interrupted, op_due, saved, saved_after}
 use Rattle.job_grammar.specs.Valid.{IsValidOffset, IsValidOp}
-use Rattle.paging_laws.proofs.Carry.{same_page-refl}
-use Rattle.paging_laws.proofs.Tools.{NoneHolds, none_refused}
 use Rattle.sgxpage.specs.Books.{BookView, GoesOn, IsCalm, IsNext, IsPlaced}
 use Rattle.sgxpage.specs.Playing.{AsksFor, Fills, IsAccess, IsReady, IsReg, Plays, Rests}
 use Rattle.sgxpage.proofs.OptionLaws.{some_same}
@@ -70,7 +70,7 @@ fill_allowed frames enclave number f perm past calm beyond held =
       (
         rw (held, calm.settled f) refl,
         (
-          rw (held, same_page-refl enclave number) refl,
+          rw (held, same_page-at enclave number) refl,
           (
             calm.unblocked f,
             (rw held refl, tt),

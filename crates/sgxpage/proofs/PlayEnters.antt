@@ -12,6 +12,7 @@ use Rattle.sgx_types.specs.declared.names.Cpu.{Cpu}
 use Rattle.sgx_types.specs.declared.names.Frame.{Frame}
 use Rattle.sgx_types.specs.declared.names.Page.{Page}
 use Rattle.sgx_types.specs.Frames.{frame_of, page_at}
+use Rattle.sgx_types.proofs.Pages.{same_pages}
 use Rattle.job_grammar.specs.declared.jobs.Op.{Op}
 use Rattle.job_grammar.specs.declared.jobs.Op.TheVariants as ops
 use Rattle.job_grammar.specs.declared.jobs.PageLine.{PageLine}
@@ -19,7 +20,6 @@ use Rattle.job_grammar.specs.declared.jobs.PageLine.TheVariants as lines
 use Rattle.job_grammar.specs.Jobs.{JobView, is_tcs_page, lines_at, tcs_line}
 use Rattle.job_grammar.specs.Script.{enter_by, enter_with, frame_at, is_turned_away, op_due, resume_by, resume_with, saved}
 use Rattle.job_grammar.specs.Valid.{IsValid, IsValidOp}
-use Rattle.paging_laws.proofs.Tools.{same_pages}
 use Rattle.sgxpage.specs.declared.saves.SavePages.{SavePages}
 use Rattle.sgxpage.specs.Books.{BookView, IsCalm, IsNext}
 use Rattle.sgxpage.specs.Homes.{has_home}

@@ -8,14 +8,13 @@ use Rattle.std.proofs.lemmas.Option.{slice_get_within}
 use Rattle.sgx_types.specs.declared.entries.Entry.{Entry}
 use Rattle.sgx_types.specs.declared.names.Page.{Page}
 use Rattle.sgx_types.specs.declared.names.Kind.TheVariants as kinds
-use Rattle.sgx_types.specs.Frames.{frame_of, page_at}
+use Rattle.sgx_types.specs.Frames.{frame_of, page_at, no_perm}
 use Rattle.sgx_types.specs.Table.{is_lawful_size}
+use Rattle.sgx_types.proofs.Truths.{both_true}
 use Rattle.job_grammar.specs.declared.jobs.PageLine.{PageLine}
 use Rattle.job_grammar.specs.declared.jobs.PageLine.TheVariants as lines
 use Rattle.job_grammar.specs.Jobs.{EnclaveView, JobView, covers, enclave_at, is_save_line, is_save_page, is_tcs_line, is_tcs_page, lines_at, lines_in, tcs_line}
-use Rattle.job_grammar.specs.Script.{no_perm}
 use Rattle.job_grammar.specs.Valid.{HasSavePages, IsValid, IsValidEnclave, IsValidLine}
-use Rattle.paging_laws.proofs.Tools.{both_true}
 use Rattle.sgxpage.specs.Books.{IsPlaced}
 use Rattle.sgxpage.specs.Building.{IsPlacedLine}
 use Rattle.sgxpage.specs.Homes.{has_home}

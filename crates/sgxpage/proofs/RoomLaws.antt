@@ -17,6 +17,7 @@ use Rattle.sgx_types.specs.Table.{EnterSight, enter_row, first_of_row, is_tcs, r
 use Rattle.sgx_types.specs.Sights.{enter_sight_at, seat_of}
 use Rattle.sgx_types.specs.Rules.{KeepsRules, RefusalRule}
 use Rattle.sgx_types.specs.declared.refusals.Refusal.TheVariants as why
+use Rattle.sgx_types.proofs.Truths.{not_false}
 use Rattle.job_grammar.specs.declared.jobs.PageLine.TheVariants as lines
 use Rattle.job_grammar.specs.Jobs.{JobView, lines_at, tcs_line}
 use Rattle.job_grammar.specs.Script.{action_of, is_seated_at, is_system, saved}
@@ -24,7 +25,7 @@ use Rattle.job_grammar.specs.Valid.{IsValid}
 use Rattle.paging_laws.specs.Steps.{did_by}
 use Rattle.paging_laws.proofs.Contents.{tcs_no_reg}
 use Rattle.paging_laws.proofs.EntryLaws.{enters}
-use Rattle.paging_laws.proofs.Tools.{none_there, not_false}
+use Rattle.paging_laws.proofs.Tools.{none_there}
 use Rattle.sgxpage.specs.Books.{BookView, IsNext}
 use Rattle.sgxpage.specs.Playing.{HasRoom, Rests, used}
 use Rattle.sgxpage.proofs.PlayPages.{some_frames}

@@ -8,13 +8,13 @@ use Rattle.sgx_types.specs.declared.names.Page.{Page}
 use Rattle.sgx_types.specs.declared.names.Kind.{Kind}
 use Rattle.sgx_types.specs.declared.names.Kind.TheVariants as kinds
 use Rattle.sgx_types.specs.declared.names.Perm.{Perm}
-use Rattle.sgx_types.specs.Frames.{Content, content, is_free, page_at}
+use Rattle.sgx_types.specs.Frames.{Content, content, is_free, page_at, no_perm}
 use Rattle.sgx_types.specs.Flat.{flat, accepts}
 use Rattle.sgx_types.specs.Rules.{Along}
 use Rattle.job_grammar.specs.declared.jobs.PageLine.{PageLine}
 use Rattle.job_grammar.specs.declared.jobs.PageLine.TheVariants as lines
 use Rattle.job_grammar.specs.Jobs.{JobView, covers}
-use Rattle.job_grammar.specs.Script.{BuildStep, AddPage, ExtendPage, Finish, ScriptRule, build_of, built, no_perm, numbers_from, saved, step_action}
+use Rattle.job_grammar.specs.Script.{BuildStep, AddPage, ExtendPage, Finish, ScriptRule, build_of, built, numbers_from, saved, step_action}
 use Rattle.sgxpage.specs.Books.{BookView, GoesOn, IsIdle, IsPlaced}
 
 -- ---- frames

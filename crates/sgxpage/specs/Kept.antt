@@ -1,8 +1,8 @@
 -- What the type of a book keeps.
 use Rattle.std.specs.Prelude.{[], length, reverse}
+use Rattle.sgx_types.specs.Making.{Making}
 use Rattle.paging_machine.specs.Parts.{state_of}
 use Rattle.paging_laws.specs.Histories.{UpholdsAll}
-use Rattle.paging_laws.specs.Shape.{Making}
 use Rattle.sgxpage.specs.declared.book.Book.TheInside.{Inside}
 use Rattle.sgxpage.specs.Books.{BookView, IsCalm}
 use Rattle.sgxpage.specs.Homes.{home_in}

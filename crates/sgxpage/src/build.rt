@@ -126,7 +126,7 @@ fn add_line(alloc: Global, book: &mut Book, enclave: u16, line: &PageLine) -> Re
                 number: page,
             };
             let init = PageInit::Tcs { ossa, nssa };
-            add_page(alloc, book, page, Kind::Tcs, NO_PERM, init, plain)
+            add_page(alloc, book, page, Kind::Tcs, Perm::NONE, init, plain)
         }
         PageLine::Reg {
             first,
@@ -266,9 +266,3 @@ fn finish(
 {
     book.apply(alloc, Actor::Builder, Action::Init { enclave, expect })
 }
-
-const NO_PERM: Perm = Perm {
-    r: false,
-    w: false,
-    x: false,
-};

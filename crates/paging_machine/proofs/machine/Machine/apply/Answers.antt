@@ -3,9 +3,10 @@ use Rattle.sgx_types.specs.declared.entries.Entry.{Entry}
 use Rattle.sgx_types.specs.declared.entries.Actor.{Actor}
 use Rattle.sgx_types.specs.declared.entries.Action.{Action}
 use Rattle.sgx_types.specs.Rules.{LoadsAwayRule}
+use Rattle.sgx_types.specs.Making.{Making}
 use Rattle.paging_machine.specs.declared.machine.Machine.TheInside.{Inside}
 use Rattle.paging_machine.specs.Parts.{Parts, state_of}
-use Rattle.paging_laws.specs.Shape.{Making, Follows, FitsApart}
+use Rattle.paging_laws.specs.Shape.{Follows, FitsApart}
 use Rattle.seal_record.specs.Records.{Made}
 use Rattle.paging_laws.specs.Histories.{UpholdsAll}
 use Rattle.paging_laws.specs.State.{State}

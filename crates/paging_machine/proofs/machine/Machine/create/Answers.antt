@@ -1,5 +1,6 @@
 use Rattle.std.proofs.Common.{◌≡◌, ◌<◌, ◌∙◌, sym, arith, None, is_some, length, length-set}
 use Rattle.sgx_types.specs.Table.{create_row, first_of_row}
+use Rattle.sgx_types.proofs.Rows.{none_holds}
 use Rattle.epcm_entry.specs.Sights.{sight_in}
 use Rattle.enclave_build.proofs.Columns.{length-with_secs}
 use Rattle.secs_state.specs.Secs.{created}
@@ -7,7 +8,6 @@ use Rattle.secs_state.specs.Table.{enclave_at}
 use Rattle.paging_machine.specs.Whole.{parts_of}
 use Rattle.paging_machine.specs.Parts.{state_of}
 use Rattle.paging_laws.specs.State.{after_create}
-use Rattle.paging_laws.proofs.Tools.{none_holds}
 use Rattle.paging_machine.proofs.Columns.{table_written}
 use Rattle.paging_machine.proofs.BuildBridge.{creates, created_own, no_enclave, create_state, create_pages}
 use Rattle.paging_machine.proofs.Keeping.{kept_create}
