@@ -5,6 +5,7 @@
 pub mod failed_edges;
 pub mod faults;
 pub mod giving;
+pub mod late_file;
 pub mod mem_sink;
 pub mod mem_source;
 pub mod plans;

@@ -19,9 +19,9 @@ mod worked_runs;
 
 use crate::command::{Status, path_of, sgxpage};
 use io_edges::failed_edges::FailedSink;
+use io_edges::late_file::LateFile;
 use io_edges::std_edges::{StdSink, StdSource};
 use std::env;
-use std::fs::File;
 use std::io::{self, Eprint, ErrorKind};
 use std::process::ExitCode;
 
@@ -48,13 +48,13 @@ fn status(rt: &HostRuntime) -> Status {
     };
     let mut job = StdSource::new(rt.stdin().reader());
     let mut out = StdSink::new(io::writer(rt));
-    match trace_file(rt, &words) {
-        Some(file) => sgxpage(
+    match path_of(&words) {
+        Some(path) => sgxpage(
             rt.alloc(),
             &words,
             &mut job,
             &mut out,
-            &mut StdSink::new(file),
+            &mut StdSink::new(LateFile::new(rt, path)),
         ),
         None => sgxpage(
             rt.alloc(),
@@ -73,9 +73,4 @@ fn given_words(rt: &HostRuntime) -> io::Result<Vec<String>> {
         words.push(word)?;
     }
     Ok(words)
-}
-
-// The file for the trace of a run, if it can be made.
-fn trace_file(rt: &HostRuntime, words: &[String]) -> Option<File> {
-    File::create(rt, path_of(words)?).ok()
 }

@@ -3,6 +3,7 @@ ghost use Rattle.std.specs.Prelude.{◌≤◌};
 use io_edges::failed_edges::{FailedSink, FailedSource};
 use io_edges::faults::Failed;
 use io_edges::giving::give_all;
+use io_edges::late_file::LateFile;
 use io_edges::mem_sink::{CAPACITY, MemSink};
 use io_edges::mem_source::MemSource;
 use io_edges::reading::{ReadEnd, read_all};
@@ -94,6 +95,21 @@ fn a_sink_that_was_not_made_fails_at_every_call(rt: HostRuntime) {
     for calls in 1..=3 {
         assert_eq!(rt; sink.give(b"a"), Err(Failed));
         assert_eq!(rt; sink.faults(), calls);
+    }
+}
+
+#[test]
+fn a_late_file_is_a_sink(rt: HostRuntime) {
+    let mut sink = StdSink::new(LateFile::new(&rt, "/dev/null"));
+    assert_eq!(rt; sink.give(b"abcd"), Ok(4));
+    assert_eq!(rt; sink.give(b"e"), Ok(1));
+    assert_eq!(rt; sink.faults(), 0);
+    let mut full = StdSink::new(LateFile::new(&rt, "/dev/full"));
+    assert_eq!(rt; full.give(b"abcd"), Err(Failed));
+    let mut unmade = StdSink::new(LateFile::new(&rt, "/no/such/folder"));
+    for calls in 1..=3 {
+        assert_eq!(rt; unmade.give(b"abcd"), Err(Failed));
+        assert_eq!(rt; unmade.faults(), calls);
     }
 }
 
