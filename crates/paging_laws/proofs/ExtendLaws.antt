@@ -12,7 +12,7 @@ use Rattle.sgx_types.specs.declared.names.Frame.{Frame}
 use Rattle.sgx_types.specs.declared.names.Page.{Page}
 use Rattle.sgx_types.specs.Frames.{Content, Free, IsVa, SecsOf, Holds, IsLoading, enclave_in}
 use Rattle.sgx_types.specs.Table.{extend_row, first_of_row}
-use Rattle.sgx_types.specs.Flat.{flat, accepts, some_page, page_words}
+use Rattle.sgx_types.specs.Flat.{flat, accepts, some_page, page_words, bytes_at}
 use Rattle.sgx_types.proofs.Rows.{none_holds, none_refused}
 use Rattle.sgx_types.proofs.Truths.{neither}
 use Rattle.sgx_types.specs.Layouts.{bytes_of}
@@ -21,7 +21,6 @@ use Rattle.measure_log.specs.Blocks.{eextend_block, chunk_of}
 use Rattle.measure_log.specs.Measure.{TakesIn}
 use Rattle.measure_log.specs.Log.{Logged, logged_chunk}
 use Rattle.measure_log.specs.Rule.{page_held, page_in, log}
-use Rattle.measure_log.specs.Rule as rule
 use Rattle.paging_laws.specs.State.{State, sight, is_closed, row_of, after_extend}
 use Rattle.paging_laws.specs.Stands.{Stands, IsSound, Upholds}
 use Rattle.paging_laws.proofs.Tools.{is_none-None}
@@ -37,15 +36,15 @@ IsMade s = (n : ℕ) (g : Page) → page_held (s.content n) ≡ Some g → is_so
 
 -- the block of a chunk of the words that a frame holds is the one that the entries log
 logs : (s : State) (past : List Entry) (f chunk : ℕ) (g : Page) → Stands s past → page_held (s.content f) ≡ Some g
-    → logged_chunk page_in rule.bytes_of past chunk (page_in past f) ≡ Some (record { enclave = g.enclave; block = eextend_block (4096 * g.number + 256 * chunk) (chunk_of (bytes_of (s.words f)) chunk) })
+    → logged_chunk page_in bytes_at past chunk (page_in past f) ≡ Some (record { enclave = g.enclave; block = eextend_block (4096 * g.number + 256 * chunk) (chunk_of (bytes_of (s.words f)) chunk) })
 logs s past f chunk g stands is = by_content (s.content f) refl is
   where
     by_content : (c : Content) → s.content f ≡ c → page_held c ≡ Some g
-        → logged_chunk page_in rule.bytes_of past chunk (page_in past f) ≡ Some (record { enclave = g.enclave; block = eextend_block (4096 * g.number + 256 * chunk) (chunk_of (bytes_of (s.words f)) chunk) })
+        → logged_chunk page_in bytes_at past chunk (page_in past f) ≡ Some (record { enclave = g.enclave; block = eextend_block (4096 * g.number + 256 * chunk) (chunk_of (bytes_of (s.words f)) chunk) })
     by_content (Holds page kind perm) e k =
         let same : page ≡ g = cc in
         let here : page_in past f ≡ Some page = ap page_held (sym (stands.content f) ∙ e) in
-        ap (logged_chunk page_in rule.bytes_of past chunk) here
+        ap (logged_chunk page_in bytes_at past chunk) here
         ∙ ap (λ x. Some (let l : Logged = record { enclave = page.enclave; block = eextend_block (4096 * page.number + 256 * chunk) (chunk_of (flat_map (to_le_bytes w64) (page_words x)) chunk) } in l)) (stands.words f page kind perm e)
         ∙ ap (λ (q : Page). Some (let l : Logged = record { enclave = q.enclave; block = eextend_block (4096 * q.number + 256 * chunk) (chunk_of (bytes_of (s.words f)) chunk) } in l)) same
     by_content Free e k = cc
