@@ -11,9 +11,11 @@ use Rattle.sgx_types.proofs.Pages.{same_page-at, same_pages}
 use Rattle.cached_translations.specs.declared.cache.Translation.{Translation}
 use Rattle.paging_laws.specs.State.{State, with_content, with_inside, rewritten, after_exit, is_seated_by}
 use Rattle.paging_laws.specs.Stands.{IsUsable, IsTranslation, IsSeated, AreByOneTcs, IsSound}
-use Rattle.paging_laws.proofs.Tools.{each_there, each_there_at, equal}
-use Rattle.paging_laws.proofs.Carry.{seat_at}
+use Rattle.paging_laws.proofs.TestLaws.{each_there, each_there_at, equal}
 use Rattle.paging_laws.proofs.Contents.{one_page, tcs_no_reg}
+
+pub seat_at : (s : State) → IsSound s → (p : ℕ) (seat : Seat) → s.inside p ≡ Some seat → IsSeated s.content s.is_sealing s.words (s.cache p) seat
+seat_at s sound p seat is = rw is at (sound.seated p)
 
 -- the TCS page of a seat
 abbrev pub tcs_of : Seat → Page

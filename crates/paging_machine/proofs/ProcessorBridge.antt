@@ -33,7 +33,7 @@ use Rattle.paging_machine.specs.Whole.{IsSecsOf, IsTable}
 use Rattle.paging_laws.specs.Stands.{IsSound, IsFramed}
 use Rattle.paging_laws.proofs.ExtendLaws.{IsMade}
 use Rattle.paging_machine.proofs.Columns.{get_or-set_if, get_or-default, same_at, numbered, enclave_kept, page_column}
-use Rattle.paging_laws.proofs.Carry.{seat_at}
+use Rattle.paging_laws.proofs.SoundLaws.{seat_at}
 
 -- ---- how a processor stands
 

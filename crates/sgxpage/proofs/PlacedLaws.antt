@@ -26,8 +26,8 @@ use Rattle.sgx_types.proofs.Pages.{same_page-at, same_pages}
 use Rattle.job_grammar.specs.Script.{action_of}
 use Rattle.paging_laws.specs.Steps.{did_by, refused_by}
 use Rattle.sgxpage.specs.Asking.{CanAsk}
-use Rattle.paging_laws.proofs.Tools.{none_there}
-use Rattle.paging_laws.proofs.Carry.{flat_done}
+use Rattle.paging_laws.proofs.TestLaws.{none_there}
+use Rattle.paging_laws.proofs.NextEntry.{flat_done}
 use Rattle.paging_laws.proofs.WordLaws.{added-changed}
 use Rattle.sgxpage.specs.Books.{IsPlaced}
 use Rattle.sgxpage.proofs.OptionLaws.{some_same, taken_none}
