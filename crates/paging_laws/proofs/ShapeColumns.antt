@@ -24,7 +24,7 @@ use Rattle.sgx_types.specs.Flat.{marked}
 use Rattle.sgx_types.specs.Frames.{Content, Free, IsVa, SecsOf, Holds, IsLoading, added, enclave_in, page_at, is_sealing, reloaded, same_page}
 use Rattle.sgx_types.specs.Processors.{Seat, stay, stay_from, with_pair, translations}
 use Rattle.sgx_types.specs.Sights.{seat_of}
-use Rattle.sgx_types.specs.Slots.{is_slot_busy, names_slot, open_slot, same_slot, start_after}
+use Rattle.sgx_types.specs.Slots.{is_slot_busy, names_slot, open_slot, same_slot, slot_of}
 use Rattle.sgx_types.specs.Starts.{Start, open_start, opened_by, version_told}
 use Rattle.sgx_types.proofs.Truths.{eqb-swap}
 use Rattle.sgx_types.proofs.Pages.{same_page-swap}

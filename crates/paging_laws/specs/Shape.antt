@@ -4,6 +4,7 @@ use Rattle.sgx_types.specs.declared.entries.Entry.{Entry}
 use Rattle.sgx_types.specs.declared.names.Page.{Page}
 use Rattle.sgx_types.specs.Enclaves.{IsTaken}
 use Rattle.sgx_types.specs.Epochs.{newer_at, older_at}
+use Rattle.sgx_types.specs.Making.{Making}
 use Rattle.sgx_types.specs.Rules.{Along, EvictRule, Fits, RisingRule, Stale}
 use Rattle.sgx_types.specs.Starts.{LoadsAreApart}
 use Rattle.paging_laws.specs.Columns.{HasColumns}
