@@ -8,6 +8,4 @@ mod entry;
 pub mod flat;
 pub mod reply;
 mod table;
-#[cfg(test)]
-mod tests;
 mod words;

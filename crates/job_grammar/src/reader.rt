@@ -74,10 +74,3 @@ pub fn read_job(alloc: Global, bytes: &[u8]) -> Result<Job, JobRefusal>
     }
     Ok(job)
 }
-
-#[cfg(test)]
-mod enclave_tests;
-#[cfg(test)]
-mod operation_tests;
-#[cfg(test)]
-mod tests;

@@ -61,22 +61,37 @@ fn keeps_each_page_by_its_number(rt: HostRuntime) -> Result<(), Fail> {
     Ok(())
 }
 
-#[test]
-fn holds_eight_enclaves(rt: HostRuntime) -> Result<(), Fail> {
+fn insert_each(rt: &impl Abort, alloc: Global, table: &mut SecsTable) -> Result<(), Memory> {
     assert!(rt; is_lawful(0, 8192));
-    let mut table = SecsTable::new();
     for enclave in 1..9 {
         assert!(rt; table.get(enclave).is_none());
-        table.insert(Secs::new(rt.alloc(), enclave, 0, 8192)?);
+        table.insert(Secs::new(alloc, enclave, 0, 8192)?);
     }
-    table.get_mut(5).ok_or("no enclave 5")?.set_init();
+    Ok(())
+}
+
+// The number of an enclave in the table, and whether it is initialised.
+fn found(table: &SecsTable, enclave: u16) -> Option<(u16, bool)> {
+    let secs = table.get(enclave)?;
+    Some((secs.enclave(), secs.is_init()))
+}
+
+// Only enclave 5 is initialised.
+fn holds_each(rt: &impl Abort, table: &mut SecsTable) {
+    table.get_mut(5).expect(rt, "no enclave 5").set_init();
     for enclave in 1..9 {
-        let secs = table.get(enclave).ok_or("no such enclave")?;
-        assert_eq!(rt; secs.enclave(), enclave);
-        assert_eq!(rt; secs.is_init(), enclave == 5);
+        assert_eq!(rt; found(table, enclave), Some((enclave, enclave == 5)));
     }
-    assert!(rt; table.get(0).is_none());
-    assert!(rt; table.get(9).is_none());
+    for enclave in [0, 9] {
+        assert!(rt; table.get(enclave).is_none());
+    }
     assert!(rt; table.get_mut(9).is_none());
+}
+
+#[test]
+fn holds_eight_enclaves(rt: HostRuntime) -> Result<(), Fail> {
+    let mut table = Box::new(rt.alloc(), SecsTable::new())?;
+    insert_each(&rt, rt.alloc(), &mut table)?;
+    holds_each(&rt, &mut table);
     Ok(())
 }

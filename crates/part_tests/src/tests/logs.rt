@@ -1,6 +1,5 @@
 use measure_log::measure::Measure;
 use sha2::{Digest, Sha256};
-use std::test::Fail;
 
 // The digests are those of sha256sum over the same bytes.
 const CREATED: [u8; 32] = [
@@ -31,8 +30,19 @@ const EEXTEND: [u8; 16] = *b"EEXTEND\0\0\x21\0\0\0\0\0\0";
 
 const EEXTEND_LAST: [u8; 16] = *b"EEXTEND\0\0\x2f\0\0\0\0\0\0";
 
+const ZEROS: [u8; 48] = [0; 48];
+
+// SHA-256 of the first parts.
+fn digest_of(parts: &[&[u8]], count: usize) -> [u8; 32] {
+    let mut hasher = Sha256::new();
+    for part in parts.iter().take(count) {
+        hasher.update(part);
+    }
+    hasher.finalize()
+}
+
 #[test]
-fn measures_logs_as_sha256sum(rt: HostRuntime) -> Result<(), Fail> {
+fn measures_logs_as_sha256sum(rt: HostRuntime) {
     let mut sevens = [0; 256];
     for word in 0..32 {
         sevens[8 * word] = 7;
@@ -41,34 +51,37 @@ fn measures_logs_as_sha256sum(rt: HostRuntime) -> Result<(), Fail> {
     for index in 0..=255u8 {
         rising[usize::from(index)] = index;
     }
-
-    let mut log = Vec::new(rt.alloc());
-    log.extend_from_slice(&ECREATE)?;
-    log.extend_from_slice(&[0; 44])?;
+    let log: [&[u8]; 14] = [
+        &ECREATE,
+        &ZEROS[..44],
+        &EADD_TCS,
+        &ZEROS[..40],
+        &EADD_ONE,
+        &ZEROS[..40],
+        &EADD_TWO,
+        &ZEROS[..40],
+        &EEXTEND,
+        &ZEROS,
+        &sevens,
+        &EEXTEND_LAST,
+        &ZEROS,
+        &rising,
+    ];
     let mut measure = Measure::create(0x1_0000);
-    assert_eq!(rt; Sha256::digest(log.as_slice()), CREATED);
-    assert_eq!(rt; measure.finish(), CREATED);
-
-    for block in [EADD_TCS, EADD_ONE, EADD_TWO] {
-        log.extend_from_slice(&block)?;
-        log.extend_from_slice(&[0; 40])?;
-    }
+    let created = measure.finish();
     measure.add(0, 0x100);
     measure.add(0x1000, 0x203);
     measure.add(0x2000, 0x203);
-    assert_eq!(rt; Sha256::digest(log.as_slice()), BUILT);
-    assert_eq!(rt; measure.finish(), BUILT);
-
-    let zeros = [0; 48];
-    log.extend_from_slice(&EEXTEND)?;
-    log.extend_from_slice(&zeros)?;
-    log.extend_from_slice(&sevens)?;
-    log.extend_from_slice(&EEXTEND_LAST)?;
-    log.extend_from_slice(&zeros)?;
-    log.extend_from_slice(&rising)?;
+    let built = measure.finish();
     measure.extend(0x2100, &sevens);
     measure.extend(0x2f00, &rising);
-    assert_eq!(rt; Sha256::digest(log.as_slice()), EXTENDED);
-    assert_eq!(rt; measure.finish(), EXTENDED);
-    Ok(())
+    let extended = measure.finish();
+    for (parts, made, want) in [
+        (2, created, CREATED),
+        (8, built, BUILT),
+        (14, extended, EXTENDED),
+    ] {
+        assert_eq!(rt; digest_of(&log, parts), want, "{parts} parts");
+        assert_eq!(rt; made, want, "{parts} parts");
+    }
 }

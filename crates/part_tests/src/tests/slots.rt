@@ -32,21 +32,26 @@ fn take_none(rt: &impl Abort, keeper: &mut SlotKeeper)
     assert!(rt; keeper.take().is_none());
 }
 
+// Takes each slot of one page, and gives the last back.
+fn take_each(rt: &impl Abort, keeper: &mut SlotKeeper) -> Result<(), Fail> {
+    let mut was_taken = [false; 512];
+    for _ in 0..511 {
+        let _ = take_new(rt, keeper, &mut was_taken)?;
+    }
+    let last = take_new(rt, keeper, &mut was_taken)?;
+    take_none(rt, keeper);
+    keeper.give(last);
+    assert_eq!(rt; keeper.take(), Some(last));
+    take_none(rt, keeper);
+    Ok(())
+}
+
 #[test]
 fn hands_out_each_slot_once(rt: HostRuntime) -> Result<(), Fail> {
     let mut keeper = SlotKeeper::new(rt.alloc(), 1)?;
     take_none(&rt, &mut keeper);
     keeper.add(Frame(0));
-    let mut was_taken = [false; 512];
-    for _ in 0..511 {
-        let _ = take_new(&rt, &mut keeper, &mut was_taken)?;
-    }
-    let last = take_new(&rt, &mut keeper, &mut was_taken)?;
-    take_none(&rt, &mut keeper);
-    keeper.give(last);
-    assert_eq!(rt; keeper.take(), Some(last));
-    take_none(&rt, &mut keeper);
-    Ok(())
+    take_each(&rt, &mut keeper)
 }
 
 const LAST: SlotAt = SlotAt {

@@ -1,0 +1,5 @@
+mod enclaves;
+mod flat;
+mod jobs;
+mod operations;
+mod texts;
