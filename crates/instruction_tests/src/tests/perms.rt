@@ -1,10 +1,6 @@
 use sgx_types::names::Perm;
 
-pub const NONE: Perm = Perm {
-    r: false,
-    w: false,
-    x: false,
-};
+pub const NONE: Perm = Perm::NONE;
 
 pub const READ: Perm = Perm {
     r: true,

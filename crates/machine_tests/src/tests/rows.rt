@@ -15,11 +15,7 @@ pub const RECLAIMER: Actor = Actor::Reclaimer;
 
 pub const DONE: Result<Answer, Refusal> = Ok(Answer::Plain);
 
-pub const NONE: Perm = Perm {
-    r: false,
-    w: false,
-    x: false,
-};
+pub const NONE: Perm = Perm::NONE;
 
 pub const READ: Perm = Perm {
     r: true,

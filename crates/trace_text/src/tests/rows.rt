@@ -14,11 +14,7 @@ pub const DIGEST: [u8; 32] = [
     0x6b, 0x77, 0x49, 0xc6, 0x28, 0x54, 0xa6, 0xf4, 0x0d, 0x8d, 0x58, 0xdb, 0x41, 0x5a, 0x8c, 0x31,
 ];
 
-pub const NONE: Perm = Perm {
-    r: false,
-    w: false,
-    x: false,
-};
+pub const NONE: Perm = Perm::NONE;
 
 pub const READ_WRITE: Perm = Perm {
     r: true,

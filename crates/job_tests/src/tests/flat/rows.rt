@@ -10,11 +10,7 @@ pub const SECOND: Actor = Actor::Cpu(Cpu(15));
 
 pub const PLAIN: FlatReply = Did(Answer::Plain);
 
-pub const NONE: Perm = Perm {
-    r: false,
-    w: false,
-    x: false,
-};
+pub const NONE: Perm = Perm::NONE;
 
 pub const READ: Perm = Perm {
     r: true,

@@ -8,7 +8,7 @@ use flat_machine::flat::Flat;
 use flat_machine::reply::FlatReply;
 use job_grammar::reader::read_job;
 use sgx_types::entries::{Action, Actor};
-use sgx_types::names::{Memory, Page};
+use sgx_types::names::{Memory, PROCESSORS, Page};
 use std::alloc::Global;
 use std::process::Abort;
 use std::test::Fail;
@@ -122,7 +122,7 @@ fn can_apply(actor: Actor, action: &Action) -> bool
             | Action::Pf { .. }
             | Action::OutLoad { .. }
             | Action::OutStore { .. },
-        ) => cpu.0 < 16,
+        ) => u32::from(cpu.0) < PROCESSORS,
         _ => false,
     }
 }
