@@ -1,6 +1,9 @@
-ghost use Rattle.std.specs.Prelude.{◌≡◌, ◌↔◌, [], length, IsTrue, IfOk};
+ghost use Rattle.std.specs.Prelude.{◌≡◌, ◌↔◌, ℕ, [], length, IsTrue, IfOk};
+ghost use Rattle.cached_translations.specs.Probe.{Leads};
+ghost use Rattle.cached_translations.specs.Index.{IsIndexOnly};
 ghost use Rattle.cached_translations.specs.Translations.{translation_of, with_translation, FitsCache};
 
+use crate::probe_table::ProbeTable;
 use sgx_types::names::{Frame, Memory, Perm};
 use std::alloc::Global;
 use std::marker::Model;
@@ -22,6 +25,7 @@ pub struct Translation {
 pub struct Cache {
     places: Vec<Translation>,
     oldest: usize,
+    table: ProbeTable,
 }
 
 impl Model for Cache {
@@ -45,6 +49,7 @@ impl Cache {
         Ok(Cache {
             places: Vec::with_capacity(alloc, PLACES)?,
             oldest: 0,
+            table: ProbeTable::new(),
         })
     }
 
@@ -65,7 +70,8 @@ impl Cache {
     pub fn find(&self, number: u32) -> Option<Translation>
         ensures { result ≡ translation_of self.now number }
     {
-        find_page(&self.places, number)
+        let place = self.table.find(number)?;
+        Some(self.places[place as usize])
     }
 
     /// Adds a translation as the newest, and drops the oldest where all places are taken. A page that is held keeps
@@ -77,8 +83,12 @@ impl Cache {
             return;
         }
         if self.places.len() < PLACES {
+            self.table
+                .insert(translation.number, self.places.len() as u8);
             self.places.push_reserved(translation);
         } else {
+            self.table.remove(self.places[self.oldest].number);
+            self.table.insert(translation.number, self.oldest as u8);
             self.places[self.oldest] = translation;
             self.oldest = (self.oldest + 1) % PLACES;
         }
@@ -88,14 +98,18 @@ impl Cache {
     pub fn clear(&mut self)
         ensures { self.new ≡ [] }
     {
+        forget_pages(&mut self.table, &self.places);
         self.places.clear();
         self.oldest = 0;
     }
 }
 
-// The first translation of a page.
-fn find_page(places: &[Translation], number: u32) -> Option<Translation>
-    ensures { result ≡ translation_of places.now number }
+// Takes the pages of the places out of the table.
+fn forget_pages(table: &mut ProbeTable, places: &[Translation])
+    requires { IsIndexOnly table.old.slots places.now 0 }
+    ensures { (number place : ℕ) → ¬ Leads table.new.slots number place }
 {
-    places.iter().copied().find(|t| t.number == number)
+    for translation in places {
+        table.forget(translation.number);
+    }
 }

@@ -2,4 +2,5 @@
 #![tactic(auto)]
 
 pub mod cache;
+mod probe_table;
 pub mod processor;
