@@ -2,7 +2,7 @@
 -- and how many that entered since.
 use Rattle.std.specs.Prelude.{◌≡◌, ℕ, ◌+◌, ◌-◌, ◌*◌, ◌/◌, ◌%◌, ◌^◌, ◌<◌, ◌≤◌, ◌==◌, ◌⊎◌, if◌then◌else◌}
 use Rattle.epoch_words.specs.declared.seen.Seen.{Seen}
-use Rattle.epoch_words.specs.declared.seen.TheConstants.{LAST_EPOCH, PROCESSORS}
+use Rattle.sgx_types.specs.declared.names.TheConstants.{LAST_EPOCH, PROCESSORS}
 
 abbrev pub seen : ℕ → ℕ → ℕ → Seen
 seen epoch older newer = record { epoch = epoch; older = older; newer = newer }

@@ -1,12 +1,6 @@
 ghost use Rattle.std.specs.Prelude.{◌≡◌};
 ghost use Rattle.epoch_words.specs.Seen.{IsLawful, word_of, seen_in};
 
-/// The greatest epoch, 2^40 - 1 (this project's own). An enclave that has reached it can be tracked no more.
-pub const LAST_EPOCH: u64 = (1 << 40) - 1;
-
-/// How many processors are inside an enclave at most (this project's own).
-pub const PROCESSORS: u16 = 16;
-
 /// In a word bits 11 to 0 are the newer processors, bits 23 to 12 the older ones and bits 63 to 24 the epoch.
 const OLDER: u64 = 1 << 12;
 

@@ -1,10 +1,11 @@
 ghost use Rattle.std.specs.Prelude.{◌≡◌, ◌≤◌, IfOk, length};
 ghost use Rattle.epoch_words.specs.Known.{enclaves};
 
-use crate::seen::{LAST_EPOCH, PROCESSORS, Seen};
+use crate::seen::Seen;
 use crate::words::{HardwareSeat, Pass, Words};
 use job_grammar::jobs::Job;
 use job_grammar::reader::read_job;
+use sgx_types::names::{LAST_EPOCH, PROCESSORS};
 use std::alloc::Global;
 use std::process::Abort;
 use std::test::Fail;
@@ -86,7 +87,7 @@ fn make(seat: &mut HardwareSeat, words: &Words, enclave: u16, change: Change) ->
     } = seat.known(enclave);
     match change {
         Entered => {
-            let can = older + newer < PROCESSORS;
+            let can = u32::from(older + newer) < PROCESSORS;
             if can {
                 seat.entered(words, enclave);
             }

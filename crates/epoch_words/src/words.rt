@@ -3,10 +3,10 @@ ghost use Rattle.epoch_words.specs.Seen.{IsLawful, starting_at, HasRoom, entered
 ghost use Rattle.epoch_words.specs.Known.{enclaves, known, seen_of, learnt};
 
 use crate::rule::{EpochRule, Observe, Tell, View, Write};
-use crate::seen::{LAST_EPOCH, Seen};
+use crate::seen::Seen;
 use atomic_table::{Seat, Table};
 use job_grammar::jobs::Job;
-use sgx_types::names::Memory;
+use sgx_types::names::{LAST_EPOCH, Memory};
 use std::alloc::Global;
 use std::marker::Model;
 

@@ -10,7 +10,7 @@ use Rattle.job_grammar.specs.declared.jobs.Op.TheVariants as ops
 use Rattle.job_grammar.specs.declared.lines.Line.{Line}
 use Rattle.job_grammar.specs.declared.lines.Line.TheVariants as lines
 use Rattle.job_grammar.specs.Text.{plain_word, page_words, op_words}
-use Rattle.text_words.specs.Words.{hexadecimal, letter, perm_word}
+use Rattle.text_words.specs.Words.{Words, hexadecimal, letter, perm_word}
 use Rattle.job_grammar.specs.Lines.{line_words}
 use Rattle.text_words.specs.Reading.{IsDigest, IsLetter}
 use Rattle.job_grammar.specs.Reading.{perm_with, perm_of, plain_of, words_of, keyword_of, epc_line, enclave_line, tcs_line, reg_line, expect_line, cpu_line, enter_line, resume_line, exit_line, timer_line, load_line, store_line, xadd_line, set_line, plus_line, outload_line, outstore_line, line_of}

@@ -42,7 +42,7 @@ join-apart (word ∷ next ∷ words) h =
     All-append (λ b. eqb b 10 ≡ false) word (32 ∷ join_with_byte 32 (next ∷ words)) first (All-cons (λ b. eqb b 10 ≡ false) 32 (join_with_byte 32 (next ∷ words)) refl rest)
 
 -- the empty line has one empty part
-abbrev parts_of : Words → Words
+abbrev pub parts_of : Words → Words
 parts_of [] = [] ∷ []
 parts_of (word ∷ words) = word ∷ words
 
