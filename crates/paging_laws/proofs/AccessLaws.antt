@@ -1,9 +1,8 @@
--- The rows of translations and accesses: each leaves a state that stands for one entry more, and keeps the rules.
-use Rattle.std.proofs.Common.{◌≡◌, ℕ, ◌/◌, ◌<◌, ◌==◌, ◌||◌, not, Bool, true, false, cond, ltb, refl, sym, ap, subst, ◌∙◌, Option, Some, None, List, [], ◌∷◌, ◌++◌, map, is_some, length, drop, set}
-use Rattle.std.specs.List.{All, AllByRecursion}
+-- The rows of translations and accesses: what each brings where it is done.
+use Rattle.std.proofs.Common.{◌≡◌, ℕ, ◌/◌, ◌<◌, ◌==◌, not, Bool, true, false, cond, refl, sym, ap, ◌∙◌, Option, Some, None, List, is_some, set, unwrap_or}
+use Rattle.std.specs.List.{All}
 use Rattle.std.proofs.lemmas.Bool.{cond_both, false≢true, eqb-true, leb-false, lt-ltb}
-use Rattle.std.proofs.lemmas.List.{length-map, length-set, map-append}
-use Rattle.std.proofs.lemmas.List.Elements.{All-push, All-drop, recursion_from_All}
+use Rattle.std.proofs.lemmas.List.Elements.{recursion_from_All}
 use Rattle.sgx_types.specs.declared.entries.Entry.{Entry}
 use Rattle.sgx_types.specs.declared.entries.Actor.TheVariants as actors
 use Rattle.sgx_types.specs.declared.entries.Action.TheVariants.{Fill, Load, Store, Xadd}
@@ -12,22 +11,26 @@ use Rattle.sgx_types.specs.declared.names.Cpu.{Cpu}
 use Rattle.sgx_types.specs.declared.names.Page.{Page}
 use Rattle.sgx_types.specs.declared.names.Kind.TheVariants as kinds
 use Rattle.sgx_types.specs.declared.names.Perm.{Perm}
-use Rattle.sgx_types.specs.Frames.{Content, Holds, is_page, page_at}
-use Rattle.sgx_types.specs.Processors.{Seat, Stay, stay, holds_number, with_pair, newest, translations}
+use Rattle.sgx_types.specs.Frames.{Content, Holds, is_page, page_at, SecsOf, Free, IsVa, IsLoading}
+use Rattle.sgx_types.specs.Processors.{Seat, Stay, stay, holds_number, translations}
 use Rattle.sgx_types.specs.Table.{FrameSight, is_busy, is_loading, is_reg, perm_in, allows_read, allows_write, allows_update, access_row, fill_row, first_of_row}
-use Rattle.sgx_types.specs.Flat.{FlatMemory, flat, accepts, added_as, flat_translation, memory_after, stored, sum_of, with_words, word_index, word_seen}
-use Rattle.sgx_types.specs.Sights.{sight_at, enclave_of_stay, translation_at}
+use Rattle.sgx_types.specs.Flat.{flat, flat_translation, memory_after, stored, sum_of, with_words, word_index, word_seen}
+use Rattle.sgx_types.specs.Sights.{translation_at}
 use Rattle.cached_translations.specs.declared.cache.Translation.{Translation}
-use Rattle.cached_translations.specs.Translations.{translation_of, with_translation, newest as newest_translations}
+use Rattle.cached_translations.specs.Translations.{translation_of, with_translation}
 use Rattle.paging_laws.specs.State.{State, sight, seat_enclave, perm_of_held, translation, row_of, frame_in, rewritten, after_fill, after_store, after_xadd, word_at}
-use Rattle.paging_laws.specs.Stands.{StandsBy, Stands, IsTranslation, IsSeated, IsSound, Upholds, pair_of, seat_of_stay, inside_of_stay}
-use Rattle.paging_laws.proofs.Tools.{none_holds, neither, not_false, each_there}
-use Rattle.paging_laws.proofs.Carry.{did_by, seat_at, same_page-refl, stands_done, upholds_more, held_before, once_before}
+use Rattle.paging_laws.specs.Stands.{Stands, IsTranslation, IsSeated, IsSound, inside_of_stay, Shows}
+use Rattle.paging_laws.proofs.TestLaws.{none_holds, neither, not_false, each_there, same_page-refl}
 use Rattle.paging_laws.proofs.Contents.{IsKindOf, reg_there}
-use Rattle.paging_laws.proofs.SoundLaws.{sound-written}
-use Rattle.paging_laws.proofs.WordLaws.{HoldsWords, once_in_state, words_changed, added-changed}
-use Rattle.paging_laws.proofs.BuildLaws.{sight_agrees}
-use Rattle.paging_laws.proofs.ProcessorLaws.{mode_by_entries, mode_in_flat, enclave_by_entries}
+use Rattle.paging_laws.proofs.WordLaws.{once_in_state, shows_changed}
+use Rattle.paging_laws.proofs.ProcessorLaws.{mode_in_flat}
+use Rattle.paging_laws.specs.Steps.{no_perm}
+use Rattle.paging_laws.specs.Columns.{seat_of_stay}
+use Rattle.paging_laws.proofs.NextEntry.{BringsDone}
+use Rattle.paging_laws.proofs.ColumnLaws.{inside_flat, inside_is, translations_are}
+use Rattle.paging_laws.proofs.SoundLaws.{seat_at}
+use Rattle.sgx_types.specs.Rules.{NoPageTwice}
+use Rattle.paging_laws.proofs.TranslationLaws.{holds_number-map, All-with_translation, found_there}
 
 -- ---- fill
 
@@ -45,33 +48,6 @@ fills number enclave v allowed =
 
 pub outside_refused : (number : ℕ) (v : FrameSight) → first_of_row (fill_row number None v) ≡ None → ⊥
 outside_refused number v allowed = false≢true (sym (none_holds (fill_row number None v) allowed).0)
-
-pub holds_number-map : (xs : List Translation) (n : ℕ) → holds_number (map pair_of xs) n ≡ is_some (translation_of xs n)
-holds_number-map [] n = refl
-holds_number-map (x ∷ xs) n = elim (x.number == n) as (λ b. (b || holds_number (map pair_of xs) n) ≡ is_some (cond b (Some x) (translation_of xs n))) [ true ↦ refl | false ↦ holds_number-map xs n ]
-
-map-drop-one : (xs : List Translation) → map pair_of (drop 1 xs) ≡ drop 1 (map pair_of xs)
-map-drop-one [] = refl
-map-drop-one (x ∷ xs) = refl
-
-map-with_translation : (xs : List Translation) (t : Translation) → map pair_of (with_translation xs t) ≡ with_pair (map pair_of xs) (pair_of t)
-map-with_translation xs t =
-    rw (holds_number-map xs t.number)
-    (elim (is_some (translation_of xs t.number)) as (λ b. map pair_of (cond b xs (newest_translations (xs ++ t ∷ []))) ≡ cond b (map pair_of xs) (newest (map pair_of xs ++ pair_of t ∷ []))) [
-      | true ↦ refl
-      | false ↦ map-newest (xs ++ t ∷ []) ∙ ap newest (map-append pair_of xs (t ∷ []))
-    ])
-  where
-    map-newest : (ys : List Translation) → map pair_of (newest_translations ys) ≡ newest (map pair_of ys)
-    map-newest ys =
-        rw length-map
-        (elim (ltb 64 (length ys)) as (λ b. map pair_of (cond b (drop 1 ys) ys) ≡ cond b (drop 1 (map pair_of ys)) (map pair_of ys)) [ true ↦ map-drop-one ys | false ↦ refl ])
-
-pub All-with_translation : (P : Translation → Type 0) (ys : List Translation) (x : Translation) → All P ys → P x → All P (with_translation ys x)
-All-with_translation P ys x h k =
-    let pushed = All-push P ys x h k in
-    cond_both (is_some (translation_of ys x.number)) ys (newest_translations (ys ++ x ∷ [])) (All P) (λ _. h)
-    (λ _. cond_both (ltb 64 (length (ys ++ x ∷ []))) (drop 1 (ys ++ x ∷ [])) (ys ++ x ∷ []) (All P) (λ _. All-drop P 1 _ pushed) (λ _. pushed))
 
 perm_there : (c : Content) (g : Page) (perm : Perm) → is_page c g ≡ true → is_reg c ≡ true → perm_in c ≡ Some perm → c ≡ Holds g kinds.Reg perm
 perm_there c g perm here is same = by_kind (reg_there c g here is)
@@ -119,57 +95,43 @@ fill_within s p number f = by_mode (s.inside p)
     by_mode None k = absurd (outside_refused number (sight s f) k)
     by_mode (Some seat) k = leb-false _ _ (fills number seat.enclave (sight s f) k).within
 
-fill_by : (number : ℕ) (o o' : Option ℕ) (v v' : FrameSight) → o ≡ o' → v ≡ v' → first_of_row (fill_row number o v) ≡ None → first_of_row (fill_row number o' v') ≡ None
-fill_by number o o' v v' e e' k = rw (← e, ← e') k
+reg_has_perm : (c : Content) → is_reg c ≡ true → is_some (perm_in c) ≡ true
+reg_has_perm (Holds page kinds.Reg perm) is = refl
+reg_has_perm (Holds page kinds.Secs perm) is = cc
+reg_has_perm (Holds page kinds.Tcs perm) is = cc
+reg_has_perm (Holds page kinds.Va perm) is = cc
+reg_has_perm Free is = cc
+reg_has_perm IsVa is = cc
+reg_has_perm (SecsOf x) is = cc
+reg_has_perm IsLoading is = cc
+
+fill_some : (s : State) (p number f : ℕ) → first_of_row (fill_row number (seat_enclave (s.inside p)) (sight s f)) ≡ None → is_some (perm_in (s.content f)) ≡ true
+fill_some s p number f allowed = by_mode (s.inside p) allowed
+  where
+    by_mode : (o : Option Seat) → first_of_row (fill_row number (seat_enclave o) (sight s f)) ≡ None → is_some (perm_in (s.content f)) ≡ true
+    by_mode None k = absurd (outside_refused number (sight s f) k)
+    by_mode (Some seat) k = reg_has_perm (s.content f) (not_false _ (fills number seat.enclave (sight s f) k).kind)
+
+-- `fill` finds the permissions of a page
+pub fill_perm : (s : State) (p number f : ℕ) → first_of_row (fill_row number (seat_enclave (s.inside p)) (sight s f)) ≡ None → perm_in (s.content f) ≡ Some (unwrap_or (perm_in (s.content f)) no_perm)
+fill_perm s p number f allowed = by_perm (perm_in (s.content f)) (fill_some s p number f allowed)
+  where
+    by_perm : (o : Option Perm) → is_some o ≡ true → o ≡ Some (unwrap_or o no_perm)
+    by_perm None k = cc
+    by_perm (Some x) k = refl
 
 -- the translation has the permissions of the page in its frame
-pub fill_upheld : (s : State) (past : List Entry) (p : Cpu) (t : Translation) → p.0 < 16 → first_of_row (row_of s (actors.Cpu p) (Fill t.number t.frame)) ≡ None
-    → perm_in (s.content t.frame.0) ≡ Some t.perm → IsSound s
-    → Upholds s past → Upholds (after_fill s p.0 t) (did_by (actors.Cpu p) (Fill t.number t.frame) Plain ∷ past)
-fill_upheld s past p t low allowed perm sound h =
-    let stands = h.stands in
-    let by_entries : first_of_row (fill_row t.number (enclave_of_stay (stay past p.0)) (sight_at s.frames past t.frame.0)) ≡ None =
-    fill_by t.number _ _ _ _ (ap seat_enclave (stands.inside p.0) ∙ enclave_by_entries (stay past p.0)) (sight_agrees s past stands t.frame.0) allowed in
-    upholds_more (after_fill s p.0 t) past _ h.rules h.measure
-    (record {
-      sound = sound-fill s p.0 t allowed perm sound;
-      stands = record {
-        content = stands.content;
-        is_blocked = stands.is_blocked;
-        is_sealing = stands.is_sealing;
-        enclaves = stands.enclaves;
-        added = stands.added;
-        is_busy = stands.is_busy;
-        inside = stands.inside;
-        acc = stands.acc;
-        cache = λ q.
-            elim (p.0 == q) as (λ b. map pair_of (cond b (with_translation (s.cache q) t) (s.cache q)) ≡ cond b (with_pair (translations past q) (pair_of t)) (translations past q)) [
-              | true ↦ map-with_translation (s.cache q) t ∙ ap (λ xs. with_pair xs (pair_of t)) (stands.cache q)
-              | false ↦ stands.cache q
-            ];
-        words = stands.words;
-        measure = stands.measure;
-        flat_inside = stands.flat_inside;
-      };
-      refusal = (by_entries, refl);
-      flat = λ seen. cc;
-      fits = (fill_within s p.0 t.number t.frame.0 allowed, tt);
-      once = once_before s.frames past h.rules;
-      access = tt;
-      measure = tt;
-      held = held_before s.frames past h.rules;
-    })
+pub fill_brings : (s : State) (past : List Entry) (p : Cpu) (t : Translation) → first_of_row (row_of s (actors.Cpu p) (Fill t.number t.frame)) ≡ None → Stands s past
+    → BringsDone s (after_fill s p.0 t) past (actors.Cpu p) (Fill t.number t.frame) Plain
+fill_brings s past p t allowed stands = record {
+  form = refl;
+  taken = refl;
+  same = λ seen. cc seen;
+  measure = tt;
+  memory = record { enclaves = stands.memory.enclaves; cpus = stands.memory.cpus; words = stands.memory.words; measure = stands.memory.measure };
+}
 
 -- ---- load
-
--- a translation that is found is of the page that was looked for, and has what each has
-pub found_there : (P : Translation → Type 0) (xs : List Translation) (n : ℕ) (t : Translation) → AllByRecursion P xs → translation_of xs n ≡ Some t → (t.number ≡ n) × P t
-found_there P [] n t h is = cc
-found_there P (x ∷ xs) n t h is = by_test (x.number == n) refl is (found_there P xs n t h.1)
-  where
-    by_test : (b : Bool) → (x.number == n) ≡ b → cond b (Some x) (translation_of xs n) ≡ Some t → (translation_of xs n ≡ Some t → (t.number ≡ n) × P t) → (t.number ≡ n) × P t
-    by_test true e k more = let same : x ≡ t = cc in (rw (← same) (eqb-true x.number n e), rw (← same) h.0)
-    by_test false e k more = more k
 
 -- the permissions of a translation, by the state and by the entries
 pub found_translation : (s : State) (past : List Entry) (p off : ℕ) → IsSound s → Stands s past → translation s p (s.inside p) (off / 4096) ≡ translation_at past p (stay past p) (off / 4096)
@@ -178,27 +140,25 @@ found_translation s past p off sound stands = by_stay (stay past p) refl
     by_held : (st : Stay) → stay past p ≡ Some st → s.inside p ≡ Some st.seat → (o : Option Translation) → translation_of (s.cache p) (off / 4096) ≡ o
         → translation s p (s.inside p) (off / 4096) ≡ translation_at past p (stay past p) (off / 4096)
     by_held st e is None at =
-        let held : holds_number (translations past p) (off / 4096) ≡ false = rw (← stands.cache p, holds_number-map (s.cache p) (off / 4096), at) refl in
+        let held : holds_number (translations past p) (off / 4096) ≡ false = rw (← translations_are stands.columns p, holds_number-map (s.cache p) (off / 4096), at) refl in
         rw (is, e, at, held) refl
     by_held st e is (Some t) at =
-        let held : holds_number (translations past p) (off / 4096) ≡ true = rw (← stands.cache p, holds_number-map (s.cache p) (off / 4096), at) refl in
+        let held : holds_number (translations past p) (off / 4096) ≡ true = rw (← translations_are stands.columns p, holds_number-map (s.cache p) (off / 4096), at) refl in
         let found = found_there (λ x. IsTranslation st.seat.enclave x (s.content x.frame.0) (s.is_sealing x.frame.0)) (s.cache p) (off / 4096) t (recursion_from_All _ (s.cache p) (seat_at s sound p st.seat is).cache) at in
         let page : (flat past).pages (page_at st.seat.enclave (off / 4096)) ≡ Some (record { kind = kinds.Reg; perm = t.perm; words = s.words t.frame.0 }) =
-        rw (← found.0) (stands.words t.frame.0 (page_at st.seat.enclave t.number) kinds.Reg t.perm found.1.page) in
+        rw (← found.0) (stands.memory.words t.frame.0 (page_at st.seat.enclave t.number) kinds.Reg t.perm found.1.page) in
         rw (is, e, at, held, page) refl
 
     by_stay : (o : Option Stay) → stay past p ≡ o → translation s p (s.inside p) (off / 4096) ≡ translation_at past p (stay past p) (off / 4096)
-    by_stay None e = let is : s.inside p ≡ None = stands.inside p ∙ ap seat_of_stay e in rw (is, e) refl
-    by_stay (Some st) e = let is : s.inside p ≡ Some st.seat = stands.inside p ∙ ap seat_of_stay e in by_held st e is (translation_of (s.cache p) (off / 4096)) refl
+    by_stay None e = let is : s.inside p ≡ None = inside_is stands.columns p ∙ ap seat_of_stay e in rw (is, e) refl
+    by_stay (Some st) e = let is : s.inside p ≡ Some st.seat = inside_is stands.columns p ∙ ap seat_of_stay e in by_held st e is (translation_of (s.cache p) (off / 4096)) refl
 
 -- what an access that its row allows finds
 pub record Reads (s : State) (past : List Entry) (p off : ℕ) : Type 0 where
   pub perm : Perm
   pub inside : is_some (s.inside p) ≡ true
   pub machine : translation s p (s.inside p) (off / 4096) ≡ Some perm
-  pub entries : translation_at past p (stay past p) (off / 4096) ≡ Some perm
   pub in_flat : flat_translation (flat past) ((flat past).cpus p).inside off ≡ Some perm
-  pub held : holds_number (translations past p) (off / 4096) ≡ true
   pub seat : Seat
   pub is : s.inside p ≡ Some seat
   pub found : Translation
@@ -214,21 +174,18 @@ reads s past p off allows sound stands allowed = by_mode (s.inside p) refl allow
   where
     by_stay : (seat : Seat) (t : Translation) → s.inside p ≡ Some seat → translation_of (s.cache p) (off / 4096) ≡ Some t → (t.number ≡ off / 4096) × IsTranslation seat.enclave t (s.content t.frame.0) (s.is_sealing t.frame.0)
         → (o : Option Stay) → stay past p ≡ o → Reads s past p off
-    by_stay seat t is at found None e = absurd (let i = stands.inside p in let none : seat_of_stay (stay past p) ≡ None = ap seat_of_stay e in cc (i, none, is))
+    by_stay seat t is at found None e = absurd (let i = inside_is stands.columns p in let none : seat_of_stay (stay past p) ≡ None = ap seat_of_stay e in cc (i, none, is))
     by_stay seat t is at found (Some st) e =
         let m = flat past in
-        let same : st.seat ≡ seat = let i = stands.inside p in let some : seat_of_stay (stay past p) ≡ Some st.seat = ap seat_of_stay e in cc (i, some, is) in
+        let same : st.seat ≡ seat = let i = inside_is stands.columns p in let some : seat_of_stay (stay past p) ≡ Some st.seat = ap seat_of_stay e in cc (i, some, is) in
         let page : m.pages (page_at st.seat.enclave (off / 4096)) ≡ Some (record { kind = kinds.Reg; perm = t.perm; words = s.words t.frame.0 }) =
-        rw (same, ← found.0) (stands.words t.frame.0 (page_at seat.enclave t.number) kinds.Reg t.perm found.1.page) in
-        let inside : (m.cpus p).inside ≡ Some (record { enclave = st.seat.enclave; tcs = st.seat.tcs }) = stands.flat_inside p ∙ ap inside_of_stay e in
-        let held : holds_number (translations past p) (off / 4096) ≡ true = rw (← stands.cache p, holds_number-map (s.cache p) (off / 4096), at) refl in
+        rw (same, ← found.0) (stands.memory.words t.frame.0 (page_at seat.enclave t.number) kinds.Reg t.perm found.1.page) in
+        let inside : (m.cpus p).inside ≡ Some (record { enclave = st.seat.enclave; tcs = st.seat.tcs }) = inside_flat stands p ∙ ap inside_of_stay e in
         record {
           perm = t.perm;
           inside = rw is refl;
           machine = rw (is, at) refl;
-          entries = rw (e, held, page) refl;
           in_flat = rw (inside, page) refl;
-          held = held;
           seat = seat;
           is = is;
           found = t;
@@ -252,55 +209,28 @@ reads s past p off allows sound stands allowed = by_mode (s.inside p) refl allow
 access_by : (off : ℕ) (allows : Option Perm → Bool) (b b' : Bool) (o o' : Option Perm) → b ≡ b' → o ≡ o' → first_of_row (access_row off b o (allows o)) ≡ None → first_of_row (access_row off b' o' (allows o')) ≡ None
 access_by off allows b b' o o' e e' h = rw (← e, ← e') h
 
--- the row by the entries and in flat memory
+-- .. and the row is allowed in flat memory too
 pub record IsAllowed (s : State) (past : List Entry) (p off : ℕ) (allows : Option Perm → Bool) : Type 0 where
   pub reads : Reads s past p off
-  pub by_entries : first_of_row (access_row off (is_some (stay past p)) (translation_at past p (stay past p) (off / 4096)) (allows (translation_at past p (stay past p) (off / 4096)))) ≡ None
   pub by_flat : first_of_row (access_row off (is_some ((flat past).cpus p).inside) (flat_translation (flat past) ((flat past).cpus p).inside off) (allows (flat_translation (flat past) ((flat past).cpus p).inside off))) ≡ None
 
 pub access_allowed : (s : State) (past : List Entry) (p off : ℕ) (allows : Option Perm → Bool) → IsSound s → Stands s past
     → first_of_row (access_row off (is_some (s.inside p)) (translation s p (s.inside p) (off / 4096)) (allows (translation s p (s.inside p) (off / 4096)))) ≡ None → IsAllowed s past p off allows
 access_allowed s past p off allows sound stands allowed =
     let k = reads s past p off allows sound stands allowed in
-    record {
-      reads = k;
-      by_entries = access_by off allows _ _ _ _ (mode_by_entries s past stands p) (k.machine ∙ sym k.entries) allowed;
-      by_flat = access_by off allows _ _ _ _ (mode_in_flat s past stands p) (k.machine ∙ sym k.in_flat) allowed;
-    }
+    record { reads = k; by_flat = access_by off allows _ _ _ _ (mode_in_flat s past stands p) (k.machine ∙ sym k.in_flat) allowed }
 
-pub load_upheld : (s : State) (past : List Entry) (p : Cpu) (off : ℕ) → p.0 < 16 → first_of_row (row_of s (actors.Cpu p) (Load off)) ≡ None → IsSound s
-    → Upholds s past → Upholds s (did_by (actors.Cpu p) (Load off) (Value (word_at s p.0 off)) ∷ past)
-load_upheld s past p off low allowed sound h =
-    let stands = h.stands in
+pub load_brings : (s : State) (past : List Entry) (p : Cpu) (off : ℕ) → p.0 < 16 → first_of_row (row_of s (actors.Cpu p) (Load off)) ≡ None → IsSound s → Stands s past
+    → BringsDone s s past (actors.Cpu p) (Load off) (Value (word_at s p.0 off))
+load_brings s past p off low allowed sound stands =
     let k = access_allowed s past p.0 off allows_read sound stands allowed in
-    let taken : accepts (flat past) (actors.Cpu p) (Load off) ≡ true = rw (lt-ltb p.0 16 low, k.by_flat) refl in
-    upholds_more s past _ h.rules h.measure
-    (record {
-      sound = sound;
-      stands =
-          stands_done s past (actors.Cpu p) (Load off) (Value (word_at s p.0 off)) taken
-          (record {
-            content = stands.content;
-            is_blocked = stands.is_blocked;
-            is_sealing = stands.is_sealing;
-            enclaves = stands.enclaves;
-            added = stands.added;
-            is_busy = stands.is_busy;
-            inside = stands.inside;
-            acc = stands.acc;
-            cache = stands.cache;
-            words = stands.words;
-            measure = stands.measure;
-            flat_inside = stands.flat_inside;
-          });
-      refusal = (k.by_entries, (word_at s p.0 off, refl));
-      flat = λ seen. record { taken = taken; same = ap Value (sym k.reads.seen) };
-      fits = (tt, tt);
-      once = once_before s.frames past h.rules;
-      access = k.reads.held;
+    record {
+      form = (word_at s p.0 off, refl);
+      taken = rw (lt-ltb p.0 16 low, k.by_flat) refl;
+      same = λ seen. ap Value (sym k.reads.seen);
       measure = tt;
-      held = held_before s.frames past h.rules;
-    })
+      memory = record { enclaves = stands.memory.enclaves; cpus = stands.memory.cpus; words = stands.memory.words; measure = stands.memory.measure };
+    }
 
 -- ---- store and exchange and add
 
@@ -308,16 +238,9 @@ load_upheld s past p off low allowed sound h =
 abbrev pub with_word_at : ℕ → ℕ → List ℕ → List ℕ
 with_word_at off value words = set words (word_index off) value
 
--- the state and flat memory with the word written
-pub record Writes (s : State) (past : List Entry) (p off value : ℕ) : Type 0 where
-  pub sound : IsSound (after_store s p off value)
-  pub words : HoldsWords s.content (after_store s p off value).words (stored (flat past) ((flat past).cpus p).inside off value)
-  pub added : (q : Page) → s.added q ≡ added_as ((stored (flat past) ((flat past).cpus p).inside off value).pages q)
-  pub others : stored (flat past) ((flat past).cpus p).inside off value ≡ record (flat past) { pages = (stored (flat past) ((flat past).cpus p).inside off value).pages }
-
-writes : (s : State) (past : List Entry) (p off value : ℕ) → IsSound s → Upholds s past → Reads s past p off → Writes s past p off value
-writes s past p off value sound h k =
-    let stands = h.stands in
+-- the word is written in the state and in flat memory
+written : (s : State) (past : List Entry) (p off value : ℕ) → Stands s past → NoPageTwice past → Reads s past p off → Shows (after_store s p off value) past (stored (flat past) ((flat past).cpus p).inside off value)
+written s past p off value stands once k =
     let m = flat past in
     let f = k.found.frame.0 in
     let g = page_at k.seat.enclave (off / 4096) in
@@ -325,110 +248,35 @@ writes s past p off value sound h k =
     let frame : frame_in (translation_of (s.cache p) (off / 4096)) ≡ f = ap frame_in k.at in
     let holds : s.content f ≡ Holds g kinds.Reg k.found.perm = k.holds ∙ ap (λ n. Holds (page_at k.seat.enclave n) kinds.Reg k.found.perm) k.number in
     let here : is_page (s.content f) g ≡ true = rw holds (same_page-refl k.seat.enclave (off / 4096)) in
-    let reg : is_reg (s.content f) ≡ true = rw holds refl in
     let state : after_store s p off value ≡ record s { words = rewritten s.words f change } = ap (λ n. record s { words = rewritten s.words n change }) frame in
     let memory : stored m (m.cpus p).inside off value ≡ with_words m g change = ap (λ o. stored m o off value) k.flat_inside in
+    rw (state, memory) (shows_changed s past m f g change stands.memory (once_in_state s past stands once) here)
+
+pub store_brings : (s : State) (past : List Entry) (p : Cpu) (off value : ℕ) → p.0 < 16 → first_of_row (row_of s (actors.Cpu p) (Store off value)) ≡ None → IsSound s → Stands s past → NoPageTwice past
+    → BringsDone s (after_store s p.0 off value) past (actors.Cpu p) (Store off value) Plain
+store_brings s past p off value low allowed sound stands once =
+    let k = access_allowed s past p.0 off allows_write sound stands allowed in
+    let w = written s past p.0 off value stands once k.reads in
     record {
-      sound = rw state (sound-written s f change sound reg (λ ws. length-set ws (word_index off) value));
-      words =
-          rw memory (subst (λ (t : State). HoldsWords s.content t.words (with_words m g change)) (sym state)
-          (words_changed s.content s.words m f g change stands.words (once_in_state s past stands (once_before s.frames past h.rules)) here));
-      added = λ q. stands.added q ∙ sym (added-changed m g change q) ∙ ap (λ (x : FlatMemory). added_as (x.pages q)) (sym memory);
-      others = memory ∙ ap (λ (x : FlatMemory). record m { pages = x.pages }) (sym memory);
+      form = refl;
+      taken = rw (lt-ltb p.0 16 low, k.by_flat) refl;
+      same = λ seen. refl;
+      measure = tt;
+      memory = record { enclaves = w.enclaves; cpus = w.cpus; words = w.words; measure = w.measure };
     }
 
--- what stands for the entries once the word is written on both sides
-stands_written : (s : State) (past : List Entry) (p off value : ℕ) (e : Entry) → StandsBy s (e ∷ past) (flat past) → Writes s past p off value
-    → StandsBy (after_store s p off value) (e ∷ past) (stored (flat past) ((flat past).cpus p).inside off value)
-stands_written s past p off value e stands w =
-    rw w.others (record {
-      content = stands.content;
-      is_blocked = stands.is_blocked;
-      is_sealing = stands.is_sealing;
-      enclaves = stands.enclaves;
-      added = w.added;
-      is_busy = stands.is_busy;
-      measure = stands.measure;
-      inside = stands.inside;
-      acc = stands.acc;
-      cache = stands.cache;
-      words = w.words;
-      flat_inside = stands.flat_inside;
-    })
-
--- an entry that no column sees but for the words and flat memory
-abbrev stands_on : (s : State) (past : List Entry) (e : Entry) → Type 0
-stands_on s past e = StandsBy s (e ∷ past) (flat past)
-
-pub store_upheld : (s : State) (past : List Entry) (p : Cpu) (off value : ℕ) → p.0 < 16 → first_of_row (row_of s (actors.Cpu p) (Store off value)) ≡ None → IsSound s
-    → Upholds s past → Upholds (after_store s p.0 off value) (did_by (actors.Cpu p) (Store off value) Plain ∷ past)
-store_upheld s past p off value low allowed sound h =
-    let stands = h.stands in
-    let k = access_allowed s past p.0 off allows_write sound stands allowed in
-    let w = writes s past p.0 off value sound h k.reads in
-    let taken : accepts (flat past) (actors.Cpu p) (Store off value) ≡ true = rw (lt-ltb p.0 16 low, k.by_flat) refl in
-    let on : stands_on s past (did_by (actors.Cpu p) (Store off value) Plain) = record {
-      content = stands.content;
-      is_blocked = stands.is_blocked;
-      is_sealing = stands.is_sealing;
-      enclaves = stands.enclaves;
-      added = stands.added;
-      is_busy = stands.is_busy;
-      measure = stands.measure;
-      inside = stands.inside;
-      acc = stands.acc;
-      cache = stands.cache;
-      words = stands.words;
-      flat_inside = stands.flat_inside;
-    } in
-    upholds_more (after_store s p.0 off value) past _ h.rules h.measure
-    (record {
-      sound = w.sound;
-      stands = stands_done (after_store s p.0 off value) past (actors.Cpu p) (Store off value) Plain taken (stands_written s past p.0 off value _ on w);
-      refusal = (k.by_entries, refl);
-      flat = λ seen. record { taken = taken; same = refl };
-      fits = (tt, tt);
-      once = once_before s.frames past h.rules;
-      access = k.reads.held;
-      measure = tt;
-      held = held_before s.frames past h.rules;
-    })
-
-pub xadd_upheld : (s : State) (past : List Entry) (p : Cpu) (off value : ℕ) → p.0 < 16 → first_of_row (row_of s (actors.Cpu p) (Xadd off value)) ≡ None → IsSound s
-    → Upholds s past → Upholds (after_xadd s p.0 off value) (did_by (actors.Cpu p) (Xadd off value) (Value (word_at s p.0 off)) ∷ past)
-xadd_upheld s past p off value low allowed sound h =
-    let stands = h.stands in
+pub xadd_brings : (s : State) (past : List Entry) (p : Cpu) (off value : ℕ) → p.0 < 16 → first_of_row (row_of s (actors.Cpu p) (Xadd off value)) ≡ None → IsSound s → Stands s past → NoPageTwice past
+    → BringsDone s (after_xadd s p.0 off value) past (actors.Cpu p) (Xadd off value) (Value (word_at s p.0 off))
+xadd_brings s past p off value low allowed sound stands once =
     let k = access_allowed s past p.0 off allows_update sound stands allowed in
     let sum = sum_of (word_at s p.0 off) value in
-    let w = writes s past p.0 off sum sound h k.reads in
-    let taken : accepts (flat past) (actors.Cpu p) (Xadd off value) ≡ true = rw (lt-ltb p.0 16 low, k.by_flat) refl in
-    let on : stands_on s past (did_by (actors.Cpu p) (Xadd off value) (Value (word_at s p.0 off))) = record {
-      content = stands.content;
-      is_blocked = stands.is_blocked;
-      is_sealing = stands.is_sealing;
-      enclaves = stands.enclaves;
-      added = stands.added;
-      is_busy = stands.is_busy;
-      measure = stands.measure;
-      inside = stands.inside;
-      acc = stands.acc;
-      cache = stands.cache;
-      words = stands.words;
-      flat_inside = stands.flat_inside;
-    } in
+    let w = written s past p.0 off sum stands once k.reads in
     let after : memory_after (actors.Cpu p) (Xadd off value) (flat past) ≡ stored (flat past) ((flat past).cpus p.0).inside off sum =
     ap (λ x. stored (flat past) ((flat past).cpus p.0).inside off (sum_of x value)) k.reads.seen in
-    upholds_more (after_xadd s p.0 off value) past _ h.rules h.measure
-    (record {
-      sound = w.sound;
-      stands =
-          stands_done (after_xadd s p.0 off value) past (actors.Cpu p) (Xadd off value) (Value (word_at s p.0 off)) taken
-          (rw after (stands_written s past p.0 off sum _ on w));
-      refusal = (k.by_entries, (word_at s p.0 off, refl));
-      flat = λ seen. record { taken = taken; same = ap Value (sym k.reads.seen) };
-      fits = (tt, tt);
-      once = once_before s.frames past h.rules;
-      access = k.reads.held;
+    record {
+      form = (word_at s p.0 off, refl);
+      taken = rw (lt-ltb p.0 16 low, k.by_flat) refl;
+      same = λ seen. ap Value (sym k.reads.seen);
       measure = tt;
-      held = held_before s.frames past h.rules;
-    })
+      memory = rw after (record { enclaves = w.enclaves; cpus = w.cpus; words = w.words; measure = w.measure });
+    }

@@ -6,7 +6,7 @@ use Rattle.sgx_types.specs.declared.names.Kind.TheVariants as kinds
 use Rattle.sgx_types.specs.declared.names.Perm.{Perm}
 use Rattle.sgx_types.specs.Frames.{Content, Free, IsVa, SecsOf, Holds, IsLoading, is_page}
 use Rattle.sgx_types.specs.Table.{is_tcs, is_reg}
-use Rattle.paging_laws.proofs.Tools.{same_pages}
+use Rattle.paging_laws.proofs.TestLaws.{same_pages}
 
 pub record IsKindOf (c : Content) (g : Page) (kind : Kind) : Type 0 where
   pub perm : Perm

@@ -1,7 +1,7 @@
--- The rows that enter and resume an enclave: each leaves a state that stands for one entry more, and keeps the rules.
-use Rattle.std.proofs.Common.{◌≡◌, ℕ, ◌+◌, ◌-◌, ◌%◌, ◌^◌, ◌<◌, ◌≤◌, ◌==◌, ◌||◌, ◌⊎◌, inl, inr, not, Bool, true, false, cond, refl, sym, ap, ◌∙◌, arith, Option, Some, None, IfSome, List, [], ◌∷◌, map, length}
+-- The rows that enter and resume an enclave: what each brings where it is done, and that it leaves a sound state.
+use Rattle.std.proofs.Common.{◌≡◌, ℕ, ◌+◌, ◌-◌, ◌%◌, ◌^◌, ◌<◌, ◌≤◌, ◌==◌, ◌||◌, ◌⊎◌, inl, inr, not, Bool, true, false, cond, refl, sym, ap, ◌∙◌, arith, Option, Some, None, List, [], length}
 use Rattle.std.specs.Prelude.{slice_index}
-use Rattle.std.proofs.lemmas.Bool.{cases_lt, leb-false, lt-ltb, false≢true}
+use Rattle.std.proofs.lemmas.Bool.{cases_lt, lt-ltb, false≢true}
 use Rattle.std.proofs.lemmas.List.Elements.{All-nil}
 use Rattle.sgx_types.specs.declared.entries.Entry.{Entry}
 use Rattle.sgx_types.specs.declared.entries.Actor.TheVariants as actors
@@ -13,20 +13,21 @@ use Rattle.sgx_types.specs.declared.names.Kind.{Kind}
 use Rattle.sgx_types.specs.declared.names.Kind.TheVariants as kinds
 use Rattle.sgx_types.specs.declared.names.Perm.{Perm}
 use Rattle.sgx_types.specs.declared.refusals.Refusal.TheVariants as why
-use Rattle.sgx_types.specs.Frames.{Content, Holds, content, is_page, page_at}
-use Rattle.sgx_types.specs.Processors.{Seat, stay, stay_from, translations}
+use Rattle.sgx_types.specs.Frames.{Content, Holds, is_page, page_at, same_page}
+use Rattle.sgx_types.specs.Processors.{Seat, stay, stay_from}
 use Rattle.sgx_types.specs.Table.{Case, when, FrameSight, EnterSight, TcsSight, EnclaveSight, is_busy, is_loading, is_tcs, is_reg, is_made, is_ready, perm_in, allows_update, entry_row, enter_row, resume_row, first_of_row}
-use Rattle.sgx_types.specs.Flat.{FlatCpu, page_words, flat_content, flat, accepts, enclave_sight_of, tcs_fields, fields_in, with_cssa, with_words, words_of, flat_enter_sight, resumed_word, entered, memory_after}
-use Rattle.sgx_types.specs.Sights.{enter_sight_at, seat_of}
+use Rattle.sgx_types.specs.Flat.{FlatCpu, page_words, flat_content, flat, enclave_sight_of, tcs_fields, fields_in, with_cssa, with_words, words_of, flat_enter_sight, resumed_word, entered, memory_after, FlatMemory}
+use Rattle.sgx_types.specs.Sights.{seat_of}
 use Rattle.paging_laws.specs.State.{State, enter_sight, row_of, cssa_in, saved_word, rewritten, after_enter, after_resume}
-use Rattle.paging_laws.specs.Stands.{Stands, IsUsable, IsSeated, IsSound, Upholds, pair_of, seat_of_stay, inside_of_stay, next_save}
-use Rattle.paging_laws.proofs.Tools.{none_holds, none_refused, neither, both_false, not_false, equal}
-use Rattle.paging_laws.proofs.Carry.{did_by, stands_done, upholds_more, held_before, once_before}
+use Rattle.paging_laws.specs.Stands.{Stands, IsUsable, IsSeated, IsSound, inside_of_stay, next_save, EnclavesSeen, cpu_shown}
+use Rattle.paging_laws.proofs.TestLaws.{none_holds, none_refused, neither, both_false, not_false, equal}
 use Rattle.paging_laws.proofs.Contents.{IsKindOf, tcs_there, reg_there}
 use Rattle.paging_laws.proofs.SoundLaws.{sound-inside, sized-rewritten}
-use Rattle.paging_laws.proofs.WordLaws.{once_in_state, words_changed, added-changed, ossa-with_cssa, cssa-with_cssa, cssa_small, length-with_cssa}
-use Rattle.paging_laws.proofs.BuildLaws.{sight_agrees}
-use Rattle.paging_laws.proofs.ProcessorLaws.{mode_by_entries, mode_in_flat}
+use Rattle.paging_laws.proofs.WordLaws.{once_in_state, ossa-with_cssa, cssa-with_cssa, cssa_small, length-with_cssa, shows_changed}
+use Rattle.paging_laws.proofs.ProcessorLaws.{mode_in_flat}
+use Rattle.paging_laws.proofs.NextEntry.{BringsDone}
+use Rattle.paging_laws.proofs.ColumnLaws.{busy_flat, enclave_flat}
+use Rattle.sgx_types.specs.Rules.{NoPageTwice}
 
 -- ---- what an entry by a TCS page needs of what it sees
 
@@ -113,7 +114,7 @@ enters_opened enclave tcs v saves saved h = record {
 pub usable_there : {c : Content} {sealing : Bool} {enclave number : ℕ} {kind : Kind} {perm : Perm} → c ≡ Holds (page_at enclave number) kind perm → (sealing || is_loading c) ≡ false → IsUsable enclave c sealing
 usable_there {c} {sealing} holds idle = record { ours = rw holds refl; settled = (neither sealing (is_loading c) idle).0 }
 
--- ---- what an entry that its row allows finds in the machine, by the entries and in flat memory
+-- ---- what an entry that its row allows finds in the machine and in flat memory
 
 -- a row by a TCS page: what it asks of the fields, and which state save page it takes by them
 abbrev pub by_fields : (TcsSight → Case) → (TcsSight → ℕ) → ℕ → ℕ → EnterSight → List Case
@@ -126,7 +127,6 @@ pub record FindsPages (s : State) (past : List Entry) (p : ℕ) (seat : Seat) (s
   pub tcs_flat : (flat past).pages (page_at seat.enclave seat.tcs) ≡ Some (record { kind = kinds.Tcs; perm = tcs.perm; words = s.words seat.tcs_frame })
   pub ssa_flat : (flat past).pages (page_at seat.enclave (saved (tcs_fields (s.words seat.tcs_frame)))) ≡ Some (record { kind = kinds.Reg; perm = ssa.perm; words = s.words seat.ssa_frame })
   pub fields : tcs_fields (s.words seat.tcs_frame) ≡ fields_in (flat past) seat.enclave seat.tcs
-  pub by_entries : first_of_row (by_fields saves saved seat.enclave seat.tcs (enter_sight_at s.frames past p seat)) ≡ None
   pub by_flat : first_of_row (by_fields saves saved seat.enclave seat.tcs (flat_enter_sight (flat past) p seat.enclave seat.tcs (saved (fields_in (flat past) seat.enclave seat.tcs)))) ≡ None
 
 pub finds_pages : (s : State) (past : List Entry) (p : ℕ) (seat : Seat) (saves : TcsSight → Case) (saved : TcsSight → ℕ) → Stands s past
@@ -139,11 +139,11 @@ finds_pages s past p seat saves saved stands allowed =
     let f = tcs_fields (s.words seat.tcs_frame) in
     let k = enters enclave seat.tcs v (saves f) (saved f) allowed in
     let tcs_held = tcs_there (s.content seat.tcs_frame) g (not_false _ k.tcs_page) (not_false _ k.tcs_kind) in
-    let tcs_flat = stands.words seat.tcs_frame g kinds.Tcs tcs_held.perm tcs_held.holds in
+    let tcs_flat = stands.memory.words seat.tcs_frame g kinds.Tcs tcs_held.perm tcs_held.holds in
     let same_fields : f ≡ fields_in m enclave seat.tcs = ap (λ x. tcs_fields (page_words x)) (sym tcs_flat) in
     let save = page_at enclave (saved f) in
     let ssa_held = reg_there (s.content seat.ssa_frame) save (not_false _ k.ssa_page) (not_false _ k.ssa_kind) in
-    let ssa_flat = stands.words seat.ssa_frame save kinds.Reg ssa_held.perm ssa_held.holds in
+    let ssa_flat = stands.memory.words seat.ssa_frame save kinds.Reg ssa_held.perm ssa_held.holds in
     let ssa_same : s.content seat.ssa_frame ≡ flat_content save (m.pages save) = ssa_held.holds ∙ sym (ap (flat_content save) ssa_flat) in
     record {
       needs = k;
@@ -152,14 +152,10 @@ finds_pages s past p seat saves saved stands allowed =
       tcs_flat = tcs_flat;
       ssa_flat = ssa_flat;
       fields = same_fields;
-      by_entries =
-          ap (λ x. first_of_row (by_fields saves saved enclave seat.tcs x))
-          (sym (enter_sight_of _ _ _ _ _ _ _ _ _ _ _ _ (mode_by_entries s past stands p) (ap enclave_sight_of (stands.enclaves enclave)) (sight_agrees s past stands seat.tcs_frame) (stands.is_busy g) same_fields (sight_agrees s past stands seat.ssa_frame)))
-          ∙ allowed;
       by_flat =
           ap (λ x. first_of_row (by_fields saves saved enclave seat.tcs x))
-          (sym (enter_sight_of _ _ _ _ _ _ _ _ _ _ _ _ (mode_in_flat s past stands p) (ap enclave_sight_of (stands.enclaves enclave))
-          (ap opened (tcs_held.holds ∙ sym (ap (flat_content g) tcs_flat))) (stands.is_busy g) same_fields
+          (sym (enter_sight_of _ _ _ _ _ _ _ _ _ _ _ _ (mode_in_flat s past stands p) (ap enclave_sight_of (enclave_flat stands enclave))
+          (ap opened (tcs_held.holds ∙ sym (ap (flat_content g) tcs_flat))) (busy_flat stands g) same_fields
           (ap opened (ssa_same ∙ ap (λ x. flat_content (page_at enclave (saved x)) (m.pages (page_at enclave (saved x)))) same_fields))))
           ∙ enters_none enclave seat.tcs (opened_sight v) (saves f) (saved f) (enters_opened enclave seat.tcs v (saves f) (saved f) k);
     }
@@ -180,6 +176,21 @@ seated_there s p seat saves saved words k next =
       cache = All-nil _;
     }
 
+-- a processor of flat memory that comes inside
+cpus_entered : (s : State) (past : List Entry) (m : FlatMemory) (p : ℕ) (seat : Seat) (acc acc' : ℕ) → acc' ≡ acc → ((q : ℕ) → m.cpus q ≡ cpu_shown s past q)
+    → (q : ℕ) → (let c : FlatCpu = cond (p == q) (record { inside = Some (record { enclave = seat.enclave; tcs = seat.tcs }); acc = acc' }) (m.cpus q) in c)
+    ≡ record { inside = inside_of_stay (cond (p == q) (Some (stay_from past seat)) (stay past q)); acc = cond (p == q) acc (s.acc q) }
+cpus_entered s past m p seat acc acc' same cpus q = by_cpu (p == q)
+  where
+    by_cpu : (b : Bool) → (let c : FlatCpu = cond b (record { inside = Some (record { enclave = seat.enclave; tcs = seat.tcs }); acc = acc' }) (m.cpus q) in c)
+        ≡ record { inside = inside_of_stay (cond b (Some (stay_from past seat)) (stay past q)); acc = cond b acc (s.acc q) }
+    by_cpu true = λ i. record { inside = Some (record { enclave = seat.enclave; tcs = seat.tcs }); acc = same i }
+    by_cpu false = cpus q
+
+-- .. by a TCS page that is busy then
+abbrev taken : Seat → EnclavesSeen → EnclavesSeen
+taken seat x = record x { is_busy = λ q. cond (same_page q (page_at seat.enclave seat.tcs)) true (x.is_busy q) }
+
 -- ---- enter
 
 abbrev pub enter_saves : TcsSight → Case
@@ -194,61 +205,25 @@ sound-enter s p seat allowed sound =
     let k = enters seat.enclave seat.tcs (enter_sight s p seat) (enter_saves f) (enter_saved f) allowed in
     sound-inside s p seat (cssa_in s seat.tcs_frame) s.words sound k.tcs_free (seated_there s p seat (enter_saves f) (enter_saved f) s.words k refl) (λ n other. refl) sound.sized
 
-pub enter_upheld : (s : State) (past : List Entry) (p : Cpu) (enclave tcs : ℕ) (tf sf : Frame) → p.0 < 16 → first_of_row (row_of s (actors.Cpu p) (Enter enclave tcs tf sf)) ≡ None → IsSound s
-    → Upholds s past
-    → Upholds (after_enter s p.0 (seat_of enclave tcs tf.0 sf.0)) (did_by (actors.Cpu p) (Enter enclave tcs tf sf) (Cssa (cssa_in s tf.0)) ∷ past)
-enter_upheld s past p enclave tcs tf sf low allowed sound h =
+pub enter_brings : (s : State) (past : List Entry) (p : Cpu) (enclave tcs : ℕ) (tf sf : Frame) → p.0 < 16 → first_of_row (row_of s (actors.Cpu p) (Enter enclave tcs tf sf)) ≡ None → Stands s past
+    → BringsDone s (after_enter s p.0 (seat_of enclave tcs tf.0 sf.0)) past (actors.Cpu p) (Enter enclave tcs tf sf) (Cssa (cssa_in s tf.0))
+enter_brings s past p enclave tcs tf sf low allowed stands =
     let seat = seat_of enclave tcs tf.0 sf.0 in
     let m = flat past in
-    let stands = h.stands in
-    let fields = tcs_fields (s.words tf.0) in
     let k = finds_pages s past p.0 seat enter_saves enter_saved stands allowed in
-    let taken : accepts m (actors.Cpu p) (Enter enclave tcs tf sf) ≡ true = rw (lt-ltb p.0 16 low, k.by_flat) refl in
-    upholds_more (after_enter s p.0 seat) past _ h.rules h.measure
-    (record {
-      sound = sound-enter s p.0 seat allowed sound;
-      stands =
-          stands_done (after_enter s p.0 seat) past (actors.Cpu p) (Enter enclave tcs tf sf) (Cssa fields.cssa) taken
-          (record {
-            content = stands.content;
-            is_blocked = stands.is_blocked;
-            is_sealing = stands.is_sealing;
-            enclaves = stands.enclaves;
-            added = stands.added;
-            is_busy = λ q. rw (stands.is_busy q) refl;
-            inside = λ q.
-                elim (p.0 == q) as (λ b. cond b (Some seat) (s.inside q) ≡ seat_of_stay (cond b (Some (stay_from past seat)) (stay past q))) [
-                  | true ↦ refl
-                  | false ↦ stands.inside q
-                ];
-            acc = λ q.
-                elim (p.0 == q) as (λ b. cond b fields.cssa (s.acc q)
-                ≡ (let c : FlatCpu = cond b (record { inside = Some (record { enclave = enclave; tcs = tcs }); acc = (fields_in m enclave tcs).cssa }) (m.cpus q) in c).acc) [
-                  | true ↦ ap (λ (f : TcsSight). f.cssa) k.fields
-                  | false ↦ stands.acc q
-                ];
-            cache = λ q. elim (p.0 == q) as (λ b. map pair_of (cond b [] (s.cache q)) ≡ cond b [] (translations past q)) [ true ↦ refl | false ↦ stands.cache q ];
-            words = stands.words;
-            measure = stands.measure;
-            flat_inside = λ q.
-                elim (p.0 == q) as (λ b. (let c : FlatCpu = cond b (record { inside = Some (record { enclave = enclave; tcs = tcs }); acc = (fields_in m enclave tcs).cssa }) (m.cpus q) in c).inside
-                ≡ inside_of_stay (cond b (Some (stay_from past seat)) (stay past q))) [
-                  | true ↦ refl
-                  | false ↦ stands.flat_inside q
-                ];
-          });
-      refusal = (k.by_entries, (fields.cssa, refl));
-      flat = λ seen. record { taken = taken; same = ap (λ (f : TcsSight). Cssa f.cssa) k.fields };
-      fits = ((leb-false _ _ k.needs.tcs_within, leb-false _ _ k.needs.ssa_within), tt);
-      once = once_before s.frames past h.rules;
-      access = tt;
+    let cssa : cssa_in s tf.0 ≡ (fields_in m enclave tcs).cssa = ap (λ (f : TcsSight). f.cssa) k.fields in
+    record {
+      form = (cssa_in s tf.0, refl);
+      taken = rw (lt-ltb p.0 16 low, k.by_flat) refl;
+      same = λ seen. ap Cssa cssa;
       measure = tt;
-      held = λ q.
-          elim (p.0 == q) as (λ b. IfSome (cond b (Some (stay_from past seat)) (stay past q)) (λ t. (content past t.seat.tcs_frame ≡ t.tcs_held) × (content past t.seat.ssa_frame ≡ t.ssa_held))) [
-            | true ↦ (refl, refl)
-            | false ↦ held_before s.frames past h.rules q
-          ];
-    })
+      memory = record {
+        enclaves = ap (taken seat) stands.memory.enclaves;
+        cpus = cpus_entered s past m p.0 seat (cssa_in s tf.0) (fields_in m enclave tcs).cssa (sym cssa) stands.memory.cpus;
+        words = stands.memory.words;
+        measure = stands.memory.measure;
+      };
+    }
 
 -- ---- resume
 
@@ -294,64 +269,28 @@ sound-resume s p seat allowed sound =
     (seated_there s p seat (resume_saves f) (resume_saved f) (resumed_words s seat.tcs_frame) k (next_resumed s seat.enclave seat.tcs_frame (sound.sized seat.tcs_frame) k.frame_left)) (λ n other. rw other refl)
     (sized-rewritten s.words seat.tcs_frame (λ words. with_cssa words (cssa_in s seat.tcs_frame - 1)) sound.sized (λ words. length-with_cssa words _))
 
-pub resume_upheld : (s : State) (past : List Entry) (p : Cpu) (enclave tcs : ℕ) (tf sf : Frame) → p.0 < 16 → first_of_row (row_of s (actors.Cpu p) (Resume enclave tcs tf sf)) ≡ None → IsSound s
-    → Upholds s past
-    → Upholds (after_resume s p.0 (seat_of enclave tcs tf.0 sf.0)) (did_by (actors.Cpu p) (Resume enclave tcs tf sf) (Value (saved_word s sf.0)) ∷ past)
-resume_upheld s past p enclave tcs tf sf low allowed sound h =
+pub resume_brings : (s : State) (past : List Entry) (p : Cpu) (enclave tcs : ℕ) (tf sf : Frame) → p.0 < 16 → first_of_row (row_of s (actors.Cpu p) (Resume enclave tcs tf sf)) ≡ None → Stands s past → NoPageTwice past
+    → BringsDone s (after_resume s p.0 (seat_of enclave tcs tf.0 sf.0)) past (actors.Cpu p) (Resume enclave tcs tf sf) (Value (saved_word s sf.0))
+resume_brings s past p enclave tcs tf sf low allowed stands once =
     let seat = seat_of enclave tcs tf.0 sf.0 in
     let g = page_at enclave tcs in
     let m = flat past in
-    let stands = h.stands in
     let k = finds_pages s past p.0 seat resume_saves resume_saved stands allowed in
-    let taken : accepts m (actors.Cpu p) (Resume enclave tcs tf sf) ≡ true = rw (lt-ltb p.0 16 low, k.by_flat) refl in
     let change : List ℕ → List ℕ = λ words. with_cssa words (cssa_in s tf.0 - 1) in
     let same_change : (λ (words : List ℕ). with_cssa words ((fields_in m enclave tcs).cssa - 1)) ≡ change = ap (λ (f : TcsSight). λ (words : List ℕ). with_cssa words (f.cssa - 1)) (sym k.fields) in
     let word : saved_word s sf.0 ≡ resumed_word m enclave tcs =
     ap (λ x. slice_index (page_words x) 0) (sym k.ssa_flat) ∙ ap (λ (f : TcsSight). slice_index (words_of m (page_at enclave (f.ossa + f.cssa - 1))) 0) k.fields in
-    let changed = with_words m g change in
-    let after : memory_after (actors.Cpu p) (Resume enclave tcs tf sf) m ≡ entered changed p.0 enclave tcs (resumed_word m enclave tcs) = ap (λ c. entered (with_words m g c) p.0 enclave tcs (resumed_word m enclave tcs)) same_change in
-    upholds_more (after_resume s p.0 seat) past _ h.rules h.measure
-    (record {
-      sound = sound-resume s p.0 seat allowed sound;
-      stands =
-          stands_done (after_resume s p.0 seat) past (actors.Cpu p) (Resume enclave tcs tf sf) (Value (saved_word s sf.0)) taken
-          (rw after (record {
-            content = stands.content;
-            is_blocked = stands.is_blocked;
-            is_sealing = stands.is_sealing;
-            enclaves = stands.enclaves;
-            added = λ q. stands.added q ∙ sym (added-changed m g change q);
-            is_busy = λ q. rw (stands.is_busy q) refl;
-            inside = λ q.
-                elim (p.0 == q) as (λ b. cond b (Some seat) (s.inside q) ≡ seat_of_stay (cond b (Some (stay_from past seat)) (stay past q))) [
-                  | true ↦ refl
-                  | false ↦ stands.inside q
-                ];
-            acc = λ q.
-                elim (p.0 == q) as (λ b. cond b (saved_word s sf.0) (s.acc q)
-                ≡ (let c : FlatCpu = cond b (record { inside = Some (record { enclave = enclave; tcs = tcs }); acc = resumed_word m enclave tcs }) (m.cpus q) in c).acc) [
-                  | true ↦ word
-                  | false ↦ stands.acc q
-                ];
-            cache = λ q. elim (p.0 == q) as (λ b. map pair_of (cond b [] (s.cache q)) ≡ cond b [] (translations past q)) [ true ↦ refl | false ↦ stands.cache q ];
-            words = words_changed s.content s.words m tf.0 g change stands.words (once_in_state s past stands (once_before s.frames past h.rules)) (not_false _ k.needs.tcs_page);
-            measure = stands.measure;
-            flat_inside = λ q.
-                elim (p.0 == q) as (λ b. (let c : FlatCpu = cond b (record { inside = Some (record { enclave = enclave; tcs = tcs }); acc = resumed_word m enclave tcs }) (m.cpus q) in c).inside
-                ≡ inside_of_stay (cond b (Some (stay_from past seat)) (stay past q))) [
-                  | true ↦ refl
-                  | false ↦ stands.flat_inside q
-                ];
-          }));
-      refusal = (k.by_entries, (saved_word s sf.0, refl));
-      flat = λ seen. record { taken = taken; same = ap Value word };
-      fits = ((leb-false _ _ k.needs.tcs_within, leb-false _ _ k.needs.ssa_within), tt);
-      once = once_before s.frames past h.rules;
-      access = tt;
+    let changed = shows_changed s past m tf.0 g change stands.memory (once_in_state s past stands once) (not_false _ k.needs.tcs_page) in
+    let after : memory_after (actors.Cpu p) (Resume enclave tcs tf sf) m ≡ entered (with_words m g change) p.0 enclave tcs (resumed_word m enclave tcs) = ap (λ c. entered (with_words m g c) p.0 enclave tcs (resumed_word m enclave tcs)) same_change in
+    record {
+      form = (saved_word s sf.0, refl);
+      taken = rw (lt-ltb p.0 16 low, k.by_flat) refl;
+      same = λ seen. ap Value word;
       measure = tt;
-      held = λ q.
-          elim (p.0 == q) as (λ b. IfSome (cond b (Some (stay_from past seat)) (stay past q)) (λ t. (content past t.seat.tcs_frame ≡ t.tcs_held) × (content past t.seat.ssa_frame ≡ t.ssa_held))) [
-            | true ↦ (refl, refl)
-            | false ↦ held_before s.frames past h.rules q
-          ];
-    })
+      memory = rw after (record {
+        enclaves = ap (taken seat) changed.enclaves;
+        cpus = cpus_entered s past m p.0 seat (saved_word s sf.0) (resumed_word m enclave tcs) (sym word) changed.cpus;
+        words = changed.words;
+        measure = changed.measure;
+      });
+    }

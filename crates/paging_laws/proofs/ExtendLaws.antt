@@ -1,9 +1,8 @@
 -- The row of `extend`: the measurement of the page's enclave takes in the block that the entries log.
-use Rattle.std.proofs.Common.{◌≡◌, ℕ, ◌+◌, ◌*◌, leb, ltb, true, false, refl, sym, ap, ◌∙◌, Some, None, List, ◌∷◌, is_some}
+use Rattle.std.proofs.Common.{◌≡◌, ℕ, ◌+◌, ◌*◌, leb, ltb, true, false, refl, sym, ap, ◌∙◌, Some, None, List, is_some}
 use Rattle.std.specs.Int.{w64, to_le_bytes}
 use Rattle.std.specs.List.{flat_map}
 use Rattle.std.specs.Option.{IsSomeAnd}
-use Rattle.std.proofs.lemmas.Bool.{leb-false}
 use Rattle.sgx_types.specs.declared.entries.Entry.{Entry}
 use Rattle.sgx_types.specs.declared.entries.Actor.{Actor}
 use Rattle.sgx_types.specs.declared.entries.Action.TheVariants.{Extend}
@@ -12,7 +11,7 @@ use Rattle.sgx_types.specs.declared.names.Frame.{Frame}
 use Rattle.sgx_types.specs.declared.names.Page.{Page}
 use Rattle.sgx_types.specs.Frames.{Content, Free, IsVa, SecsOf, Holds, IsLoading, enclave_in}
 use Rattle.sgx_types.specs.Table.{extend_row, first_of_row}
-use Rattle.sgx_types.specs.Flat.{flat, accepts, some_page, page_words}
+use Rattle.sgx_types.specs.Flat.{some_page, page_words}
 use Rattle.epcm_entry.specs.Words.{bytes_of}
 use Rattle.measure_log.specs.declared.measure.Measure.{Measure}
 use Rattle.measure_log.specs.Blocks.{eextend_block, chunk_of}
@@ -21,11 +20,11 @@ use Rattle.measure_log.specs.Log.{Logged, logged_chunk}
 use Rattle.measure_log.specs.Rule.{page_held, page_in, log}
 use Rattle.measure_log.specs.Rule as rule
 use Rattle.paging_laws.specs.State.{State, sight, is_closed, row_of, after_extend}
-use Rattle.paging_laws.specs.Stands.{Stands, IsSound, Upholds}
-use Rattle.paging_laws.proofs.Tools.{none_holds, none_refused, neither, is_none-None}
+use Rattle.paging_laws.specs.Stands.{Stands}
+use Rattle.paging_laws.proofs.TestLaws.{none_holds, none_refused, neither, is_none-None}
 use Rattle.paging_laws.proofs.MeasureLaws.{goes_on}
-use Rattle.paging_laws.proofs.Carry.{did_by, stands_done, upholds_more, held_before, once_before}
-use Rattle.paging_laws.proofs.Refused.{extend_agrees}
+use Rattle.paging_laws.proofs.NextEntry.{BringsDone}
+use Rattle.paging_laws.proofs.ColumnLaws.{content_is}
 
 -- the page in a frame is one of a created enclave
 abbrev pub IsMade : State → Type 0
@@ -42,48 +41,32 @@ logs s past f chunk g stands is = by_content (s.content f) refl is
         → logged_chunk page_in rule.bytes_of past chunk (page_in past f) ≡ Some (record { enclave = g.enclave; block = eextend_block (4096 * g.number + 256 * chunk) (chunk_of (bytes_of (s.words f)) chunk) })
     by_content (Holds page kind perm) e k =
         let same : page ≡ g = cc in
-        let here : page_in past f ≡ Some page = ap page_held (sym (stands.content f) ∙ e) in
+        let here : page_in past f ≡ Some page = ap page_held (sym (content_is stands.columns f) ∙ e) in
         ap (logged_chunk page_in rule.bytes_of past chunk) here
-        ∙ ap (λ x. Some (let l : Logged = record { enclave = page.enclave; block = eextend_block (4096 * page.number + 256 * chunk) (chunk_of (flat_map (to_le_bytes w64) (page_words x)) chunk) } in l)) (stands.words f page kind perm e)
+        ∙ ap (λ x. Some (let l : Logged = record { enclave = page.enclave; block = eextend_block (4096 * page.number + 256 * chunk) (chunk_of (flat_map (to_le_bytes w64) (page_words x)) chunk) } in l)) (stands.memory.words f page kind perm e)
         ∙ ap (λ (q : Page). Some (let l : Logged = record { enclave = q.enclave; block = eextend_block (4096 * q.number + 256 * chunk) (chunk_of (bytes_of (s.words f)) chunk) } in l)) same
     by_content Free e k = cc
     by_content IsVa e k = cc
     by_content (SecsOf enclave) e k = cc
     by_content IsLoading e k = cc
 
-pub extend_upheld : (s : State) (past : List Entry) (a : Actor) (f : Frame) (chunk : ℕ) (g : Page) (longer : Measure) → first_of_row (row_of s a (Extend f chunk)) ≡ None → page_held (s.content f.0) ≡ Some g
-    → IsSomeAnd (s.measure g.enclave) (λ m. TakesIn m (eextend_block (4096 * g.number + 256 * chunk) (chunk_of (bytes_of (s.words f.0)) chunk)) longer) → IsMade s → IsSound s
-    → Upholds s past → Upholds (after_extend s g.enclave longer) (did_by a (Extend f chunk) Plain ∷ past)
-extend_upheld s past a f chunk g longer allowed here takes made sound h =
+pub extend_brings : (s : State) (past : List Entry) (a : Actor) (f : Frame) (chunk : ℕ) (g : Page) (longer : Measure) → first_of_row (row_of s a (Extend f chunk)) ≡ None → page_held (s.content f.0) ≡ Some g
+    → IsSomeAnd (s.measure g.enclave) (λ m. TakesIn m (eextend_block (4096 * g.number + 256 * chunk) (chunk_of (bytes_of (s.words f.0)) chunk)) longer) → IsMade s → Stands s past
+    → BringsDone s (after_extend s g.enclave longer) past a (Extend f chunk) Plain
+extend_brings s past a f chunk g longer allowed here takes made stands =
     let none = none_holds (extend_row chunk (is_closed s (enclave_in (s.content f.0))) (sight s f.0)) allowed in
     let range = neither (leb s.frames f.0) (ltb 15 chunk) none.0 in
-    let stands = h.stands in
     let block = eextend_block (4096 * g.number + 256 * chunk) (chunk_of (bytes_of (s.words f.0)) chunk) in
-    let taken : accepts (flat past) a (Extend f chunk) ≡ true = is_none-None _ (none_refused (extend_row chunk false some_page) (range.1, (refl, (refl, (refl, (refl, tt)))))) in
-    upholds_more (after_extend s g.enclave longer) past _ h.rules h.measure
-    (record {
-      sound = record { seated = sound.seated; busy = sound.busy; apart = sound.apart; sized = sound.sized };
-      stands =
-          stands_done (after_extend s g.enclave longer) past a (Extend f chunk) Plain taken
-          (record {
-            content = stands.content;
-            is_blocked = stands.is_blocked;
-            is_sealing = stands.is_sealing;
-            enclaves = stands.enclaves;
-            added = stands.added;
-            is_busy = stands.is_busy;
-            inside = stands.inside;
-            acc = stands.acc;
-            cache = stands.cache;
-            words = stands.words;
-            measure = λ e. rw (logs s past f.0 chunk g stands here) (goes_on e g.enclave s.enclaves s.measure longer block (log past e) (made f.0 g here) takes (stands.measure e));
-            flat_inside = stands.flat_inside;
-          });
-      refusal = (sym (extend_agrees s past a f chunk stands) ∙ allowed, refl);
-      flat = λ seen. record { taken = taken; same = refl };
-      fits = (leb-false _ _ range.0, tt);
-      once = once_before s.frames past h.rules;
-      access = tt;
+    let k = stands.memory in
+    record {
+      form = refl;
+      taken = is_none-None _ (none_refused (extend_row chunk false some_page) (range.1, (refl, (refl, (refl, (refl, tt))))));
+      same = λ seen. refl;
       measure = tt;
-      held = held_before s.frames past h.rules;
-    })
+      memory = record {
+        enclaves = k.enclaves;
+        cpus = k.cpus;
+        words = k.words;
+        measure = λ e. rw (logs s past f.0 chunk g stands here) (goes_on e g.enclave s.enclaves s.measure longer block (log past e) (made f.0 g here) takes (k.measure e));
+      };
+    }

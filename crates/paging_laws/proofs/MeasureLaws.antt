@@ -14,7 +14,7 @@ use Rattle.measure_log.specs.Measure.{HoldsLog, TakesIn, FinishesTo, measurement
 use Rattle.measure_log.specs.Rule.{MeasureRule}
 use Rattle.paging_laws.specs.Stands.{IsMeasuring}
 use Rattle.paging_laws.specs.Steps.{refused_by}
-use Rattle.paging_laws.proofs.Tools.{eqb-swap}
+use Rattle.paging_laws.proofs.TestLaws.{eqb-swap}
 
 -- a new enclave's measurement begins
 pub begins : (e enclave : ℕ) (o : Option FlatEnclave) (x : FlatEnclave) (m : Option Measure) (begun : Measure) (block l : List ℕ) → ((e ≡ enclave) → l ≡ []) → HoldsLog begun block → IsMeasuring o m l

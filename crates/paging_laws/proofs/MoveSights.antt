@@ -1,5 +1,5 @@
 -- What the rows of the instructions that move pages see in the state is what they see by the entries.
-use Rattle.std.proofs.Common.{◌≡◌, ℕ, ◌==◌, ◌^◌, ◌&&◌, ◌||◌, ◌⊎◌, inl, inr, not, Bool, true, false, cond, leb, refl, sym, ap, subst, ◌∙◌, Option, Some, None, MatchOption, is_some, List, [], ◌∷◌}
+use Rattle.std.proofs.Common.{◌≡◌, ℕ, ◌==◌, ◌^◌, ◌⊎◌, inl, inr, not, Bool, true, false, cond, leb, refl, sym, ap, subst, ◌∙◌, Option, Some, None, MatchOption, is_some, List}
 use Rattle.std.proofs.lemmas.Bool.{false≢true, eq-eqb}
 use Rattle.std.proofs.lemmas.Slice.Eq.{bytes_eq-Decides}
 use Rattle.std.specs.Str.{bytes_eq}
@@ -21,7 +21,7 @@ use Rattle.sgx_types.specs.ByEpochs.{up_to_block}
 use Rattle.sgx_types.specs.Epochs.{block_epoch, epoch, epoch_in, epoch_of}
 use Rattle.sgx_types.specs.Eviction.{kept_back}
 use Rattle.sgx_types.specs.Flat.{FlatEnclave, added_as, flat}
-use Rattle.sgx_types.specs.Frames.{added, content, enclave_in, is_block, is_blocked, is_put, put_by}
+use Rattle.sgx_types.specs.Frames.{content, enclave_in}
 use Rattle.sgx_types.specs.Sealed.{Sealed, header_of}
 use Rattle.sgx_types.specs.Table.{DrainSight, FrameSight, SlotSight, block_row, eldstart_row, ewbstart_row, first_of_row, track_row}
 use Rattle.sgx_types.proofs.Keystone.{epochs_tell}
@@ -32,38 +32,29 @@ use Rattle.measure_log.specs.Rule.{IsExpected, IsOther}
 use Rattle.page_history.specs.Moves.{DoesNotFit, EndsIn, EndsOut, IsBack, IsHeader, IsMove, IsNotBack, MoveForm, MovesRule, Numbers, drain_sight_at, move_row_at, slot_sight_at, track_sight_at}
 use Rattle.paging_laws.specs.Guarded.{IsGuarded, WritesOut}
 use Rattle.paging_laws.specs.Histories.{numbers_of}
-use Rattle.paging_laws.specs.Shape.{Making, making_of, HasColumns}
+use Rattle.paging_laws.specs.Shape.{Making, making_of}
 use Rattle.paging_laws.specs.Stands.{Stands}
 use Rattle.paging_laws.specs.State.{State, after_eld, after_failed_eld, after_init, drain_sight, number_up_to, row_of, slot_sight, track_sight}
 use Rattle.paging_laws.specs.Steps.{CanApply, IsComing, IsDone, IsReloaded, IsStep, IsWrittenOut, commit_row, did_by, refused_by}
-use Rattle.paging_laws.proofs.BuildLaws.{is_some-added_as, sight_agrees}
+use Rattle.paging_laws.proofs.BuildLaws.{is_some-added_as}
 use Rattle.paging_laws.proofs.ShapeLaws.{drained_by, noting_agrees, older_agrees}
+use Rattle.paging_laws.specs.Columns.{HasColumns}
+use Rattle.paging_laws.proofs.ColumnLaws.{added_flat, blocked_is, content_is, enclave_flat, epoch_is, next_version_is, sight_is, slot_busy_is, start_is, version_is}
 
 -- ---- what the rows see
 
--- a page was blocked since it came into its frame exactly where its block has an epoch
-pub has_block : (first : ℕ) (past : List Entry) (n : ℕ) → is_some (block_epoch first past n) ≡ is_blocked past n
-has_block first [] n = refl
-has_block first (e ∷ past) n = by_event (is_block e.event n) (is_put (put_by e.event (added past)) n) (has_block first past n)
-  where
-    by_event : (b c : Bool) → is_some (block_epoch first past n) ≡ is_blocked past n
-        → is_some (cond b (Some (epoch_in first past n)) (cond c None (block_epoch first past n))) ≡ (b || (not c && is_blocked past n))
-    by_event true c before = refl
-    by_event false true before = refl
-    by_event false false before = before
-
 -- what the row of `track` sees
 track_sees : (s : State) (past : List Entry) → HasColumns s past → Stands s past → (enclave : ℕ) → track_sight s enclave ≡ track_sight_at s.first_epoch past enclave
-track_sees s past h stands enclave = rw (stands.enclaves enclave, older_agrees s past h enclave, h.epoch enclave) refl
+track_sees s past h stands enclave = rw (enclave_flat stands enclave, older_agrees s past h enclave, epoch_is h enclave) refl
 
 -- what a row sees of a slot
 slot_sees : (s : State) (past : List Entry) → HasColumns s past → Stands s past → (slot : SlotAt) → slot_sight s slot ≡ slot_sight_at s.frames past slot
-slot_sees s past h stands slot = rw (sight_agrees s past stands slot.frame.0, h.is_slot_busy slot, h.version_in slot) refl
+slot_sees s past h stands slot = rw (sight_is h slot.frame.0, slot_busy_is h slot, version_is h slot) refl
 
 -- how many processors keep a page back
 kept_back_by : (s : State) (past : List Entry) → HasColumns s past → (n : ℕ) → number_up_to s (enclave_in (s.content n)) (s.blocked n) ≡ kept_back past n
 kept_back_by s past h n =
-    rw (h.content n, h.blocked n) (by_block (enclave_in (content past n)) (block_epoch s.first_epoch past n) ∙ sym ((epochs_tell s.first_epoch past).kept_back n))
+    rw (content_is h n, blocked_is h n) (by_block (enclave_in (content past n)) (block_epoch s.first_epoch past n) ∙ sym ((epochs_tell s.first_epoch past).kept_back n))
   where
     by_block : (c b : Option ℕ) → number_up_to s c b ≡ up_to_block s.first_epoch past c b
     by_block None b = refl
@@ -72,11 +63,11 @@ kept_back_by s past h n =
 
 -- the epoch of the enclave whose page a frame holds
 epoch_by : (s : State) (past : List Entry) → HasColumns s past → (n : ℕ) → epoch_of s.epoch (enclave_in (s.content n)) ≡ epoch_in s.first_epoch past n
-epoch_by s past h n = rw (h.content n) (by_enclave (enclave_in (content past n)))
+epoch_by s past h n = rw (content_is h n) (by_enclave (enclave_in (content past n)))
   where
     by_enclave : (c : Option ℕ) → epoch_of s.epoch c ≡ epoch_of (epoch s.first_epoch past) c
     by_enclave None = refl
-    by_enclave (Some enclave) = h.epoch enclave
+    by_enclave (Some enclave) = epoch_is h enclave
 
 -- what the row of EWB's start sees of the tracking
 drain_sees : (s : State) (past : List Entry) → HasColumns s past → (n : ℕ) → drain_sight s n ≡ drain_sight_at s.first_epoch past n
@@ -93,24 +84,24 @@ eldstart_same v v' b b' slot slot' e1 e2 e3 i = first_of_row (eldstart_row (e1 i
 -- the row of an instruction that moves pages, in the state and by the entries
 pub move_row_same : (s : State) (past : List Entry) (a : Actor) (action : Action) → IsMove action → HasColumns s past → Stands s past
     → first_of_row (row_of s a action) ≡ first_of_row (move_row_at (numbers_of (making_of s)) past action)
-move_row_same s past a (Block f) m h stands = ap (λ v. first_of_row (block_row v)) (sight_agrees s past stands f.0)
+move_row_same s past a (Block f) m h stands = ap (λ v. first_of_row (block_row v)) (sight_is h f.0)
 move_row_same s past a (Track enclave) m h stands = ap (λ v. first_of_row (track_row v)) (track_sees s past h stands enclave)
 move_row_same s past a (EwbStart f slot) m h stands =
-    ewbstart_same _ _ _ _ _ _ _ _ (sight_agrees s past stands f.0) (slot_sees s past h stands slot) (drain_sees s past h f.0) (ap (λ (n : ℕ). n == 2 ^ 64) h.next_version)
+    ewbstart_same _ _ _ _ _ _ _ _ (sight_is h f.0) (slot_sees s past h stands slot) (drain_sees s past h f.0) (ap (λ (n : ℕ). n == 2 ^ 64) (next_version_is h))
 move_row_same s past a (EldStart f page slot) m h stands =
-    eldstart_same _ _ _ _ _ _ (sight_agrees s past stands f.0) (ap is_some (stands.added page) ∙ is_some-added_as ((flat past).pages page)) (slot_sees s past h stands slot)
+    eldstart_same _ _ _ _ _ _ (sight_is h f.0) (ap is_some (added_flat stands page) ∙ is_some-added_as ((flat past).pages page)) (slot_sees s past h stands slot)
 move_row_same s past a _ m h stands = absurd m
 
 -- ---- the rule of the moves
 
 -- the ends of starts
-abbrev is_end : Action → Bool
+abbrev pub is_end : Action → Bool
 is_end (Ewb f) = true
 is_end (Eld f) = true
 is_end _ = false
 
 -- no instruction that can be applied is the end of a start
-no_end : (cpus : ℕ) (a : Actor) (action : Action) → CanApply cpus a action → is_end action ≡ false
+pub no_end : (cpus : ℕ) (a : Actor) (action : Action) → CanApply cpus a action → is_end action ≡ false
 no_end cpus (actors.Cpu p) (Ewb f) can = absurd can
 no_end cpus (actors.Cpu p) (Eld f) can = absurd can
 no_end cpus a (Ewb f) can = absurd can
@@ -152,7 +143,7 @@ module _ (s t : State) (past : List Entry) (a : Actor) (h : HasColumns s past) (
   done_keeps (Track enclave) e other allowed done = rw done.0 (λ m. (sym (move_row_same s past a (Track enclave) tt h stands) ∙ allowed, refl))
   done_keeps (EwbStart f slot) e other allowed done = rw done.0 (λ m. (sym (move_row_same s past a (EwbStart f slot) tt h stands) ∙ allowed, (s.next_version, refl)))
   done_keeps (EldStart f page slot) e other allowed done =
-      rw done.0 (λ m. (sym (move_row_same s past a (EldStart f page slot) tt h stands) ∙ allowed, ap answers.Version (h.version_in slot)))
+      rw done.0 (λ m. (sym (move_row_same s past a (EldStart f page slot) tt h stands) ∙ allowed, ap answers.Version (version_is h slot)))
   done_keeps (Ewb f) e other allowed done = absurd (false≢true (sym other))
   done_keeps (Eld f) e other allowed done = absurd (false≢true (sym other))
   done_keeps _ e other allowed done = rw done.0 (λ m. absurd m)
@@ -182,9 +173,9 @@ ends_out s t past a f e rec guarded sealing h out =
       page = out.leaving.page.page;
       kind = out.leaving.page.kind;
       perm = out.leaving.page.perm;
-      held = sym (h.content f.0) ∙ out.leaving.page.held;
+      held = sym (content_is h f.0) ∙ out.leaving.page.held;
       start = out.leaving.start;
-      opened = sym (h.start f.0) ∙ out.leaving.opened;
+      opened = sym (start_is h f.0) ∙ out.leaving.opened;
       writes = writes;
       version = out.leaving.start.version;
       tag = rec.tag;
@@ -198,7 +189,7 @@ moves_written s t made past a f e rec guarded sealing h out = rw out.entry (ends
 
 -- what a frame waits for is what its start loads
 ends_in : (s : State) (past : List Entry) (f : ℕ) → HasColumns s past → (coming : IsComing s f) → EndsIn past f coming.page
-ends_in s past f h coming = record { start = coming.start; opened = sym (h.start f) ∙ coming.opened; loads = coming.loads }
+ends_in s past f h coming = record { start = coming.start; opened = sym (start_is h f) ∙ coming.opened; loads = coming.loads }
 
 -- a page that is back ends the start of its load
 pub moves_reloaded_done : (s : State) (past : List Entry) (f : ℕ) (coming : IsComing s f) (version : ℕ) (tag : List ℕ) → HasColumns s past → IsBack past f (answers.Moved coming.page version tag)
@@ -223,10 +214,10 @@ header_is s past f header stands coming is =
     coming.headed ∙ by_parts coming.enclave is.enclave (same_value _ _ enclaves) was now (same_value was now kinds) ∙ sym is.headed
   where
     enclaves : Some coming.enclave ≡ Some is.enclave
-    enclaves = sym coming.made ∙ stands.enclaves coming.page.enclave ∙ is.made
+    enclaves = sym coming.made ∙ enclave_flat stands coming.page.enclave ∙ is.made
 
     kinds : ◌≡◌ {A = Option (Kind × Perm)} (Some (coming.kind, coming.perm)) (Some (is.page.kind, is.page.perm))
-    kinds = sym coming.added ∙ stands.added coming.page ∙ ap added_as is.added
+    kinds = sym coming.added ∙ added_flat stands coming.page ∙ ap added_as is.added
 
     by_parts : (x y : FlatEnclave) → x ≡ y → (u v : Kind × Perm) → u ≡ v → header_of x.base coming.page u.0 u.1 ≡ header_of y.base coming.page v.0 v.1
     by_parts x y same u v alike i = header_of (same i).base coming.page (alike i).0 (alike i).1

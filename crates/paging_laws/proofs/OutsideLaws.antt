@@ -1,10 +1,7 @@
--- The record of a page that is outside goes on to have the page's flat bytes, and each write-out gives the record of its page's.
-use Rattle.std.proofs.Common.{◌≡◌, ℕ, ◌+◌, ◌-◌, ◌*◌, ◌/◌, ◌<◌, ◌⊎◌, arith, length, inl, inr, Bool, true, false, cond, refl, sym, ap, subst, ◌∙◌, Option, Some, None, MatchOption, List, [], ◌∷◌, ◌++◌, set}
-use Rattle.std.specs.Int.{w64, to_le_bytes}
+-- What each instruction leaves of the pages that are outside.
+use Rattle.std.proofs.Common.{◌≡◌, ℕ, ◌+◌, ◌-◌, ◌/◌, ◌⊎◌, length, inl, inr, Bool, true, false, cond, refl, sym, ap, subst, ◌∙◌, Option, Some, None, MatchOption, List, ◌∷◌, set}
 use Rattle.std.specs.List.{Any}
 use Rattle.std.proofs.lemmas.Bool.{cond_both}
-use Rattle.std.proofs.lemmas.List.{get_or_append_left, length-append}
-use Rattle.std.proofs.lemmas.List.Quantifiers.{Any-push}
 use Rattle.sgx_types.specs.declared.entries.Entry.{Entry}
 use Rattle.sgx_types.specs.declared.entries.Actor.{Actor}
 use Rattle.sgx_types.specs.declared.entries.Actor.TheVariants as actors
@@ -25,29 +22,25 @@ use Rattle.sgx_types.specs.declared.refusals.Refusal.TheVariants as why
 use Rattle.sgx_types.specs.Frames.{Holds, content, is_page, page_at, same_page}
 use Rattle.sgx_types.specs.Processors.{Stay, stay}
 use Rattle.sgx_types.specs.Table.{TcsSight, first_of_row, allows_update, allows_write}
-use Rattle.sgx_types.specs.Flat.{FlatMemory, FlatPage, accepts, fields_in, flat, memory_after, page_words, saved, stored, sum_of, tcs_fields, with_cssa, with_words, word_seen, words_of}
-use Rattle.sgx_types.specs.Sealed.{Sealed, header_of}
+use Rattle.sgx_types.specs.Flat.{FlatMemory, accepts, fields_in, flat, memory_after, page_words, saved, stored, sum_of, tcs_fields, with_cssa, with_words, word_seen, words_of}
 use Rattle.sgx_types.specs.Sights.{seat_of}
-use Rattle.sgx_types.specs.Starts.{Start, open_start}
-use Rattle.seal_record.specs.Cipher.{cipher, sealed}
+use Rattle.seal_record.specs.Cipher.{cipher}
 use Rattle.seal_record.specs.Records.{Made}
-use Rattle.epcm_entry.specs.Words.{bytes_of}
 use Rattle.epcm_entry.specs.Words.{words_of as words_in}
-use Rattle.page_history.specs.Copies.{Copy, InFrame, InSlot, OneLiveCopy, copy, in_slot}
-use Rattle.page_history.specs.Moves.{IsMove}
-use Rattle.page_history.specs.Once.{IsMade}
-use Rattle.page_history.specs.Records.{SealedRule, made_by, made_with, more_made, page_bytes, record_by, record_in}
-use Rattle.paging_laws.specs.Histories.{HasBytes, OutsideBytes, given_out}
-use Rattle.paging_laws.specs.Shape.{Follows, Making}
-use Rattle.paging_laws.specs.Stands.{IsSound, Stands, inside_of_stay, next_save, seat_of_stay}
-use Rattle.paging_laws.specs.State.{State, enter_sight, row_of, after_eld, after_failed_eld, after_init}
-use Rattle.paging_laws.specs.Steps.{CanApply, IsDone, IsJudged, IsLeaving, IsReloaded, IsStep, IsWrittenOut, answer_of, commit_row, did_by, refused_by}
+use Rattle.page_history.specs.Copies.{Copy, InFrame, InSlot, OneLiveCopy, copy}
+use Rattle.page_history.specs.Records.{SealedRule, made_by, page_bytes}
+use Rattle.paging_laws.specs.Histories.{HasBytes, OutsideBytes}
+use Rattle.paging_laws.specs.Stands.{IsSound, Stands, inside_of_stay, next_save}
+use Rattle.paging_laws.specs.State.{State, enter_sight, row_of, after_init}
+use Rattle.paging_laws.specs.Steps.{CanApply, IsDone, IsJudged, IsStep, did_by, refused_by}
 use Rattle.measure_log.specs.Rule.{IsExpected, IsOther}
 use Rattle.paging_laws.proofs.AccessLaws.{Reads, access_allowed}
-use Rattle.paging_laws.proofs.Carry.{same_page-refl, seat_at}
 use Rattle.paging_laws.proofs.Contents.{tcs_there}
 use Rattle.paging_laws.proofs.EntryLaws.{enters, resume_saved, resume_saves}
-use Rattle.paging_laws.proofs.Tools.{not_false, same_pages}
+use Rattle.paging_laws.proofs.TestLaws.{not_false, same_pages, same_page-refl}
+use Rattle.paging_laws.specs.Columns.{seat_of_stay}
+use Rattle.paging_laws.proofs.ColumnLaws.{content_is, inside_flat, inside_is}
+use Rattle.paging_laws.proofs.SoundLaws.{seat_at}
 
 -- ---- entries that make no record
 
@@ -160,7 +153,7 @@ stored_words : (s : State) (past : List Entry) (p off value : ℕ) → Stands s 
 stored_words s past p off value stands k one g slot v there =
     let m = flat past in
     let q = page_at k.seat.enclave (off / 4096) in
-    let holds : content past k.found.frame.0 ≡ Holds q kinds.Reg k.found.perm = sym (stands.content k.found.frame.0) ∙ k.holds ∙ ap (λ n. Holds (page_at k.seat.enclave n) kinds.Reg k.found.perm) k.number in
+    let holds : content past k.found.frame.0 ≡ Holds q kinds.Reg k.found.perm = sym (content_is stands.columns k.found.frame.0) ∙ k.holds ∙ ap (λ n. Holds (page_at k.seat.enclave n) kinds.Reg k.found.perm) k.number in
     let framed : is_page (content past k.found.frame.0) q ≡ true = rw holds (same_page-refl k.seat.enclave (off / 4096)) in
     ap (λ o. words_of (stored m o off value) g) k.flat_inside ∙ other_words m q g _ (framed_apart past one k.found.frame.0 q g slot v framed there)
 
@@ -170,7 +163,7 @@ resume_words : (s : State) (past : List Entry) (p : Cpu) (enclave tcs : ℕ) (tf
 resume_words s past p enclave tcs tf sf stands allowed one g slot v there =
     let f = tcs_fields (s.words tf.0) in
     let k = enters enclave tcs (enter_sight s p.0 (seat_of enclave tcs tf.0 sf.0)) (resume_saves f) (resume_saved f) allowed in
-    let framed : is_page (content past tf.0) (page_at enclave tcs) ≡ true = rw (← stands.content tf.0) (not_false _ k.tcs_page) in
+    let framed : is_page (content past tf.0) (page_at enclave tcs) ≡ true = rw (← content_is stands.columns tf.0) (not_false _ k.tcs_page) in
     other_words (flat past) (page_at enclave tcs) g (λ words. with_cssa words ((fields_in (flat past) enclave tcs).cssa - 1)) (framed_apart past one tf.0 (page_at enclave tcs) g slot v framed there)
 
 -- an asynchronous exit writes the state save page and the TCS page, which are in the processor's frames
@@ -179,21 +172,21 @@ aex_words : (s : State) (past : List Entry) (p acc : ℕ) → IsSound s → Stan
 aex_words s past p acc sound stands one g slot v there = by_stay (stay past p) refl
   where
     by_stay : (o : Option Stay) → stay past p ≡ o → words_of (saved (flat past) acc ((flat past).cpus p).inside) g ≡ words_of (flat past) g
-    by_stay None e = let inside : ((flat past).cpus p).inside ≡ None = stands.flat_inside p ∙ ap inside_of_stay e in ap (λ o. words_of (saved (flat past) acc o) g) inside
+    by_stay None e = let inside : ((flat past).cpus p).inside ≡ None = inside_flat stands p ∙ ap inside_of_stay e in ap (λ o. words_of (saved (flat past) acc o) g) inside
     by_stay (Some st) e =
         let m = flat past in
         let seat = st.seat in
-        let is : s.inside p ≡ Some seat = stands.inside p ∙ ap seat_of_stay e in
+        let is : s.inside p ≡ Some seat = inside_is stands.columns p ∙ ap seat_of_stay e in
         let k = seat_at s sound p seat is in
         let q = page_at seat.enclave seat.tcs in
-        let inside : (m.cpus p).inside ≡ Some (record { enclave = seat.enclave; tcs = seat.tcs }) = stands.flat_inside p ∙ ap inside_of_stay e in
+        let inside : (m.cpus p).inside ≡ Some (record { enclave = seat.enclave; tcs = seat.tcs }) = inside_flat stands p ∙ ap inside_of_stay e in
         let tcs_held = tcs_there (s.content seat.tcs_frame) q k.tcs_page k.tcs_kind in
-        let tcs_flat = stands.words seat.tcs_frame q kinds.Tcs tcs_held.perm tcs_held.holds in
+        let tcs_flat = stands.memory.words seat.tcs_frame q kinds.Tcs tcs_held.perm tcs_held.holds in
         let fields : tcs_fields (s.words seat.tcs_frame) ≡ fields_in m seat.enclave seat.tcs = ap (λ x. tcs_fields (page_words x)) (sym tcs_flat) in
         let save = next_save seat.enclave (fields_in m seat.enclave seat.tcs) in
-        let tcs_framed : is_page (content past seat.tcs_frame) q ≡ true = rw (← stands.content seat.tcs_frame) k.tcs_page in
+        let tcs_framed : is_page (content past seat.tcs_frame) q ≡ true = rw (← content_is stands.columns seat.tcs_frame) k.tcs_page in
         let ssa_framed : is_page (content past seat.ssa_frame) save ≡ true =
-        subst (λ (x : TcsSight). is_page (content past seat.ssa_frame) (next_save seat.enclave x) ≡ true) fields (rw (← stands.content seat.ssa_frame) k.ssa_page) in
+        subst (λ (x : TcsSight). is_page (content past seat.ssa_frame) (next_save seat.enclave x) ≡ true) fields (rw (← content_is stands.columns seat.ssa_frame) k.ssa_page) in
         let first = with_words m save (λ words. set words 0 acc) in
         ap (λ o. words_of (saved m acc o) g) inside
         ∙ other_words first q g (λ words. with_cssa words ((fields_in m seat.enclave seat.tcs).cssa + 1)) (framed_apart past one seat.tcs_frame q g slot v tcs_framed there)
@@ -202,7 +195,7 @@ aex_words s past p acc sound stands one g slot v there = by_stay (stay past p) r
 -- ---- every step
 
 -- an entry under another name
-keeps_as : (past : List Entry) (e e' : Entry) → e ≡ e' → KeepsOutside past e' → KeepsOutside past e
+pub keeps_as : (past : List Entry) (e e' : Entry) → e ≡ e' → KeepsOutside past e' → KeepsOutside past e
 keeps_as past e e' same k = subst (λ x. KeepsOutside past x) (sym same) k
 
 -- a row allows an instruction, or refuses it, which keeps what is outside
@@ -301,247 +294,3 @@ step_keeps s t past cpus a action e can sound k stands one = absurd can
 pub outside_step : (key : List ℕ) (s t : State) (past : List Entry) (cpus : ℕ) (a : Actor) (action : Action) (e : Entry) → CanApply cpus a action → IsSound s → IsStep s a action e t → Stands s past → OneLiveCopy past
     → OutsideBytes key past → OutsideBytes key (e ∷ past)
 outside_step key s t past cpus a action e can sound k stands one outside = outside_more key past e (step_keeps s t past cpus a action e can sound k stands one) outside
-
--- ---- moves
-
--- an entry that leaves every copy, all of flat memory and the records
-pub record LeavesAll (past : List Entry) (e : Entry) : Type 0 where
-  pub copies : (g : Page) → copy (e ∷ past) g ≡ copy past g
-  pub memory : flat (e ∷ past) ≡ flat past
-  pub made : (key : List ℕ) → made_by key (e ∷ past) ≡ made_by key past
-
--- a block, a track or a start, where it is done
-pub move_leaves : (past : List Entry) (a : Actor) (action : Action) (answer : Answer) → IsMove action → LeavesAll past (did_by a action answer)
-move_leaves past a action answer moves = record { copies = copies action moves; memory = memory action moves; made = made action moves }
-  where
-    copies : (x : Action) → IsMove x → (g : Page) → copy (did_by a x answer ∷ past) g ≡ copy past g
-    copies (Block f) is g = refl
-    copies (Track enclave) is g = refl
-    copies (EwbStart f slot) is g = refl
-    copies (EldStart f page slot) is g = refl
-    copies x is g = absurd is
-
-    either : (b : Bool) → cond b (flat past) (flat past) ≡ flat past
-    either true = refl
-    either false = refl
-
-    memory : (x : Action) → IsMove x → flat (did_by a x answer ∷ past) ≡ flat past
-    memory (Block f) is = either (accepts (flat past) a (Block f))
-    memory (Track enclave) is = either (accepts (flat past) a (Track enclave))
-    memory (EwbStart f slot) is = either (accepts (flat past) a (EwbStart f slot))
-    memory (EldStart f page slot) is = either (accepts (flat past) a (EldStart f page slot))
-    memory x is = absurd is
-
-    made : (x : Action) → IsMove x → (key : List ℕ) → made_by key (did_by a x answer ∷ past) ≡ made_by key past
-    made (Block f) is key = refl
-    made (Track enclave) is key = refl
-    made (EwbStart f slot) is key = refl
-    made (EldStart f page slot) is key = refl
-    made x is key = absurd is
-
--- .. and a refusal of any instruction
-pub refused_leaves : (past : List Entry) (a : Actor) (action : Action) (r : Refusal) → LeavesAll past (refused_by a action r)
-refused_leaves past a action r = record { copies = λ g. refl; memory = refl; made = λ key. refl }
-
--- .. leaves what is outside
-pub outside_move : (key : List ℕ) (past : List Entry) (e : Entry) → LeavesAll past e → OutsideBytes key past → OutsideBytes key (e ∷ past)
-outside_move key past e leaves outside =
-    outside_more key past e (record { made = leaves.made; stays = λ g slot v there. sym (leaves.copies g) ∙ there; words = λ g slot v there. ap (λ m. words_of m g) leaves.memory }) outside
-
--- ---- what a step makes
-
--- the entry of a step is of its instruction, done or refused
-abbrev pub IsEntryOf : Actor → Action → Entry → Type 0
-IsEntryOf a action e = ((answer : Answer) × (e ≡ did_by a action answer)) ⊎ ((r : Refusal) × (e ≡ refused_by a action r))
-
--- a row allows an instruction, or refuses it, and the entry is of it in both
-entry_cases : (o : Option Refusal) (Done : Type 0) (s t : State) (e : Entry) (a : Actor) (action : Action) → (Done → IsEntryOf a action e) → MatchOption o Done (λ r. (e ≡ refused_by a action r) × (t ≡ s)) → IsEntryOf a action e
-entry_cases None Done s t e a action f k = f k
-entry_cases (Some r) Done s t e a action f k = inr (r, k.0)
-
--- the entry of each instruction
-pub step_entry : (s t : State) (a : Actor) (action : Action) (e : Entry) → IsStep s a action e t → IsEntryOf a action e
-step_entry s t a (Create enclave f base size) e k =
-    entry_cases _ (IsDone s a (Create enclave f base size) e t) s t e a (Create enclave f base size) (λ done. inl (answers.Plain, done.0)) k
-step_entry s t a (Add enclave number f kind perm init) e k =
-    entry_cases _ (IsDone s a (Add enclave number f kind perm init) e t) s t e a (Add enclave number f kind perm init) (λ done. inl (answers.Plain, done.0)) k
-step_entry s t a (Extend f chunk) e k = entry_cases _ (IsDone s a (Extend f chunk) e t) s t e a (Extend f chunk) (λ done. inl (answers.Plain, done.0)) k
-step_entry s t a (Init enclave expect) e k =
-    entry_cases _ (IsDone s a (Init enclave expect) e t) s t e a (Init enclave expect)
-    (λ done.
-    elim done.judged as (λ _. IsEntryOf a (Init enclave expect) e) [
-      | inl is ↦ inl (answers.Hash done.digest, is.1)
-      | inr other ↦ inr (why.BadMeasure done.digest, other.1)
-    ]) k
-step_entry s t a action e k = entry_cases _ (IsDone s a action e t) s t e a action (λ done. inl (answer_of s a action, done.0)) k
-
--- no `ewb` is among the instructions that can be applied
-applies_no_ewb : (cpus : ℕ) (a : Actor) (action : Action) → CanApply cpus a action → is_ewb action ≡ false
-applies_no_ewb cpus a (Ewb f) can = absurd can
-applies_no_ewb cpus a action can = refl
-
--- a step makes no record
-pub made_same : (key : List ℕ) (s t : State) (past : List Entry) (cpus : ℕ) (a : Actor) (action : Action) (e : Entry) → CanApply cpus a action → IsStep s a action e t → made_by key (e ∷ past) ≡ made_by key past
-made_same key s t past cpus a action e can k = by_entry (step_entry s t a action e k)
-  where
-    by_entry : IsEntryOf a action e → made_by key (e ∷ past) ≡ made_by key past
-    by_entry (inl (answer, is)) = subst (λ x. made_by key (x ∷ past) ≡ made_by key past) (sym is) (did_made key past a action answer (applies_no_ewb cpus a action can))
-    by_entry (inr (r, is)) = subst (λ x. made_by key (x ∷ past) ≡ made_by key past) (sym is) refl
-
--- .. of which the rule Sealed has nothing to say
-pub sealed_quiet : (key : List ℕ) (s t : State) (past : List Entry) (cpus : ℕ) (a : Actor) (action : Action) (e : Entry) → CanApply cpus a action → IsStep s a action e t → SealedRule key past e
-sealed_quiet key s t past cpus a action e can k = by_entry (step_entry s t a action e k)
-  where
-    by_entry : IsEntryOf a action e → SealedRule key past e
-    by_entry (inl (answer, is)) = subst (λ x. SealedRule key past x) (sym is) (did_sealed key past a action answer (applies_no_ewb cpus a action can))
-    by_entry (inr (r, is)) = subst (λ x. SealedRule key past x) (sym is) tt
-
--- ---- the commit of a reload
-
--- the entry of a reload's commit is of an `eld`, done or refused
-pub reloaded_entry : (s t : State) (a : Actor) (f : Frame) (rec : Sealed) (e : Entry) → IsReloaded s a f rec e t → IsEntryOf a (Eld f) e
-reloaded_entry s t a f rec e back = by_row (first_of_row (commit_row s f.0 back.coming rec)) back.row
-  where
-    by_row : (o : Option Refusal)
-        → MatchOption o
-        ((e ≡ did_by a (Eld f) (answers.Moved back.coming.page back.coming.start.version rec.tag))
-        × (t ≡ after_eld s f.0 back.coming.start back.coming.page back.coming.kind back.coming.perm (words_in (cipher s.key back.coming.start.version rec.cipher))))
-        (λ r. (e ≡ refused_by a (Eld f) r) × (t ≡ after_failed_eld s f.0 back.coming.start))
-        → IsEntryOf a (Eld f) e
-    by_row None k = inl (answers.Moved back.coming.page back.coming.start.version rec.tag, k.0)
-    by_row (Some r) k = inr (r, k.0)
-
--- a page that comes back is in a frame then, and the others stay
-pub reloaded_keeps : (s t : State) (past : List Entry) (a : Actor) (f : Frame) (rec : Sealed) (e : Entry) → IsReloaded s a f rec e t → KeepsOutside past e
-reloaded_keeps s t past a f rec e back = by_entry (reloaded_entry s t a f rec e back)
-  where
-    by_entry : IsEntryOf a (Eld f) e → KeepsOutside past e
-    by_entry (inl (answer, is)) = keeps_as past e _ is (did_keeps past a (Eld f) answer refl (λ g slot v there. refl))
-    by_entry (inr (r, is)) = keeps_as past e _ is (refused_keeps past a (Eld f) r)
-
--- .. so that what is outside goes on to have its bytes
-pub outside_reloaded : (key : List ℕ) (s t : State) (past : List Entry) (a : Actor) (f : Frame) (rec : Sealed) (e : Entry) → IsReloaded s a f rec e t → OutsideBytes key past → OutsideBytes key (e ∷ past)
-outside_reloaded key s t past a f rec e back outside = outside_more key past e (reloaded_keeps s t past a f rec e back) outside
-
--- a reload makes no record
-pub made_same_eld : (key : List ℕ) (s t : State) (past : List Entry) (a : Actor) (f : Frame) (rec : Sealed) (e : Entry) → IsReloaded s a f rec e t → made_by key (e ∷ past) ≡ made_by key past
-made_same_eld key s t past a f rec e back = (reloaded_keeps s t past a f rec e back).made key
-
--- .. and the rule Sealed has nothing to say of it
-pub sealed_quiet_eld : (key : List ℕ) (s t : State) (past : List Entry) (a : Actor) (f : Frame) (rec : Sealed) (e : Entry) → IsReloaded s a f rec e t → SealedRule key past e
-sealed_quiet_eld key s t past a f rec e back = by_entry (reloaded_entry s t a f rec e back)
-  where
-    by_entry : IsEntryOf a (Eld f) e → SealedRule key past e
-    by_entry (inl (answer, is)) = subst (λ x. SealedRule key past x) (sym is) (did_sealed key past a (Eld f) answer refl)
-    by_entry (inr (r, is)) = subst (λ x. SealedRule key past x) (sym is) tt
-
--- ---- the commit of a write-out
-
--- what holds of one of a list holds of one of a longer list
-Any-front : {X : Type 0} (P : X → Type 0) (xs ys : List X) → Any P xs → Any P (xs ++ ys)
-Any-front P xs ys (k, x, low, here, holds) =
-    let longer : k < length (xs ++ ys) = omega (arith, length-append xs ys) in
-    (k, x, longer, get_or_append_left xs ys x k low ∙ here, holds)
-
--- a word has 8 bytes
-bytes_length : (words : List ℕ) → length (page_bytes words) ≡ 8 * length words
-bytes_length [] = refl
-bytes_length (word ∷ words) = let eight : length (to_le_bytes w64 word) ≡ 8 = refl in length-append (to_le_bytes w64 word) (page_bytes words) ∙ omega (arith, eight, bytes_length words)
-
--- .. and a page 4096
-page_size : (words : List ℕ) → length words ≡ 512 → length (page_bytes words) ≡ 4096
-page_size words sized = omega (arith, bytes_length words)
-
--- the record that goes out is that of the page's flat bytes
-pub recorded : (s : State) (made : Making) (past : List Entry) (f : ℕ) (leaving : IsLeaving s f) → Stands s past → Follows made s past
-    → record_in made.key leaving.start.version (flat past) leaving.page.page ≡ Some (sealed s.key leaving.start.version leaving.header (bytes_of (s.words f)))
-recorded s made past f leaving stands h =
-    let m = flat past in
-    let head = leaving.page in
-    let v = leaving.start.version in
-    let x : FlatPage = record { kind = head.kind; perm = head.perm; words = s.words f } in
-    let enclave : m.enclaves head.page.enclave ≡ Some head.enclave = sym (stands.enclaves head.page.enclave) ∙ head.made in
-    let page : m.pages head.page ≡ Some x = stands.words f head.page head.kind head.perm head.held in
-    let keyed : made.key ≡ s.key = ap (λ (k : Making). k.key) (sym h.shape.making) in
-    ap (λ o. record_by made.key v head.page o (m.pages head.page)) enclave
-    ∙ ap (λ o. record_by made.key v head.page (Some head.enclave) o) page
-    ∙ ap (λ k. Some (sealed k v (header_of head.enclave.base head.page head.kind head.perm) (bytes_of (s.words f)))) keyed
-    ∙ ap (λ header. Some (sealed s.key v header (bytes_of (s.words f)))) (sym head.headed)
-
--- what a write-out gives
-pub record GivesRecord (key : List ℕ) (past : List Entry) (e : Entry) (rec : Sealed) : Type 0 where
-  pub made : made_by key (e ∷ past) ≡ made_by key past ++ given_out e.event rec
-  pub sealed : SealedRule key past e
-  pub outside : OutsideBytes key past → OutsideBytes key (e ∷ past)
-
--- a record that goes out of a frame is that of its page's flat bytes
-record IsOfPage (key : List ℕ) (past : List Entry) (n : ℕ) (page : Page) (start : Start) (rec : Sealed) : Type 0 where
-  opened : open_start past n ≡ Some start
-  in_flat : record_in key start.version (flat past) page ≡ Some rec
-  has : rec.cipher ≡ cipher key start.version (page_bytes (words_of (flat past) page))
-  size : length (page_bytes (words_of (flat past) page)) ≡ 4096
-  back : words_in (page_bytes (words_of (flat past) page)) ≡ words_of (flat past) page
-
--- a write-out that gives the record of its page's flat bytes
-gives : (key : List ℕ) (past : List Entry) (a : Actor) (f : Frame) (page : Page) (start : Start) (rec : Sealed) → IsOfPage key past f.0 page start rec
-    → GivesRecord key past (did_by a (Ewb f) (answers.Moved page start.version rec.tag)) rec
-gives key past a f page start rec k = record {
-  made = more;
-  sealed = record { rec = rec; made = k.in_flat; told = refl };
-  outside = λ outside g slot v there. by_page outside g slot v (same_page page g) refl there;
-}
-  where
-    e : Entry
-    e = did_by a (Ewb f) (answers.Moved page start.version rec.tag)
-
-    new : Made
-    new = made_with start.version rec
-
-    more : made_by key (e ∷ past) ≡ made_by key past ++ new ∷ []
-    more = ap (λ o. more_made start.version o (made_by key past)) k.in_flat
-
-    made_now : (one : Made) → Any (λ other. other ≡ one) (made_by key past ++ new ∷ []) → IsMade key (e ∷ past) one
-    made_now one is = subst (λ all. Any (λ other. other ≡ one) all) (sym more) is
-
-    still : (g : Page) (v : ℕ) → (one : Made) × HasBytes key past g v one → (one : Made) × HasBytes key (e ∷ past) g v one
-    still g v (one, has) = (
-      one,
-      record {
-        made = made_now one (Any-front (λ other. other ≡ one) (made_by key past) (new ∷ []) has.made);
-        version = has.version;
-        cipher = has.cipher;
-        size = has.size;
-        back = has.back;
-      },
-    )
-
-    goes : HasBytes key (e ∷ past) page start.version new
-    goes = record { made = made_now new (Any-push (λ other. other ≡ new) (made_by key past) new refl); version = refl; cipher = k.has; size = k.size; back = k.back }
-
-    by_page : OutsideBytes key past → (g : Page) (slot : SlotAt) (v : ℕ) (b : Bool) → same_page page g ≡ b → cond b (in_slot (open_start past f.0) start.version) (copy past g) ≡ Some (InSlot slot v)
-        → (one : Made) × HasBytes key (e ∷ past) g v one
-    by_page outside g slot v true same there =
-        let slotted : Some (InSlot start.slot start.version) ≡ Some (InSlot slot v) = rw k.opened at there in
-        let told : start.version ≡ v = cc slotted in
-        let is_it : page ≡ g = same_pages page g same in
-        (new, rw (← told, ← is_it) goes)
-    by_page outside g slot v false other there = still g v (outside g slot v there)
-
--- the commit of a write-out gives the record of the page's flat bytes
-pub outside_written : (s t : State) (made : Making) (past : List Entry) (a : Actor) (f : Frame) (e : Entry) (rec : Sealed) → IsWrittenOut s a f e rec t → IsSound s → Stands s past → Follows made s past
-    → GivesRecord made.key past e rec
-outside_written s t made past a f e rec out sound stands h =
-    let leaving = out.leaving in
-    let head = leaving.page in
-    let v = leaving.start.version in
-    let words = s.words f.0 in
-    let keyed : s.key ≡ made.key = ap (λ (k : Making). k.key) h.shape.making in
-    let held : words ≡ words_of (flat past) head.page = sym (ap page_words (stands.words f.0 head.page head.kind head.perm head.held)) in
-    subst (λ x. GivesRecord made.key past x rec) (sym out.entry)
-    (gives made.key past a f head.page leaving.start rec (record {
-      opened = sym (h.shape.columns.start f.0) ∙ leaving.opened;
-      in_flat = recorded s made past f.0 leaving stands h ∙ ap Some (sym out.sealed);
-      has = ap (λ (x : Sealed). x.cipher) out.sealed ∙ ap (λ key. cipher key v (bytes_of words)) keyed ∙ ap (λ xs. cipher made.key v (page_bytes xs)) held;
-      size = ap (λ xs. length (page_bytes xs)) (sym held) ∙ page_size words (sound.sized f.0);
-      back = ap (λ xs. words_in (page_bytes xs)) (sym held) ∙ leaving.words ∙ held;
-    }))

@@ -18,9 +18,10 @@ use Rattle.cached_translations.specs.declared.cache.Translation.{Translation}
 use Rattle.paging_laws.specs.State.{State, sight, epoch_in, slot_sight, drain_sight, is_version_spent, after_block, after_track, after_ewbstart, after_eldstart, after_ewb, after_eld, after_failed_eld}
 use Rattle.paging_laws.specs.Stands.{IsUsable, IsTranslation, IsSeated, IsSound}
 use Rattle.paging_laws.specs.Guarded.{IsNoEarlier, IsDrainedAt, IsGuarded}
-use Rattle.paging_laws.proofs.Tools.{apart, each_there}
-use Rattle.paging_laws.proofs.Carry.{seat_at}
-use Rattle.paging_laws.proofs.GuardLaws.{all_both, noted_at, starts_out, starts_in, tracked_drained}
+use Rattle.paging_laws.proofs.TestLaws.{apart, each_there}
+use Rattle.paging_laws.proofs.SoundLaws.{seat_at, unused}
+use Rattle.paging_laws.proofs.GuardMoves.{starts_in, starts_out, tracked_drained, all_both}
+use Rattle.paging_laws.proofs.GuardCpus.{noted_at}
 
 -- ---- the columns on which no seat depends
 

@@ -6,7 +6,9 @@ use Rattle.sgx_types.specs.Processors.{Stay, stay}
 use Rattle.sgx_types.specs.Flat.{flat, is_inside_by}
 use Rattle.sgx_types.specs.Sights.{enclave_of_stay}
 use Rattle.paging_laws.specs.State.{State, seat_enclave, is_seated_by}
-use Rattle.paging_laws.specs.Stands.{Stands, seat_of_stay, inside_of_stay}
+use Rattle.paging_laws.specs.Stands.{Stands, inside_of_stay}
+use Rattle.paging_laws.specs.Columns.{seat_of_stay}
+use Rattle.paging_laws.proofs.ColumnLaws.{inside_flat, inside_is}
 
 is_some-seat : (o : Option Stay) → is_some (seat_of_stay o) ≡ is_some o
 is_some-seat None = refl
@@ -17,10 +19,10 @@ is_some-inside None = refl
 is_some-inside (Some t) = refl
 
 pub mode_by_entries : (s : State) (past : List Entry) → Stands s past → (p : ℕ) → is_some (s.inside p) ≡ is_some (stay past p)
-mode_by_entries s past stands p = ap is_some (stands.inside p) ∙ is_some-seat (stay past p)
+mode_by_entries s past stands p = ap is_some (inside_is stands.columns p) ∙ is_some-seat (stay past p)
 
 pub mode_in_flat : (s : State) (past : List Entry) → Stands s past → (p : ℕ) → is_some (s.inside p) ≡ is_some ((flat past).cpus p).inside
-mode_in_flat s past stands p = mode_by_entries s past stands p ∙ sym (ap is_some (stands.flat_inside p) ∙ is_some-inside (stay past p))
+mode_in_flat s past stands p = mode_by_entries s past stands p ∙ sym (ap is_some (inside_flat stands p) ∙ is_some-inside (stay past p))
 
 pub enclave_by_entries : (o : Option Stay) → seat_enclave (seat_of_stay o) ≡ enclave_of_stay o
 enclave_by_entries None = refl
@@ -31,4 +33,4 @@ seated_same None g = refl
 seated_same (Some t) g = refl
 
 pub seated_in_flat : (s : State) (past : List Entry) → Stands s past → (p : ℕ) (g : Page) → is_seated_by (s.inside p) g ≡ is_inside_by ((flat past).cpus p).inside g
-seated_in_flat s past stands p g = ap (λ o. is_seated_by o g) (stands.inside p) ∙ seated_same (stay past p) g ∙ sym (ap (λ o. is_inside_by o g) (stands.flat_inside p))
+seated_in_flat s past stands p g = ap (λ o. is_seated_by o g) (inside_is stands.columns p) ∙ seated_same (stay past p) g ∙ sym (ap (λ o. is_inside_by o g) (inside_flat stands p))

@@ -34,11 +34,12 @@ use Rattle.page_history.proofs.CopyLaws.{copy_is_last, live_copies, went_out}
 use Rattle.page_history.proofs.DrawnLaws.{drawn_once}
 use Rattle.page_history.proofs.RecordLaws.{made_once}
 use Rattle.page_history.proofs.StartLaws.{starts_apart}
-use Rattle.paging_laws.specs.Histories.{OutsideBytes, UpholdsAll, looked_at, looked_at_by, numbers_of}
+use Rattle.paging_laws.specs.Histories.{OutsideBytes, StandsWithAllRules, looked_at, looked_at_by, numbers_of}
 use Rattle.paging_laws.specs.Shape.{Making}
 use Rattle.paging_laws.specs.State.{State, after_eld}
 use Rattle.paging_laws.specs.Steps.{IsComing, IsReloaded, commit_row, did_by}
-use Rattle.paging_laws.proofs.Tools.{both_true, none_holds, not_false}
+use Rattle.paging_laws.proofs.TestLaws.{both_true, none_holds, not_false}
+use Rattle.paging_laws.proofs.ColumnLaws.{enclave_flat, start_is}
 
 -- ---- the page of a header
 
@@ -154,26 +155,26 @@ row_allows s f coming rec allowed =
     }
 
 -- a machine that stands in all for its entries keeps the rules on instructions and versions
-pub keeps_moves : (made : Making) (s : State) (past : List Entry) (records : List Made) → UpholdsAll made s past records → KeepsMoves (numbers_of made) past
+pub keeps_moves : (made : Making) (s : State) (past : List Entry) (records : List Made) → StandsWithAllRules made s past records → KeepsMoves (numbers_of made) past
 keeps_moves made s past records h = record {
-  refusal = subst (λ frames. Along (RefusalRule frames) past) (ap (λ (m : Making). m.frames) h.follows.shape.making) h.upheld.rules.refusal;
-  flat = h.upheld.rules.flat;
+  refusal = subst (λ frames. Along (RefusalRule frames) past) (ap (λ (m : Making). m.frames) h.shaped.shape.making) h.standing.rules.refusal;
+  flat = h.standing.rules.flat;
   moves = h.moves;
-  evict = h.follows.evict;
+  evict = h.shaped.evict;
   fresh = h.fresh;
 }
 
 -- a record that the commit's row allows brings the page back that its frame waits for
 pub reload_back : (made : Making) (s : State) (past : List Entry) (records : List Made) (given : List Given) (f : ℕ) (coming : IsComing s f) (rec : Sealed)
-    → first_of_row (commit_row s f coming rec) ≡ None → UpholdsAll made s past records → Unforged made.key records (given ++ looked_at s f records rec)
+    → first_of_row (commit_row s f coming rec) ≡ None → StandsWithAllRules made s past records → Unforged made.key records (given ++ looked_at s f records rec)
     → BringsBack made.key past f coming.page coming.start.version rec
 reload_back made s past records given f coming rec allowed h unforged =
     let allows = row_allows s f coming rec allowed in
-    let key : s.key ≡ made.key = ap (λ (m : Making). m.key) h.follows.shape.making in
-    let opened : open_start past f ≡ Some coming.start = sym (h.follows.shape.columns.start f) ∙ coming.opened in
+    let key : s.key ≡ made.key = ap (λ (m : Making). m.key) h.shaped.shape.making in
+    let opened : open_start past f ≡ Some coming.start = sym (start_is h.shaped.shape.columns f) ∙ coming.opened in
     let headed : HasHeader past coming.page rec.header = record {
       enclave = coming.enclave;
-      made = sym (h.upheld.stands.enclaves coming.page.enclave) ∙ coming.made;
+      made = sym (enclave_flat h.standing.stands coming.page.enclave) ∙ coming.made;
       kind = coming.kind;
       perm = coming.perm;
       headed = allows.header ∙ coming.headed;
@@ -187,7 +188,7 @@ reload_back made s past records given f coming rec allowed h unforged =
 
 -- its entry keeps the rule on reloads
 pub reload_fresh : (made : Making) (s t : State) (past : List Entry) (records : List Made) (given : List Given) (a : Actor) (f : Frame) (rec : Sealed) (e : Entry) (back : IsReloaded s a f rec e t)
-    → first_of_row (commit_row s f.0 back.coming rec) ≡ None → UpholdsAll made s past records → Unforged made.key records (given ++ looked_at s f.0 records rec) → ReloadRule past e
+    → first_of_row (commit_row s f.0 back.coming rec) ≡ None → StandsWithAllRules made s past records → Unforged made.key records (given ++ looked_at s f.0 records rec) → ReloadRule past e
 reload_fresh made s t past records given a f rec e back allowed h unforged =
     let row : (e ≡ did_by a (Eld f) (answers.Moved back.coming.page back.coming.start.version rec.tag)) × (t ≡ after_eld s f.0 back.coming.start back.coming.page back.coming.kind back.coming.perm (words_of (cipher s.key back.coming.start.version rec.cipher)))
     = rw allowed at back.row in
@@ -195,7 +196,7 @@ reload_fresh made s t past records given a f rec e back allowed h unforged =
 
 -- and its words are the page's flat words
 pub reload_words : (made : Making) (s : State) (past : List Entry) (records : List Made) (given : List Given) (f : ℕ) (coming : IsComing s f) (rec : Sealed)
-    → first_of_row (commit_row s f coming rec) ≡ None → UpholdsAll made s past records → Unforged made.key records (given ++ looked_at s f records rec)
+    → first_of_row (commit_row s f coming rec) ≡ None → StandsWithAllRules made s past records → Unforged made.key records (given ++ looked_at s f records rec)
     → words_of (cipher s.key coming.start.version rec.cipher) ≡ memory.words_of (flat past) coming.page
 reload_words made s past records given f coming rec allowed h unforged =
-    ap (λ (m : Making). words_of (cipher m.key coming.start.version rec.cipher)) h.follows.shape.making ∙ (reload_back made s past records given f coming rec allowed h unforged).words
+    ap (λ (m : Making). words_of (cipher m.key coming.start.version rec.cipher)) h.shaped.shape.making ∙ (reload_back made s past records given f coming rec allowed h unforged).words

@@ -1,7 +1,6 @@
 -- Each row and each commit leaves the machine's columns as the longer list of entries has them.
-use Rattle.std.proofs.Common.{◌≡◌, ℕ, ◌+◌, ◌==◌, ◌||◌, Bool, true, false, cond, ltb, refl, sym, ap, ◌∙◌, Option, Some, None, option_map, List, [], ◌∷◌, ◌++◌, map, is_some, length, drop}
+use Rattle.std.proofs.Common.{◌≡◌, ℕ, ◌+◌, ◌==◌, Bool, true, false, cond, refl, sym, ap, ◌∙◌, Option, Some, None, option_map, List, [], ◌∷◌, map}
 use Rattle.std.proofs.lemmas.Bool.{cond_both, eqb-true}
-use Rattle.std.proofs.lemmas.List.{length-map, map-append}
 use Rattle.sgx_types.specs.declared.entries.Entry.{Entry}
 use Rattle.sgx_types.specs.declared.entries.Event.{Event}
 use Rattle.sgx_types.specs.declared.entries.Event.TheVariants.{Did, Refused}
@@ -20,97 +19,45 @@ use Rattle.sgx_types.specs.declared.names.Kind.{Kind}
 use Rattle.sgx_types.specs.declared.names.Perm.{Perm}
 use Rattle.sgx_types.specs.declared.names.SlotAt.{SlotAt}
 use Rattle.sgx_types.specs.declared.refusals.Refusal.{Refusal}
-use Rattle.sgx_types.specs.Enclaves.{created_by}
-use Rattle.sgx_types.specs.Epochs.{epoch, epoch_of, noted, is_track}
-use Rattle.sgx_types.specs.Flat.{FlatEnclave}
-use Rattle.sgx_types.specs.Frames.{added, added_by, content, enclave_in, is_block, page_at, is_sealing, put_by, same_page, sealing_after}
-use Rattle.sgx_types.specs.Processors.{Seat, stay, stay_from, Keeps, move_by, Pair, holds_number, with_pair, newest, translations, translations_after}
+use Rattle.sgx_types.specs.Epochs.{epoch, epoch_of, noted}
+use Rattle.sgx_types.specs.Flat.{marked}
+use Rattle.sgx_types.specs.Frames.{Content, Free, IsVa, SecsOf, Holds, IsLoading, added, enclave_in, page_at, is_sealing, reloaded, same_page}
+use Rattle.sgx_types.specs.Processors.{Seat, stay, stay_from, with_pair, translations}
 use Rattle.sgx_types.specs.Sights.{seat_of}
-use Rattle.sgx_types.specs.Slots.{busy_after, is_draw, open_slot, start_after, version_after}
+use Rattle.sgx_types.specs.Slots.{is_slot_busy, names_slot, open_slot, same_slot, start_after}
 use Rattle.sgx_types.specs.Starts.{Start, open_start, opened_by, version_told}
 use Rattle.measure_log.specs.declared.measure.Measure.{Measure}
 use Rattle.cached_translations.specs.declared.cache.Translation.{Translation}
-use Rattle.cached_translations.specs.Translations.{translation_of, with_translation, newest as newest_translations}
-use Rattle.paging_laws.specs.Shape.{HasColumns, noted_inside}
-use Rattle.paging_laws.specs.Stands.{pair_of, seat_of_stay}
-use Rattle.paging_laws.specs.State.{State, with_inside, with_saved, after_epa, after_create, after_add, after_init, after_exit, after_aex, after_fill, after_block, after_track, after_ewbstart, after_eldstart, after_ewb, after_eld, after_failed_eld}
+use Rattle.cached_translations.specs.Translations.{with_translation}
+use Rattle.paging_laws.specs.Columns.{FrameColumns, CpuColumns, SlotColumns, HasColumns, frames_by, cpus_by, slots_by, slots_of, enclaves_by, noted_inside, without_perm, seat_of_stay}
+use Rattle.paging_laws.proofs.ColumnLaws.{sealing_is, start_is, inside_is, noted_is, translations_are, epoch_is, added_is}
+use Rattle.paging_laws.specs.State.{State, with_saved, without_start, after_epa, after_create, after_add, after_init, after_enter, after_resume, after_exit, after_aex, after_fill, after_block, after_track, after_ewbstart, after_eldstart, after_ewb, after_eld, after_failed_eld}
 use Rattle.paging_laws.specs.Steps.{did_by, refused_by}
-use Rattle.paging_laws.proofs.Tools.{eqb-swap}
+use Rattle.paging_laws.proofs.TestLaws.{eqb-swap}
+use Rattle.paging_laws.proofs.TranslationLaws.{with_translation-map}
 
 -- ---- what touches no column
 
--- words, accumulators and measurements are no columns
-pub columns_beside : (s : State) (past : List Entry) (words : ℕ → List ℕ) (acc : ℕ → ℕ) (measure : ℕ → Option Measure) → HasColumns s past → HasColumns (record s { words = words; acc = acc; measure = measure }) past
-columns_beside s past words acc measure h = record {
-  content = h.content;
-  blocked = h.blocked;
-  is_sealing = h.is_sealing;
-  epoch = h.epoch;
-  inside = h.inside;
-  noted = h.noted;
-  cache = h.cache;
-  version_in = h.version_in;
-  is_slot_busy = h.is_slot_busy;
-  next_version = h.next_version;
-  start = h.start;
-  enclaves = h.enclaves;
-  added = h.added;
-}
+-- an entry that changes no column
+pub record IsQuiet (first_epoch first_version : ℕ) (past : List Entry) (e : Entry) : Type 0 where
+  pub frames : frames_by first_epoch (e ∷ past) ≡ frames_by first_epoch past
+  pub cpus : cpus_by first_epoch (e ∷ past) ≡ cpus_by first_epoch past
+  pub slots : slots_by first_version (e ∷ past) ≡ slots_by first_version past
+  pub enclaves : enclaves_by first_epoch (e ∷ past) ≡ enclaves_by first_epoch past
+  pub stays : (p : ℕ) → stay (e ∷ past) p ≡ stay past p
 
--- an event that changes no column
-pub record IsQuiet (e : Event) : Type 0 where
-  pub puts : (kinds : Page → Option (Kind × Perm)) → put_by e kinds ≡ None
-  pub adds : (g : Page) (o : Option (Kind × Perm)) → added_by e g o ≡ o
-  pub marks : (n : ℕ) (b : Bool) → sealing_after e n b ≡ b
-  pub tracks : (n : ℕ) → is_track e n ≡ false
-  pub blocks : (n : ℕ) → is_block e n ≡ false
-  pub moves : move_by e ≡ Keeps
-  pub fills : (b : Bool) (xs : List Pair) → translations_after e b xs ≡ xs
-  pub versions : (opened : ℕ → Option SlotAt) (slot : SlotAt) (v : ℕ) → version_after e opened slot v ≡ v
-  pub busies : (opened : ℕ → Option SlotAt) (slot : SlotAt) (b : Bool) → busy_after e opened slot b ≡ b
-  pub draws : is_draw e ≡ false
-  pub opens : (n : ℕ) (o : Option Start) → opened_by e n o ≡ o
-  pub creates : (n : ℕ) (o : Option FlatEnclave) → created_by e n o ≡ o
-
--- an entry that changes no column leaves each as it was
-pub quiet_columns : (s : State) (past : List Entry) (e : Entry) → IsQuiet e.event → HasColumns s past → HasColumns s (e ∷ past)
-quiet_columns s past e q h = record {
-  content = λ n. rw (q.puts (added past)) (h.content n);
-  blocked = λ n. rw (q.blocks n, q.puts (added past)) (h.blocked n);
-  is_sealing = λ n. rw (q.marks n _) (h.is_sealing n);
-  epoch = λ n. rw (q.tracks n) (h.epoch n);
-  inside = λ p. rw q.moves (h.inside p);
-  noted = λ p. rw q.moves (h.noted p);
-  cache = λ p. rw (q.fills _ _) (h.cache p);
-  version_in = λ slot. rw (q.versions _ slot _) (h.version_in slot);
-  is_slot_busy = λ slot. rw (q.busies _ slot _) (h.is_slot_busy slot);
-  next_version = rw q.draws h.next_version;
-  start = λ n. rw (q.opens n _) (h.start n);
-  enclaves = λ n. rw (q.creates n _) (h.enclaves n);
-  added = λ g. rw (q.adds g _) (h.added g);
-}
+-- .. leaves each as it was
+pub quiet_columns : (s : State) (past : List Entry) (e : Entry) → IsQuiet s.first_epoch s.first_version past e → HasColumns s past → HasColumns s (e ∷ past)
+quiet_columns s past e q h = record { frames = h.frames ∙ sym q.frames; cpus = h.cpus ∙ sym q.cpus; slots = h.slots ∙ sym q.slots; enclaves = h.enclaves ∙ sym q.enclaves }
 
 abbrev pub is_eld : Action → Bool
 is_eld (Eld f) = true
 is_eld _ = false
 
 -- a refusal changes no column, but for that of a load's commit
-pub refused_quiet : (action : Action) (why : Refusal) → is_eld action ≡ false → IsQuiet (Refused action why)
-refused_quiet (Eld f) why h = cc
-refused_quiet _ why h = record {
-  puts = λ kinds. refl;
-  adds = λ g o. refl;
-  marks = λ n b. refl;
-  tracks = λ n. refl;
-  blocks = λ n. refl;
-  moves = refl;
-  fills = λ b xs. refl;
-  versions = λ opened slot v. refl;
-  busies = λ opened slot b. refl;
-  draws = refl;
-  opens = λ n o. refl;
-  creates = λ n o. refl;
-}
+pub refused_quiet : (first_epoch first_version : ℕ) (past : List Entry) (a : Actor) (action : Action) (why : Refusal) → is_eld action ≡ false → IsQuiet first_epoch first_version past (refused_by a action why)
+refused_quiet first_epoch first_version past a (Eld f) why h = cc
+refused_quiet first_epoch first_version past a _ why h = record { frames = refl; cpus = refl; slots = refl; enclaves = refl; stays = λ p. refl }
 
 -- the instructions that change no column
 abbrev pub is_quiet : Action → Bool
@@ -126,364 +73,190 @@ is_quiet (OutStore enclave off value) = true
 is_quiet _ = false
 
 -- .. once they are done
-pub did_quiet : (action : Action) (answer : Answer) → is_quiet action ≡ true → IsQuiet (Did action answer)
-did_quiet (Epa f) answer h = cc
-did_quiet (Create enclave f base size) answer h = cc
-did_quiet (Add enclave number f kind perm init) answer h = cc
-did_quiet (Init enclave expect) answer h = cc
-did_quiet (Enter enclave tcs tf sf) answer h = cc
-did_quiet (Resume enclave tcs tf sf) answer h = cc
-did_quiet Exit answer h = cc
-did_quiet (Aex cause) answer h = cc
-did_quiet (Fill number f) answer h = cc
-did_quiet (Block f) answer h = cc
-did_quiet (Track enclave) answer h = cc
-did_quiet (EwbStart f slot) answer h = cc
-did_quiet (Ewb f) answer h = cc
-did_quiet (EldStart f page slot) answer h = cc
-did_quiet (Eld f) answer h = cc
-did_quiet _ answer h = record {
-  puts = λ kinds. refl;
-  adds = λ g o. refl;
-  marks = λ n b. refl;
-  tracks = λ n. refl;
-  blocks = λ n. refl;
-  moves = refl;
-  fills = λ b xs. refl;
-  versions = λ opened slot v. refl;
-  busies = λ opened slot b. refl;
-  draws = refl;
-  opens = λ n o. refl;
-  creates = λ n o. refl;
-}
+pub did_quiet : (first_epoch first_version : ℕ) (past : List Entry) (a : Actor) (action : Action) (answer : Answer) → is_quiet action ≡ true → IsQuiet first_epoch first_version past (did_by a action answer)
+did_quiet first_epoch first_version past a (Extend f chunk) answer h = record { frames = refl; cpus = refl; slots = refl; enclaves = refl; stays = λ p. refl }
+did_quiet first_epoch first_version past a (Load off) answer h = record { frames = refl; cpus = refl; slots = refl; enclaves = refl; stays = λ p. refl }
+did_quiet first_epoch first_version past a (Store off value) answer h = record { frames = refl; cpus = refl; slots = refl; enclaves = refl; stays = λ p. refl }
+did_quiet first_epoch first_version past a (Xadd off value) answer h = record { frames = refl; cpus = refl; slots = refl; enclaves = refl; stays = λ p. refl }
+did_quiet first_epoch first_version past a (Set value) answer h = record { frames = refl; cpus = refl; slots = refl; enclaves = refl; stays = λ p. refl }
+did_quiet first_epoch first_version past a (Plus value) answer h = record { frames = refl; cpus = refl; slots = refl; enclaves = refl; stays = λ p. refl }
+did_quiet first_epoch first_version past a (Pf op off) answer h = record { frames = refl; cpus = refl; slots = refl; enclaves = refl; stays = λ p. refl }
+did_quiet first_epoch first_version past a (OutLoad enclave off) answer h = record { frames = refl; cpus = refl; slots = refl; enclaves = refl; stays = λ p. refl }
+did_quiet first_epoch first_version past a (OutStore enclave off value) answer h = record { frames = refl; cpus = refl; slots = refl; enclaves = refl; stays = λ p. refl }
+did_quiet first_epoch first_version past a _ answer h = cc
 
--- ---- the rows that build an enclave
+-- ---- what the rows change
 
--- a version array page is put into a frame
-pub epa_columns : (s : State) (past : List Entry) (a : Actor) (f : Frame) (answer : Answer) → HasColumns s past → HasColumns (after_epa s f.0) (did_by a (Epa f) answer ∷ past)
-epa_columns s past a f answer h = record {
-  content = λ n. rw h.content refl;
-  blocked = λ n. rw h.blocked refl;
-  is_sealing = h.is_sealing;
-  epoch = h.epoch;
-  inside = h.inside;
-  noted = h.noted;
-  cache = h.cache;
-  version_in = h.version_in;
-  is_slot_busy = h.is_slot_busy;
-  next_version = h.next_version;
-  start = h.start;
-  enclaves = h.enclaves;
-  added = h.added;
-}
+-- a frame is put, and not blocked
+abbrev put : ℕ → Content → FrameColumns → FrameColumns
+put f c x = record x { content = λ n. cond (f == n) c (x.content n); blocked = λ n. cond (f == n) None (x.blocked n) }
 
--- an enclave is created, and its SECS put into a frame
-pub create_columns : (s : State) (past : List Entry) (a : Actor) (enclave : ℕ) (f : Frame) (base size : ℕ) (begun : Measure) (answer : Answer) → HasColumns s past
-    → HasColumns (after_create s enclave f.0 base size begun) (did_by a (Create enclave f base size) answer ∷ past)
-create_columns s past a enclave f base size begun answer h = record {
-  content = λ n. rw h.content refl;
-  blocked = λ n. rw h.blocked refl;
-  is_sealing = h.is_sealing;
-  epoch = h.epoch;
-  inside = h.inside;
-  noted = h.noted;
-  cache = h.cache;
-  version_in = h.version_in;
-  is_slot_busy = h.is_slot_busy;
-  next_version = h.next_version;
-  start = h.start;
-  enclaves = λ e. rw h.enclaves refl;
-  added = h.added;
-}
+-- the start of a frame
+abbrev with_start : ℕ → Option Start → FrameColumns → FrameColumns
+with_start f o x = record x { start = λ n. cond (f == n) o (x.start n) }
+
+-- whether the page in a frame is on its way out
+abbrev with_sealing : ℕ → Bool → FrameColumns → FrameColumns
+with_sealing f b x = record x { is_sealing = λ n. cond (f == n) b (x.is_sealing n) }
+
+-- a slot that is busy, or not any more
+abbrev with_busy : SlotAt → Bool → SlotColumns → SlotColumns
+with_busy slot b x = record x { is_slot_busy = λ at. cond (same_slot slot at) b (x.is_slot_busy at) }
+
+abbrev with_version : SlotAt → ℕ → SlotColumns → SlotColumns
+with_version slot version x = record x { version_in = λ at. cond (same_slot slot at) version (x.version_in at) }
 
 -- two pages are the same either way round
 same_page-swap : (a b : Page) → same_page a b ≡ same_page b a
 same_page-swap a b = rw (eqb-swap a.enclave b.enclave, eqb-swap a.number b.number) refl
 
--- a page is added to an enclave, and put into a frame
-pub add_columns : (s : State) (past : List Entry) (a : Actor) (enclave number : ℕ) (f : Frame) (kind : Kind) (perm : Perm) (init : PageInit) (longer : Measure) (answer : Answer) → HasColumns s past
-    → HasColumns (after_add s (page_at enclave number) f.0 kind perm init longer) (did_by a (Add enclave number f kind perm init) answer ∷ past)
-add_columns s past a enclave number f kind perm init longer answer h = record {
-  content = λ n. rw h.content refl;
-  blocked = λ n. rw h.blocked refl;
-  is_sealing = h.is_sealing;
-  epoch = h.epoch;
-  inside = h.inside;
-  noted = h.noted;
-  cache = h.cache;
-  version_in = h.version_in;
-  is_slot_busy = h.is_slot_busy;
-  next_version = h.next_version;
-  start = h.start;
-  enclaves = h.enclaves;
-  added = λ q. ap (λ b. cond b (Some (kind, perm)) (s.added q)) (same_page-swap q (page_at enclave number)) ∙ ap (cond (same_page (page_at enclave number) q) (Some (kind, perm))) (h.added q);
-}
-
--- an enclave is initialised
-pub init_columns : (s : State) (past : List Entry) (a : Actor) (enclave : ℕ) (expect : Option (List ℕ)) (answer : Answer) → HasColumns s past → HasColumns (after_init s enclave) (did_by a (Init enclave expect) answer ∷ past)
-init_columns s past a enclave expect answer h = record {
-  content = h.content;
-  blocked = h.blocked;
-  is_sealing = h.is_sealing;
-  epoch = h.epoch;
-  inside = h.inside;
-  noted = h.noted;
-  cache = h.cache;
-  version_in = h.version_in;
-  is_slot_busy = h.is_slot_busy;
-  next_version = h.next_version;
-  start = h.start;
-  enclaves = λ e. rw h.enclaves refl;
-  added = h.added;
-}
-
--- ---- the rows of the processors
-
--- a processor comes inside
-module _ (s : State) (past : List Entry) (p : ℕ) (seat : Seat) (h : HasColumns s past) where
-  -- where it is
-  inside-entered : (q : ℕ) → cond (p == q) (Some seat) (s.inside q) ≡ seat_of_stay (cond (p == q) (Some (stay_from past seat)) (stay past q))
-  inside-entered q = elim (p == q) as (λ b. cond b (Some seat) (s.inside q) ≡ seat_of_stay (cond b (Some (stay_from past seat)) (stay past q))) [ true ↦ refl | false ↦ h.inside q ]
-
-  -- .. the epoch that it notes
-  noted-entered : (q : ℕ) → cond (p == q) (s.epoch seat.enclave) (s.noted q)
-      ≡ noted_inside (cond (p == q) (Some (stay_from past seat)) (stay past q)) (cond (p == q) (epoch s.first_epoch past seat.enclave) (noted s.first_epoch past q))
-  noted-entered q =
-      elim (p == q) as (λ b. cond b (s.epoch seat.enclave) (s.noted q)
-      ≡ noted_inside (cond b (Some (stay_from past seat)) (stay past q)) (cond b (epoch s.first_epoch past seat.enclave) (noted s.first_epoch past q))) [
-        | true ↦ h.epoch seat.enclave
-        | false ↦ h.noted q
-      ]
-
-  -- .. and its translations
-  cache-emptied : (q : ℕ) → map pair_of (cond (p == q) [] (s.cache q)) ≡ cond (p == q) [] (translations past q)
-  cache-emptied q = elim (p == q) as (λ b. map pair_of (cond b [] (s.cache q)) ≡ cond b [] (translations past q)) [ true ↦ refl | false ↦ h.cache q ]
-
--- with any accumulator, as after `enter`
-pub enter_columns : (s : State) (past : List Entry) (p : Cpu) (enclave tcs : ℕ) (tf sf : Frame) (acc : ℕ) (answer : Answer) → HasColumns s past
-    → HasColumns (with_inside s p.0 (seat_of enclave tcs tf.0 sf.0) acc) (did_by (actors.Cpu p) (Enter enclave tcs tf sf) answer ∷ past)
-enter_columns s past p enclave tcs tf sf acc answer h = record {
-  content = h.content;
-  blocked = h.blocked;
-  is_sealing = h.is_sealing;
-  epoch = h.epoch;
-  inside = inside-entered s past p.0 (seat_of enclave tcs tf.0 sf.0) h;
-  noted = noted-entered s past p.0 (seat_of enclave tcs tf.0 sf.0) h;
-  cache = cache-emptied s past p.0 (seat_of enclave tcs tf.0 sf.0) h;
-  version_in = h.version_in;
-  is_slot_busy = h.is_slot_busy;
-  next_version = h.next_version;
-  start = h.start;
-  enclaves = h.enclaves;
-  added = h.added;
-}
-
--- .. and as after `resume`
-pub resume_columns : (s : State) (past : List Entry) (p : Cpu) (enclave tcs : ℕ) (tf sf : Frame) (acc : ℕ) (answer : Answer) → HasColumns s past
-    → HasColumns (with_inside s p.0 (seat_of enclave tcs tf.0 sf.0) acc) (did_by (actors.Cpu p) (Resume enclave tcs tf sf) answer ∷ past)
-resume_columns s past p enclave tcs tf sf acc answer h = record {
-  content = h.content;
-  blocked = h.blocked;
-  is_sealing = h.is_sealing;
-  epoch = h.epoch;
-  inside = inside-entered s past p.0 (seat_of enclave tcs tf.0 sf.0) h;
-  noted = noted-entered s past p.0 (seat_of enclave tcs tf.0 sf.0) h;
-  cache = cache-emptied s past p.0 (seat_of enclave tcs tf.0 sf.0) h;
-  version_in = h.version_in;
-  is_slot_busy = h.is_slot_busy;
-  next_version = h.next_version;
-  start = h.start;
-  enclaves = h.enclaves;
-  added = h.added;
-}
-
--- a processor leaves
-module _ (s : State) (past : List Entry) (p : ℕ) (h : HasColumns s past) where
-  -- where it is
-  inside-left : (q : ℕ) → cond (p == q) None (s.inside q) ≡ seat_of_stay (cond (p == q) None (stay past q))
-  inside-left q = elim (p == q) as (λ b. cond b None (s.inside q) ≡ seat_of_stay (cond b None (stay past q))) [ true ↦ refl | false ↦ h.inside q ]
-
-  -- .. the epoch that it noted
-  noted-left : (q : ℕ) → cond (p == q) 0 (s.noted q) ≡ noted_inside (cond (p == q) None (stay past q)) (noted s.first_epoch past q)
-  noted-left q = elim (p == q) as (λ b. cond b 0 (s.noted q) ≡ noted_inside (cond b None (stay past q)) (noted s.first_epoch past q)) [ true ↦ refl | false ↦ h.noted q ]
-
-  -- .. and its translations
-  cache-left : (q : ℕ) → map pair_of (cond (p == q) [] (s.cache q)) ≡ cond (p == q) [] (translations past q)
-  cache-left q = elim (p == q) as (λ b. map pair_of (cond b [] (s.cache q)) ≡ cond b [] (translations past q)) [ true ↦ refl | false ↦ h.cache q ]
-
--- by itself
-pub exit_columns : (s : State) (past : List Entry) (p : Cpu) (answer : Answer) → HasColumns s past → HasColumns (after_exit s p.0) (did_by (actors.Cpu p) Exit answer ∷ past)
-exit_columns s past p answer h = record {
-  content = h.content;
-  blocked = h.blocked;
-  is_sealing = h.is_sealing;
-  epoch = h.epoch;
-  inside = inside-left s past p.0 h;
-  noted = noted-left s past p.0 h;
-  cache = cache-left s past p.0 h;
-  version_in = h.version_in;
-  is_slot_busy = h.is_slot_busy;
-  next_version = h.next_version;
-  start = h.start;
-  enclaves = h.enclaves;
-  added = h.added;
-}
-
--- .. and asynchronously, but for what is saved
-leaves_columns : (s : State) (past : List Entry) (p : Cpu) (cause : Cause) (answer : Answer) → HasColumns s past → HasColumns (after_exit s p.0) (did_by (actors.Cpu p) (Aex cause) answer ∷ past)
-leaves_columns s past p cause answer h = record {
-  content = h.content;
-  blocked = h.blocked;
-  is_sealing = h.is_sealing;
-  epoch = h.epoch;
-  inside = inside-left s past p.0 h;
-  noted = noted-left s past p.0 h;
-  cache = cache-left s past p.0 h;
-  version_in = h.version_in;
-  is_slot_busy = h.is_slot_busy;
-  next_version = h.next_version;
-  start = h.start;
-  enclaves = h.enclaves;
-  added = h.added;
-}
-
--- what an asynchronous exit saves is in no column
-saved_columns : (s : State) (past : List Entry) (acc : ℕ) (o : Option Seat) → HasColumns s past → HasColumns (with_saved s acc o) past
-saved_columns s past acc None h = h
-saved_columns s past acc (Some seat) h = columns_beside s past (with_saved s acc (Some seat)).words s.acc s.measure h
-
--- a processor leaves asynchronously
-pub aex_columns : (s : State) (past : List Entry) (p : Cpu) (cause : Cause) (answer : Answer) → HasColumns s past → HasColumns (after_aex s p.0) (did_by (actors.Cpu p) (Aex cause) answer ∷ past)
-aex_columns s past p cause answer h = leaves_columns (with_saved s (s.acc p.0) (s.inside p.0)) past p cause answer (saved_columns s past (s.acc p.0) (s.inside p.0) h)
-
--- a page is among the pairs exactly where it is among the translations
-pub holds_number-pairs : (xs : List Translation) (n : ℕ) → holds_number (map pair_of xs) n ≡ is_some (translation_of xs n)
-holds_number-pairs [] n = refl
-holds_number-pairs (x ∷ xs) n = elim (x.number == n) as (λ b. (b || holds_number (map pair_of xs) n) ≡ is_some (cond b (Some x) (translation_of xs n))) [ true ↦ refl | false ↦ holds_number-pairs xs n ]
-
--- the oldest translation is the oldest pair
-drop_one-pairs : (xs : List Translation) → map pair_of (drop 1 xs) ≡ drop 1 (map pair_of xs)
-drop_one-pairs [] = refl
-drop_one-pairs (x ∷ xs) = refl
-
--- one more translation is one more pair
-pub with_translation-pairs : (xs : List Translation) (t : Translation) → map pair_of (with_translation xs t) ≡ with_pair (map pair_of xs) (pair_of t)
-with_translation-pairs xs t =
-    rw (holds_number-pairs xs t.number)
-    (elim (is_some (translation_of xs t.number)) as (λ b. map pair_of (cond b xs (newest_translations (xs ++ t ∷ []))) ≡ cond b (map pair_of xs) (newest (map pair_of xs ++ pair_of t ∷ []))) [
-      | true ↦ refl
-      | false ↦ newest-pairs (xs ++ t ∷ []) ∙ ap newest (map-append pair_of xs (t ∷ []))
-    ])
+-- a processor that comes inside notes its enclave's epoch, and holds no translation
+entered : (s : State) (past : List Entry) (p : ℕ) (seat : Seat) → HasColumns s past
+    → (let x : CpuColumns = record {
+      inside = λ q. cond (p == q) (Some seat) (s.inside q);
+      noted = λ q. cond (p == q) (s.epoch seat.enclave) (s.noted q);
+      translations = λ q. map without_perm (cond (p == q) [] (s.cache q));
+    } in x)
+    ≡ record {
+      inside = λ q. seat_of_stay (cond (p == q) (Some (stay_from past seat)) (stay past q));
+      noted = λ q. noted_inside (cond (p == q) (Some (stay_from past seat)) (stay past q)) (cond (p == q) (epoch s.first_epoch past seat.enclave) (noted s.first_epoch past q));
+      translations = λ q. cond (p == q) [] (translations past q);
+    }
+entered s past p seat h = λ i. record { inside = λ q. inside q (p == q) i; noted = λ q. notes q (p == q) i; translations = λ q. emptied q (p == q) i }
   where
-    newest-pairs : (ys : List Translation) → map pair_of (newest_translations ys) ≡ newest (map pair_of ys)
-    newest-pairs ys =
-        rw length-map
-        (elim (ltb 64 (length ys)) as (λ b. map pair_of (cond b (drop 1 ys) ys) ≡ cond b (drop 1 (map pair_of ys)) (map pair_of ys)) [ true ↦ drop_one-pairs ys | false ↦ refl ])
+    inside : (q : ℕ) (b : Bool) → cond b (Some seat) (s.inside q) ≡ seat_of_stay (cond b (Some (stay_from past seat)) (stay past q))
+    inside q true = refl
+    inside q false = inside_is h q
 
--- a processor gets one more translation
-pub fill_columns : (s : State) (past : List Entry) (p : Cpu) (t : Translation) (answer : Answer) → HasColumns s past → HasColumns (after_fill s p.0 t) (did_by (actors.Cpu p) (Fill t.number t.frame) answer ∷ past)
-fill_columns s past p t answer h = record {
-  content = h.content;
-  blocked = h.blocked;
-  is_sealing = h.is_sealing;
-  epoch = h.epoch;
-  inside = h.inside;
-  noted = h.noted;
-  cache = λ q.
-      elim (p.0 == q) as (λ b. map pair_of (cond b (with_translation (s.cache q) t) (s.cache q)) ≡ cond b (with_pair (translations past q) (pair_of t)) (translations past q)) [
-        | true ↦ with_translation-pairs (s.cache q) t ∙ ap (λ xs. with_pair xs (pair_of t)) (h.cache q)
-        | false ↦ h.cache q
-      ];
-  version_in = h.version_in;
-  is_slot_busy = h.is_slot_busy;
-  next_version = h.next_version;
-  start = h.start;
-  enclaves = h.enclaves;
-  added = h.added;
-}
+    notes : (q : ℕ) (b : Bool) → cond b (s.epoch seat.enclave) (s.noted q) ≡ noted_inside (cond b (Some (stay_from past seat)) (stay past q)) (cond b (epoch s.first_epoch past seat.enclave) (noted s.first_epoch past q))
+    notes q true = epoch_is h seat.enclave
+    notes q false = noted_is h q
 
--- ---- block and track
+    emptied : (q : ℕ) (b : Bool) → map without_perm (cond b [] (s.cache q)) ≡ cond b [] (translations past q)
+    emptied q true = refl
+    emptied q false = translations_are h q
 
--- epochs that agree for each enclave agree for the one that a frame names
-epoch_of-agrees : (a b : ℕ → ℕ) → ((e : ℕ) → a e ≡ b e) → (c : Option ℕ) → epoch_of a c ≡ epoch_of b c
-epoch_of-agrees a b h None = refl
-epoch_of-agrees a b h (Some e) = h e
+-- .. and one that leaves has noted none
+left : (s : State) (past : List Entry) (p : ℕ) → HasColumns s past
+    → (let x : CpuColumns = record { inside = λ q. cond (p == q) None (s.inside q); noted = λ q. cond (p == q) 0 (s.noted q); translations = λ q. map without_perm (cond (p == q) [] (s.cache q)) } in x)
+    ≡ record {
+      inside = λ q. seat_of_stay (cond (p == q) None (stay past q));
+      noted = λ q. noted_inside (cond (p == q) None (stay past q)) (noted s.first_epoch past q);
+      translations = λ q. cond (p == q) [] (translations past q);
+    }
+left s past p h = λ i. record { inside = λ q. inside q (p == q) i; noted = λ q. notes q (p == q) i; translations = λ q. emptied q (p == q) i }
+  where
+    inside : (q : ℕ) (b : Bool) → cond b None (s.inside q) ≡ seat_of_stay (cond b None (stay past q))
+    inside q true = refl
+    inside q false = inside_is h q
 
--- the page in a frame is blocked
-pub block_columns : (s : State) (past : List Entry) (a : Actor) (f : Frame) (answer : Answer) → HasColumns s past → HasColumns (after_block s f.0) (did_by a (Block f) answer ∷ past)
-block_columns s past a f answer h = record {
-  content = h.content;
-  blocked = λ n. rw (h.content, h.blocked, epoch_of-agrees s.epoch (epoch s.first_epoch past) h.epoch (enclave_in (content past n))) refl;
-  is_sealing = h.is_sealing;
-  epoch = h.epoch;
-  inside = h.inside;
-  noted = h.noted;
-  cache = h.cache;
-  version_in = h.version_in;
-  is_slot_busy = h.is_slot_busy;
-  next_version = h.next_version;
-  start = h.start;
-  enclaves = h.enclaves;
-  added = h.added;
-}
+    notes : (q : ℕ) (b : Bool) → cond b 0 (s.noted q) ≡ noted_inside (cond b None (stay past q)) (noted s.first_epoch past q)
+    notes q true = refl
+    notes q false = noted_is h q
 
--- an enclave is tracked
-pub track_columns : (s : State) (past : List Entry) (a : Actor) (enclave : ℕ) (answer : Answer) → HasColumns s past → HasColumns (after_track s enclave) (did_by a (Track enclave) answer ∷ past)
-track_columns s past a enclave answer h = record {
-  content = h.content;
-  blocked = h.blocked;
-  is_sealing = h.is_sealing;
-  epoch = λ e. rw h.epoch refl;
-  inside = h.inside;
-  noted = h.noted;
-  cache = h.cache;
-  version_in = h.version_in;
-  is_slot_busy = h.is_slot_busy;
-  next_version = h.next_version;
-  start = h.start;
-  enclaves = h.enclaves;
-  added = h.added;
-}
+    emptied : (q : ℕ) (b : Bool) → map without_perm (cond b [] (s.cache q)) ≡ cond b [] (translations past q)
+    emptied q true = refl
+    emptied q false = translations_are h q
 
--- ---- the starts of write-out and reload
+-- ---- the rows
 
--- a page starts to go out
-pub ewbstart_columns : (s : State) (past : List Entry) (a : Actor) (f : Frame) (slot : SlotAt) → HasColumns s past
-    → HasColumns (after_ewbstart s f.0 slot) (did_by a (EwbStart f slot) (Version s.next_version) ∷ past)
-ewbstart_columns s past a f slot h = record {
-  content = h.content;
-  blocked = h.blocked;
-  is_sealing = λ n. rw h.is_sealing refl;
-  epoch = h.epoch;
-  inside = h.inside;
-  noted = h.noted;
-  cache = h.cache;
-  version_in = h.version_in;
-  is_slot_busy = λ at. rw h.is_slot_busy refl;
-  next_version = ap (λ n. n + 1) h.next_version;
-  start = λ n. rw h.start refl;
-  enclaves = h.enclaves;
-  added = h.added;
-}
+module _ (s : State) (past : List Entry) (h : HasColumns s past) where
+  -- a version array page is put into a frame
+  pub epa_columns : (a : Actor) (f : Frame) (answer : Answer) → HasColumns (after_epa s f.0) (did_by a (Epa f) answer ∷ past)
+  epa_columns a f answer = record { frames = ap (put f.0 IsVa) h.frames; cpus = h.cpus; slots = h.slots; enclaves = h.enclaves }
 
--- a page starts to come back
-pub eldstart_columns : (s : State) (past : List Entry) (a : Actor) (f : Frame) (page : Page) (slot : SlotAt) → HasColumns s past
-    → HasColumns (after_eldstart s f.0 page slot) (did_by a (EldStart f page slot) (Version (s.version_in slot)) ∷ past)
-eldstart_columns s past a f page slot h = record {
-  content = λ n. rw h.content refl;
-  blocked = λ n. rw h.blocked refl;
-  is_sealing = h.is_sealing;
-  epoch = h.epoch;
-  inside = h.inside;
-  noted = h.noted;
-  cache = h.cache;
-  version_in = h.version_in;
-  is_slot_busy = λ at. rw h.is_slot_busy refl;
-  next_version = h.next_version;
-  start = λ n. ap (cond (f.0 == n) (Some (record { slot = slot; version = s.version_in slot; loads = Some page }))) (h.start n);
-  enclaves = h.enclaves;
-  added = h.added;
-}
+  -- an enclave is created, and its SECS put into a frame
+  pub create_columns : (a : Actor) (enclave : ℕ) (f : Frame) (base size : ℕ) (begun : Measure) (answer : Answer)
+      → HasColumns (after_create s enclave f.0 base size begun) (did_by a (Create enclave f base size) answer ∷ past)
+  create_columns a enclave f base size begun answer = record {
+    frames = ap (put f.0 (SecsOf enclave)) h.frames;
+    cpus = h.cpus;
+    slots = h.slots;
+    enclaves = λ i. record (h.enclaves i) { enclaves = λ e. cond (e == enclave) (Some (record { base = base; size = size; is_init = false })) ((h.enclaves i).enclaves e) };
+  }
+
+  -- a page is added to an enclave, and put into a frame
+  pub add_columns : (a : Actor) (enclave number : ℕ) (f : Frame) (kind : Kind) (perm : Perm) (init : PageInit) (longer : Measure) (answer : Answer)
+      → HasColumns (after_add s (page_at enclave number) f.0 kind perm init longer) (did_by a (Add enclave number f kind perm init) answer ∷ past)
+  add_columns a enclave number f kind perm init longer answer = record {
+    frames = ap (put f.0 (Holds (page_at enclave number) kind perm)) h.frames;
+    cpus = h.cpus;
+    slots = h.slots;
+    enclaves = λ i. record (h.enclaves i) { added = λ q. cond (same_page-swap q (page_at enclave number) i) (Some (kind, perm)) ((h.enclaves i).added q) };
+  }
+
+  -- an enclave is initialised
+  pub init_columns : (a : Actor) (enclave : ℕ) (expect : Option (List ℕ)) (answer : Answer) → HasColumns (after_init s enclave) (did_by a (Init enclave expect) answer ∷ past)
+  init_columns a enclave expect answer = record {
+    frames = h.frames;
+    cpus = h.cpus;
+    slots = h.slots;
+    enclaves = λ i. record (h.enclaves i) { enclaves = λ e. cond (e == enclave) (marked ((h.enclaves i).enclaves e)) ((h.enclaves i).enclaves e) };
+  }
+
+  -- a processor comes inside
+  pub enter_columns : (p : Cpu) (enclave tcs : ℕ) (tf sf : Frame) (answer : Answer) → HasColumns (after_enter s p.0 (seat_of enclave tcs tf.0 sf.0)) (did_by (actors.Cpu p) (Enter enclave tcs tf sf) answer ∷ past)
+  enter_columns p enclave tcs tf sf answer = record { frames = h.frames; cpus = entered s past p.0 (seat_of enclave tcs tf.0 sf.0) h; slots = h.slots; enclaves = h.enclaves }
+
+  -- .. again
+  pub resume_columns : (p : Cpu) (enclave tcs : ℕ) (tf sf : Frame) (answer : Answer) → HasColumns (after_resume s p.0 (seat_of enclave tcs tf.0 sf.0)) (did_by (actors.Cpu p) (Resume enclave tcs tf sf) answer ∷ past)
+  resume_columns p enclave tcs tf sf answer = record { frames = h.frames; cpus = entered s past p.0 (seat_of enclave tcs tf.0 sf.0) h; slots = h.slots; enclaves = h.enclaves }
+
+  -- a processor leaves
+  pub exit_columns : (p : Cpu) (answer : Answer) → HasColumns (after_exit s p.0) (did_by (actors.Cpu p) Exit answer ∷ past)
+  exit_columns p answer = record { frames = h.frames; cpus = left s past p.0 h; slots = h.slots; enclaves = h.enclaves }
+
+  -- .. asynchronously: what it saves is in no column
+  pub aex_columns : (p : Cpu) (cause : Cause) (answer : Answer) → HasColumns (after_aex s p.0) (did_by (actors.Cpu p) (Aex cause) answer ∷ past)
+  aex_columns p cause answer = by_seat (s.inside p.0)
+    where
+      by_seat : (o : Option Seat) → HasColumns (after_exit (with_saved s (s.acc p.0) o) p.0) (did_by (actors.Cpu p) (Aex cause) answer ∷ past)
+      by_seat None = record { frames = h.frames; cpus = left s past p.0 h; slots = h.slots; enclaves = h.enclaves }
+      by_seat (Some seat) = record { frames = h.frames; cpus = left s past p.0 h; slots = h.slots; enclaves = h.enclaves }
+
+  -- a processor gets one more translation
+  pub fill_columns : (p : Cpu) (t : Translation) (answer : Answer) → HasColumns (after_fill s p.0 t) (did_by (actors.Cpu p) (Fill t.number t.frame) answer ∷ past)
+  fill_columns p t answer = record { frames = h.frames; cpus = λ i. record (h.cpus i) { translations = λ q. filled q (p.0 == q) i }; slots = h.slots; enclaves = h.enclaves }
+    where
+      filled : (q : ℕ) (b : Bool) → map without_perm (cond b (with_translation (s.cache q) t) (s.cache q)) ≡ cond b (with_pair (translations past q) (without_perm t)) (translations past q)
+      filled q true = with_translation-map (s.cache q) t ∙ ap (λ xs. with_pair xs (without_perm t)) (translations_are h q)
+      filled q false = translations_are h q
+
+  -- the page in a frame is blocked at its enclave's epoch
+  pub block_columns : (a : Actor) (f : Frame) (answer : Answer) → HasColumns (after_block s f.0) (did_by a (Block f) answer ∷ past)
+  block_columns a f answer = record {
+    frames = λ i. record (h.frames i) { blocked = λ n. cond (f.0 == n) (Some (epoch_of (h.enclaves i).epoch (enclave_in ((h.frames i).content n)))) ((h.frames i).blocked n) };
+    cpus = h.cpus;
+    slots = h.slots;
+    enclaves = h.enclaves;
+  }
+
+  -- an enclave is tracked
+  pub track_columns : (a : Actor) (enclave : ℕ) (answer : Answer) → HasColumns (after_track s enclave) (did_by a (Track enclave) answer ∷ past)
+  track_columns a enclave answer = record {
+    frames = h.frames;
+    cpus = h.cpus;
+    slots = h.slots;
+    enclaves = λ i. record (h.enclaves i) { epoch = λ e. cond (enclave == e) ((h.enclaves i).epoch e + 1) ((h.enclaves i).epoch e) };
+  }
+
+  -- a page starts to go out
+  pub ewbstart_columns : (a : Actor) (f : Frame) (slot : SlotAt) → HasColumns (after_ewbstart s f.0 slot) (did_by a (EwbStart f slot) (Version s.next_version) ∷ past)
+  ewbstart_columns a f slot = record {
+    frames = λ i. with_sealing f.0 true (with_start f.0 (Some (record { slot = slot; version = s.next_version; loads = None })) (h.frames i));
+    cpus = h.cpus;
+    slots = λ i. record (with_busy slot true (h.slots i)) { next_version = (h.slots i).next_version + 1 };
+    enclaves = h.enclaves;
+  }
+
+  -- a page starts to come back
+  pub eldstart_columns : (a : Actor) (f : Frame) (page : Page) (slot : SlotAt) → HasColumns (after_eldstart s f.0 page slot) (did_by a (EldStart f page slot) (Version (s.version_in slot)) ∷ past)
+  eldstart_columns a f page slot = record {
+    frames = ap (λ x. put f.0 IsLoading (with_start f.0 (Some (record { slot = slot; version = s.version_in slot; loads = Some page })) x)) h.frames;
+    cpus = h.cpus;
+    slots = ap (with_busy slot true) h.slots;
+    enclaves = h.enclaves;
+  }
 
 -- ---- the commits
 
@@ -516,68 +289,47 @@ open_slot-start (e ∷ past) n = rw (open_slot-start past n) (slot-after e.event
 
 -- the slot of an open start of the machine
 slot_of_start : (s : State) (past : List Entry) (f : ℕ) (start : Start) → HasColumns s past → s.start f ≡ Some start → open_slot past f ≡ Some start.slot
-slot_of_start s past f start h is = open_slot-start past f ∙ ap slot_in (sym (h.start f) ∙ is)
+slot_of_start s past f start h is = open_slot-start past f ∙ ap slot_in (sym (start_is h f) ∙ is)
 
--- a page is out
-pub ewb_columns : (s : State) (past : List Entry) (a : Actor) (f : Frame) (start : Start) (page : Page) (tag : List ℕ) → s.start f.0 ≡ Some start → HasColumns s past
-    → HasColumns (after_ewb s f.0 start) (did_by a (Ewb f) (Moved page start.version tag) ∷ past)
-ewb_columns s past a f start page tag is h =
-    let slot : open_slot past f.0 ≡ Some start.slot = slot_of_start s past f.0 start h is in
-    record {
-      content = λ n. rw h.content refl;
-      blocked = λ n. rw h.blocked refl;
-      is_sealing = λ n. rw h.is_sealing refl;
-      epoch = h.epoch;
-      inside = h.inside;
-      noted = h.noted;
-      cache = h.cache;
-      version_in = λ at. rw (slot, h.version_in at) refl;
-      is_slot_busy = λ at. rw (slot, h.is_slot_busy at) refl;
-      next_version = h.next_version;
-      start = λ n. rw h.start refl;
-      enclaves = h.enclaves;
-      added = h.added;
-    }
+module _ (s : State) (past : List Entry) (a : Actor) (f : Frame) (start : Start) (is : s.start f.0 ≡ Some start) (h : HasColumns s past) where
+  -- the slot of the start, by the entries too
+  slot : Some start.slot ≡ open_slot past f.0
+  slot = sym (slot_of_start s past f.0 start h is)
 
--- a page is back, as what it was added
-pub eld_columns : (s : State) (past : List Entry) (a : Actor) (f : Frame) (start : Start) (page : Page) (kind : Kind) (perm : Perm) (words tag : List ℕ) → s.start f.0 ≡ Some start → s.added page ≡ Some (kind, perm) → HasColumns s past
-    → HasColumns (after_eld s f.0 start page kind perm words) (did_by a (Eld f) (Moved page start.version tag) ∷ past)
-eld_columns s past a f start page kind perm words tag is told h =
-    let slot : open_slot past f.0 ≡ Some start.slot = slot_of_start s past f.0 start h is in
-    let known : added past page ≡ Some (kind, perm) = sym (h.added page) ∙ told in
-    record {
-      content = λ n. rw (known, h.content n) refl;
-      blocked = λ n. rw h.blocked refl;
-      is_sealing = h.is_sealing;
-      epoch = h.epoch;
-      inside = h.inside;
-      noted = h.noted;
-      cache = h.cache;
-      version_in = λ at. rw (slot, h.version_in at) refl;
-      is_slot_busy = λ at. rw (slot, h.is_slot_busy at) refl;
-      next_version = h.next_version;
-      start = λ n. rw h.start refl;
-      enclaves = h.enclaves;
-      added = h.added;
-    }
+  -- it is not busy any more
+  freed : slots_of (without_start s f.0 start) ≡ record (slots_by s.first_version past) { is_slot_busy = λ at. cond (names_slot (open_slot past f.0) at) false (is_slot_busy past at) }
+  freed = λ i. record (h.slots i) { is_slot_busy = λ at. cond (names_slot (slot i) at) false ((h.slots i).is_slot_busy at) }
 
--- a load's frame held no page that was on its way out
-pub failed_eld_columns : (s : State) (past : List Entry) (a : Actor) (f : Frame) (start : Start) (why : Refusal) → s.start f.0 ≡ Some start → s.is_sealing f.0 ≡ false → HasColumns s past
-    → HasColumns (after_failed_eld s f.0 start) (refused_by a (Eld f) why ∷ past)
-failed_eld_columns s past a f start why is idle h =
-    let slot : open_slot past f.0 ≡ Some start.slot = slot_of_start s past f.0 start h is in
-    record {
-      content = λ n. rw h.content refl;
-      blocked = λ n. rw h.blocked refl;
-      is_sealing = λ n. cond_both (f.0 == n) false (s.is_sealing n) (λ v. v ≡ is_sealing past n) (λ same. sym idle ∙ ap s.is_sealing (eqb-true f.0 n same) ∙ h.is_sealing n) (λ _. h.is_sealing n);
-      epoch = h.epoch;
-      inside = h.inside;
-      noted = h.noted;
-      cache = h.cache;
-      version_in = h.version_in;
-      is_slot_busy = λ at. rw (slot, h.is_slot_busy at) refl;
-      next_version = h.next_version;
-      start = λ n. rw h.start refl;
-      enclaves = h.enclaves;
-      added = h.added;
-    }
+  -- a page is out, and its version in the slot
+  pub ewb_columns : (page : Page) (tag : List ℕ) → HasColumns (after_ewb s f.0 start) (did_by a (Ewb f) (Moved page start.version tag) ∷ past)
+  ewb_columns page tag = record {
+    frames = ap (λ x. put f.0 Free (with_sealing f.0 false (with_start f.0 None x))) h.frames;
+    cpus = h.cpus;
+    slots = λ i. record (freed i) { version_in = λ at. cond (names_slot (slot i) at) start.version ((h.slots i).version_in at) };
+    enclaves = h.enclaves;
+  }
+
+  -- a page is back, as what it was added, and no version in the slot
+  pub eld_columns : (page : Page) (kind : Kind) (perm : Perm) (words tag : List ℕ) → s.added page ≡ Some (kind, perm)
+      → HasColumns (after_eld s f.0 start page kind perm words) (did_by a (Eld f) (Moved page start.version tag) ∷ past)
+  eld_columns page kind perm words tag told = record {
+    frames = λ i. put f.0 (held i) (with_start f.0 None (h.frames i));
+    cpus = h.cpus;
+    slots = λ i. record (freed i) { version_in = λ at. cond (names_slot (slot i) at) 0 ((h.slots i).version_in at) };
+    enclaves = h.enclaves;
+  }
+    where
+      held : Holds page kind perm ≡ reloaded page (added past page)
+      held = ap (reloaded page) (sym told ∙ added_is h page)
+
+  -- a load is refused; its frame held no page that was on its way out
+  pub failed_eld_columns : (why : Refusal) → s.is_sealing f.0 ≡ false → HasColumns (after_failed_eld s f.0 start) (refused_by a (Eld f) why ∷ past)
+  failed_eld_columns why idle = record {
+    frames = λ i. record (put f.0 Free (with_start f.0 None (h.frames i))) { is_sealing = λ n. settled n i };
+    cpus = h.cpus;
+    slots = freed;
+    enclaves = h.enclaves;
+  }
+    where
+      settled : (n : ℕ) → cond (f.0 == n) false (s.is_sealing n) ≡ is_sealing past n
+      settled n = cond_both (f.0 == n) false (s.is_sealing n) (λ v. v ≡ is_sealing past n) (λ same. sym idle ∙ ap s.is_sealing (eqb-true f.0 n same) ∙ sealing_is h n) (λ _. sealing_is h n)

@@ -1,8 +1,9 @@
--- A machine whose columns are those of its entries has their shape, and what one more entry needs to follow them.
+-- A machine whose columns are those of its entries has their shape, and what one more entry needs.
 use Rattle.std.proofs.Common.{◌≡◌, ℕ, zero, suc, ◌+◌, ◌==◌, ◌&&◌, not, Bool, true, false, cond, ltb, leb, refl, sym, ap, subst, arith, ◌∙◌, Option, Some, None, IfSome, List, ◌∷◌, map}
 use Rattle.std.specs.List.{All}
 use Rattle.std.specs.Option.{IsSomeAnd}
 use Rattle.std.proofs.lemmas.List.Elements.{All-weaker, All-map}
+use Rattle.std.proofs.lemmas.Option.{IfSome_then}
 use Rattle.sgx_types.specs.declared.entries.Entry.{Entry}
 use Rattle.sgx_types.specs.declared.names.Page.{Page}
 use Rattle.sgx_types.specs.Counts.{count_below}
@@ -16,12 +17,14 @@ use Rattle.sgx_types.specs.Rules.{EvictRule, IsCurrent, IsUndisturbed, NoneStale
 use Rattle.sgx_types.proofs.CountLaws.{count_below-agrees}
 use Rattle.sgx_types.proofs.Keystone.{epochs_tell}
 use Rattle.cached_translations.specs.declared.cache.Translation.{Translation}
+use Rattle.paging_laws.specs.Columns.{HasColumns, noted_inside, without_perm, seat_of_stay}
 use Rattle.paging_laws.specs.Guarded.{IsGuarded, IsTakenIn}
-use Rattle.paging_laws.specs.Shape.{Making, making_of, noted_inside, HasColumns, IsShaped, Follows}
-use Rattle.paging_laws.specs.Stands.{IsTranslation, IsSound, pair_of, seat_of_stay}
+use Rattle.paging_laws.specs.Shape.{Making, making_of, IsShaped, ShapeWithRules}
+use Rattle.paging_laws.specs.Stands.{IsTranslation, IsSound}
 use Rattle.paging_laws.specs.State.{State, is_noting, number_noting, has_passed}
-use Rattle.paging_laws.proofs.Tools.{last_place}
-use Rattle.paging_laws.proofs.Carry.{seat_at, same_page-refl, IsHeld, held_of}
+use Rattle.paging_laws.proofs.TestLaws.{last_place, same_page-refl}
+use Rattle.paging_laws.proofs.ColumnLaws.{content_is, blocked_is, sealing_is, inside_is, noted_is, translations_are, epoch_is}
+use Rattle.paging_laws.proofs.SoundLaws.{seat_at}
 
 -- ---- how many processors inside are older, and how many newer
 
@@ -37,7 +40,7 @@ count_below-splits p q r h (suc n) = let now = h n in let rest = count_below-spl
 
 -- the machine's processors have noted what the entries say
 pub noting_agrees : (s : State) (past : List Entry) → HasColumns s past → (enclave : ℕ) (test : ℕ → Bool) → number_noting s enclave test ≡ number_noting_by s.first_epoch past enclave test
-noting_agrees s past h enclave test = count_below-agrees _ _ (λ p. rw (h.inside p, h.noted p) (by_stay (noted s.first_epoch past p) (stay past p))) 16
+noting_agrees s past h enclave test = count_below-agrees _ _ (λ p. rw (inside_is h p, noted_is h p) (by_stay (noted s.first_epoch past p) (stay past p))) 16
   where
     by_stay : (m : ℕ) (o : Option Stay) → is_noting enclave test (seat_of_stay o) (noted_inside o m) ≡ notes enclave test m o
     by_stay m None = refl
@@ -46,7 +49,7 @@ noting_agrees s past h enclave test = count_below-agrees _ _ (λ p. rw (h.inside
 -- as many are older than the last track, by epochs and by places
 pub older_agrees : (s : State) (past : List Entry) → HasColumns s past → (e : ℕ) → number_noting s e (λ m. ltb m (s.epoch e)) ≡ older_at past e
 older_agrees s past h e =
-    rw (h.epoch e) (noting_agrees s past h e (λ m. ltb m (epoch s.first_epoch past e)) ∙ sym ((epochs_tell s.first_epoch past).older e))
+    rw (epoch_is h e) (noting_agrees s past h e (λ m. ltb m (epoch s.first_epoch past e)) ∙ sym ((epochs_tell s.first_epoch past).older e))
 
 -- what passes one test passes one of two that share it out
 one_of_two : (b c : Bool) → one_if (b && c) + one_if (b && not c) ≡ one_if (b && true)
@@ -88,13 +91,13 @@ newer_agrees s past h e = omega (arith, by_epochs, by_places, all_agree, older_a
     in_it (Some t) m = and_true (t.seat.enclave == e)
 
     all_agree : number_noting s e (λ m. true) ≡ count_below (λ p. is_in e (stay past p)) 16
-    all_agree = count_below-agrees _ _ (λ p. rw (h.inside p) (in_it (stay past p) (s.noted p))) 16
+    all_agree = count_below-agrees _ _ (λ p. rw (inside_is h p) (in_it (stay past p) (s.noted p))) 16
 
 -- ---- who is inside by a TCS page
 
 -- a processor that is inside by a TCS page is so by the entries
 taken_by : (s : State) (past : List Entry) (g : Page) → HasColumns s past → IsTakenIn s g → IsTaken past g
-taken_by s past g h k = record { cpu = k.cpu; by = by_stay (stay past k.cpu) (rw (h.inside k.cpu) at k.by) }
+taken_by s past g h k = record { cpu = k.cpu; by = by_stay (stay past k.cpu) (rw (inside_is h k.cpu) at k.by) }
   where
     by_stay : (o : Option Stay) → IsSomeAnd (seat_of_stay o) (λ seat. page_at seat.enclave seat.tcs ≡ g) → IsSomeAnd o (λ t. page_at t.seat.enclave t.seat.tcs ≡ g)
     by_stay None by = by
@@ -102,7 +105,7 @@ taken_by s past g h k = record { cpu = k.cpu; by = by_stay (stay past k.cpu) (rw
 
 -- .. and the page is busy
 busy_by : (s : State) (past : List Entry) (g : Page) → HasColumns s past → IsSound s → IsTaken past g → s.is_busy g ≡ true
-busy_by s past g h sound k = by_stay (stay past k.cpu) k.by (rw (h.inside k.cpu) at (sound.busy k.cpu))
+busy_by s past g h sound k = by_stay (stay past k.cpu) k.by (rw (inside_is h k.cpu) at (sound.busy k.cpu))
   where
     by_stay : (o : Option Stay) → IsSomeAnd o (λ t. page_at t.seat.enclave t.seat.tcs ≡ g) → IfSome (seat_of_stay o) (λ seat. s.is_busy (page_at seat.enclave seat.tcs) ≡ true) → s.is_busy g ≡ true
     by_stay None by busy = absurd by
@@ -120,44 +123,48 @@ shaped_by s past h sound guarded = record {
 
 -- ---- no translation is stale
 
+-- what a processor's two frames held at its entry they hold still
+abbrev pub IsHeld : List Entry → Type 0
+IsHeld past = (p : ℕ) → IfSome (stay past p) (λ t. (content past t.seat.tcs_frame ≡ t.tcs_held) × (content past t.seat.ssa_frame ≡ t.ssa_held))
+
 -- a sound machine with the columns of its entries shows that no translation is stale
 pub none_stale_by : (s : State) (past : List Entry) → HasColumns s past → IsSound s → IsHeld past → NoneStale past
 none_stale_by s past h sound held p = by_stay (stay past p) refl (held p)
   where
     current : (enclave : ℕ) (xs : List Translation) → All (λ x. IsTranslation enclave x (s.content x.frame.0) (s.is_sealing x.frame.0)) xs
-        → All (λ x. IsCurrent enclave x (content past x.frame) (is_sealing past x.frame)) (map pair_of xs)
+        → All (λ x. IsCurrent enclave x (content past x.frame) (is_sealing past x.frame)) (map without_perm xs)
     current enclave xs k =
-        All-map (λ x. IsCurrent enclave x (content past x.frame) (is_sealing past x.frame)) pair_of xs
+        All-map (λ x. IsCurrent enclave x (content past x.frame) (is_sealing past x.frame)) without_perm xs
         (All-weaker
         (λ x. IsTranslation enclave x (s.content x.frame.0) (s.is_sealing x.frame.0))
-        (λ x. IsCurrent enclave (pair_of x) (content past x.frame.0) (is_sealing past x.frame.0))
+        (λ x. IsCurrent enclave (without_perm x) (content past x.frame.0) (is_sealing past x.frame.0))
         (λ x i. record {
-          page = rw (sym (h.content x.frame.0) ∙ i.page) (same_page-refl enclave x.number);
-          settled = sym (h.is_sealing x.frame.0) ∙ i.settled;
+          page = rw (sym (content_is h x.frame.0) ∙ i.page) (same_page-refl enclave x.number);
+          settled = sym (sealing_is h x.frame.0) ∙ i.settled;
         })
         xs k)
 
     by_stay : (o : Option Stay) → stay past p ≡ o → IfSome o (λ t. (content past t.seat.tcs_frame ≡ t.tcs_held) × (content past t.seat.ssa_frame ≡ t.ssa_held)) → IfSome o (IsUndisturbed past p)
     by_stay None e k = tt
     by_stay (Some t) e k =
-        let is : s.inside p ≡ Some t.seat = rw (h.inside p, e) refl in
+        let is : s.inside p ≡ Some t.seat = rw (inside_is h p, e) refl in
         let seat = seat_at s sound p t.seat is in
         record {
-          tcs = record { held = k.0; settled = sym (h.is_sealing t.seat.tcs_frame) ∙ seat.tcs.settled };
-          ssa = record { held = k.1; settled = sym (h.is_sealing t.seat.ssa_frame) ∙ seat.ssa.settled };
-          translations = rw (← h.cache p) (current t.seat.enclave (s.cache p) seat.cache);
+          tcs = record { held = k.0; settled = sym (sealing_is h t.seat.tcs_frame) ∙ seat.tcs.settled };
+          ssa = record { held = k.1; settled = sym (sealing_is h t.seat.ssa_frame) ∙ seat.ssa.settled };
+          translations = rw (← translations_are h p) (current t.seat.enclave (s.cache p) seat.cache);
         }
 
 -- ---- which pages are drained
 
 -- what the row of EWB's start sees is drained exactly where the entries say so
 pub drained_by : (s : State) (past : List Entry) → HasColumns s past → (n : ℕ) → has_passed s (enclave_in (s.content n)) (s.blocked n) ≡ is_drained past n
-drained_by s past h n = rw (h.content n, h.blocked n) (by_block (enclave_in (content past n)) (block_epoch s.first_epoch past n) ∙ sym ((epochs_tell s.first_epoch past).drained n))
+drained_by s past h n = rw (content_is h n, blocked_is h n) (by_block (enclave_in (content past n)) (block_epoch s.first_epoch past n) ∙ sym ((epochs_tell s.first_epoch past).drained n))
   where
     by_block : (c b : Option ℕ) → has_passed s c b ≡ passed_block s.first_epoch past c b
     by_block None b = refl
     by_block (Some enclave) None = refl
-    by_block (Some enclave) (Some b) = rw (h.epoch enclave, noting_agrees s past h enclave (λ m. leb m b)) refl
+    by_block (Some enclave) (Some b) = rw (epoch_is h enclave, noting_agrees s past h enclave (λ m. leb m b)) refl
 
 -- ---- one entry more
 
@@ -171,12 +178,12 @@ pub record IsNextTo (s t : State) (past : List Entry) (e : Entry) : Type 0 where
   pub rising : RisingRule s.first_version past e
 
 -- the frames that processors use hold what they held at their entries
-pub held_by : (made : Making) (s : State) (past : List Entry) → Follows made s past → IsHeld past
-held_by made s past h = held_of past (last_place NoneStale past h.stale.places)
+pub held_by : (made : Making) (s : State) (past : List Entry) → ShapeWithRules made s past → IsHeld past
+held_by made s past h p = IfSome_then (stay past p) (last_place NoneStale past h.stale.places p) (λ t k. (k.tcs.held, k.ssa.held))
 
--- a machine that follows its entries follows one more
-pub follows_more : (made : Making) (s t : State) (past : List Entry) (e : Entry) → IsSound t → IsGuarded t → Follows made s past → IsNextTo s t past e → Follows made t (e ∷ past)
-follows_more made s t past e sound guarded h next =
+-- a machine that has the shape of its entries comes to that of one more
+pub shaped_more : (made : Making) (s t : State) (past : List Entry) (e : Entry) → IsSound t → IsGuarded t → ShapeWithRules made s past → IsNextTo s t past e → ShapeWithRules made t (e ∷ past)
+shaped_more made s t past e sound guarded h next =
     let shape = shaped_by t (e ∷ past) next.columns sound guarded in
     record {
       shape = record { making = next.making ∙ h.shape.making; columns = shape.columns; older = shape.older; newer = shape.newer; busy = shape.busy };

@@ -9,9 +9,11 @@ use Rattle.sgx_types.specs.Table.{is_reg}
 use Rattle.cached_translations.specs.declared.cache.Translation.{Translation}
 use Rattle.paging_laws.specs.State.{State, with_content, with_inside, rewritten, after_exit, is_seated_by}
 use Rattle.paging_laws.specs.Stands.{IsUsable, IsTranslation, IsSeated, AreByOneTcs, IsSound}
-use Rattle.paging_laws.proofs.Tools.{apart, each_there, each_there_at, equal, same_pages}
-use Rattle.paging_laws.proofs.Carry.{seat_at, same_page-refl}
+use Rattle.paging_laws.proofs.TestLaws.{apart, each_there, each_there_at, equal, same_page-refl, same_pages}
 use Rattle.paging_laws.proofs.Contents.{one_page, tcs_no_reg}
+
+pub seat_at : (s : State) → IsSound s → (p : ℕ) (seat : Seat) → s.inside p ≡ Some seat → IsSeated s.content s.is_sealing s.words (s.cache p) seat
+seat_at s sound p seat is = rw is at (sound.seated p)
 
 -- the TCS page of a seat
 abbrev pub tcs_of : Seat → Page

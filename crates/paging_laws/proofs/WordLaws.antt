@@ -5,32 +5,26 @@ use Rattle.std.proofs.lemmas.List.{get_or-set_same, get_or-set_other, length-set
 use Rattle.sgx_types.specs.declared.entries.PageInit.{PageInit}
 use Rattle.sgx_types.specs.declared.entries.PageInit.TheVariants as inits
 use Rattle.sgx_types.specs.declared.names.Page.{Page}
-use Rattle.sgx_types.specs.declared.names.Kind.{Kind}
-use Rattle.sgx_types.specs.declared.names.Perm.{Perm}
 use Rattle.sgx_types.specs.Frames.{Content, Holds, is_page, same_page}
 use Rattle.sgx_types.specs.Flat.{FlatMemory, FlatPage, added_as, first_words, tcs_fields, with_cssa, with_words}
 use Rattle.sgx_types.specs.Flat.{rewritten as rewritten_page}
 use Rattle.sgx_types.specs.declared.entries.Entry.{Entry}
 use Rattle.sgx_types.specs.Rules.{NoPageTwice}
 use Rattle.paging_laws.specs.State.{State, rewritten}
-use Rattle.paging_laws.specs.Stands.{Stands}
-use Rattle.paging_laws.proofs.Tools.{equal, same_pages}
-use Rattle.paging_laws.proofs.Carry.{same_page-refl}
-
--- a frame that holds a page has that page's words
-abbrev pub HoldsWords : (ℕ → Content) → (ℕ → List ℕ) → FlatMemory → Type 0
-HoldsWords content words m = (n : ℕ) (g : Page) (kind : Kind) (perm : Perm) → content n ≡ Holds g kind perm → m.pages g ≡ Some (record { kind = kind; perm = perm; words = words n })
+use Rattle.paging_laws.specs.Stands.{HasWords, Shows, Stands, enclaves_flat}
+use Rattle.paging_laws.proofs.TestLaws.{equal, same_pages, same_page-refl}
+use Rattle.paging_laws.proofs.ColumnLaws.{content_is}
 
 -- no page stands in two frames
 abbrev pub IsOnce : (ℕ → Content) → Type 0
 IsOnce content = (m n : ℕ) (g : Page) → is_page (content m) g ≡ true → is_page (content n) g ≡ true → m ≡ n
 
 pub once_in_state : (s : State) (past : List Entry) → Stands s past → NoPageTwice past → IsOnce s.content
-once_in_state s past stands once m n g at_m at_n = once m n g (rw (← stands.content m) at_m) (rw (← stands.content n) at_n)
+once_in_state s past stands once m n g at_m at_n = once m n g (rw (← content_is stands.columns m) at_m) (rw (← content_is stands.columns n) at_n)
 
 -- a page's words are changed, in its frame and in flat memory
-pub words_changed : (content : ℕ → Content) (words : ℕ → List ℕ) (m : FlatMemory) (f : ℕ) (g : Page) (change : List ℕ → List ℕ) → HoldsWords content words m → IsOnce content → is_page (content f) g ≡ true
-    → HoldsWords content (rewritten words f change) (with_words m g change)
+pub words_changed : (content : ℕ → Content) (words : ℕ → List ℕ) (m : FlatMemory) (f : ℕ) (g : Page) (change : List ℕ → List ℕ) → HasWords content words m → IsOnce content → is_page (content f) g ≡ true
+    → HasWords content (rewritten words f change) (with_words m g change)
 words_changed content words m f g change holds once there n q kind perm at = by_frame (f == n) refl
   where
     here : f ≡ n → same_page q g ≡ true
@@ -59,6 +53,19 @@ added-changed m g change q = by_page (same_page q g) (m.pages q)
     by_page false o = refl
     by_page true None = refl
     by_page true (Some p) = refl
+
+enclaves-changed : (m : FlatMemory) (g : Page) (change : List ℕ → List ℕ) → enclaves_flat (with_words m g change) ≡ enclaves_flat m
+enclaves-changed m g change = λ i. record { enclaves = m.enclaves; added = λ q. added-changed m g change q i; is_busy = m.is_busy }
+
+-- .. so that a state and flat memory in which they are changed show the same
+pub shows_changed : (s : State) (past : List Entry) (m : FlatMemory) (f : ℕ) (g : Page) (change : List ℕ → List ℕ) → Shows s past m → IsOnce s.content → is_page (s.content f) g ≡ true
+    → Shows (record s { words = rewritten s.words f change }) past (with_words m g change)
+shows_changed s past m f g change k once here = record {
+  enclaves = k.enclaves ∙ sym (enclaves-changed m g change);
+  cpus = k.cpus;
+  words = words_changed s.content s.words m f g change k.words once here;
+  measure = k.measure;
+}
 
 -- ---- the fields of a TCS page with another CSSA
 

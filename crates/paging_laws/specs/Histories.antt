@@ -20,8 +20,8 @@ use Rattle.page_history.specs.Fresh.{FreshRule}
 use Rattle.page_history.specs.Moves.{MovesRule, Numbers}
 use Rattle.page_history.specs.Once.{IsMade}
 use Rattle.page_history.specs.Records.{SealedRule, made_by, made_with, page_bytes}
-use Rattle.paging_laws.specs.Shape.{Follows, Making}
-use Rattle.paging_laws.specs.Stands.{Upholds}
+use Rattle.paging_laws.specs.Shape.{ShapeWithRules, Making}
+use Rattle.paging_laws.specs.Stands.{StandsWithRules}
 use Rattle.paging_laws.specs.State.{State}
 
 abbrev pub numbers_of : Making → Numbers
@@ -40,10 +40,10 @@ pub record HasBytes (key : List ℕ) (past : List Entry) (g : Page) (under : ℕ
 abbrev pub OutsideBytes : List ℕ → List Entry → Type 0
 OutsideBytes key past = (g : Page) (slot : SlotAt) (v : ℕ) → copy past g ≡ Some (InSlot slot v) → (one : Made) × HasBytes key past g v one
 
-pub record UpholdsAll (made : Making) (s : State) (past : List Entry) (given : List Made) : Type 0 where
+pub record StandsWithAllRules (made : Making) (s : State) (past : List Entry) (given : List Made) : Type 0 where
   pub positive : 1 ≤ made.first_version
-  pub follows : Follows made s past
-  pub upheld : Upholds s past
+  pub shaped : ShapeWithRules made s past
+  pub standing : StandsWithRules s past
   pub moves : Along (MovesRule (numbers_of made)) past
   pub fresh : Along (FreshRule made.first_version) past
   pub sealed : Along (SealedRule made.key) past

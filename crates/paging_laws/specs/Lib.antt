@@ -1,4 +1,5 @@
 pub mod State
+pub mod Columns
 pub mod Stands
 pub mod Steps
 pub mod Guarded

@@ -1,6 +1,5 @@
--- The machine's state is what the entries make it, column by column and without a bound: beyond the last frame, enclave
--- or processor there is nothing on either side.
-use Rattle.std.specs.Prelude.{ℕ, ◌≡◌, ◌+◌, Bool, true, false, List, [], Option, Some, None, IfSome, is_some, length, map}
+-- The machine's state is what the entries make it, with the flat memory and the measurement logs that they make.
+use Rattle.std.specs.Prelude.{ℕ, ◌≡◌, ◌+◌, Bool, true, false, List, [], Option, Some, None, IfSome, is_some, length}
 use Rattle.std.specs.List.{All}
 use Rattle.std.specs.Option.{IsSomeAnd}
 use Rattle.sgx_types.specs.declared.entries.Entry.{Entry}
@@ -8,53 +7,60 @@ use Rattle.sgx_types.specs.declared.names.Page.{Page}
 use Rattle.sgx_types.specs.declared.names.Kind.{Kind}
 use Rattle.sgx_types.specs.declared.names.Kind.TheVariants as kinds
 use Rattle.sgx_types.specs.declared.names.Perm.{Perm}
-use Rattle.sgx_types.specs.Frames.{Content, Holds, content, is_blocked, is_sealing, enclave_in, is_page, page_at}
-use Rattle.sgx_types.specs.Processors.{Seat, Stay, stay, Pair, translations}
+use Rattle.sgx_types.specs.Frames.{Content, Holds, content, enclave_in, is_page, page_at}
+use Rattle.sgx_types.specs.Processors.{Seat, Stay, stay}
 use Rattle.sgx_types.specs.Table.{TcsSight, is_reg, is_tcs}
-use Rattle.sgx_types.specs.Flat.{FlatEnclave, FlatMemory, Inside, added_as, flat, tcs_fields}
+use Rattle.sgx_types.specs.Flat.{FlatCpu, FlatEnclave, FlatMemory, Inside, added_as, flat, tcs_fields}
 use Rattle.sgx_types.specs.Rules.{Along, KeepsRules}
 use Rattle.measure_log.specs.declared.measure.Measure.{Measure}
 use Rattle.measure_log.specs.Measure.{HoldsLog}
 use Rattle.measure_log.specs.Rule.{log, MeasureRule}
 use Rattle.cached_translations.specs.declared.cache.Translation.{Translation}
+use Rattle.paging_laws.specs.Columns.{HasColumns}
 use Rattle.paging_laws.specs.State.{State}
-
-abbrev pub seat_of_stay : Option Stay → Option Seat
-seat_of_stay None = None
-seat_of_stay (Some t) = Some t.seat
 
 abbrev pub inside_of_stay : Option Stay → Option Inside
 inside_of_stay None = None
 inside_of_stay (Some t) = Some (record { enclave = t.seat.enclave; tcs = t.seat.tcs })
-
-abbrev pub pair_of : Translation → Pair
-pair_of t = record { number = t.number; frame = t.frame.0 }
 
 -- a created enclave's measurement has taken in its log, and one that was not created has no log
 abbrev pub IsMeasuring : Option FlatEnclave → Option Measure → List ℕ → Type 0
 IsMeasuring None measure log = log ≡ []
 IsMeasuring (Some x) measure log = IsSomeAnd measure (λ m. HoldsLog m log)
 
--- .. with the flat memory that the entries make
-pub record StandsBy (s : State) (past : List Entry) (m : FlatMemory) : Type 0 where
-  pub content : (n : ℕ) → s.content n ≡ content past n
-  pub is_blocked : (n : ℕ) → is_some (s.blocked n) ≡ is_blocked past n
-  pub is_sealing : (n : ℕ) → s.is_sealing n ≡ is_sealing past n
-  pub enclaves : (e : ℕ) → s.enclaves e ≡ m.enclaves e
-  pub added : (g : Page) → s.added g ≡ added_as (m.pages g)
-  pub is_busy : (g : Page) → s.is_busy g ≡ m.is_busy g
-  pub measure : (e : ℕ) → IsMeasuring (s.enclaves e) (s.measure e) (log past e)
-  pub inside : (p : ℕ) → s.inside p ≡ seat_of_stay (stay past p)
-  pub acc : (p : ℕ) → s.acc p ≡ (m.cpus p).acc
-  pub cache : (p : ℕ) → map pair_of (s.cache p) ≡ translations past p
-  -- a frame that holds a page has that page's flat words
-  pub words : (n : ℕ) (g : Page) (kind : Kind) (perm : Perm) → s.content n ≡ Holds g kind perm
-      → m.pages g ≡ Some (record { kind = kind; perm = perm; words = s.words n })
-  -- flat memory has each processor where the entries have it
-  pub flat_inside : (p : ℕ) → (m.cpus p).inside ≡ inside_of_stay (stay past p)
+-- ---- what flat memory has
 
-abbrev pub Stands : State → List Entry → Type 0
-Stands s past = StandsBy s past (flat past)
+-- the enclaves, what their pages were added as, and which TCS pages are busy
+pub record EnclavesSeen : Type 0 where
+  pub enclaves : ℕ → Option FlatEnclave
+  pub added : Page → Option (Kind × Perm)
+  pub is_busy : Page → Bool
+
+abbrev pub enclaves_seen : State → EnclavesSeen
+enclaves_seen s = record { enclaves = s.enclaves; added = s.added; is_busy = s.is_busy }
+
+abbrev pub enclaves_flat : FlatMemory → EnclavesSeen
+enclaves_flat m = record { enclaves = m.enclaves; added = λ g. added_as (m.pages g); is_busy = m.is_busy }
+
+-- a processor of flat memory: where the entries have it, with the accumulator that the state has
+abbrev pub cpu_shown : State → List Entry → ℕ → FlatCpu
+cpu_shown s past p = record { inside = inside_of_stay (stay past p); acc = s.acc p }
+
+-- frames that hold pages have these pages' flat words
+abbrev pub HasWords : (ℕ → Content) → (ℕ → List ℕ) → FlatMemory → Type 0
+HasWords content words m = (n : ℕ) (g : Page) (kind : Kind) (perm : Perm) → content n ≡ Holds g kind perm → m.pages g ≡ Some (record { kind = kind; perm = perm; words = words n })
+
+-- flat memory has what the state has, and the measurements have taken in the logs
+pub record Shows (s : State) (past : List Entry) (m : FlatMemory) : Type 0 where
+  pub enclaves : enclaves_seen s ≡ enclaves_flat m
+  pub cpus : (p : ℕ) → m.cpus p ≡ cpu_shown s past p
+  pub words : HasWords s.content s.words m
+  pub measure : (e : ℕ) → IsMeasuring (s.enclaves e) (s.measure e) (log past e)
+
+-- the state stands for the entries, with the flat memory that they make
+pub record Stands (s : State) (past : List Entry) : Type 0 where
+  pub columns : HasColumns s past
+  pub memory : Shows s past (flat past)
 
 -- ---- what every state keeps
 
@@ -104,7 +110,7 @@ abbrev pub IsFramed : State → Type 0
 IsFramed s = (n : ℕ) (g : Page) (kind : Kind) (perm : Perm) → s.content n ≡ Holds g kind perm → is_some (s.added g) ≡ true
 
 -- a state that stands for entries which keep the rules
-pub record Upholds (s : State) (past : List Entry) : Type 0 where
+pub record StandsWithRules (s : State) (past : List Entry) : Type 0 where
   pub stands : Stands s past
   pub rules : KeepsRules s.frames past
   pub measure : Along MeasureRule past

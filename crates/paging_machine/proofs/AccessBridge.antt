@@ -26,17 +26,19 @@ use Rattle.paging_laws.specs.Stands.{IsTranslation, IsSound}
 use Rattle.paging_laws.specs.Steps.{no_perm}
 use Rattle.paging_machine.specs.Parts.{Parts, cpu_at, seat_of_mode, state_of}
 use Rattle.paging_machine.specs.Whole.{IsWithin, IsWhole, parts_of}
-use Rattle.paging_laws.proofs.Tools.{none_holds}
-use Rattle.paging_laws.proofs.Carry.{seat_at}
+use Rattle.paging_laws.proofs.TestLaws.{none_holds}
+use Rattle.paging_laws.proofs.SoundLaws.{seat_at}
 use Rattle.paging_laws.proofs.SoundLaws.{sound-written}
-use Rattle.paging_laws.proofs.AccessLaws.{All-with_translation, fill_within, found_there, sound-fill}
+use Rattle.paging_laws.proofs.AccessLaws.{fill_within, sound-fill}
 use Rattle.paging_laws.proofs.RegisterLaws.{sound-acc}
-use Rattle.paging_laws.proofs.StepLaws.{fill_perm}
-use Rattle.paging_laws.proofs.GuardLaws.{guarded_fill, guarded_acc, guarded_words}
-use Rattle.paging_machine.proofs.Keeping.{IsKept}
+use Rattle.paging_laws.proofs.AccessLaws.{fill_perm}
+use Rattle.paging_laws.proofs.GuardLaws.{guarded_acc, guarded_words}
+use Rattle.paging_machine.proofs.KeptStates.{IsKept}
 use Rattle.paging_machine.proofs.ProcessorBridge.{is_some-mode, enclave-mode, words_state, fill_state, acc_state}
 use Rattle.paging_machine.proofs.TrackLaws.{tracked_same}
-use Rattle.paging_machine.proofs.Wholes.{Leaves, kept_of}
+use Rattle.paging_machine.proofs.WholeMachines.{Leaves, kept_of}
+use Rattle.paging_laws.proofs.TranslationLaws.{All-with_translation, found_there}
+use Rattle.paging_laws.proofs.GuardCpus.{guarded_fill}
 
 -- ---- what the rows keep
 

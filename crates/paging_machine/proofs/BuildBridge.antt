@@ -38,7 +38,7 @@ use Rattle.paging_laws.specs.Guarded.{IsPaged}
 use Rattle.paging_laws.specs.State.{after_epa, after_create, after_add, after_extend, after_init}
 use Rattle.paging_machine.specs.Parts.{Parts, enclave_of, added_in, is_busy_in, state_of}
 use Rattle.paging_machine.specs.Whole.{IsSecsOf, IsTable}
-use Rattle.paging_laws.proofs.Tools.{none_holds, neither, not_false, both_true, none_there}
+use Rattle.paging_laws.proofs.TestLaws.{none_holds, neither, not_false, both_true, none_there}
 use Rattle.paging_machine.proofs.Columns.{like, through, same_at, numbered, enclave_column, enclave_kept, page_column, measure_set}
 use Rattle.paging_laws.proofs.BuildLaws.{is_free_frame}
 

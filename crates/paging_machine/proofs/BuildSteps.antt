@@ -36,9 +36,9 @@ use Rattle.paging_machine.specs.Parts.{Parts, enclave_of, added_in, state_of}
 use Rattle.paging_machine.specs.Whole.{IsTable, IsWhole, parts_of}
 use Rattle.paging_laws.specs.Steps.{IsStep, IsExtended, IsJudged, refused_by}
 use Rattle.paging_machine.proofs.Columns.{get_or-default, numbered}
-use Rattle.paging_machine.proofs.Keeping.{kept_put}
+use Rattle.paging_machine.proofs.KeptStates.{kept_put}
 use Rattle.paging_machine.proofs.BuildBridge.{Takes, epa_state, adds, add_state, extend_state}
-use Rattle.paging_machine.proofs.Wholes.{Leaves, kept_of, done_step, refused_step}
+use Rattle.paging_machine.proofs.WholeMachines.{Leaves, kept_of, done_step, refused_step}
 
 -- an enclave that is there has a place for its measurement
 pub measure_place : (d : Parts) (e : ℕ) (x : SecsState) → IsTable d.secs → enclave_at d.secs e ≡ Some x → length d.measures ≡ 9 → e < length d.measures

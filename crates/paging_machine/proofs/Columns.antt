@@ -9,7 +9,7 @@ use Rattle.secs_state.specs.Secs.{SecsState}
 use Rattle.secs_state.specs.Table.{enclave_at, with_enclave}
 use Rattle.secs_state.proofs.Columns.{enclave_at-with_enclave}
 use Rattle.paging_machine.specs.Whole.{IsSecsOf, IsTable}
-use Rattle.paging_laws.proofs.Tools.{eqb-swap}
+use Rattle.paging_laws.proofs.TestLaws.{eqb-swap}
 
 -- ---- lists
 

@@ -43,10 +43,10 @@ use Rattle.paging_laws.specs.State.{State, after_ewb, after_eld, after_failed_el
 use Rattle.paging_machine.specs.Parts.{Parts, enclave_of, added_in, start_of, state_of}
 use Rattle.paging_laws.specs.Steps.{SealsPage, IsWrittenOut, IsComing, IsReloaded, commit_row, did_by, refused_by}
 use Rattle.paging_machine.specs.Whole.{IsWhole, parts_of}
-use Rattle.paging_machine.proofs.Keeping.{kept_ewb, kept_eld, kept_failed_eld}
+use Rattle.paging_machine.proofs.KeptStates.{kept_ewb, kept_eld, kept_failed_eld}
 use Rattle.paging_machine.proofs.PagingSights.{added_same}
 use Rattle.paging_machine.proofs.PagingBridge.{IsWritable, written_parts, failed_parts, loaded_parts, ewb_state, failed_state, eld_state, table_ended, pages_ended, pages_marked, slots_marked}
-use Rattle.paging_machine.proofs.Wholes.{Leaves, kept_of, done_step, refused_step}
+use Rattle.paging_machine.proofs.WholeMachines.{Leaves, kept_of, done_step, refused_step}
 
 -- ---- the frame and the slot of a start
 

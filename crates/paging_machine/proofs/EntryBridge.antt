@@ -33,16 +33,16 @@ use Rattle.paging_laws.specs.Guarded.{IsGuarded}
 use Rattle.paging_laws.specs.Stands.{IsUsable, IsSound}
 use Rattle.paging_machine.specs.Parts.{Parts, cpu_at, enclave_of, is_busy_in, seat_of_mode, state_of}
 use Rattle.paging_machine.specs.Whole.{IsWithin, IsWhole, parts_of}
-use Rattle.paging_laws.proofs.Tools.{not_false}
-use Rattle.paging_laws.proofs.Carry.{seat_at}
+use Rattle.paging_laws.proofs.TestLaws.{not_false}
+use Rattle.paging_laws.proofs.SoundLaws.{seat_at}
 use Rattle.paging_machine.proofs.Columns.{numbered, table_written}
 use Rattle.paging_laws.proofs.EntryLaws.{enters, enter_saves, enter_saved, resume_saves, resume_saved, sound-enter, sound-resume}
 use Rattle.paging_laws.proofs.ExitLaws.{sound-exit, sound-aex}
-use Rattle.paging_laws.proofs.GuardLaws.{guarded_enter, guarded_resume, guarded_exit, guarded_aex}
-use Rattle.paging_machine.proofs.Keeping.{IsKept}
+use Rattle.paging_machine.proofs.KeptStates.{IsKept}
 use Rattle.paging_machine.proofs.ProcessorBridge.{is_some-mode, free_past, page_added, added_there, seat_added, words_state, inside_state, exit_state, marked_own}
 use Rattle.paging_machine.proofs.TrackLaws.{tracked_entered, tracked_left, counted}
-use Rattle.paging_machine.proofs.Wholes.{Leaves, kept_of}
+use Rattle.paging_machine.proofs.WholeMachines.{Leaves, kept_of}
+use Rattle.paging_laws.proofs.GuardCpus.{guarded_enter, guarded_resume, guarded_exit, guarded_aex}
 
 -- ---- what the rows keep
 

@@ -23,15 +23,15 @@ use Rattle.evict_reload.specs.Sights.{AreVaPages}
 use Rattle.evict_reload.proofs.PageLaws.{pages-none}
 use Rattle.paging_machine.specs.declared.starts.Start as starts
 use Rattle.paging_laws.specs.Guarded.{IsGuarded}
-use Rattle.paging_laws.specs.Histories.{UpholdsAll}
-use Rattle.paging_laws.specs.Shape.{making_of, Follows}
+use Rattle.paging_laws.specs.Histories.{StandsWithAllRules}
+use Rattle.paging_laws.specs.Shape.{making_of, ShapeWithRules}
 use Rattle.paging_laws.specs.State.{fresh}
 use Rattle.paging_laws.specs.Stands.{IsSound, IsMeasured, IsFramed}
 use Rattle.paging_machine.specs.Parts.{Parts, made, idle, is_noted, state_of, enclave_of, added_in, is_busy_in, seat_of_mode, noted_by, epoch_from, start_of}
 use Rattle.paging_machine.specs.Whole.{IsTable, IsWithin, IsTracked, IsWhole, parts_of}
 use Rattle.paging_machine.specs.declared.machine.Machine.TheInside.{Inside}
 use Rattle.paging_machine.proofs.Columns.{like}
-use Rattle.paging_laws.proofs.FollowLaws.{fresh_follows}
+use Rattle.paging_laws.proofs.ShapeSteps.{fresh_shaped}
 use Rattle.paging_laws.proofs.WholeLaws.{fresh_all}
 
 -- one item more
@@ -78,11 +78,11 @@ made_state frames cpus key epoch version = λ i. record {
 }
 
 -- .. and so stands in all for no entry
-pub made_all : (d : Parts) (frames cpus : ℕ) (key : List ℕ) (epoch version : ℕ) → 1 ≤ version → d ≡ made frames cpus key epoch version → UpholdsAll (making_of (state_of d)) (state_of d) [] []
-made_all d frames cpus key epoch version low is = subst (λ s. UpholdsAll (making_of s) s [] []) (sym (ap state_of is ∙ made_state frames cpus key epoch version)) (fresh_all frames cpus key epoch version low)
+pub made_all : (d : Parts) (frames cpus : ℕ) (key : List ℕ) (epoch version : ℕ) → 1 ≤ version → d ≡ made frames cpus key epoch version → StandsWithAllRules (making_of (state_of d)) (state_of d) [] []
+made_all d frames cpus key epoch version low is = subst (λ s. StandsWithAllRules (making_of s) s [] []) (sym (ap state_of is ∙ made_state frames cpus key epoch version)) (fresh_all frames cpus key epoch version low)
 
-pub made_follows : (d : Parts) (frames cpus : ℕ) (key : List ℕ) (epoch version : ℕ) → d ≡ made frames cpus key epoch version → Follows (making_of (state_of d)) (state_of d) []
-made_follows d frames cpus key epoch version is = subst (λ s. Follows (making_of s) s []) (sym (ap state_of is ∙ made_state frames cpus key epoch version)) (fresh_follows frames cpus key epoch version)
+pub made_shaped : (d : Parts) (frames cpus : ℕ) (key : List ℕ) (epoch version : ℕ) → d ≡ made frames cpus key epoch version → ShapeWithRules (making_of (state_of d)) (state_of d) []
+made_shaped d frames cpus key epoch version is = subst (λ s. ShapeWithRules (making_of s) s []) (sym (ap state_of is ∙ made_state frames cpus key epoch version)) (fresh_shaped frames cpus key epoch version)
 
 zero_sized : length zero_words ≡ 512
 unfolding zero_words

@@ -1,7 +1,7 @@
 pub mod Columns
-pub mod Keeping
+pub mod KeptStates
 pub mod TrackLaws
-pub mod Wholes
+pub mod WholeMachines
 pub mod FreeFrames
 pub mod BuildBridge
 pub mod BuildSteps

@@ -38,11 +38,11 @@ use Rattle.paging_machine.specs.declared.starts.Start as opened
 use Rattle.paging_machine.specs.Parts.{Parts, is_noted, start_of, epoch_from, state_of}
 use Rattle.paging_machine.specs.Whole.{IsTracked, IsWhole, parts_of}
 use Rattle.paging_machine.specs.declared.machine.Machine.TheInside.{Inside}
-use Rattle.paging_laws.proofs.Tools.{none_holds, neither}
+use Rattle.paging_laws.proofs.TestLaws.{none_holds, neither}
 use Rattle.paging_machine.proofs.Columns.{get_or-set_if, through, same_at, numbered}
-use Rattle.paging_machine.proofs.Keeping.{kept_block, kept_track, kept_ewbstart, kept_eldstart}
+use Rattle.paging_machine.proofs.KeptStates.{kept_block, kept_track, kept_ewbstart, kept_eldstart}
 use Rattle.paging_machine.proofs.PagingSights.{epoch_seen, frame_numbered, track_there, track_row_at, ewbstart_row_at, eldstart_row_at}
-use Rattle.paging_machine.proofs.Wholes.{Leaves, kept_of}
+use Rattle.paging_machine.proofs.WholeMachines.{Leaves, kept_of}
 
 -- ---- one entry of the EPC changes
 

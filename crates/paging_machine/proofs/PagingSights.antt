@@ -40,7 +40,7 @@ use Rattle.paging_laws.specs.State.{State, sight, is_noting, number_noting, epoc
 use Rattle.paging_machine.specs.Parts.{Parts, idle, cpu_at, seat_of_mode, noted_by, is_noted, added_in, enclave_of, state_of}
 use Rattle.paging_machine.specs.Whole.{IsTable, IsTracked}
 use Rattle.paging_machine.proofs.Columns.{numbered}
-use Rattle.paging_laws.proofs.Tools.{both_true}
+use Rattle.paging_laws.proofs.TestLaws.{both_true}
 
 -- ---- counts
 

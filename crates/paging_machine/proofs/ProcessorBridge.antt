@@ -32,7 +32,8 @@ use Rattle.paging_machine.specs.Whole.{IsSecsOf, IsTable}
 use Rattle.paging_laws.specs.Stands.{IsSound, IsFramed}
 use Rattle.paging_laws.proofs.ExtendLaws.{IsMade}
 use Rattle.paging_machine.proofs.Columns.{get_or-set_if, get_or-default, same_at, numbered, enclave_kept, page_column}
-use Rattle.paging_laws.proofs.Carry.{same_page-true, seat_at}
+use Rattle.paging_laws.proofs.SoundLaws.{seat_at}
+use Rattle.paging_laws.proofs.TestLaws.{same_pages}
 
 -- ---- how a processor stands
 
@@ -59,7 +60,7 @@ pub page_added : (s : State) → IsFramed s → (n : ℕ) (g : Page) → is_page
 page_added s framed n g is = by_content (s.content n) refl is
   where
     by_content : (c : Content) → s.content n ≡ c → is_page c g ≡ true → is_some (s.added g) ≡ true
-    by_content (Holds page kind perm) e k = let same : page ≡ g = same_page-true page g k in rw (← same) (framed n page kind perm e)
+    by_content (Holds page kind perm) e k = let same : page ≡ g = same_pages page g k in rw (← same) (framed n page kind perm e)
     by_content Free e k = cc
     by_content IsVa e k = cc
     by_content (SecsOf enclave) e k = cc

@@ -2,9 +2,9 @@ ghost use Rattle.std.specs.Prelude.{◌≡◌, IfOk, OnErr, length, List, ◌∷
 ghost use Rattle.sgx_types.specs.declared.entries.Entry.{Entry};
 ghost use Rattle.paging_machine.specs.Parts.{state_of};
 ghost use Rattle.sgx_types.specs.Rules.{LoadsAwayRule};
-ghost use Rattle.paging_laws.specs.Shape.{Making, Follows, FitsApart};
+ghost use Rattle.paging_laws.specs.Shape.{Making, ShapeWithRules, FitsApart};
 ghost use Rattle.seal_record.specs.Records.{Made};
-ghost use Rattle.paging_laws.specs.Histories.{UpholdsAll};
+ghost use Rattle.paging_laws.specs.Histories.{StandsWithAllRules};
 ghost use Rattle.paging_laws.specs.Steps.{IsStep, CanApply, MayNeedMemory, did_by, refused_by};
 
 use crate::machine::Machine;
@@ -20,11 +20,11 @@ impl Machine {
     pub fn apply(&mut self, alloc: Global, actor: Actor, action: Action) -> Result<Entry, Memory>
         requires { CanApply (length self.old.cpus) actor action }
         ensures step { IfOk result (λ e. IsStep (state_of self.old) actor action e (state_of self.new)) }
-        ensures shape { IfOk result (λ e. (making : Making) (past : List Entry) → Follows making (state_of self.old) past → Follows making (state_of self.new) (e ∷ past)) }
-        ensures fits { IfOk result (λ e. (making : Making) (past : List Entry) → Follows making (state_of self.old) past → LoadsAwayRule past e →
+        ensures shape { IfOk result (λ e. (making : Making) (past : List Entry) → ShapeWithRules making (state_of self.old) past → ShapeWithRules making (state_of self.new) (e ∷ past)) }
+        ensures fits { IfOk result (λ e. (making : Making) (past : List Entry) → ShapeWithRules making (state_of self.old) past → LoadsAwayRule past e →
             FitsApart making.frames past → FitsApart making.frames (e ∷ past)) }
         ensures history { IfOk result (λ e. (making : Making) (past : List Entry) (records : List Made) →
-            UpholdsAll making (state_of self.old) past records → UpholdsAll making (state_of self.new) (e ∷ past) records) }
+            StandsWithAllRules making (state_of self.old) past records → StandsWithAllRules making (state_of self.new) (e ∷ past) records) }
         ensures memory { OnErr result (MayNeedMemory action) }
         ensures refused { OnErr result (self.new ≡ self.old) }
         ensures cpus { length self.new.cpus ≡ length self.old.cpus }

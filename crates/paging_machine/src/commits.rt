@@ -3,9 +3,9 @@ ghost use Rattle.std.specs.Option.{IsSomeAnd};
 ghost use Rattle.sgx_types.specs.declared.entries.Entry.{Entry};
 ghost use Rattle.sgx_types.specs.Frames.{IsLoading};
 ghost use Rattle.seal_record.specs.Records.{Given, Made, Unforged};
-ghost use Rattle.paging_laws.specs.Histories.{UpholdsAll, given_out, looked_at};
+ghost use Rattle.paging_laws.specs.Histories.{StandsWithAllRules, given_out, looked_at};
 ghost use Rattle.paging_machine.specs.Parts.{start_of, state_of};
-ghost use Rattle.paging_laws.specs.Shape.{Making, Follows, FitsApart};
+ghost use Rattle.paging_laws.specs.Shape.{Making, ShapeWithRules, FitsApart};
 ghost use Rattle.paging_laws.specs.Steps.{IsHeaderIn, IsReloaded, IsWrittenOut, SealsPage};
 
 use crate::apply::{done, refused};
@@ -71,11 +71,11 @@ impl Machine {
     pub fn ewb_commit(&mut self, actor: Actor, frame: Frame, work: SealedWork) -> (Entry, Record)
         requires { (state_of self.old).is_sealing frame.0 ≡ true }
         ensures step { IsWrittenOut (state_of self.old) actor frame result.0 result.1 (state_of self.new) }
-        ensures shape { (making : Making) (past : List Entry) → Follows making (state_of self.old) past → Follows making (state_of self.new) (result.0 ∷ past) }
-        ensures fits { (making : Making) (past : List Entry) → Follows making (state_of self.old) past →
+        ensures shape { (making : Making) (past : List Entry) → ShapeWithRules making (state_of self.old) past → ShapeWithRules making (state_of self.new) (result.0 ∷ past) }
+        ensures fits { (making : Making) (past : List Entry) → ShapeWithRules making (state_of self.old) past →
             FitsApart making.frames past → FitsApart making.frames (result.0 ∷ past) }
-        ensures history { (making : Making) (past : List Entry) (records : List Made) → UpholdsAll making (state_of self.old) past records →
-            UpholdsAll making (state_of self.new) (result.0 ∷ past) (records ++ given_out result.0.event result.1) }
+        ensures history { (making : Making) (past : List Entry) (records : List Made) → StandsWithAllRules making (state_of self.old) past records →
+            StandsWithAllRules making (state_of self.new) (result.0 ∷ past) (records ++ given_out result.0.event result.1) }
         ensures cpus { length self.new.cpus ≡ length self.old.cpus }
     {
         let work = self.sealed(frame, work);
@@ -98,13 +98,13 @@ impl Machine {
     pub fn eld_commit(&mut self, actor: Actor, frame: Frame, work: UnsealedWork) -> Entry
         requires { (state_of self.old).content frame.0 ≡ IsLoading }
         ensures step { IsReloaded (state_of self.old) actor frame work.rec result (state_of self.new) }
-        ensures shape { (making : Making) (past : List Entry) → Follows making (state_of self.old) past → Follows making (state_of self.new) (result ∷ past) }
-        ensures fits { (making : Making) (past : List Entry) → Follows making (state_of self.old) past →
+        ensures shape { (making : Making) (past : List Entry) → ShapeWithRules making (state_of self.old) past → ShapeWithRules making (state_of self.new) (result ∷ past) }
+        ensures fits { (making : Making) (past : List Entry) → ShapeWithRules making (state_of self.old) past →
             FitsApart making.frames past → FitsApart making.frames (result ∷ past) }
         ensures history { (making : Making) (past : List Entry) (records : List Made) (given : List Given) →
-            UpholdsAll making (state_of self.old) past records →
+            StandsWithAllRules making (state_of self.old) past records →
             Unforged making.key records (given ++ looked_at (state_of self.old) frame.0 records work.rec) →
-            UpholdsAll making (state_of self.new) (result ∷ past) records }
+            StandsWithAllRules making (state_of self.new) (result ∷ past) records }
         ensures cpus { length self.new.cpus ≡ length self.old.cpus }
     {
         let work = self.opened(frame, work);

@@ -1,7 +1,7 @@
 ghost use Rattle.std.specs.Prelude.{◌≡◌, ◌≤◌, [], IfOk, None, replicate};
 ghost use Rattle.paging_machine.specs.Parts.{idle, made, state_of};
-ghost use Rattle.paging_laws.specs.Shape.{Follows, making_of};
-ghost use Rattle.paging_laws.specs.Histories.{UpholdsAll};
+ghost use Rattle.paging_laws.specs.Shape.{ShapeWithRules, making_of};
+ghost use Rattle.paging_laws.specs.Histories.{StandsWithAllRules};
 ghost use Rattle.track_epoch.specs.declared.track.TheConstants.{LAST_EPOCH};
 
 use crate::machine::Machine;
@@ -36,8 +36,8 @@ impl Machine {
         requires last_epoch { start_epoch ≤ LAST_EPOCH }
         requires first_version { 1 ≤ start_version }
         ensures value { IfOk result (λ m. m ≡ made frames cpus key start_epoch start_version) }
-        ensures shape { IfOk result (λ m. Follows (making_of (state_of m)) (state_of m) []) }
-        ensures history { IfOk result (λ m. UpholdsAll (making_of (state_of m)) (state_of m) [] []) }
+        ensures shape { IfOk result (λ m. ShapeWithRules (making_of (state_of m)) (state_of m) []) }
+        ensures history { IfOk result (λ m. StandsWithAllRules (making_of (state_of m)) (state_of m) [] []) }
     {
         Ok(Machine {
             epc: Epc::new(alloc, frames)?,

@@ -23,8 +23,9 @@ use Rattle.sgx_types.specs.Rules.{KeepsRules, RefusalRule}
 use Rattle.job_grammar.specs.Jobs.{JobView}
 use Rattle.job_grammar.specs.Script.{BuildStep, MakeVa, MakeSecs, AddPage, ExtendPage, Finish, action_of, build_of, builder_due, built, saved, saved_after, step_action, step_due}
 use Rattle.paging_laws.specs.Steps.{did_by, refused_by}
-use Rattle.paging_laws.proofs.Tools.{eqb-swap}
-use Rattle.paging_laws.proofs.Carry.{flat_done, same_page-refl}
+use Rattle.paging_laws.proofs.TestLaws.{eqb-swap}
+use Rattle.paging_laws.proofs.NextEntry.{flat_done}
+use Rattle.paging_laws.proofs.TestLaws.{same_page-refl}
 use Rattle.sgxpage.specs.Books.{BookView, IsCalm, IsNext, IsPlaced, GoesOn}
 use Rattle.sgxpage.specs.Building.{AreNext, AreTaken, Grows, IsHere, IsUnmade, MakesOnly, count_free, frames_taken, free_frames}
 use Rattle.sgxpage.proofs.OptionLaws.{some_same, taken_none}

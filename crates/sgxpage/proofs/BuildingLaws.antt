@@ -12,7 +12,7 @@ use Rattle.job_grammar.specs.declared.jobs.EnclaveJob.{EnclaveJob}
 use Rattle.job_grammar.specs.Jobs.{EnclaveView, JobView, va_pages, enclave_pages, enclave_view, lines_at, lines_in}
 use Rattle.job_grammar.specs.Script.{MakeVa, build_of, enclave_steps, enclaves_steps}
 use Rattle.job_grammar.specs.Valid.{IsFittingForm, IsValidEnclave}
-use Rattle.paging_laws.proofs.Tools.{apart}
+use Rattle.paging_laws.proofs.TestLaws.{apart}
 use Rattle.sgxpage.specs.Books.{BookView, IsCalm}
 use Rattle.sgxpage.specs.Building.{Grows, IsPlacedLine, IsUnmade, MakesOnly, frame_count, frames_taken, free_frames}
 use Rattle.sgxpage.proofs.EnclaveLaws.{enclave_taken}

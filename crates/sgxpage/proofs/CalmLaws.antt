@@ -21,8 +21,8 @@ use Rattle.sgx_types.specs.Rules.{KeepsRules}
 use Rattle.job_grammar.specs.Script.{action_of, is_init_of, is_initialised}
 use Rattle.paging_laws.specs.Steps.{did_by, refused_by}
 use Rattle.sgxpage.specs.Asking.{CanAsk}
-use Rattle.paging_laws.proofs.Tools.{eqb-swap, neither, none_holds, none_there, not_false}
-use Rattle.paging_laws.proofs.Carry.{flat_done}
+use Rattle.paging_laws.proofs.TestLaws.{eqb-swap, neither, none_holds, none_there, not_false}
+use Rattle.paging_laws.proofs.NextEntry.{flat_done}
 use Rattle.sgxpage.specs.Books.{IsCalm, IsLawful}
 use Rattle.sgxpage.proofs.OptionLaws.{some_same, taken_none}
 use Rattle.sgxpage.proofs.PlacedLaws.{PagesStay}

@@ -21,7 +21,7 @@ use Rattle.job_grammar.specs.declared.jobs.PageLine.TheVariants as lines
 use Rattle.job_grammar.specs.Jobs.{EnclaveView, covers, first_page, page_count}
 use Rattle.job_grammar.specs.Script.{AddPage, Finish, MakeSecs, enclave_steps, line_steps, no_perm, step_action}
 use Rattle.job_grammar.specs.Valid.{IsValidEnclave, IsValidLine}
-use Rattle.paging_laws.proofs.Tools.{apart, eqb-swap}
+use Rattle.paging_laws.proofs.TestLaws.{apart, eqb-swap}
 use Rattle.sgxpage.specs.Books.{BookView}
 use Rattle.sgxpage.specs.Building.{AddsOnly, AreTaken, Grows, IsPlacedLine, IsUnmade, MakesOnly, frame_count, frames_taken, free_frames, line_adds}
 use Rattle.sgxpage.proofs.GrowthLaws.{grows_append, lines_kept}

@@ -4,7 +4,7 @@ use Rattle.std.specs.Option.{IsSome, option_map}
 use Rattle.std.proofs.lemmas.Bool.{eqb-false, eqb-true}
 use Rattle.std.proofs.Math.Arith.{lt_of_le-ne}
 use Rattle.sgx_types.specs.Frames.{Content, Free, free_from, is_free, least_free}
-use Rattle.paging_laws.proofs.Tools.{apart}
+use Rattle.paging_laws.proofs.TestLaws.{apart}
 use Rattle.sgx_types.specs.declared.names.Frame.{Frame}
 use Rattle.job_grammar.specs.Script.{frame_at}
 use Rattle.sgxpage.specs.Building.{count_free}

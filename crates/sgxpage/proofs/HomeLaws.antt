@@ -29,7 +29,7 @@ use Rattle.job_grammar.specs.Script.{action_of, frame_at, leaves_by, saved}
 use Rattle.job_grammar.specs.Script.{saved_after as saved_by}
 use Rattle.paging_laws.specs.Steps.{did_by}
 use Rattle.sgxpage.specs.Asking.{CanAsk}
-use Rattle.paging_laws.proofs.Tools.{both_true, none_holds, not_false, same_pages}
+use Rattle.paging_laws.proofs.TestLaws.{both_true, none_holds, not_false, same_pages}
 use Rattle.sgxpage.specs.declared.homes.Home.{Home}
 use Rattle.sgxpage.specs.Books.{IsCalm, IsLawful}
 use Rattle.sgxpage.specs.Homes.{has_home, home_after, home_at, home_by, home_in, home_left, no_home, place_of, with_fewer, with_frame, with_more}

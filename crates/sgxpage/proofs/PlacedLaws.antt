@@ -23,8 +23,9 @@ use Rattle.sgx_types.specs.Rules.{KeepsRules}
 use Rattle.job_grammar.specs.Script.{action_of}
 use Rattle.paging_laws.specs.Steps.{did_by, refused_by}
 use Rattle.sgxpage.specs.Asking.{CanAsk}
-use Rattle.paging_laws.proofs.Tools.{apart, none_holds, none_there, same_pages}
-use Rattle.paging_laws.proofs.Carry.{flat_done, same_page-refl}
+use Rattle.paging_laws.proofs.TestLaws.{apart, none_holds, none_there, same_pages}
+use Rattle.paging_laws.proofs.NextEntry.{flat_done}
+use Rattle.paging_laws.proofs.TestLaws.{same_page-refl}
 use Rattle.paging_laws.proofs.WordLaws.{added-changed}
 use Rattle.sgxpage.specs.Books.{IsPlaced}
 use Rattle.sgxpage.proofs.OptionLaws.{some_same, taken_none}

@@ -21,7 +21,7 @@ use Rattle.sgx_types.specs.Flat.{FlatPage, accepts, flat, with_page}
 use Rattle.job_grammar.specs.declared.jobs.PageLine.{PageLine}
 use Rattle.job_grammar.specs.declared.jobs.PageLine.TheVariants as lines
 use Rattle.job_grammar.specs.Script.{BuildStep, AddPage, ExtendPage, chunk_steps, line_steps, numbers_from, page_steps, step_action}
-use Rattle.paging_laws.proofs.Tools.{apart}
+use Rattle.paging_laws.proofs.TestLaws.{apart}
 use Rattle.sgxpage.specs.Books.{BookView, GoesOn, IsPlaced}
 use Rattle.sgxpage.specs.Building.{AddsOnly, AreTaken, Grows, IsPlacedLine, adds, frame_count, frames_taken, line_adds}
 use Rattle.sgxpage.proofs.GrowthLaws.{grows_append}

@@ -27,8 +27,8 @@ use Rattle.job_grammar.specs.declared.jobs.Op.TheVariants as ops
 use Rattle.job_grammar.specs.Jobs.{JobView}
 use Rattle.job_grammar.specs.Script.{access_due, action_of, inner_access, interrupted_after, is_interrupted, op_due, saved, saved_after}
 use Rattle.job_grammar.specs.Valid.{IsValidOffset, IsValidOp}
-use Rattle.paging_laws.proofs.Carry.{same_page-refl}
-use Rattle.paging_laws.proofs.Tools.{NoneHolds, none_refused}
+use Rattle.paging_laws.proofs.TestLaws.{same_page-refl}
+use Rattle.paging_laws.proofs.TestLaws.{NoneHolds, none_refused}
 use Rattle.sgxpage.specs.Books.{BookView, GoesOn, IsCalm, IsNext, IsPlaced}
 use Rattle.sgxpage.specs.Playing.{AsksFor, Fills, IsAccess, IsReady, IsReg, Plays, Rests}
 use Rattle.sgxpage.proofs.OptionLaws.{some_same}

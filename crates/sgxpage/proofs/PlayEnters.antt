@@ -19,7 +19,7 @@ use Rattle.job_grammar.specs.declared.jobs.PageLine.TheVariants as lines
 use Rattle.job_grammar.specs.Jobs.{JobView, is_tcs_page, lines_at, tcs_line}
 use Rattle.job_grammar.specs.Script.{enter_by, enter_with, frame_at, is_turned_away, op_due, resume_by, resume_with, saved}
 use Rattle.job_grammar.specs.Valid.{IsValid, IsValidOp}
-use Rattle.paging_laws.proofs.Tools.{same_pages}
+use Rattle.paging_laws.proofs.TestLaws.{same_pages}
 use Rattle.sgxpage.specs.declared.saves.SavePages.{SavePages}
 use Rattle.sgxpage.specs.Books.{BookView, IsCalm, IsNext}
 use Rattle.sgxpage.specs.Homes.{has_home}

@@ -15,7 +15,7 @@ use Rattle.job_grammar.specs.declared.jobs.PageLine.TheVariants as lines
 use Rattle.job_grammar.specs.Jobs.{EnclaveView, JobView, covers, enclave_at, is_save_line, is_save_page, is_tcs_line, is_tcs_page, lines_at, lines_in, tcs_line}
 use Rattle.job_grammar.specs.Script.{no_perm}
 use Rattle.job_grammar.specs.Valid.{HasSavePages, IsValid, IsValidEnclave, IsValidLine}
-use Rattle.paging_laws.proofs.Tools.{both_true}
+use Rattle.paging_laws.proofs.TestLaws.{both_true}
 use Rattle.sgxpage.specs.Books.{IsPlaced}
 use Rattle.sgxpage.specs.Building.{IsPlacedLine}
 use Rattle.sgxpage.specs.Homes.{has_home}

@@ -24,7 +24,7 @@ use Rattle.job_grammar.specs.Valid.{IsValid}
 use Rattle.paging_laws.specs.Steps.{did_by}
 use Rattle.paging_laws.proofs.Contents.{tcs_no_reg}
 use Rattle.paging_laws.proofs.EntryLaws.{enters}
-use Rattle.paging_laws.proofs.Tools.{none_there, not_false}
+use Rattle.paging_laws.proofs.TestLaws.{none_there, not_false}
 use Rattle.sgxpage.specs.Books.{BookView, IsNext}
 use Rattle.sgxpage.specs.Playing.{HasRoom, Rests, used}
 use Rattle.sgxpage.proofs.PlayPages.{some_frames}

@@ -1,7 +1,7 @@
 -- What the type of a book keeps.
 use Rattle.std.specs.Prelude.{[], length, reverse}
 use Rattle.paging_machine.specs.Parts.{state_of}
-use Rattle.paging_laws.specs.Histories.{UpholdsAll}
+use Rattle.paging_laws.specs.Histories.{StandsWithAllRules}
 use Rattle.paging_laws.specs.Shape.{Making}
 use Rattle.sgxpage.specs.declared.book.Book.TheInside.{Inside}
 use Rattle.sgxpage.specs.Books.{BookView, IsCalm}
@@ -15,6 +15,6 @@ view_of b = record { frames = (state_of b.machine).frames; cpus = length b.machi
 -- put it
 pub record IsKept (b : Inside) : Type 0 where
   pub making : Making
-  pub stands : UpholdsAll making (state_of b.machine) (reverse b.entries.items) []
+  pub stands : StandsWithAllRules making (state_of b.machine) (reverse b.entries.items) []
   pub calm : IsCalm (reverse b.entries.items)
   pub homes : AreHomes (home_in b.homes) (reverse b.entries.items)

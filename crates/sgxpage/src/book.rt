@@ -9,9 +9,9 @@ ghost use Rattle.measure_log.specs.Rule.{MeasureRule};
 ghost use Rattle.sgx_types.specs.declared.names.Page.{Page};
 ghost use Rattle.job_grammar.specs.Script.{frame_at, saved};
 ghost use Rattle.paging_machine.specs.Parts.{seat_of_mode, state_of};
-ghost use Rattle.paging_laws.specs.Histories.{UpholdsAll};
+ghost use Rattle.paging_laws.specs.Histories.{StandsWithAllRules};
 ghost use Rattle.paging_laws.specs.Shape.{making_of};
-ghost use Rattle.paging_laws.specs.Stands.{seat_of_stay};
+ghost use Rattle.paging_laws.specs.Columns.{seat_of_stay};
 ghost use Rattle.sgxpage.specs.Asking.{CanAsk};
 ghost use Rattle.sgxpage.specs.Books.{BookView, IsCalm, IsNext};
 ghost use Rattle.sgxpage.specs.Homes.{has_home, home_by, home_in, home_left};
@@ -48,7 +48,7 @@ impl Model for Book {
 impl Book {
     /// The book of a machine that has done nothing yet.
     pub fn new(alloc: Global, machine: Machine) -> Result<Book, Memory>
-        requires { UpholdsAll (making_of (state_of machine)) (state_of machine) [] [] }
+        requires { StandsWithAllRules (making_of (state_of machine)) (state_of machine) [] [] }
         ensures value { IfOk result (λ book. book ≡ record { frames = (state_of machine).frames; cpus = length machine.cpus; past = [] }) }
         ensures calm { IfOk result (λ book. IsCalm book.past) }
     {

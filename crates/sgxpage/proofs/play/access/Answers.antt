@@ -7,7 +7,7 @@ use Rattle.sgx_types.specs.Sights.{enclave_of_stay}
 use Rattle.cached_translations.specs.declared.processor.Mode.{Mode}
 use Rattle.cached_translations.specs.declared.processor.Mode.TheVariants.{Outside, Inside}
 use Rattle.paging_machine.specs.Parts.{seat_of_mode}
-use Rattle.paging_laws.specs.Stands.{seat_of_stay}
+use Rattle.paging_laws.specs.Columns.{seat_of_stay}
 use Rattle.sgxpage.proofs.OptionLaws.{some_same}
 use Rattle.sgxpage.proofs.PlayAccesses.{plays_fault, plays_inside, plays_outside}
 use Rattle.sgxpage.proofs.play.access.Goals as goal

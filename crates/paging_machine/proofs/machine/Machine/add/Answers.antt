@@ -9,8 +9,8 @@ use Rattle.paging_laws.specs.State.{after_add}
 use Rattle.paging_machine.proofs.Columns.{numbered, table_written}
 use Rattle.paging_machine.proofs.BuildBridge.{adds, added_own, add_pages, paged}
 use Rattle.paging_machine.proofs.BuildSteps.{measure_place, measure_there, add_row_at, add_written}
-use Rattle.paging_machine.proofs.Keeping.{kept_add}
-use Rattle.paging_machine.proofs.Wholes.{kept_of, whole, builds, whole_same, parts_same, done_step, refused_step}
+use Rattle.paging_machine.proofs.KeptStates.{kept_add}
+use Rattle.paging_machine.proofs.WholeMachines.{kept_of, whole, builds, whole_same, parts_same, done_step, refused_step}
 use Rattle.paging_machine.proofs.machine.Machine.add.Goals.{in-Ok, in-Err}
 use Rattle.paging_machine.proofs.machine.Machine.add.Goals as goal
 

@@ -3,7 +3,7 @@ use Rattle.paging_machine.specs.Whole.{parts_of}
 use Rattle.paging_machine.specs.Parts.{state_of}
 use Rattle.paging_machine.proofs.PagingSights.{frame_numbered}
 use Rattle.paging_machine.proofs.PagingBridge.{block_leaves, epc_same}
-use Rattle.paging_machine.proofs.Wholes.{whole, whole_same, done_step, refused_step}
+use Rattle.paging_machine.proofs.WholeMachines.{whole, whole_same, done_step, refused_step}
 use Rattle.paging_machine.proofs.machine.Machine.block.Goals.{in-Ok, in-Err}
 use Rattle.paging_machine.proofs.machine.Machine.block.Goals as goal
 

@@ -7,11 +7,11 @@ use Rattle.secs_state.specs.Table.{enclave_at}
 use Rattle.paging_machine.specs.Whole.{parts_of}
 use Rattle.paging_machine.specs.Parts.{state_of}
 use Rattle.paging_laws.specs.State.{after_create}
-use Rattle.paging_laws.proofs.Tools.{none_holds}
+use Rattle.paging_laws.proofs.TestLaws.{none_holds}
 use Rattle.paging_machine.proofs.Columns.{table_written}
 use Rattle.paging_machine.proofs.BuildBridge.{creates, created_own, no_enclave, create_state, create_pages}
-use Rattle.paging_machine.proofs.Keeping.{kept_create}
-use Rattle.paging_machine.proofs.Wholes.{kept_of, whole, builds, done_step}
+use Rattle.paging_machine.proofs.KeptStates.{kept_create}
+use Rattle.paging_machine.proofs.WholeMachines.{kept_of, whole, builds, done_step}
 use Rattle.paging_machine.proofs.machine.Machine.create.Goals as goal
 
 pub invariant_of-self : goal.invariant_of-self

@@ -8,10 +8,10 @@ use Rattle.paging_machine.specs.Parts.{state_of}
 use Rattle.paging_laws.specs.Steps.{did_by}
 use Rattle.paging_machine.proofs.CommitBridge.{Ended, IsOpened, ended_back, ended_refused, low_in}
 use Rattle.paging_laws.proofs.FitLaws.{reloaded_fits}
-use Rattle.paging_laws.proofs.FollowLaws.{reloaded_follows}
-use Rattle.paging_machine.proofs.Keeping.{kept_as}
+use Rattle.paging_laws.proofs.ShapeSteps.{reloaded_shaped}
+use Rattle.paging_machine.proofs.KeptStates.{kept_as}
 use Rattle.paging_laws.proofs.WholeLaws.{reloaded_all}
-use Rattle.paging_machine.proofs.Wholes.{whole}
+use Rattle.paging_machine.proofs.WholeMachines.{whole}
 use Rattle.paging_machine.proofs.machine.Machine.eld_commit.Goals as goal
 
 -- what the commit leaves and answers where it is done
@@ -42,19 +42,19 @@ pub returns-in-Ok-clause-step : goal.returns-in-Ok-clause-step
 returns-in-Ok-clause-step c = let k = is_back c in rw (← c.self.view_is) k.back
 
 pub returns-in-Ok-clause-shape : goal.returns-in-Ok-clause-shape
-returns-in-Ok-clause-shape c = λ making past follows.
+returns-in-Ok-clause-shape c = λ making past shaped.
     let h = c.self.invariant in
     let k = is_back c in
     let t = kept_as _ _ k.leaves.state k.leaves.kept in
-    reloaded_follows (state_of (parts_of c.self.inside)) _ making past c.args.actor c.args.frame c.done.result c.args.work.rec h.sound h.guarded t.sound t.guarded (rw (← c.self.view_is) at c.requires) k.back (rw (← c.self.view_is) at follows)
+    reloaded_shaped (state_of (parts_of c.self.inside)) _ making past c.args.actor c.args.frame c.done.result c.args.work.rec h.sound h.guarded t.sound t.guarded (rw (← c.self.view_is) at c.requires) k.back (rw (← c.self.view_is) at shaped)
 
 pub returns-in-Ok-clause-fits : goal.returns-in-Ok-clause-fits
-returns-in-Ok-clause-fits c = λ making past follows fits.
+returns-in-Ok-clause-fits c = λ making past shaped fits.
     let d = parts_of c.self.inside in
     let h = c.self.invariant in
     let comes : (state_of d).content c.args.frame.0 ≡ IsLoading = rw (← c.self.view_is) at c.requires in
     let k = is_back c in
-    reloaded_fits (state_of d) _ making past c.args.actor c.args.frame c.args.work.rec c.done.result h.sound h.guarded comes (low_in d c.args.frame.0 comes) k.back (rw (← c.self.view_is) at follows) fits
+    reloaded_fits (state_of d) _ making past c.args.actor c.args.frame c.args.work.rec c.done.result h.sound h.guarded comes (low_in d c.args.frame.0 comes) k.back (rw (← c.self.view_is) at shaped) fits
 
 pub returns-in-Ok-clause-history : goal.returns-in-Ok-clause-history
 returns-in-Ok-clause-history c = λ making past records given upholds unforged.
@@ -71,19 +71,19 @@ pub returns-clause-step : goal.returns-clause-step
 returns-clause-step c = let k = is_refused c in rw (← c.self.view_is) k.back
 
 pub returns-clause-shape : goal.returns-clause-shape
-returns-clause-shape c = λ making past follows.
+returns-clause-shape c = λ making past shaped.
     let h = c.self.invariant in
     let k = is_refused c in
     let t = kept_as _ _ k.leaves.state k.leaves.kept in
-    reloaded_follows (state_of (parts_of c.self.inside)) _ making past c.args.actor c.args.frame c.refused.result c.args.work.rec h.sound h.guarded t.sound t.guarded (rw (← c.self.view_is) at c.requires) k.back (rw (← c.self.view_is) at follows)
+    reloaded_shaped (state_of (parts_of c.self.inside)) _ making past c.args.actor c.args.frame c.refused.result c.args.work.rec h.sound h.guarded t.sound t.guarded (rw (← c.self.view_is) at c.requires) k.back (rw (← c.self.view_is) at shaped)
 
 pub returns-clause-fits : goal.returns-clause-fits
-returns-clause-fits c = λ making past follows fits.
+returns-clause-fits c = λ making past shaped fits.
     let d = parts_of c.self.inside in
     let h = c.self.invariant in
     let comes : (state_of d).content c.args.frame.0 ≡ IsLoading = rw (← c.self.view_is) at c.requires in
     let k = is_refused c in
-    reloaded_fits (state_of d) _ making past c.args.actor c.args.frame c.args.work.rec c.refused.result h.sound h.guarded comes (low_in d c.args.frame.0 comes) k.back (rw (← c.self.view_is) at follows) fits
+    reloaded_fits (state_of d) _ making past c.args.actor c.args.frame c.args.work.rec c.refused.result h.sound h.guarded comes (low_in d c.args.frame.0 comes) k.back (rw (← c.self.view_is) at shaped) fits
 
 pub returns-clause-history : goal.returns-clause-history
 returns-clause-history c = λ making past records given upholds unforged.

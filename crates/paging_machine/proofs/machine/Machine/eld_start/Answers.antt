@@ -6,7 +6,7 @@ use Rattle.paging_machine.specs.Whole.{parts_of}
 use Rattle.paging_machine.specs.Parts.{state_of}
 use Rattle.paging_machine.proofs.PagingSights.{eldstart_row_at}
 use Rattle.paging_machine.proofs.PagingBridge.{eldstart_leaves, in_as, slots_same}
-use Rattle.paging_machine.proofs.Wholes.{whole, whole_same, done_step, refused_step}
+use Rattle.paging_machine.proofs.WholeMachines.{whole, whole_same, done_step, refused_step}
 use Rattle.paging_machine.proofs.machine.Machine.eld_start.Goals as goal
 
 pub invariant_of-self : goal.invariant_of-self

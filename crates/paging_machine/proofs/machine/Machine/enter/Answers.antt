@@ -15,7 +15,7 @@ use Rattle.paging_machine.proofs.Columns.{numbered}
 use Rattle.paging_machine.proofs.ProcessorBridge.{cpu_there, frame_added}
 use Rattle.paging_machine.proofs.TrackLaws.{room}
 use Rattle.paging_machine.proofs.EntryBridge.{enter_row_at, enter_leaves}
-use Rattle.paging_machine.proofs.Wholes.{whole, whole_same, seats_same, done_step, refused_step}
+use Rattle.paging_machine.proofs.WholeMachines.{whole, whole_same, seats_same, done_step, refused_step}
 use Rattle.paging_machine.proofs.machine.Machine.enter.Goals.{in-Ok, in-Err}
 use Rattle.paging_machine.proofs.machine.Machine.enter.Goals as goal
 

@@ -7,10 +7,10 @@ use Rattle.paging_machine.specs.Whole.{parts_of}
 use Rattle.paging_machine.specs.Parts.{state_of}
 use Rattle.paging_machine.proofs.CommitBridge.{Written, written, low_out}
 use Rattle.paging_laws.proofs.FitLaws.{written_fits}
-use Rattle.paging_laws.proofs.FollowLaws.{written_follows}
-use Rattle.paging_machine.proofs.Keeping.{kept_as}
+use Rattle.paging_laws.proofs.ShapeSteps.{written_shaped}
+use Rattle.paging_machine.proofs.KeptStates.{kept_as}
 use Rattle.paging_laws.proofs.WholeLaws.{written_all}
-use Rattle.paging_machine.proofs.Wholes.{whole}
+use Rattle.paging_machine.proofs.WholeMachines.{whole}
 use Rattle.paging_machine.proofs.machine.Machine.ewb_commit.Goals as goal
 
 -- what the commit leaves and answers
@@ -28,20 +28,20 @@ pub returns-clause-step : goal.returns-clause-step
 returns-clause-step c = let k = is_written c in rw (← c.self.view_is) k.out
 
 pub returns-clause-shape : goal.returns-clause-shape
-returns-clause-shape c = λ making past follows.
+returns-clause-shape c = λ making past shaped.
     let s = state_of (parts_of c.self.inside) in
     let h = c.self.invariant in
     let k = is_written c in
     let t = kept_as _ _ k.leaves.state k.leaves.kept in
-    written_follows s _ making past c.args.actor c.args.frame c.done.result c.sealed-work.result.rec h.sound h.guarded t.sound t.guarded (rw (← c.self.view_is) at c.requires) k.out (rw (← c.self.view_is) at follows)
+    written_shaped s _ making past c.args.actor c.args.frame c.done.result c.sealed-work.result.rec h.sound h.guarded t.sound t.guarded (rw (← c.self.view_is) at c.requires) k.out (rw (← c.self.view_is) at shaped)
 
 pub returns-clause-fits : goal.returns-clause-fits
-returns-clause-fits c = λ making past follows fits.
+returns-clause-fits c = λ making past shaped fits.
     let d = parts_of c.self.inside in
     let h = c.self.invariant in
     let leaves : (state_of d).is_sealing c.args.frame.0 ≡ true = rw (← c.self.view_is) at c.requires in
     let k = is_written c in
-    written_fits (state_of d) _ making past c.args.actor c.args.frame c.done.result c.sealed-work.result.rec h.sound h.guarded leaves (low_out d c.args.frame.0 leaves) k.out (rw (← c.self.view_is) at follows) fits
+    written_fits (state_of d) _ making past c.args.actor c.args.frame c.done.result c.sealed-work.result.rec h.sound h.guarded leaves (low_out d c.args.frame.0 leaves) k.out (rw (← c.self.view_is) at shaped) fits
 
 pub returns-clause-history : goal.returns-clause-history
 returns-clause-history c = λ making past records upholds.

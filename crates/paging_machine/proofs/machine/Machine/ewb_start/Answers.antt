@@ -6,7 +6,7 @@ use Rattle.paging_machine.specs.Whole.{parts_of}
 use Rattle.paging_machine.specs.Parts.{state_of}
 use Rattle.paging_machine.proofs.PagingSights.{frame_numbered, ewbstart_row_at}
 use Rattle.paging_machine.proofs.PagingBridge.{ewbstart_leaves, out_as, versions_same}
-use Rattle.paging_machine.proofs.Wholes.{whole, done_step, refused_step}
+use Rattle.paging_machine.proofs.WholeMachines.{whole, done_step, refused_step}
 use Rattle.paging_machine.proofs.machine.Machine.ewb_start.Goals as goal
 
 pub ewb_start-requires-clause-numbered : goal.ewb_start-requires-clause-numbered

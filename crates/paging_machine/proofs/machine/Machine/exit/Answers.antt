@@ -7,7 +7,7 @@ use Rattle.paging_machine.specs.Parts.{state_of, cpu_at}
 use Rattle.paging_laws.specs.State.{after_exit}
 use Rattle.paging_machine.proofs.ProcessorBridge.{cpu_there}
 use Rattle.paging_machine.proofs.EntryBridge.{inside_at, inside_row_at, its_enclave, its_tcs, its_count, exit_leaves}
-use Rattle.paging_machine.proofs.Wholes.{whole, whole_same, seats_same, done_step, refused_step}
+use Rattle.paging_machine.proofs.WholeMachines.{whole, whole_same, seats_same, done_step, refused_step}
 use Rattle.paging_machine.proofs.machine.Machine.exit.Goals.{in-Ok, in-Err}
 use Rattle.paging_machine.proofs.machine.Machine.exit.Goals as goal
 

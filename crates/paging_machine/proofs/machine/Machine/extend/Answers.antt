@@ -8,8 +8,8 @@ use Rattle.paging_machine.specs.Parts.{state_of}
 use Rattle.paging_laws.specs.State.{after_extend}
 use Rattle.paging_machine.proofs.BuildBridge.{extend_state}
 use Rattle.paging_machine.proofs.BuildSteps.{owner, measure_place, measure_there, extend_row_at, extend_done}
-use Rattle.paging_machine.proofs.Keeping.{kept_extend}
-use Rattle.paging_machine.proofs.Wholes.{kept_of, whole, builds, whole_same, measures_same, done_step, refused_step}
+use Rattle.paging_machine.proofs.KeptStates.{kept_extend}
+use Rattle.paging_machine.proofs.WholeMachines.{kept_of, whole, builds, whole_same, measures_same, done_step, refused_step}
 use Rattle.paging_machine.proofs.machine.Machine.extend.Goals.{in-Ok, in-Err}
 use Rattle.paging_machine.proofs.machine.Machine.extend.Goals as goal
 

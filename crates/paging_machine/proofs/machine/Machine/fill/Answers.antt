@@ -3,7 +3,7 @@ use Rattle.paging_machine.specs.Whole.{parts_of}
 use Rattle.paging_machine.specs.Parts.{state_of, cpu_at}
 use Rattle.paging_machine.proofs.ProcessorBridge.{cpu_there}
 use Rattle.paging_machine.proofs.AccessBridge.{fill_row_at, fill_leaves}
-use Rattle.paging_machine.proofs.Wholes.{whole, whole_same, cpus_same, done_step, refused_step}
+use Rattle.paging_machine.proofs.WholeMachines.{whole, whole_same, cpus_same, done_step, refused_step}
 use Rattle.paging_machine.proofs.machine.Machine.fill.Goals.{in-Ok, in-Err}
 use Rattle.paging_machine.proofs.machine.Machine.fill.Goals as goal
 

@@ -8,8 +8,8 @@ use Rattle.paging_laws.specs.Steps.{IsJudged}
 use Rattle.paging_machine.proofs.Columns.{numbered, table_written}
 use Rattle.paging_machine.proofs.BuildBridge.{init_state, initialised_own}
 use Rattle.paging_machine.proofs.BuildSteps.{measure_place, measure_there, init_row_at, init_refused}
-use Rattle.paging_machine.proofs.Keeping.{kept_init}
-use Rattle.paging_machine.proofs.Wholes.{kept_of, whole, builds, whole_same, secs_same, done_step}
+use Rattle.paging_machine.proofs.KeptStates.{kept_init}
+use Rattle.paging_machine.proofs.WholeMachines.{kept_of, whole, builds, whole_same, secs_same, done_step}
 use Rattle.paging_machine.proofs.machine.Machine.init.Goals.{in-Ok, in-Err}
 use Rattle.paging_machine.proofs.machine.Machine.init.Goals as goal
 

@@ -1,5 +1,5 @@
 use Rattle.std.proofs.Common.{refl}
-use Rattle.paging_machine.proofs.Fresh.{whole_made, made_all, made_follows}
+use Rattle.paging_machine.proofs.Fresh.{whole_made, made_all, made_shaped}
 use Rattle.paging_machine.proofs.machine.Machine.new.Goals as goal
 
 pub invariant_of-result : goal.invariant_of-result
@@ -9,7 +9,7 @@ invariant_of-result c =
 
 pub returns-clause-shape : goal.returns-clause-shape
 returns-clause-shape c =
-    made_follows _ c.args.frames c.args.cpus c.args.key c.args.start_epoch c.args.start_version
+    made_shaped _ c.args.frames c.args.cpus c.args.key c.args.start_epoch c.args.start_version
     (rw (c.in_ok-new.ensures, c.new-2.ensures, c.new-4.ensures, c.new-5.ensures, c.new-6.ensures, c.in_ok-no_measures.ensures, c.in_ok-no_starts.ensures, c.in_ok-idle_processors.ensures) refl)
 
 pub returns-clause-history : goal.returns-clause-history

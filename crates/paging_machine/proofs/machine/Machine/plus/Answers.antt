@@ -4,7 +4,7 @@ use Rattle.paging_machine.specs.Parts.{state_of, cpu_at}
 use Rattle.paging_laws.specs.State.{with_acc}
 use Rattle.paging_machine.proofs.ProcessorBridge.{cpu_there}
 use Rattle.paging_machine.proofs.AccessBridge.{inside_only, acc_leaves}
-use Rattle.paging_machine.proofs.Wholes.{whole, done_step}
+use Rattle.paging_machine.proofs.WholeMachines.{whole, done_step}
 use Rattle.sgx_types.specs.Flat.{sum_of}
 use Rattle.sgx_types.specs.declared.entries.Actor.TheVariants as actors
 use Rattle.sgx_types.specs.declared.entries.Action.TheVariants.{Plus}

@@ -15,7 +15,7 @@ use Rattle.paging_machine.proofs.Columns.{numbered}
 use Rattle.paging_machine.proofs.ProcessorBridge.{cpu_there, frame_added}
 use Rattle.paging_machine.proofs.TrackLaws.{room}
 use Rattle.paging_machine.proofs.EntryBridge.{resume_row_at, resume_leaves}
-use Rattle.paging_machine.proofs.Wholes.{whole, whole_same, seats_same, done_step, refused_step}
+use Rattle.paging_machine.proofs.WholeMachines.{whole, whole_same, seats_same, done_step, refused_step}
 use Rattle.paging_machine.proofs.machine.Machine.resume.Goals.{in-Ok, in-Err}
 use Rattle.paging_machine.proofs.machine.Machine.resume.Goals as goal
 

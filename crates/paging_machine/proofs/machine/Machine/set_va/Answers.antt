@@ -3,7 +3,7 @@ use Rattle.paging_machine.specs.Parts.{state_of}
 use Rattle.paging_laws.specs.State.{after_epa}
 use Rattle.paging_machine.proofs.BuildBridge.{takes-epa}
 use Rattle.paging_machine.proofs.BuildSteps.{epa_leaves}
-use Rattle.paging_machine.proofs.Wholes.{whole}
+use Rattle.paging_machine.proofs.WholeMachines.{whole}
 use Rattle.paging_machine.proofs.machine.Machine.set_va.Goals as goal
 
 pub invariant_of-self : goal.invariant_of-self

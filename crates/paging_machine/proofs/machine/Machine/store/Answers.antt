@@ -4,7 +4,7 @@ use Rattle.paging_machine.specs.Parts.{state_of, cpu_at}
 use Rattle.paging_laws.specs.State.{row_of, after_store}
 use Rattle.paging_machine.proofs.ProcessorBridge.{cpu_there}
 use Rattle.paging_machine.proofs.AccessBridge.{access_row_at, through, store_leaves}
-use Rattle.paging_machine.proofs.Wholes.{whole, whole_same, done_step, refused_step, by_view}
+use Rattle.paging_machine.proofs.WholeMachines.{whole, whole_same, done_step, refused_step, by_view}
 use Rattle.sgx_types.specs.declared.entries.Actor.TheVariants as actors
 use Rattle.sgx_types.specs.declared.entries.Action.TheVariants.{Store}
 use Rattle.sgx_types.specs.Table.{first_of_row, allows_write}

@@ -4,7 +4,7 @@ use Rattle.paging_machine.specs.Parts.{state_of, cpu_at}
 use Rattle.paging_laws.specs.State.{row_of, word_at, after_xadd}
 use Rattle.paging_machine.proofs.ProcessorBridge.{cpu_there}
 use Rattle.paging_machine.proofs.AccessBridge.{access_row_at, through, store_leaves, word_seen}
-use Rattle.paging_machine.proofs.Wholes.{whole, whole_same, done_step, refused_step, by_view}
+use Rattle.paging_machine.proofs.WholeMachines.{whole, whole_same, done_step, refused_step, by_view}
 use Rattle.sgx_types.specs.declared.entries.Actor.TheVariants as actors
 use Rattle.sgx_types.specs.declared.entries.Action.TheVariants.{Xadd}
 use Rattle.sgx_types.specs.Flat.{sum_of}

@@ -1,11 +1,12 @@
 use Rattle.std.proofs.Common.{ap, sym, ◌∙◌}
 use Rattle.sgx_types.specs.Processors.{holds_number}
 use Rattle.paging_machine.specs.Parts.{cpu_at}
-use Rattle.paging_laws.proofs.AccessLaws.{holds_number-map}
+use Rattle.paging_laws.proofs.ColumnLaws.{translations_are}
+use Rattle.paging_laws.proofs.TranslationLaws.{holds_number-map}
 use Rattle.sgxpage.proofs.book.Book.holds.Goals as goal
 
 pub returns : goal.returns
 returns c =
     rw (← c.self.view_is)
     (c.holds.ensures ∙ sym (holds_number-map (cpu_at c.self.inside.machine c.args.cpu.0).cache c.args.number)
-    ∙ ap (λ xs. holds_number xs c.args.number) (c.self.invariant.stands.upheld.stands.cache c.args.cpu.0))
+    ∙ ap (λ xs. holds_number xs c.args.number) (translations_are c.self.invariant.stands.standing.stands.columns c.args.cpu.0))

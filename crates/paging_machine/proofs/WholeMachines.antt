@@ -23,7 +23,7 @@ use Rattle.paging_laws.specs.Stands.{IsSound, IsMeasured, IsFramed}
 use Rattle.paging_laws.specs.Steps.{IsStep}
 use Rattle.paging_machine.specs.Whole.{IsTable, IsWithin, IsTracked, IsWhole, parts_of}
 use Rattle.paging_machine.proofs.Columns.{enclave_same, numbered}
-use Rattle.paging_machine.proofs.Keeping.{IsKept, kept_as}
+use Rattle.paging_machine.proofs.KeptStates.{IsKept, kept_as}
 
 pub kept_of : (m : Inside) → IsWhole m → IsKept (state_of (parts_of m))
 kept_of m h = record { measured = h.measured; framed = h.framed; within = h.within; sound = h.sound; guarded = h.guarded }

@@ -1,9 +1,9 @@
 -- Facts on tests, rows and places.
-use Rattle.std.proofs.Common.{◌≡◌, ℕ, ◌==◌, ◌&&◌, ◌||◌, not, Bool, true, false, cond, refl, sym, ◌∙◌, Option, Some, None, IfSome, is_some, is_none, List, [], ◌∷◌, ◌⊎◌, inl, inr}
+use Rattle.std.proofs.Common.{rules, ◌≡◌, ℕ, ◌==◌, ◌&&◌, ◌||◌, not, Bool, true, false, cond, refl, sym, ◌∙◌, Option, Some, None, IfSome, is_some, is_none, List, [], ◌∷◌, ◌⊎◌, inl, inr}
 use Rattle.std.proofs.lemmas.Bool.{eqb-true, eq-eqb, false≢true}
 use Rattle.sgx_types.specs.declared.entries.Entry.{Entry}
 use Rattle.sgx_types.specs.declared.names.Page.{Page}
-use Rattle.sgx_types.specs.Frames.{same_page}
+use Rattle.sgx_types.specs.Frames.{page_at, same_page}
 use Rattle.sgx_types.specs.Table.{Case, first_of_row}
 use Rattle.sgx_types.specs.Rules.{AtEachPlace}
 
@@ -87,3 +87,6 @@ equal a b e = eq-eqb a b e
 
 pub same_pages : (a b : Page) → same_page a b ≡ true → a ≡ b
 same_pages a b h = let k = both_true (a.enclave == b.enclave) (a.number == b.number) h in λ i. record { enclave = eqb-true a.enclave b.enclave k.0 i; number = eqb-true a.number b.number k.1 i }
+
+pub same_page-refl : (enclave number : ℕ) → same_page (page_at enclave number) (page_at enclave number) ≡ true
+same_page-refl enclave number = search rules

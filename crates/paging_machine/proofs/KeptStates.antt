@@ -16,11 +16,12 @@ use Rattle.paging_laws.specs.State.{State, sight, track_sight, slot_sight, drain
 use Rattle.paging_laws.specs.Stands.{IsSound, IsMeasured, IsFramed}
 use Rattle.paging_laws.specs.Guarded.{IsPaged, IsGuarded}
 use Rattle.paging_machine.specs.Whole.{IsWithin}
-use Rattle.paging_laws.proofs.Carry.{same_page-refl}
+use Rattle.paging_laws.proofs.TestLaws.{same_page-refl}
 use Rattle.paging_laws.proofs.SoundLaws.{sound-put}
 use Rattle.paging_laws.proofs.BuildLaws.{sound_add}
-use Rattle.paging_laws.proofs.GuardLaws.{guarded_put, guarded_create, guarded_add, guarded_extend, guarded_init, guarded_block, guarded_track, guarded_ewbstart, guarded_eldstart, guarded_ewb, guarded_eld, guarded_failed_eld}
+use Rattle.paging_laws.proofs.GuardLaws.{guarded_put, guarded_create, guarded_add, guarded_extend, guarded_init}
 use Rattle.paging_laws.proofs.PagingSound.{sound_block, sound_track, sound_ewbstart, sound_eldstart, sound_ewb, sound_eld, sound_failed_eld}
+use Rattle.paging_laws.proofs.GuardMoves.{guarded_block, guarded_track, guarded_ewbstart, guarded_eldstart, guarded_ewb, guarded_eld, guarded_failed_eld}
 
 pub record IsKept (s : State) : Type 0 where
   pub measured : IsMeasured s
