@@ -157,14 +157,15 @@ impl Machine {
         is_lawful_access(self.added(page.enclave, u64::from(page.number)), op)
     }
 
-    /// The kind and the permissions with which a page was added. A number past 32 bits is of no page.
+    /// The kind and the permissions with which a page was added. A number past its enclave is of no page.
     pub(crate) fn added(&self, enclave: u16, number: u64) -> Option<(Kind, Perm)>
         ensures { result ≡ (state_of self.now).added (page_at enclave number) }
     {
         let secs = self.secs.get(enclave)?;
-        let _pages = secs.size();
-        let number = u32::try_from(number).ok()?;
-        secs.added(number)
+        if number >= secs.size() / 4096 {
+            return None;
+        }
+        secs.added(number as u32)
     }
 }
 

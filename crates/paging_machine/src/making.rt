@@ -39,15 +39,19 @@ impl Machine {
         ensures shape { IfOk result (λ m. ShapeWithRules (making_of (state_of m)) (state_of m) []) }
         ensures history { IfOk result (λ m. StandsWithAllRules (making_of (state_of m)) (state_of m) [] []) }
     {
+        let starts = no_starts(alloc, frames)?;
+        let measures = no_measures(alloc)?;
+        let cpus = idle_processors(alloc, cpus)?;
+        let epc = Epc::new(alloc, frames)?;
         Ok(Machine {
-            epc: Epc::new(alloc, frames)?,
+            epc,
             secs: SecsTable::new(),
-            measures: no_measures(alloc)?,
+            measures,
             tracks: Tracks::new(start_epoch),
             va: VaTable::new(),
             versions: Versions::new(start_version),
-            starts: no_starts(alloc, frames)?,
-            cpus: idle_processors(alloc, cpus)?,
+            starts,
+            cpus,
             key,
             start_epoch,
             start_version,
