@@ -1,3 +1,5 @@
+//! The translations that a processor holds: the newest of them, in the order of their first fills.
+
 ghost use Rattle.std.specs.Prelude.{◌≡◌, ◌↔◌, ℕ, [], length, IsTrue, IfOk};
 ghost use Rattle.cached_translations.specs.Probe.{Leads};
 ghost use Rattle.cached_translations.specs.Index.{IsIndexOnly};

@@ -1,3 +1,5 @@
+//! A processor: where it executes, its accumulator and its translations.
+
 ghost use Rattle.std.specs.Prelude.{◌≡◌, [], IfOk};
 ghost use Rattle.cached_translations.specs.declared.processor.Mode.TheVariants.{Outside};
 ghost use Rattle.cached_translations.specs.Modes.{is_inside, enclave_inside};

@@ -1,3 +1,5 @@
+//! Loads, stores and exchanges of a processor inside an enclave.
+
 ghost use Rattle.std.specs.Prelude.{◌≡◌, length, IfOk, OnOk, OnErr};
 ghost use Rattle.sgx_types.specs.Table.{refusal_in, first_of_row, load_row, store_row, xadd_row};
 ghost use Rattle.sgx_types.specs.Flat.{sum_of};

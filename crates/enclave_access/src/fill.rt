@@ -1,3 +1,5 @@
+//! The fill of a translation: the one place where an access looks at the EPCM.
+
 ghost use Rattle.std.specs.Prelude.{◌≡◌, None, OnOk, OnErr};
 ghost use Rattle.sgx_types.specs.Table.{refusal_in, first_of_row, fill_row, perm_in};
 ghost use Rattle.epcm_entry.specs.Sights.{sight_in};

@@ -1,3 +1,5 @@
+//! Accesses to an enclave's memory from outside, which reach nothing of it.
+
 ghost use Rattle.std.specs.Prelude.{◌≡◌, IfOk};
 ghost use Rattle.sgx_types.specs.Table.{refusal_in, first_of_row, outload_row, outstore_row};
 ghost use Rattle.sgx_types.specs.Flat.{all_ones};

@@ -1,3 +1,5 @@
+//! The way from an offset to a frame, by the translations alone.
+
 ghost use Rattle.std.specs.Prelude.{◌≡◌, ◌/◌, ◌<◌, Some, IfOk};
 ghost use Rattle.sgx_types.specs.Table.{refusal_in, first_of_row, allows};
 ghost use Rattle.sgx_types.specs.Flat.{word_index};

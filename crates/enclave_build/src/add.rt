@@ -1,3 +1,5 @@
+//! EADD: a page is added to an enclave that is being built.
+
 ghost use Rattle.std.specs.Prelude.{◌≡◌, ◌<◌, ◌*◌, false, None, Some, OnOk, OnErr, is_some, length};
 ghost use Rattle.sgx_types.specs.Frames.{page_at};
 ghost use Rattle.sgx_types.specs.Layouts.{flags_of};

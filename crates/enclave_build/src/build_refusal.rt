@@ -1,3 +1,5 @@
+//! Why an instruction that takes memory was not done.
+
 ghost use Rattle.std.specs.Prelude.{◌≡◌};
 ghost use Rattle.enclave_build.specs.declared.build_refusal.BuildRefusal.TheVariants as ends;
 

@@ -1,3 +1,5 @@
+//! ECREATE: an enclave begins.
+
 ghost use Rattle.std.specs.Prelude.{◌≡◌, None, OnOk, OnErr, IfOk};
 ghost use Rattle.sgx_types.specs.Table.{is_enclave, first_of_row, create_row};
 ghost use Rattle.epcm_entry.specs.Sights.{sight_in};

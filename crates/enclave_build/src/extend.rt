@@ -1,3 +1,5 @@
+//! EEXTEND: 256 bytes of a page are measured.
+
 ghost use Rattle.std.specs.Prelude.{◌≡◌, ◌<◌, ◌==◌, None, IfSome, OnOk, OnErr, length, false};
 ghost use Rattle.sgx_types.specs.Frames.{enclave_in};
 ghost use Rattle.sgx_types.specs.Table.{refusal_in, first_of_row, extend_row};

@@ -1,3 +1,5 @@
+//! EINIT: an enclave is initialised, and its measurement is final.
+
 ghost use Rattle.std.specs.Prelude.{◌≡◌, List, ℕ, Some, OnOk, OnErr, IfOk};
 ghost use Rattle.sgx_types.specs.Table.{refusal_in, first_of_row, init_row};
 ghost use Rattle.secs_state.specs.Secs.{with_init};

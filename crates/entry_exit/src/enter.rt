@@ -1,3 +1,5 @@
+//! EENTER and ERESUME: a processor comes inside.
+
 ghost use Rattle.std.specs.Prelude.{◌≡◌, ◌<◌, true, false, length, IfOk, OnOk, OnErr};
 ghost use Rattle.sgx_types.specs.Table.{refusal_in, first_of_row, enter_row, resume_row};
 ghost use Rattle.epcm_entry.specs.Epc.{word_at};

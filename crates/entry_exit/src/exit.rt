@@ -1,3 +1,5 @@
+//! EEXIT and the asynchronous exit: a processor leaves its enclave.
+
 ghost use Rattle.std.specs.Prelude.{◌≡◌, ◌<◌, true, false, length, Contains, IsSome, OnOk, OnErr};
 ghost use Rattle.sgx_types.specs.Table.{refusal_in, first_of_row, exit_row};
 ghost use Rattle.secs_state.specs.Secs.{added_at, with_busy};

@@ -1,3 +1,5 @@
+//! The fields of a TCS page in its frame.
+
 ghost use Rattle.std.specs.Prelude.{◌≡◌, ◌<◌, ◌/◌, ◌%◌, ◌^◌, length};
 ghost use Rattle.entry_exit.specs.Entry.{fields_at, seen_fields, with_cssa_at};
 

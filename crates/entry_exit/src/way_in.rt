@@ -1,3 +1,5 @@
+//! What the two ways into an enclave share: the cases of their rows, and the seat.
+
 ghost use Rattle.std.specs.Prelude.{◌≡◌, ◌<◌, true, false, length, IsSome};
 ghost use Rattle.sgx_types.specs.Table.{first_of_row, ssa_row};
 ghost use Rattle.epcm_entry.specs.Sights.{sight_in};

@@ -1,3 +1,5 @@
+//! The EPCM entry of a frame, and what the rows ask of one.
+
 ghost use Rattle.std.specs.Prelude.{◌≡◌, ◌||◌, is_some};
 ghost use Rattle.sgx_types.specs.Frames.{page_at, is_page};
 ghost use Rattle.sgx_types.specs.Frames.{is_free as holds_nothing};

@@ -1,3 +1,5 @@
+//! The EPC with its EPCM.
+
 ghost use Rattle.std.specs.Prelude.{◌≡◌, ◌<◌, ◌≤◌, ◌||◌, true, false, length, replicate, count_by, IfOk, OnOk, OnErr};
 ghost use Rattle.epcm_entry.specs.EntryView.{is_free, is_busy, is_valid, claim_answer};
 ghost use Rattle.epcm_entry.specs.Words.{words_of};

@@ -1,3 +1,5 @@
+//! The set of free frames, as bits.
+
 ghost use Rattle.std.specs.Prelude.{◌≡◌, ◌<◌, ◌≤◌, true, false, length, replicate, slice_index_or, slice_set, count_by, position, IfOk};
 ghost use Rattle.epcm_entry.specs.FreeMap.{IsFull, is_used};
 

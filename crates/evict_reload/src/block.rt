@@ -1,3 +1,5 @@
+//! EBLOCK: no new translation of a page is made.
+
 ghost use Rattle.std.specs.Prelude.{◌≡◌, OnOk, OnErr};
 ghost use Rattle.sgx_types.specs.Table.{refusal_in, first_of_row, block_row};
 ghost use Rattle.epcm_entry.specs.Sights.{sight_in};

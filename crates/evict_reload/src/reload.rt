@@ -1,3 +1,5 @@
+//! ELDU by a start and a commit: a page comes back.
+
 ghost use Rattle.std.specs.Prelude.{◌≡◌, ◌<◌, true, false, Some, IfOk, OnOk, OnErr, length};
 ghost use Rattle.sgx_types.specs.Table.{refusal_in, first_of_row, eldstart_row, is_loading};
 ghost use Rattle.epcm_entry.specs.EntryView.{is_valid};

@@ -1,3 +1,5 @@
+//! The cases of a row that a slot gives.
+
 ghost use Rattle.std.specs.Prelude.{◌≡◌, ◌<◌, length};
 ghost use Rattle.sgx_types.specs.Table.{is_out_of_range};
 ghost use Rattle.epcm_entry.specs.Sights.{sight_in};

@@ -1,3 +1,5 @@
+//! ETRACK: an enclave's next epoch begins.
+
 ghost use Rattle.std.specs.Prelude.{◌≡◌, ◌+◌, IfOk, OnOk, OnErr};
 ghost use Rattle.sgx_types.specs.Table.{refusal_in, first_of_row, track_row};
 ghost use Rattle.track_epoch.specs.Tracks.{track_of};

@@ -1,3 +1,5 @@
+//! EWB by a start and a commit: a page goes out.
+
 ghost use Rattle.std.specs.Prelude.{◌≡◌, ◌+◌, ◌<◌, true, Some, IfOk, OnOk, OnErr};
 ghost use Rattle.sgx_types.specs.Table.{refusal_in, first_of_row, ewbstart_row};
 ghost use Rattle.epcm_entry.specs.Epc.{entry_at, with_sealing, cleared};

@@ -1,3 +1,5 @@
+//! Loads, stores and exchanges of flat memory, and its page faults.
+
 ghost use Rattle.std.specs.Prelude.{◌≡◌, ◌<◌, ◌==◌, ◌&&◌, ◌^◌, ◌/◌, ◌%◌, ◌+◌, Bool, is_some, IfOk, Some};
 ghost use Rattle.sgx_types.specs.declared.entries.Answer.TheVariants as answers;
 ghost use Rattle.sgx_types.specs.Frames.{page_at};

@@ -1,3 +1,5 @@
+//! One instruction of flat memory.
+
 ghost use Rattle.std.specs.Prelude.{◌≡◌, true, IfOk, OnOk, OnErr};
 ghost use Rattle.sgx_types.specs.Flat.{is_visible};
 ghost use Rattle.flat_machine.specs.Parts.{memory_of};

@@ -1,3 +1,5 @@
+//! The instructions of flat memory that build an enclave.
+
 ghost use Rattle.std.specs.Prelude.{◌≡◌, ◌<◌, false, is_some, IfOk, OnOk, OnErr};
 ghost use Rattle.sgx_types.specs.declared.entries.Answer.TheVariants as answers;
 ghost use Rattle.sgx_types.specs.Frames.{page_at};

@@ -1,3 +1,5 @@
+//! Plain enclave memory: its enclaves, pages and processors.
+
 ghost use Rattle.std.specs.Prelude.{◌≡◌, ◌<◌, true, replicate, slice_index, slice_set, is_some, IfOk, [], None};
 ghost use Rattle.sgx_types.specs.Frames.{page_at};
 ghost use Rattle.sgx_types.specs.Flat.{fresh, flat_content, reg_perm, added_as, words_of, with_cpu, with_words, with_busy};

@@ -1,3 +1,5 @@
+//! What flat memory replies.
+
 use sgx_types::entries::Answer;
 use sgx_types::refusals::Refusal;
 

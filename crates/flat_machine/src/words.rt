@@ -1,3 +1,5 @@
+//! The 512 words of a page.
+
 ghost use Rattle.std.specs.Prelude.{◌≡◌, ◌<◌, length, replicate, slice_index, slice_set, IfOk};
 ghost use Rattle.sgx_types.specs.Flat.{first_words};
 ghost use Rattle.sgx_types.specs.Layouts.{bytes_of};

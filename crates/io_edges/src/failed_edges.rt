@@ -1,3 +1,5 @@
+//! Edges that fail at every call.
+
 ghost use Rattle.std.specs.Prelude.{◌≡◌, ◌<◌, [], length, None, Some, IsErr};
 ghost use Rattle.io_edges.specs.Faults.{HasCause, one_more};
 

@@ -1,3 +1,5 @@
+//! Giving a whole text to a sink.
+
 ghost use Rattle.std.specs.Prelude.{◌≡◌, [], OnOk, OnErr, IsErr};
 ghost use Rattle.io_edges.specs.Faults.{HasCause};
 ghost use Rattle.io_edges.specs.Sinks.{followed_by, GivesPart};

@@ -1,3 +1,5 @@
+//! A sink over memory.
+
 ghost use Rattle.std.specs.Prelude.{◌≡◌, ◌<◌, ◌≤◌, length, Some, IfOk, IsErr};
 ghost use Rattle.io_edges.specs.Faults.{HasCause};
 

@@ -1,3 +1,5 @@
+//! A source over memory.
+
 ghost use Rattle.std.specs.Prelude.{◌≡◌, ◌<◌, ◌≤◌, length, Some, IfOk, IsErr};
 ghost use Rattle.io_edges.specs.Faults.{HasCause};
 ghost use Rattle.io_edges.specs.Sources.{Gives};

@@ -1,3 +1,5 @@
+//! The lines of a hostile store's plan.
+
 use sgx_types::names::Page;
 
 /// One line of a hostile store's plan (this project's own). `k` counts the calls of one kind, and `g` the gets of one

@@ -1,3 +1,5 @@
+//! Where bytes come from.
+
 ghost use Rattle.std.specs.Prelude.{◌≡◌, ◌<◌, ◌≤◌, ℕ, List, Option, length, IfOk, OnErr, OnSome, IfSome, IsErr};
 ghost use Rattle.io_edges.specs.Faults.{HasCause};
 ghost use Rattle.io_edges.specs.Sources.{Gives, fewer};

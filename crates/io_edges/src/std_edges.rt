@@ -1,3 +1,5 @@
+//! Edges over the readers and writers of the system.
+
 ghost use Rattle.std.specs.Prelude.{◌≡◌, ◌<◌, ◌≤◌, length, None, IfOk, OnOk, OnErr, IsErr};
 ghost use Rattle.io_edges.specs.Faults.{HasCause, one_more};
 

@@ -1,3 +1,5 @@
+//! How many pages, frames and version array pages a job needs.
+
 ghost use Rattle.std.specs.Prelude.{◌≡◌, ◌+◌, ◌-◌, ◌*◌, ◌/◌, ◌^◌, ◌≤◌, ◌↔◌, IsTrue, length, map, min, sum_by};
 ghost use Rattle.job_grammar.specs.Jobs.{enclave_view, page_count, enclave_pages};
 ghost use Rattle.job_grammar.specs.Drafts.{script_ops};

@@ -1,3 +1,5 @@
+//! What the lines of a text say, line after line.
+
 ghost use Rattle.std.specs.Prelude.{◌≡◌, map};
 ghost use Rattle.job_grammar.specs.Reading.{line_of};
 ghost use Rattle.job_grammar.specs.Drafts.{draft_view, enclave_views, script_ops, empty_draft, Gives, with_page, with_expect, with_place, with_op, step, read_line, read_text};

@@ -1,3 +1,5 @@
+//! When the enclaves of a job are valid.
+
 ghost use Rattle.std.specs.Prelude.{◌≡◌, ◌+◌, ◌^◌, ◌≤◌, ◌↔◌, List, true, map, All, IsTrue, IfOk, IfSome, MatchOption};
 ghost use Rattle.sgx_types.specs.Table.{is_lawful};
 ghost use Rattle.job_grammar.specs.Jobs.{enclave_view};

@@ -1,3 +1,5 @@
+//! Which valid jobs the program runs.
+
 ghost use Rattle.std.specs.Prelude.{◌≤◌, ◌↔◌, IsTrue, length, map, sum_by};
 ghost use Rattle.job_grammar.specs.Jobs.{enclave_view, enclave_pages};
 ghost use Rattle.job_grammar.specs.Valid.{IsFittingForm};

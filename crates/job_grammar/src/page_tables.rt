@@ -1,3 +1,5 @@
+//! Which line adds each page of an enclave.
+
 ghost use Rattle.std.specs.Prelude.{◌≡◌, ◌+◌, ◌≤◌, ℕ, List, true, None, replicate, vec_len, IfOk, IsSome};
 ghost use Rattle.std.specs.Bool.{OnTrue, OnFalse};
 ghost use Rattle.job_grammar.specs.Jobs.{covers, first_page, page_count, is_tcs_page, is_save_page};

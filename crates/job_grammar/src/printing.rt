@@ -1,3 +1,5 @@
+//! The text of a job.
+
 ghost use Rattle.std.specs.Prelude.{◌≡◌, ◌+◌, ◌≤◌, ◌++◌, All, OnOk, length, map, string_bytes};
 ghost use Rattle.job_grammar.specs.Jobs.{enclave_view};
 ghost use Rattle.text_words.specs.Words.{line_text};

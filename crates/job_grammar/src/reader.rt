@@ -1,3 +1,5 @@
+//! Reading a job from its text.
+
 ghost use Rattle.std.specs.Prelude.{◌≡◌, ◌^◌, ◌<◌, ◌↔◌, Err, length, IfOk, IfErr};
 ghost use Rattle.job_grammar.specs.declared.refusals.JobRefusal.TheVariants.{Fault};
 ghost use Rattle.job_grammar.specs.declared.refusals.JobKind.TheVariants.{TooLong, NotYetBuilt};

@@ -1,3 +1,5 @@
+//! Why a text is no job.
+
 ghost use Rattle.std.specs.Prelude.{◌≡◌};
 ghost use Rattle.job_grammar.specs.declared.refusals.JobRefusal.TheVariants as refusals;
 

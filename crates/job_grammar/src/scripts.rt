@@ -1,3 +1,5 @@
+//! When the scripts of a job are valid.
+
 ghost use Rattle.std.specs.Prelude.{◌≡◌, ◌%◌, ◌<◌, ◌↔◌, List, [], All, IsTrue, MatchOption, map};
 ghost use Rattle.job_grammar.specs.Jobs.{EnclaveView, JobView, enclave_at, enclave_view, is_tcs_page, lines_at};
 ghost use Rattle.job_grammar.specs.Valid.{IsOuterOffset, IsValidOp};

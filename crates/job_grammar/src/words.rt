@@ -1,3 +1,5 @@
+//! The words of a line.
+
 ghost use Rattle.std.specs.Prelude.{◌≡◌, map, IfOk};
 ghost use Rattle.job_grammar.specs.Reading.{perm_of, plain_of, words_of, keyword_of};
 

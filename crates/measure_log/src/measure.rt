@@ -1,3 +1,5 @@
+//! The measurement of an enclave while it is built.
+
 ghost use Rattle.std.specs.Prelude.{ℕ, List, ◌++◌};
 ghost use Rattle.std.specs.Int.{w64, to_le_bytes};
 ghost use Rattle.measure_log.specs.Blocks.{ecreate_block, eadd_block, eextend_block};

@@ -22,7 +22,7 @@ use Rattle.sgx_types.specs.declared.refusals.Refusal.{Refusal}
 use Rattle.sgx_types.specs.Epochs.{epoch, epoch_of, noted}
 use Rattle.sgx_types.specs.Flat.{marked}
 use Rattle.sgx_types.specs.Frames.{Content, Free, IsVa, SecsOf, Holds, IsLoading, added, enclave_in, page_at, is_sealing, reloaded, same_page}
-use Rattle.sgx_types.specs.Processors.{Seat, stay, stay_from, with_pair, translations}
+use Rattle.sgx_types.specs.Processors.{Seat, stay, stay_from, with_filled, translations}
 use Rattle.sgx_types.specs.Sights.{seat_of}
 use Rattle.sgx_types.specs.Slots.{is_slot_busy, names_slot, open_slot, same_slot, slot_of}
 use Rattle.sgx_types.specs.Starts.{Start, open_start, opened_by, version_told}
@@ -219,8 +219,8 @@ module _ (s : State) (past : List Entry) (h : HasColumns s past) where
   pub fill_columns : (p : Cpu) (t : Translation) (answer : Answer) → HasColumns (after_fill s p.0 t) (did_by (actors.Cpu p) (Fill t.number t.frame) answer ∷ past)
   fill_columns p t answer = record { frames = h.frames; cpus = λ i. record (h.cpus i) { translations = λ q. filled q (p.0 == q) i }; slots = h.slots; enclaves = h.enclaves }
     where
-      filled : (q : ℕ) (b : Bool) → map without_perm (cond b (with_translation (s.cache q) t) (s.cache q)) ≡ cond b (with_pair (translations past q) (without_perm t)) (translations past q)
-      filled q true = with_translation-map (s.cache q) t ∙ ap (λ xs. with_pair xs (without_perm t)) (translations_are h q)
+      filled : (q : ℕ) (b : Bool) → map without_perm (cond b (with_translation (s.cache q) t) (s.cache q)) ≡ cond b (with_filled (translations past q) (without_perm t)) (translations past q)
+      filled q true = with_translation-map (s.cache q) t ∙ ap (λ xs. with_filled xs (without_perm t)) (translations_are h q)
       filled q false = translations_are h q
 
   -- the page in a frame is blocked at its enclave's epoch

@@ -4,7 +4,7 @@ use Rattle.std.specs.List.{All, AllByRecursion}
 use Rattle.std.proofs.lemmas.Bool.{cond_both, eqb-true}
 use Rattle.std.proofs.lemmas.List.{length-map, map-append}
 use Rattle.std.proofs.lemmas.List.Elements.{All-push, All-drop}
-use Rattle.sgx_types.specs.Processors.{holds_number, with_pair, newest}
+use Rattle.sgx_types.specs.Processors.{holds_number, with_filled, newest}
 use Rattle.cached_translations.specs.declared.cache.Translation.{Translation}
 use Rattle.cached_translations.specs.Translations.{translation_of, with_translation, newest as newest_translations}
 use Rattle.paging_laws.specs.Columns.{without_perm}
@@ -20,7 +20,7 @@ drop_one-map [] = refl
 drop_one-map (x ∷ xs) = refl
 
 -- one translation more
-pub with_translation-map : (xs : List Translation) (t : Translation) → map without_perm (with_translation xs t) ≡ with_pair (map without_perm xs) (without_perm t)
+pub with_translation-map : (xs : List Translation) (t : Translation) → map without_perm (with_translation xs t) ≡ with_filled (map without_perm xs) (without_perm t)
 with_translation-map xs t =
     rw (holds_number-map xs t.number)
     (elim (is_some (translation_of xs t.number)) as (λ b. map without_perm (cond b xs (newest_translations (xs ++ t ∷ []))) ≡ cond b (map without_perm xs) (newest (map without_perm xs ++ without_perm t ∷ []))) [

@@ -10,7 +10,7 @@ use Rattle.sgx_types.specs.Enclaves.{created}
 use Rattle.sgx_types.specs.Epochs.{block_epoch, epoch, noted}
 use Rattle.sgx_types.specs.Flat.{FlatEnclave}
 use Rattle.sgx_types.specs.Frames.{Content, added, content, is_sealing}
-use Rattle.sgx_types.specs.Processors.{Pair, Seat, Stay, stay, translations}
+use Rattle.sgx_types.specs.Processors.{BareTranslation, Seat, Stay, stay, translations}
 use Rattle.sgx_types.specs.Slots.{is_slot_busy, next_version, version_in}
 use Rattle.sgx_types.specs.Starts.{Start, open_start}
 use Rattle.cached_translations.specs.declared.cache.Translation.{Translation}
@@ -20,7 +20,7 @@ abbrev pub seat_of_stay : Option Stay → Option Seat
 seat_of_stay None = None
 seat_of_stay (Some t) = Some t.seat
 
-abbrev pub without_perm : Translation → Pair
+abbrev pub without_perm : Translation → BareTranslation
 without_perm t = record { number = t.number; frame = t.frame.0 }
 
 -- the epoch that a processor noted, 0 of one outside
@@ -39,7 +39,7 @@ pub record FrameColumns : Type 0 where
 pub record CpuColumns : Type 0 where
   pub inside : ℕ → Option Seat
   pub noted : ℕ → ℕ
-  pub translations : ℕ → List Pair
+  pub translations : ℕ → List BareTranslation
 
 -- the versions in slots, which slots are busy, and the next version
 pub record SlotColumns : Type 0 where

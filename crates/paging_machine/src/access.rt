@@ -1,3 +1,5 @@
+//! The rows of translations and accesses.
+
 ghost use Rattle.std.specs.Prelude.{◌≡◌, ◌<◌, length};
 ghost use Rattle.sgx_types.specs.declared.entries.Actor.TheVariants as actors;
 ghost use Rattle.sgx_types.specs.declared.entries.Action.TheVariants as actions;

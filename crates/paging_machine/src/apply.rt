@@ -1,3 +1,5 @@
+//! One instruction, by its row.
+
 ghost use Rattle.std.specs.Prelude.{◌≡◌, IfOk, OnErr, length, List, ◌∷◌};
 ghost use Rattle.sgx_types.specs.declared.entries.Entry.{Entry};
 ghost use Rattle.paging_machine.specs.Parts.{state_of};

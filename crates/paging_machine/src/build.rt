@@ -1,3 +1,5 @@
+//! The rows that make version array pages and build enclaves.
+
 ghost use Rattle.std.specs.Prelude.{◌≡◌, true, None, Some, IfOk, OnOk, OnErr, is_some, length};
 ghost use Rattle.sgx_types.specs.Table.{first_of_row, when, ◌otherwise◌, allowed, epa_row};
 ghost use Rattle.sgx_types.specs.declared.refusals.Refusal.TheVariants as why;

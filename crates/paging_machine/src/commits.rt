@@ -1,3 +1,5 @@
+//! The ends of write-outs and loads, and what is sealed and opened between a start and its commit.
+
 ghost use Rattle.std.specs.Prelude.{◌≡◌, ◌∷◌, ◌++◌, true, Some, length, List, is_some};
 ghost use Rattle.std.specs.Option.{IsSomeAnd};
 ghost use Rattle.sgx_types.specs.declared.entries.Entry.{Entry};

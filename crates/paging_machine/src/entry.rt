@@ -1,3 +1,5 @@
+//! The rows that take a processor into an enclave and out of it.
+
 ghost use Rattle.std.specs.Prelude.{◌≡◌, ◌<◌, ◌||◌, true, Some, length};
 ghost use Rattle.sgx_types.specs.Table.{first_of_row, when, ◌otherwise◌, allowed};
 ghost use Rattle.sgx_types.specs.declared.entries.Actor.TheVariants as actors;

@@ -1,3 +1,5 @@
+//! The row that measures a chunk of a page.
+
 ghost use Rattle.std.specs.Prelude.{◌≡◌, length};
 ghost use Rattle.sgx_types.specs.declared.entries.Action.TheVariants as actions;
 ghost use Rattle.epcm_entry.specs.Sights.{held};

@@ -1,3 +1,5 @@
+//! The machine and its readers.
+
 ghost use Rattle.std.specs.Prelude.{◌≡◌, ◌<◌, ◌≤◌, ◌^◌, ◌%◌, ◌/◌, count_by, length, is_some, nat_le, true, IsTrue};
 ghost use Rattle.std.specs.Option.{option_map};
 ghost use Rattle.sgx_types.specs.Frames.{IsLoading, least_free, page_at};

@@ -1,3 +1,5 @@
+//! The making of a machine.
+
 ghost use Rattle.std.specs.Prelude.{◌≡◌, ◌≤◌, [], IfOk, None, replicate};
 ghost use Rattle.paging_machine.specs.Parts.{idle, made, state_of};
 ghost use Rattle.paging_laws.specs.Shape.{ShapeWithRules, making_of};

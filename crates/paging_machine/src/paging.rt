@@ -1,3 +1,5 @@
+//! The rows of block, track and the starts of write-outs and loads.
+
 ghost use Rattle.std.specs.Prelude.{◌≡◌, length};
 ghost use Rattle.sgx_types.specs.declared.entries.Action.TheVariants as actions;
 ghost use Rattle.paging_machine.specs.Parts.{state_of};

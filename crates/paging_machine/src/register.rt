@@ -1,3 +1,5 @@
+//! The rows of the accumulator, of page faults, and of accesses from outside.
+
 ghost use Rattle.std.specs.Prelude.{◌≡◌, ◌<◌, length};
 ghost use Rattle.sgx_types.specs.Table.{fault_of};
 ghost use Rattle.sgx_types.specs.declared.entries.Actor.TheVariants as actors;

@@ -1,3 +1,5 @@
+//! An open start of a write-out or a load.
+
 use sgx_types::names::{Page, SlotAt};
 
 /// A start of EWB or ELDU that has not ended: the slot that it named, the version that EWB drew or ELDU found there, and the

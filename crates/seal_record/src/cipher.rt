@@ -1,3 +1,5 @@
+//! The cipher of a page, which is its own inverse.
+
 ghost use Rattle.std.specs.Prelude.{◌≡◌, ℕ, List, length};
 ghost use Rattle.seal_record.specs.Cipher.{keystream, xor_bytes, cipher};
 

@@ -1,3 +1,5 @@
+//! Laws of the records of a run.
+
 ghost use Rattle.std.specs.Prelude.{◌≡◌, ℕ, ◌≤◌, List, [], ◌∷◌, ◌++◌, length};
 ghost use Rattle.std.specs.List.{All, Any};
 ghost use Rattle.seal_record.specs.Records.{Made, Given, IsFitting, Unforged, tag_of, made_of, given_of};

@@ -1,3 +1,5 @@
+//! Sealing a page.
+
 ghost use Rattle.std.specs.Prelude.{◌≡◌, IfOk, length};
 ghost use Rattle.seal_record.specs.Cipher.{sealed};
 ghost use Rattle.sgx_types.specs.Layouts.{zeros};

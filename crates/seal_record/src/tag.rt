@@ -1,3 +1,5 @@
+//! The tag of a record.
+
 ghost use Rattle.std.specs.Prelude.{◌≡◌};
 ghost use Rattle.seal_record.specs.Cipher.{tag};
 

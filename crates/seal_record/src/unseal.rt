@@ -1,3 +1,5 @@
+//! Opening a record.
+
 ghost use Rattle.std.specs.Prelude.{◌≡◌, IfOk, length};
 ghost use Rattle.seal_record.specs.Cipher.{cipher, tag};
 ghost use Rattle.sgx_types.specs.Layouts.{zeros};

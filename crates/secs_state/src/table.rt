@@ -1,3 +1,5 @@
+//! The states of the enclaves that were created.
+
 ghost use Rattle.std.specs.Prelude.{◌≡◌, ◌≤◌, length, None, OnSome};
 ghost use Rattle.std.specs.Option.{option_copied, option_copied_mut};
 ghost use Rattle.std.specs.Borrow.{sem};

@@ -57,32 +57,32 @@ abbrev pub stay : List Entry → ℕ → Option Stay
 stay [] p = None
 stay (e ∷ past) p = stay_after (move_by e.event) (is_by p e.actor) past (stay past p)
 
--- a page of the enclave, and its frame
-pub record Pair : Type 0 where
+-- a translation without its permissions: a page of the enclave, and its frame
+pub record BareTranslation : Type 0 where
   pub number : ℕ
   pub frame : ℕ
 
-abbrev pub holds_number : List Pair → ℕ → Bool
+abbrev pub holds_number : List BareTranslation → ℕ → Bool
 holds_number [] n = false
 holds_number (x ∷ xs) n = (x.number == n) || holds_number xs n
 
 -- at most 64 are kept: where one more came, the oldest goes
-abbrev pub newest : List Pair → List Pair
+abbrev pub newest : List BareTranslation → List BareTranslation
 newest xs = if nat_lt 64 (length xs) then drop 1 xs else xs
 
 -- a page that is held already changes nothing
-abbrev pub with_pair : List Pair → Pair → List Pair
-with_pair before x = if holds_number before x.number then before else newest (before ++ x ∷ [])
+abbrev pub with_filled : List BareTranslation → BareTranslation → List BareTranslation
+with_filled before x = if holds_number before x.number then before else newest (before ++ x ∷ [])
 
-abbrev pub translations_after : Event → Bool → List Pair → List Pair
+abbrev pub translations_after : Event → Bool → List BareTranslation → List BareTranslation
 translations_after (Did (Enter enclave tcs tf sf) answer) is_its_own before = if is_its_own then [] else before
 translations_after (Did (Resume enclave tcs tf sf) answer) is_its_own before = if is_its_own then [] else before
 translations_after (Did Exit answer) is_its_own before = if is_its_own then [] else before
 translations_after (Did (Aex cause) answer) is_its_own before = if is_its_own then [] else before
-translations_after (Did (Fill number f) answer) is_its_own before = if is_its_own then with_pair before (record { number = number; frame = f.0 }) else before
+translations_after (Did (Fill number f) answer) is_its_own before = if is_its_own then with_filled before (record { number = number; frame = f.0 }) else before
 translations_after _ is_its_own before = before
 
 -- the translations that a processor holds since it entered, oldest first
-abbrev pub translations : List Entry → ℕ → List Pair
+abbrev pub translations : List Entry → ℕ → List BareTranslation
 translations [] p = []
 translations (e ∷ past) p = translations_after e.event (is_by p e.actor) (translations past p)

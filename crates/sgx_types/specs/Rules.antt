@@ -16,7 +16,7 @@ use Rattle.sgx_types.specs.declared.names.Page.{Page}
 use Rattle.sgx_types.specs.declared.refusals.Refusal.{Refusal}
 use Rattle.sgx_types.specs.declared.refusals.Refusal.TheVariants as why
 use Rattle.sgx_types.specs.Frames.{Content, Free, content, is_sealing, is_page, page_at}
-use Rattle.sgx_types.specs.Processors.{Stay, stay, Pair, holds_number, translations}
+use Rattle.sgx_types.specs.Processors.{Stay, stay, BareTranslation, holds_number, translations}
 use Rattle.sgx_types.specs.declared.names.SlotAt.{SlotAt}
 use Rattle.sgx_types.specs.Table.{first_of_row}
 use Rattle.sgx_types.specs.Eviction.{is_drained}
@@ -146,7 +146,7 @@ pub record IsStill (before now : Content) (sealing : Bool) : Type 0 where
   pub settled : sealing ≡ false
 
 -- a translation leads to its page, in a frame that is not on its way out
-pub record IsCurrent (enclave : ℕ) (x : Pair) (now : Content) (sealing : Bool) : Type 0 where
+pub record IsCurrent (enclave : ℕ) (x : BareTranslation) (now : Content) (sealing : Bool) : Type 0 where
   pub page : is_page now (page_at enclave x.number) ≡ true
   pub settled : sealing ≡ false
 

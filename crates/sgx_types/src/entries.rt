@@ -1,3 +1,5 @@
+//! The entries of a trace: who did what, and the answer.
+
 use crate::names::{Cpu, Frame, Kind, Page, Perm, SlotAt};
 use crate::refusals::Refusal;
 

@@ -1,3 +1,5 @@
+//! The layouts of the manual that this machine reads: SECINFO and a TCS page.
+
 ghost use Rattle.std.specs.Prelude.{◌≡◌, ◌+◌, ◌*◌, ◌≤◌, length};
 ghost use Rattle.sgx_types.specs.Layouts.{flags_of, int_at, long_at, number_of, secinfo_in, tcs_in};
 

@@ -1,3 +1,5 @@
+//! Frames, processors, pages, permissions and slots by their names.
+
 use std::alloc::{AllocError, AllocFailed};
 
 /// A frame of the EPC, 4096 bytes, by its number from 0.

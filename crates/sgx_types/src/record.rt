@@ -1,3 +1,5 @@
+//! Sealed records and their bytes.
+
 ghost use Rattle.std.specs.Prelude.{◌≡◌, OnOk, IfOk, IfErr, length};
 ghost use Rattle.sgx_types.specs.declared.record.RecordFault.TheVariants as faults;
 ghost use Rattle.sgx_types.specs.Sealed.{Sealed, IsRecord, fault_of, record_bytes};

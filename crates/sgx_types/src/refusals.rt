@@ -1,3 +1,5 @@
+//! Why an instruction was refused.
+
 ghost use Rattle.std.specs.Prelude.{◌≡◌};
 ghost use Rattle.sgx_types.specs.Refusal.{code_of};
 

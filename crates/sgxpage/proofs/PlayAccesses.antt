@@ -17,7 +17,7 @@ use Rattle.sgx_types.specs.declared.names.Kind.{Kind}
 use Rattle.sgx_types.specs.declared.names.Kind.TheVariants as kinds
 use Rattle.sgx_types.specs.declared.names.Perm.{Perm}
 use Rattle.sgx_types.specs.Frames.{Content, Free, Holds, content, frame_of, page_at}
-use Rattle.sgx_types.specs.Processors.{Keeps, Pair, Stay, holds_number, move_by, newest, stay, translations, translations_after, with_pair}
+use Rattle.sgx_types.specs.Processors.{Keeps, BareTranslation, Stay, holds_number, move_by, newest, stay, translations, translations_after, with_filled}
 use Rattle.sgx_types.specs.Table.{fill_row, first_of_row, is_lawful_access}
 use Rattle.sgx_types.specs.Flat.{added_as, flat}
 use Rattle.sgx_types.specs.Sights.{enclave_of_stay, sight_at}
@@ -37,7 +37,7 @@ use Rattle.sgxpage.proofs.RoomLaws.{IsRoomyFor, entry_of, newest_refusal}
 
 -- ---- the translation is held
 
-last_held : (before : List Pair) (x : Pair) → holds_number (before ++ x ∷ []) x.number ≡ true
+last_held : (before : List BareTranslation) (x : BareTranslation) → holds_number (before ++ x ∷ []) x.number ≡ true
 last_held [] x = rw (eq-eqb x.number x.number refl) refl
 last_held (y ∷ ys) x = by_test (y.number == x.number) (last_held ys x)
   where
@@ -45,13 +45,13 @@ last_held (y ∷ ys) x = by_test (y.number == x.number) (last_held ys x)
     by_test true h = refl
     by_test false h = h
 
-newest_held : (before : List Pair) (x : Pair) → holds_number (newest (before ++ x ∷ [])) x.number ≡ true
+newest_held : (before : List BareTranslation) (x : BareTranslation) → holds_number (newest (before ++ x ∷ [])) x.number ≡ true
 newest_held [] x = rw (eq-eqb x.number x.number refl) refl
 newest_held (y ∷ ys) x =
     cond_both (nat_lt 64 (length (y ∷ ys ++ x ∷ []))) (ys ++ x ∷ []) (y ∷ ys ++ x ∷ []) (λ v. holds_number v x.number ≡ true) (λ _. last_held ys x) (λ _. last_held (y ∷ ys) x)
 
-pair_held : (before : List Pair) (x : Pair) → holds_number (with_pair before x) x.number ≡ true
-pair_held before x = cond_both (holds_number before x.number) before (newest (before ++ x ∷ [])) (λ v. holds_number v x.number ≡ true) (λ held. held) (λ _. newest_held before x)
+filled_held : (before : List BareTranslation) (x : BareTranslation) → holds_number (with_filled before x) x.number ≡ true
+filled_held before x = cond_both (holds_number before x.number) before (newest (before ++ x ∷ [])) (λ v. holds_number v x.number ≡ true) (λ held. held) (λ _. newest_held before x)
 
 -- ---- a fill of a REG page of its own enclave is done
 
@@ -85,7 +85,7 @@ fill_holds : (frames : ℕ) (cpu : Cpu) (enclave number : ℕ) (f : Frame) (even
     → first_of_row (fill_row number (enclave_of_stay (stay past cpu.0)) (sight_at frames past f.0)) ≡ None
     → RefusalRule frames past (entry_of cpu event) → holds_number (translations_after event true (translations past cpu.0)) number ≡ true
 fill_holds frames cpu enclave number f (events.Did act ans) past is allowed rule =
-    rw (some_same act (Fill number f) is) (pair_held (translations past cpu.0) (record { number = number; frame = f.0 }))
+    rw (some_same act (Fill number f) is) (filled_held (translations past cpu.0) (record { number = number; frame = f.0 }))
 fill_holds frames cpu enclave number f (events.Refused act why) past is allowed rule =
     absurd (refuses why (sym allowed ∙ (rw (some_same act (Fill number f) is) at rule)))
   where

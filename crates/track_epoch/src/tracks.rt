@@ -1,3 +1,5 @@
+//! The tracking of all enclaves.
+
 ghost use Rattle.std.specs.Prelude.{◌≡◌, ◌≤◌, length, replicate, Some};
 ghost use Rattle.std.specs.Borrow.{sem};
 ghost use Rattle.track_epoch.specs.Tracking.{starting_at};

@@ -7,7 +7,7 @@ use lib.Count.{ones}
 use Rattle.sgx_types.specs.declared.entries.Entry.{Entry}
 use Rattle.sgx_types.specs.declared.names.Page.{Page}
 use Rattle.sgx_types.specs.Frames.{Content, Put, added, put_by, held_after, content, is_sealing, same_page, is_page, page_at}
-use Rattle.sgx_types.specs.Processors.{Pair}
+use Rattle.sgx_types.specs.Processors.{BareTranslation}
 use Rattle.sgx_types.specs.Rules.{Along, AtEachPlace, FlatRule, NoPageTwice, NoneStale, IsCurrent}
 use Rattle.worked_traces.specs.Traces.{first_trace, first_build, fill, enter, frame_beyond, frame_twice, page_twice, adds_exchanged, epa_by_reclaimer, no_fill, fill_from_other_frame}
 
@@ -97,5 +97,5 @@ page_twice_not_pages h = absurd (omega (arith, h.1.1.1.1.1.0 4 5 (page_at 1 2) r
 pub fill_from_other_frame_not_stale : ¬ AtEachPlace NoneStale fill_from_other_frame
 fill_from_other_frame_not_stale h =
     let past = fill 3 ∷ enter 0 ∷ first_build in
-    let IsHeld : Pair → Type 0 = λ x. IsCurrent 1 x (content past x.frame) (is_sealing past x.frame) in
+    let IsHeld : BareTranslation → Type 0 = λ x. IsCurrent 1 x (content past x.frame) (is_sealing past x.frame) in
     cc (All-head IsHeld (record { number = 2; frame = 3 }) [] (h.1.1.0 0).translations).page
