@@ -16,7 +16,7 @@ use Rattle.sgx_types.specs.Table.{FrameSight, is_busy, is_valid, is_loading, is_
 use Rattle.sgx_types.specs.Flat.{FlatEnclave, FlatPage, FlatMemory, added_as, flat, open_frame, enclave_sight_of, first_words, with_page, marked}
 use Rattle.sgx_types.specs.Layouts.{flags_of}
 use Rattle.sgx_types.proofs.Rows.{none_holds, none_refused}
-use Rattle.sgx_types.proofs.Truths.{apart, neither}
+use Rattle.sgx_types.proofs.Truths.{neither}
 use Rattle.sgx_types.proofs.Pages.{same_page-at, same_pages}
 use Rattle.measure_log.specs.declared.measure.Measure.{Measure}
 use Rattle.measure_log.specs.Blocks.{ecreate_block, eadd_block}

@@ -19,8 +19,6 @@ use Rattle.sgx_types.specs.Sealed.{Sealed}
 use Rattle.sgx_types.specs.Sights.{row_at}
 use Rattle.sgx_types.specs.Starts.{Start}
 use Rattle.sgx_types.specs.Table.{first_of_row}
-use Rattle.sgx_types.proofs.Rows.{none_holds}
-use Rattle.sgx_types.specs.Making.{Making}
 use Rattle.epcm_entry.specs.Words.{words_of, zero_words}
 use Rattle.seal_record.specs.Cipher.{cipher}
 use Rattle.paging_laws.specs.Stands.{Stands, StandsWithRules, HasWords}

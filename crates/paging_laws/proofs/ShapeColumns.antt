@@ -107,10 +107,6 @@ with_busy slot b x = record x { is_slot_busy = λ at. cond (same_slot slot at) b
 abbrev with_version : SlotAt → ℕ → SlotColumns → SlotColumns
 with_version slot version x = record x { version_in = λ at. cond (same_slot slot at) version (x.version_in at) }
 
--- whether the page in a frame is on its way out
-abbrev with_sealing : ℕ → Bool → FrameColumns → FrameColumns
-with_sealing f b x = record x { is_sealing = λ n. cond (f == n) b (x.is_sealing n) }
-
 -- a processor that comes inside notes its enclave's epoch, and holds no translation
 entered : (s : State) (past : List Entry) (p : ℕ) (seat : Seat) → HasColumns s past
     → (let x : CpuColumns = record {

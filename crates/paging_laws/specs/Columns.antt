@@ -68,7 +68,12 @@ enclaves_of s = record { enclaves = s.enclaves; epoch = s.epoch; added = s.added
 
 -- .. and by the entries, from the first epoch and the first version on
 abbrev pub frames_by : ℕ → List Entry → FrameColumns
-frames_by first past = record { content = content past; blocked = block_epoch first past; is_sealing = is_sealing past; start = open_start past }
+frames_by first past = record {
+  content = content past;
+  blocked = block_epoch first past;
+  is_sealing = is_sealing past;
+  start = open_start past;
+}
 
 abbrev pub cpus_by : ℕ → List Entry → CpuColumns
 cpus_by first past = record {

@@ -4,9 +4,9 @@ use Rattle.sgx_types.specs.declared.entries.Entry.{Entry}
 use Rattle.sgx_types.specs.declared.names.Page.{Page}
 use Rattle.sgx_types.specs.Enclaves.{IsTaken}
 use Rattle.sgx_types.specs.Epochs.{newer_at, older_at}
-use Rattle.sgx_types.specs.Making.{Making}
 use Rattle.sgx_types.specs.Rules.{Along, EvictRule, Fits, RisingRule, Stale}
 use Rattle.sgx_types.specs.Starts.{LoadsAreApart}
+use Rattle.sgx_types.specs.Making.{Making}
 use Rattle.paging_laws.specs.Columns.{HasColumns}
 use Rattle.paging_laws.specs.State.{State, number_noting}
 

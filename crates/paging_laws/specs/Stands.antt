@@ -48,7 +48,9 @@ cpu_shown s past p = record { inside = inside_of_stay (stay past p); acc = s.acc
 
 -- frames that hold pages have these pages' flat words
 abbrev pub HasWords : (ℕ → Content) → (ℕ → List ℕ) → FlatMemory → Type 0
-HasWords content words m = (n : ℕ) (g : Page) (kind : Kind) (perm : Perm) → content n ≡ Holds g kind perm → m.pages g ≡ Some (record { kind = kind; perm = perm; words = words n })
+HasWords content words m =
+    (n : ℕ) (g : Page) (kind : Kind) (perm : Perm) → content n ≡ Holds g kind perm
+    → m.pages g ≡ Some (record { kind = kind; perm = perm; words = words n })
 
 -- flat memory has what the state has, and the measurements have taken in the logs
 pub record Shows (s : State) (past : List Entry) (m : FlatMemory) : Type 0 where
