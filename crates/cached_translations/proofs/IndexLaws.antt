@@ -1,12 +1,11 @@
 -- A table that leads to the places of a cache: what it finds there, and what each change leaves of it.
-use Rattle.std.proofs.Common.{◌≡◌, ◌≢◌, ℕ, ◌+◌, ◌<◌, ◌≤◌, true, false, List, [], ◌∷◌, ◌++◌, Option, Some, None, is_some, length, get_or, set, map, refl, sym, ap, subst, ◌∙◌, ◌⊎◌, inl, inr, arith}
+use Rattle.std.proofs.Common.{◌≡◌, ◌≢◌, ℕ, ◌+◌, ◌<◌, ◌≤◌, false, List, [], ◌∷◌, ◌++◌, Option, Some, None, is_some, length, get_or, set, refl, sym, ap, subst, ◌∙◌, ◌⊎◌, inl, inr, arith}
 use Rattle.std.proofs.lemmas.Bool.{cases_lt, cases_eq}
-use Rattle.std.proofs.lemmas.List.{length-set, length-map, length_push, get_or-map, get_or_append_left, get_or_push, get_or-set_same, get_or-set_other}
+use Rattle.std.proofs.lemmas.List.{length-set, length_push, get_or-map, get_or_append_left, get_or_push, get_or-set_same, get_or-set_other}
 use Rattle.cached_translations.specs.declared.cache.Translation.{Translation}
 use Rattle.cached_translations.specs.declared.probe_table.Slot.{Slot}
-use Rattle.cached_translations.specs.Translations.{translation_of, FitsCache}
-use Rattle.cached_translations.specs.Ring.{around_from}
-use Rattle.cached_translations.specs.Probe.{Leads, IsProbed, Adds, Drops, used}
+use Rattle.cached_translations.specs.Translations.{translation_of}
+use Rattle.cached_translations.specs.Probe.{Leads, IsProbed, Adds, Drops}
 use Rattle.cached_translations.specs.Index.{number_at, IsIndex, IsIndexOnly}
 use Rattle.cached_translations.proofs.TranslationLaws.{translation_of-at, translation_of-number, translation_of-none}
 use Rattle.cached_translations.proofs.ProbeLaws.{leads_to_one, used_none}

@@ -1,14 +1,10 @@
 -- A probed table in which a run is swept, place by place.
-use Rattle.std.proofs.Common.{◌≡◌, ℕ, ◌+◌, ◌-◌, ◌<◌, ◌≤◌, ◌%◌, ◌↔◌, ◌≢◌, true, false, Bool, cond, List, [], ◌∷◌, Option, Some, None, is_some, length, get_or, set, replicate, refl, sym, ap, subst, ◌∙◌, ◌⊎◌, inl, inr, suc, zero, arith}
-use Rattle.std.specs.Prelude.{count_by, Contains, IsPermutation, swap}
-use Rattle.std.proofs.lemmas.Bool.{cases_lt, cases_eq, cases_order}
-use Rattle.std.proofs.lemmas.List.{length-set, get_or-set_same}
-use Rattle.std.proofs.lemmas.List.Sums.{sum_by-set}
-use Rattle.std.proofs.lemmas.List.Sorted.{IsPermutation-sym, IsPermutation-trans, IsPermutation-swap, Contains-permutation, sum_by-IsPermutation, length_permutation}
-use Rattle.std.proofs.lemmas.List.Edits.{length-swap, swapped_from_swap}
+use Rattle.std.proofs.Common.{◌≡◌, ℕ, ◌+◌, ◌-◌, ◌<◌, ◌≤◌, ◌%◌, true, List, Option, Some, None, is_some, length, get_or, set, sym, ap, ◌∙◌, ◌⊎◌, inl, inr, arith}
+use Rattle.std.proofs.lemmas.Bool.{cases_lt}
+use Rattle.std.proofs.lemmas.List.{length-set}
 use Rattle.cached_translations.specs.declared.probe_table.Slot.{Slot}
-use Rattle.cached_translations.specs.Probe.{Leads, IsProbed, IsGapped, IsSwept, IsOfPage, IsFree, Adds, Drops, AreOnce, used, slot_at}
-use Rattle.cached_translations.proofs.ProbeLaws.{StepsTo, steps_to, same_steps, ReadAfterSet, written, kept, read_after_set, leads_at, leads_from, absent, some_free, kept_in_use, number_of}
+use Rattle.cached_translations.specs.Probe.{Leads, IsProbed, IsSwept, slot_at}
+use Rattle.cached_translations.proofs.ProbeLaws.{same_steps, ReadAfterSet, written, kept, read_after_set, leads_at, leads_from, absent}
 
 pub sweep_none : (slots : List (Option Slot)) (n : ℕ) → IsProbed slots → IsSwept slots n 0
 sweep_none slots n is = record {

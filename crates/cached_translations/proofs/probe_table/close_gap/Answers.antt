@@ -1,4 +1,4 @@
-use Rattle.std.proofs.Common.{◌≡◌, ◌≤◌, ◌+◌, ◌%◌, arith, sym, ◌∙◌}
+use Rattle.std.proofs.Common.{◌≤◌, ◌+◌, ◌%◌, arith}
 use Rattle.std.proofs.lemmas.List.Sorted.{IsPermutation-refl, IsPermutation-trans, IsPermutation-swap}
 use Rattle.cached_translations.proofs.ProbeRemove.{free_ahead, closed, stays, beyond, moves, free_still}
 use Rattle.cached_translations.proofs.probe_table.close_gap.Goals as goal

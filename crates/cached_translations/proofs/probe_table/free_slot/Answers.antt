@@ -1,4 +1,4 @@
-use Rattle.std.proofs.Common.{◌≡◌, sym, ◌∙◌, arith, true, is_some, ◌+◌, ◌<◌, ℕ}
+use Rattle.std.proofs.Common.{◌≡◌, sym, ◌∙◌, true, is_some, ◌+◌}
 use Rattle.cached_translations.specs.Probe.{slot_at}
 use Rattle.cached_translations.proofs.ProbeLaws.{still_few, taken_more}
 use Rattle.cached_translations.proofs.probe_table.free_slot.Goals as goal

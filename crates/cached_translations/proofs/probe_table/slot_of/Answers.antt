@@ -1,5 +1,4 @@
-use Rattle.std.proofs.Common.{◌≡◌, arith, None}
-use Rattle.cached_translations.specs.Probe.{slot_at}
+use Rattle.std.proofs.Common.{arith}
 use Rattle.cached_translations.proofs.ProbeLaws.{absent}
 use Rattle.cached_translations.proofs.probe_table.slot_of.Goals as goal
 

@@ -1,4 +1,4 @@
-use Rattle.std.proofs.Common.{◌≡◌, ◌<◌, ◌≤◌, ◌+◌, ℕ, Some}
+use Rattle.std.proofs.Common.{◌≡◌, ◌<◌, ◌+◌, ℕ, Some}
 use Rattle.cached_translations.specs.declared.probe_table.Slot.{Slot}
 use Rattle.cached_translations.specs.Probe.{slot_at}
 use Rattle.cached_translations.proofs.probe_table.slot_of.Given as goal
