@@ -1,8 +1,7 @@
 -- What a word says is what was put into it, and what a change of it leaves.
-use Rattle.std.proofs.Common.{◌≡◌, ℕ, ◌+◌, ◌-◌, ◌*◌, ◌/◌, ◌%◌, ◌^◌, ◌<◌, ◌⊎◌, inl, inr, Bool, true, false, cond, eqb, refl, arith}
-use Rattle.std.proofs.lemmas.Bool.{eqb-true, eqb-false}
+use Rattle.std.proofs.Common.{◌≡◌, ℕ, ◌+◌, ◌-◌, ◌*◌, ◌/◌, ◌%◌, ◌<◌, inl, inr, Bool, true, false, cond, eqb, refl, arith}
 use Rattle.epoch_words.specs.declared.seen.Seen.{Seen}
-use Rattle.epoch_words.specs.Seen.{seen, word_of, seen_in, IsLawful, HasRoom, entered, IsInside, left, CanTrack, tracked, Changes, IsNotAhead}
+use Rattle.epoch_words.specs.Seen.{seen, word_of, seen_in, IsLawful, IsInside, Changes, IsNotAhead}
 
 epoch_back : (e o n : ℕ) → o < 4096 → n < 4096 → (e * 16777216 + o * 4096 + n) / 16777216 ≡ e
 epoch_back e o n a b = omega arith

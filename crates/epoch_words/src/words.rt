@@ -1,4 +1,4 @@
-ghost use Rattle.std.specs.Prelude.{◌≡◌, ℕ, ◌+◌, ◌-◌, ◌*◌, ◌<◌, ◌≤◌, length, replicate, IfOk};
+ghost use Rattle.std.specs.Prelude.{◌≡◌, ◌≤◌, length, replicate, IfOk};
 ghost use Rattle.epoch_words.specs.Seen.{IsLawful, starting_at, HasRoom, entered, IsInside, left, CanTrack, tracked, Changes, IsNotAhead};
 ghost use Rattle.epoch_words.specs.Known.{enclaves, known, seen_of, learnt};
 

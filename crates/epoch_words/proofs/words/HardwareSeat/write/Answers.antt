@@ -1,4 +1,4 @@
-use Rattle.std.proofs.Common.{◌<◌, ◌≤◌, ◌-◌, length, sym, ap, ◌∙◌, subst, arith}
+use Rattle.std.proofs.Common.{◌<◌, ◌≤◌, ◌-◌, length, sym, ap, ◌∙◌, arith}
 use Rattle.epoch_words.specs.Seen.{word_of, Changes}
 use Rattle.epoch_words.specs.Known.{Known, seen_of}
 use Rattle.epoch_words.proofs.RuleLaws.{writes}
