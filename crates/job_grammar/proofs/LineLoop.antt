@@ -3,7 +3,7 @@ use Rattle.std.proofs.Common.{◌≡◌, ℕ, ◌+◌, ◌<◌, ◌≤◌, List,
 use Rattle.std.proofs.lemmas.List.{at_drop_more, at_drop_all}
 use Rattle.job_grammar.specs.declared.refusals.JobRefusal.{JobRefusal}
 use Rattle.job_grammar.specs.declared.refusals.JobRefusal.TheVariants as refusals
-use Rattle.job_grammar.specs.Reading.{◌>>=◌}
+use Rattle.text_words.specs.Reading.{◌>>=◌}
 use Rattle.job_grammar.specs.Drafts.{DraftView, Refuses, read_line, read_lines}
 
 at_line : (d : DraftView) (lines : List (List ℕ)) (i : ℕ) (line : List ℕ) → i < length lines → line ≡ get_or lines i line

@@ -10,7 +10,7 @@ use Rattle.job_grammar.specs.declared.jobs.EnclaveJob.{EnclaveJob}
 use Rattle.job_grammar.specs.Jobs.{EnclaveView, enclave_view}
 use Rattle.job_grammar.specs.Drafts.{script_ops}
 use Rattle.job_grammar.proofs.ViewLaws.{views_more}
-use Rattle.job_grammar.specs.Text.{line_text}
+use Rattle.text_words.specs.Words.{line_text}
 use Rattle.job_grammar.specs.Lines.{line_words, lines_text, lines_inside, lines_of_enclaves, lines_of_scripts}
 
 enclaves-push : (places : ℕ → ℕ) (n k : ℕ) (es : List EnclaveView) (e : EnclaveView) → k ≡ n + length es

@@ -9,13 +9,15 @@ use Rattle.job_grammar.specs.declared.jobs.Op.{Op}
 use Rattle.job_grammar.specs.declared.lines.Line.{Line}
 use Rattle.job_grammar.specs.declared.lines.Line.TheVariants as lines
 use Rattle.job_grammar.specs.Jobs.{EnclaveView, JobView}
-use Rattle.job_grammar.specs.Text.{Words, expect_lines, hexadecimal, inner_lines, letter, page_words, op_words, enclave_lines, script_lines, lines_of, line_text, job_text}
+use Rattle.job_grammar.specs.Text.{expect_lines, inner_lines, page_words, op_words, enclave_lines, script_lines, lines_of, job_text}
+use Rattle.text_words.specs.Words.{Words, hexadecimal, letter, line_text}
 use Rattle.job_grammar.specs.Lines.{line_words, lines_inside, lines_of_expect, lines_of_enclaves, lines_of_scripts, lines_of_parts, place_at}
-use Rattle.job_grammar.specs.Reading.{◌>>=◌, line_of, words_of}
+use Rattle.text_words.specs.Reading.{◌>>=◌}
+use Rattle.job_grammar.specs.Reading.{line_of, words_of}
 use Rattle.job_grammar.specs.Drafts.{DraftView, empty_draft, expecting, new_enclave, with_expect, with_page, with_place, with_op, step, read_words, read_line, read_lines, read_text}
 use Rattle.job_grammar.proofs.LastItem.{last_place-push, with_last-push}
-use Rattle.job_grammar.proofs.Splits.{AreWords, words_of-join, split-lines}
-use Rattle.job_grammar.proofs.LineWords.{FitsLine, line-are_words, line-few, line_of-line_words}
+use Rattle.text_words.proofs.Splits.{AreWords, split-lines}
+use Rattle.job_grammar.proofs.LineWords.{FitsLine, words_of-join, line-are_words, line-few, line_of-line_words}
 
 bind-same : {A B : Type 0} (o : Option A) (f g : A → Option B) → ((x : A) → f x ≡ g x) → (o >>= f) ≡ (o >>= g)
 bind-same None f g same = refl

@@ -12,8 +12,9 @@ use Rattle.job_grammar.specs.declared.refusals.JobRefusal.{JobRefusal}
 use Rattle.job_grammar.specs.declared.refusals.JobRefusal.TheVariants as refusals
 use Rattle.job_grammar.specs.declared.refusals.JobKind.TheVariants.{NotYetBuilt}
 use Rattle.job_grammar.specs.Jobs.{EnclaveView, enclave_view}
-use Rattle.job_grammar.specs.Text.{Words}
-use Rattle.job_grammar.specs.Reading.{◌>>=◌, words_of, line_of}
+use Rattle.text_words.specs.Words.{Words}
+use Rattle.text_words.specs.Reading.{◌>>=◌}
+use Rattle.job_grammar.specs.Reading.{words_of, line_of}
 
 -- what the lines so far say
 pub record DraftView : Type 0 where

@@ -6,7 +6,8 @@ use Rattle.job_grammar.specs.declared.jobs.Op.TheVariants.{Enter, Resume, OutLoa
 use Rattle.job_grammar.specs.declared.lines.Line.{Line}
 use Rattle.job_grammar.specs.declared.lines.Line.TheVariants as lines
 use Rattle.job_grammar.specs.Jobs.{EnclaveView}
-use Rattle.job_grammar.specs.Text.{Words, hexadecimal, letter, page_words, op_words, line_text}
+use Rattle.job_grammar.specs.Text.{page_words, op_words}
+use Rattle.text_words.specs.Words.{Words, hexadecimal, letter, line_text}
 
 -- the words of a line, as they are written
 abbrev pub line_words : Line → Words

@@ -1,10 +1,6 @@
--- Reading a job's text line by line and word by word, in any spelling of its numbers.
+-- Reading a job's text line by line and word by word.
 use Rattle.std.specs.Prelude.{ℕ, ◌-◌, ◌^◌, ◌&&◌, ◌==◌, not, Bool, true, false, if◌then◌else◌, List, [], ◌∷◌, Option, Some, None, option_and_then, length, take, drop, filter, nat_lt, nat_le, codes, bytes_eq}
 use Rattle.std.specs.List.{list_all, slice_split}
-use Rattle.std.specs.Result.{result_ok}
-use Rattle.std.specs.Char.{digit_value}
-use Rattle.std.specs.Str.Parse.{digits_value}
-use Rattle.hex.specs.Hex.{decode_sized}
 use Rattle.sgx_types.specs.declared.names.Perm.{Perm}
 use Rattle.job_grammar.specs.declared.jobs.PageLine.TheVariants as pages
 use Rattle.job_grammar.specs.declared.jobs.Op.TheVariants as ops
@@ -12,34 +8,8 @@ use Rattle.job_grammar.specs.declared.lines.Line.{Line}
 use Rattle.job_grammar.specs.declared.lines.Line.TheVariants as lines
 use Rattle.job_grammar.specs.declared.words.Keyword.{Keyword}
 use Rattle.job_grammar.specs.declared.words.Keyword.TheVariants as keywords
-use Rattle.job_grammar.specs.Text.{Words}
-
--- what f makes of a value, where there is one
-infixl 10 ◌>>=◌
-abbrev pub ◌>>=◌ : {A B : Type 0} → Option A → (A → Option B) → Option B
-o >>= f = option_and_then f o
-
--- ---- numbers
-
--- one digit of the base or more
-abbrev pub is_numeral : ℕ → List ℕ → Bool
-is_numeral radix digits = nat_lt 0 (length digits) && list_all (λ c. nat_lt (digit_value c) radix) digits
-
--- the value of digits, where it is below 2 ^ 64
-unfoldable pub numeral_of : ℕ → List ℕ → Option ℕ
-numeral_of radix digits =
-    if is_numeral radix digits && nat_lt (digits_value radix digits) (2 ^ 64) then Some (digits_value radix digits)
-    else None
-
--- decimal digits, or `0x` and hexadecimal digits
-unfoldable pub number_of : List ℕ → Option ℕ
-number_of word = if bytes_eq (take 2 word) (codes "0x") then numeral_of 16 (drop 2 word) else numeral_of 10 word
-
--- a number below 2 ^ 32
-unfoldable pub small_of : List ℕ → Option ℕ
-small_of word = do
-  n ← number_of word
-  if nat_lt n (2 ^ 32) then Some n else None
+use Rattle.text_words.specs.Words.{Words}
+use Rattle.text_words.specs.Reading.{◌>>=◌, digest_of, letter_of, number_of, small_of}
 
 -- ---- words
 
@@ -69,11 +39,6 @@ keyword_of word =
     else (if bytes_eq word (codes "outstore") then Some keywords.OutStore
     else None))))))))))))))))
 
--- A is enclave 1, H is enclave 8
-unfoldable pub letter_of : List ℕ → Option ℕ
-letter_of (c ∷ []) = if nat_le 65 c && nat_le c 72 then Some (c - 64) else None
-letter_of _ = None
-
 -- R, with or without W and X
 abbrev pub perm_with : Bool → Bool → Perm
 perm_with w x = record { r = true; w = w; x = x }
@@ -86,10 +51,6 @@ perm_of word =
     else (if bytes_eq word (codes "rx") then Some (perm_with false true)
     else (if bytes_eq word (codes "rwx") then Some (perm_with true true)
     else None)))
-
--- the 32 bytes of 64 hexadecimal digits, in either case
-unfoldable pub digest_of : List ℕ → Option (List ℕ)
-digest_of word = result_ok (decode_sized word 32)
 
 -- whether a line of pages ends in `plain`
 unfoldable pub plain_of : Words → Option Bool

@@ -1,41 +1,12 @@
 -- The text of a job: lines of words with one space between two, each line ended by a line feed.
 use Rattle.std.specs.Prelude.{ℕ, ◌+◌, Bool, true, false, Option, Some, None, List, [], ◌∷◌, ◌++◌, codes, drop, map, flat_map, take}
-use Rattle.std.specs.List.{join_with_byte}
-use Rattle.std.specs.Fmt.{digits, decimal}
-use Rattle.hex.specs.Hex.{encode_lower}
-use Rattle.sgx_types.specs.declared.names.Perm.{Perm}
+use Rattle.std.specs.Fmt.{decimal}
+use Rattle.text_words.specs.Words.{Words, digest_word, hexadecimal, letter, line_text, perm_word}
 use Rattle.job_grammar.specs.declared.jobs.PageLine.{PageLine}
 use Rattle.job_grammar.specs.declared.jobs.PageLine.TheVariants.{Tcs, Reg}
 use Rattle.job_grammar.specs.declared.jobs.Op.{Op}
 use Rattle.job_grammar.specs.declared.jobs.Op.TheVariants.{Enter, Resume, Exit, Timer, Load, Store, Xadd, Set, Plus, OutLoad, OutStore}
 use Rattle.job_grammar.specs.Jobs.{EnclaveView, JobView}
-
--- the words of a line
-abbrev pub Words : Type 0
-Words = List (List ℕ)
-
--- `0x` and lower-case digits
-abbrev pub hexadecimal : ℕ → List ℕ
-hexadecimal n = codes "0x" ++ digits 16 false n
-
--- enclave 1 is A, enclave 8 is H
-abbrev pub letter : ℕ → List ℕ
-letter enclave = (64 + enclave) ∷ []
-
-abbrev pub perm_word : Perm → List ℕ
-perm_word p = r_word p.r ++ w_word p.w ++ x_word p.x
-  where
-    r_word : Bool → List ℕ
-    r_word true = codes "r"
-    r_word false = []
-
-    w_word : Bool → List ℕ
-    w_word true = codes "w"
-    w_word false = []
-
-    x_word : Bool → List ℕ
-    x_word true = codes "x"
-    x_word false = []
 
 abbrev pub plain_word : Bool → Words
 plain_word true = codes "plain" ∷ []
@@ -61,7 +32,7 @@ op_words (OutStore enclave off value) = codes "outstore" ∷ letter enclave ∷ 
 -- the line of the digest that is expected, in lower case
 abbrev pub expect_lines : Option (List ℕ) → List Words
 expect_lines None = []
-expect_lines (Some digest) = (codes "expect" ∷ encode_lower digest ∷ []) ∷ []
+expect_lines (Some digest) = (codes "expect" ∷ digest_word digest ∷ []) ∷ []
 
 -- the lines in an enclave: its pages, and the digest that is expected behind so many of them
 abbrev pub inner_lines : ℕ → EnclaveView → List Words
@@ -81,9 +52,6 @@ script_lines n (script ∷ scripts) = (codes "cpu" ∷ decimal n ∷ []) ∷ map
 -- a job as its lines
 abbrev pub lines_of : (ℕ → ℕ) → JobView → List Words
 lines_of places j = (codes "epc" ∷ decimal j.epc ∷ []) ∷ enclave_lines places 1 j.enclaves ++ script_lines 0 j.scripts
-
-abbrev pub line_text : Words → List ℕ
-line_text words = join_with_byte 32 words ++ 10 ∷ []
 
 -- a job's text, by the place of each enclave's `expect` line among its lines of pages
 unfoldable pub job_text : (ℕ → ℕ) → JobView → List ℕ

@@ -7,6 +7,7 @@ use Rattle.job_grammar.specs.declared.jobs.PageLine.TheVariants.{Tcs, Reg}
 use Rattle.job_grammar.specs.declared.jobs.Op.{Op}
 use Rattle.job_grammar.specs.declared.jobs.Op.TheVariants.{Enter, Resume, Exit, Timer, Load, Store, Xadd, Set, Plus, OutLoad, OutStore}
 use Rattle.job_grammar.specs.Jobs.{EnclaveView, JobView, covers, enclave_at, is_tcs_page, is_save_page, lines_at, job_pages, va_pages, needed, default_marks}
+use Rattle.text_words.specs.Reading.{IsDigest}
 use Rattle.job_grammar.specs.Text.{job_text}
 
 -- ---- lines
@@ -20,11 +21,6 @@ IsValidLine pages (Reg first count perm value plain) = (1 ≤ count) × (first +
 abbrev pub HasSavePages : List PageLine → PageLine → Type 0
 HasSavePages lines (Tcs page ossa nssa plain) = (n : ℕ) → ossa ≤ n → n < ossa + nssa → is_save_page lines n ≡ true
 HasSavePages lines _ = Unit {0}
-
--- 32 bytes
-pub record IsDigest (digest : List ℕ) : Type 0 where
-  pub sized : length digest ≡ 32
-  pub bytes : All (λ b. b < 256) digest
 
 pub record IsValidEnclave (e : EnclaveView) : Type 0 where
   pub range : is_lawful e.base e.size ≡ true

@@ -1,7 +1,8 @@
 ghost use Rattle.std.specs.Prelude.{◌≡◌, ◌+◌, ◌^◌, ◌≤◌, ◌↔◌, List, true, map, All, IsTrue, IfOk, IfSome, MatchOption};
 ghost use Rattle.sgx_types.specs.Table.{is_lawful};
 ghost use Rattle.job_grammar.specs.Jobs.{enclave_view};
-ghost use Rattle.job_grammar.specs.Valid.{IsDigest, IsValidLine, HasSavePages, IsValidEnclave};
+ghost use Rattle.text_words.specs.Reading.{IsDigest};
+ghost use Rattle.job_grammar.specs.Valid.{IsValidLine, HasSavePages, IsValidEnclave};
 ghost use Rattle.job_grammar.specs.PageTables.{IsTableOf, AreValidPages, Tells, AreTablesOf};
 ghost use Rattle.job_grammar.specs.declared.jobs.PageLine.{PageLine};
 

@@ -7,7 +7,6 @@ mod enclaves;
 mod forms;
 pub mod jobs;
 mod lines;
-mod numbers;
 mod page_tables;
 mod printing;
 pub mod reader;

@@ -2,8 +2,8 @@ ghost use Rattle.std.specs.Prelude.{◌≡◌, map};
 ghost use Rattle.job_grammar.specs.Reading.{epc_line, enclave_line, tcs_line, reg_line, expect_line, cpu_line, enter_line, resume_line, exit_line, timer_line, load_line, store_line, xadd_line, set_line, plus_line, outload_line, outstore_line, line_of};
 
 use crate::jobs::{Op, PageLine};
-use crate::numbers::number;
-use crate::words::{Keyword, digest, keyword_of, letter, perm, plain, small};
+use crate::words::{Keyword, keyword_of, perm, plain};
+use text_words::readers::{digest, letter, number, small};
 
 /// A line of a job.
 #[derive(Clone, Copy, Debug, PartialEq, Eq)]

@@ -1,6 +1,6 @@
 ghost use Rattle.std.specs.Prelude.{◌≡◌, ◌+◌, ◌≤◌, ◌++◌, All, OnOk, length, map, string_bytes};
 ghost use Rattle.job_grammar.specs.Jobs.{enclave_view};
-ghost use Rattle.job_grammar.specs.Text.{line_text};
+ghost use Rattle.text_words.specs.Words.{line_text};
 ghost use Rattle.job_grammar.specs.Drafts.{script_ops};
 ghost use Rattle.job_grammar.specs.Lines.{line_words, lines_text, lines_inside, lines_of_expect, lines_of_enclaves, lines_of_scripts, lines_of_parts, place_at, HasLetter};
 ghost use Rattle.job_grammar.specs.declared.lines.Line.TheVariants as lines;

@@ -1,8 +1,6 @@
 ghost use Rattle.std.specs.Prelude.{◌≡◌, map, IfOk};
-ghost use Rattle.job_grammar.specs.Reading.{small_of, letter_of, perm_of, digest_of, plain_of, words_of, keyword_of};
+ghost use Rattle.job_grammar.specs.Reading.{perm_of, plain_of, words_of, keyword_of};
 
-use crate::numbers::number;
-use hex::FromHex;
 use sgx_types::names::Perm;
 use std::alloc::{AllocError, Global};
 
@@ -64,25 +62,6 @@ pub(crate) fn keyword_of(word: &[u8]) -> Option<Keyword>
     }
 }
 
-/// A number below 2^32.
-#[tactic(auto, unfolding(crate::specs::Reading::small_of))]
-pub(crate) fn small(word: &[u8]) -> Option<u32>
-    ensures { result ≡ small_of word.now }
-{
-    u32::try_from(number(word)?).ok()
-}
-
-/// The number of the enclave that a letter stands for, from 1 for A to 8 for H.
-#[tactic(auto, unfolding(crate::specs::Reading::letter_of))]
-pub(crate) fn letter(word: &[u8]) -> Option<u16>
-    ensures { result ≡ letter_of word.now }
-{
-    match word {
-        [letter @ b'A'..=b'H'] => Some(u16::from(letter - b'A') + 1),
-        _ => None,
-    }
-}
-
 #[tactic(auto, unfolding(crate::specs::Reading::perm_of))]
 pub(crate) fn perm(word: &[u8]) -> Option<Perm>
     ensures { result ≡ perm_of word.now }
@@ -95,14 +74,6 @@ pub(crate) fn perm(word: &[u8]) -> Option<Perm>
         _ => return None,
     };
     Some(Perm { r: true, w, x })
-}
-
-/// The 32 bytes of 64 hexadecimal digits, in either case.
-#[tactic(auto, unfolding(crate::specs::Reading::digest_of))]
-pub(crate) fn digest(word: &[u8]) -> Option<[u8; 32]>
-    ensures { result ≡ digest_of word.now }
-{
-    <[u8; 32] as FromHex>::from_hex(word).ok()
 }
 
 /// Whether a line of pages ends in `plain`.

@@ -1,28 +1,15 @@
--- What the texts gain by one more entry, where the entries that a printer is given stand oldest first.
+-- What the output gains by one more entry, where the entries that a printer is given stand oldest first.
 use Rattle.std.proofs.Common.{◌≡◌, ℕ, ◌+◌, ◌<◌, Bool, true, false, refl, cond, List, [], ◌∷◌, ◌++◌, length, take, reverse, get_or, sym, ap, ◌∙◌}
 use Rattle.std.specs.Prelude.{codes}
 use Rattle.std.specs.Fmt.{decimal}
 use Rattle.std.specs.List.{flat_map}
-use Rattle.std.proofs.lemmas.List.{append_assoc, reverse-append, take_more, flat_map_more}
+use Rattle.std.proofs.lemmas.List.{flat_map_more}
 use Rattle.sgx_types.specs.declared.entries.Entry.{Entry}
 use Rattle.sgx_types.specs.Processors.{is_by}
 use Rattle.job_grammar.specs.Script.{interrupted_after, is_interrupted, is_reply, is_reply_of}
-use Rattle.job_grammar.specs.Text.{Words, line_text}
-use Rattle.sgxpage.specs.TraceText.{entry_text, entries_text}
+use Rattle.text_words.specs.Words.{Words, line_text}
+use Rattle.trace_text.proofs.EntryLaws.{newest_more}
 use Rattle.sgxpage.specs.OutText.{cpu_lines, enclave_lines, init_line, reply_lines, reply_words}
-
-newest_more : (entries : List Entry) (i : ℕ) (d : Entry) → i < length entries → reverse (take (i + 1) entries) ≡ get_or entries i d ∷ reverse (take i entries)
-newest_more entries i d within = ap reverse (take_more entries i d within) ∙ reverse-append (take i entries) (get_or entries i d ∷ [])
-
--- ---- the trace
-
-pub entries_text_more : (text : List ℕ) (entries : List Entry) (i : ℕ) (d : Entry) → i < length entries
-    → (text ++ entries_text (reverse (take i entries))) ++ entry_text (get_or entries i d) ≡ text ++ entries_text (reverse (take (i + 1) entries))
-entries_text_more text entries i d within =
-    append_assoc text (entries_text (reverse (take i entries))) (entry_text (get_or entries i d))
-    ∙ ap (λ (past : List Entry). text ++ entries_text past) (sym (newest_more entries i d within))
-
--- ---- the output
 
 pub enclave_lines_more : (entries : List Entry) (enclave i : ℕ) (d : Entry) → i < length entries
     → init_line (get_or entries i d).event enclave (enclave_lines (reverse (take i entries)) enclave) ≡ enclave_lines (reverse (take (i + 1) entries)) enclave

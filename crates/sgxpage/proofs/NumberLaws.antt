@@ -5,7 +5,7 @@ use Rattle.std.proofs.lemmas.List.{append-nil, append_assoc}
 use Rattle.std.proofs.lemmas.List.Concat.{flat_map-append}
 use Rattle.sgx_types.specs.declared.entries.Entry.{Entry}
 use Rattle.job_grammar.specs.Script.{numbers_from}
-use Rattle.job_grammar.specs.Text.{Words, line_text}
+use Rattle.text_words.specs.Words.{Words, line_text}
 use Rattle.sgxpage.specs.OutText.{cpu_lines, enclave_lines}
 
 numbers_more : (first count : ℕ) → numbers_from first (count + 1) ≡ numbers_from first count ++ (count + first) ∷ []

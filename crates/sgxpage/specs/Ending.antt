@@ -1,9 +1,8 @@
 -- How an enclave's EINIT ended, and its line in the output.
 use Rattle.std.specs.Prelude.{ℕ, List, [], ◌∷◌, Option, Some, None, codes}
-use Rattle.job_grammar.specs.Text.{Words}
+use Rattle.text_words.specs.Words.{Words, enclave_word}
 use Rattle.sgxpage.specs.declared.replies.Ending.{Ending}
 use Rattle.sgxpage.specs.declared.replies.Ending.TheVariants.{Initialised, WrongMeasurement}
-use Rattle.sgxpage.specs.TraceText.{enclave_word}
 
 abbrev pub ending_name : Ending → List ℕ
 ending_name Initialised = codes "init"

@@ -1,7 +1,4 @@
-pub mod TraceText
 pub mod OutText
-pub mod WorkedTraces
-pub mod Words
 pub mod Ending
 pub mod Homes
 pub mod Places

@@ -1,5 +1,5 @@
 -- The output of a run: for each enclave how its EINIT ended, and for each processor the replies to its operations.
-use Rattle.std.specs.Prelude.{ℕ, ◌==◌, if◌then◌else◌, List, [], ◌∷◌, ◌++◌, codes, length, take, flat_map}
+use Rattle.std.specs.Prelude.{ℕ, ◌==◌, if◌then◌else◌, List, [], ◌∷◌, ◌++◌, codes, length, flat_map}
 use Rattle.std.specs.Fmt.{decimal}
 use Rattle.sgx_types.specs.declared.entries.Entry.{Entry}
 use Rattle.sgx_types.specs.declared.entries.Event.{Event}
@@ -13,8 +13,8 @@ use Rattle.sgx_types.specs.declared.refusals.Refusal.{Refusal}
 use Rattle.sgx_types.specs.declared.refusals.Refusal.TheVariants as why
 use Rattle.job_grammar.specs.Jobs.{JobView}
 use Rattle.job_grammar.specs.Script.{is_reply_of, numbers_from}
-use Rattle.job_grammar.specs.Text.{Words, line_text}
-use Rattle.sgxpage.specs.TraceText.{enclave_word, fault_word, refusal_words}
+use Rattle.text_words.specs.Words.{Words, enclave_word, line_text}
+use Rattle.trace_text.specs.TraceText.{fault_word, refusal_name}
 
 -- ---- enclaves
 
@@ -44,10 +44,6 @@ done_reply (actions.Pf op off) (answers.Pf fault) = codes "pf" ∷ fault_word fa
 done_reply (actions.OutLoad enclave off) (answers.Value v) = decimal v ∷ []
 done_reply (actions.OutStore enclave off value) answer = codes "dropped" ∷ []
 done_reply action answer = []
-
--- a refusal's name, without its numbers
-abbrev pub refusal_name : Refusal → Words
-refusal_name refusal = take 1 (refusal_words refusal)
 
 -- the wrong mode by its own word, any other refusal as a general protection fault
 abbrev pub refused_reply : Refusal → Words

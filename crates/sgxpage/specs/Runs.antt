@@ -13,7 +13,7 @@ use Rattle.job_grammar.specs.Valid.{IsJobText}
 use Rattle.sgxpage.specs.declared.command.Unread.{Unread}
 use Rattle.sgxpage.specs.declared.command.Unread.TheVariants.{Fault}
 use Rattle.sgxpage.specs.OutText.{out_of}
-use Rattle.sgxpage.specs.TraceText.{trace_of}
+use Rattle.trace_text.specs.TraceText.{trace_of}
 
 -- ---- the job's bytes
 

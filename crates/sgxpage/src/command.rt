@@ -9,7 +9,6 @@ ghost use Rattle.sgxpage.specs.Runs.{Broke, BrokeOn, Gave, HalfTold, HasJob, IsF
 use crate::job_faults::print_fault;
 use crate::replies::print_out;
 use crate::run::run;
-use crate::trace::print_trace;
 use io_edges::faults::Failed;
 use io_edges::giving::give_all;
 use io_edges::reading::{ReadEnd, read_all};
@@ -20,6 +19,7 @@ use job_grammar::reader::read_job;
 use job_grammar::refusals::{JobKind, JobRefusal};
 use sgx_types::names::Memory;
 use std::alloc::Global;
+use trace_text::trace::print_trace;
 
 const MOST_BYTES: usize = 1 << 24;
 

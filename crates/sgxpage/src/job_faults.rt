@@ -2,11 +2,11 @@ ghost use Rattle.std.specs.Prelude.{◌≡◌, ◌++◌, codes, IfOk, OnOk};
 ghost use Rattle.std.specs.Fmt.{decimal};
 ghost use Rattle.sgxpage.specs.Runs.{fault_text, kind_text};
 
-use crate::words::Word::{Decimal, Name};
-use crate::words::push_word;
 use job_grammar::refusals::JobKind;
 use sgx_types::names::Memory;
 use std::alloc::Global;
+use text_words::words::Word::{Decimal, Name};
+use text_words::words::push_word;
 
 /// What is wrong with a job, by its line. Line 0 is the whole text.
 pub fn print_fault(alloc: Global, line: u32, kind: JobKind) -> Result<Vec<u8>, Memory>

@@ -1,25 +1,19 @@
 #![tactic(auto)]
 
-mod actions;
 mod book;
 mod build;
 mod command;
 mod entering;
 mod homes;
 mod job_faults;
-mod names;
 mod play;
 mod replies;
 mod run;
 mod saves;
 #[cfg(test)]
 mod tests;
-mod trace;
 #[cfg(test)]
 mod two_enclaves;
-mod words;
-#[cfg(test)]
-mod worked;
 #[cfg(test)]
 mod worked_runs;
 

@@ -1,18 +1,18 @@
 ghost use Rattle.std.specs.Prelude.{◌≡◌, [], ◌++◌, reverse, flat_map, OnOk, IfOk};
 ghost use Rattle.sgx_types.specs.Processors.{is_by};
 ghost use Rattle.job_grammar.specs.Script.{interrupted_after, is_reply, is_reply_action, numbers_from};
-ghost use Rattle.job_grammar.specs.Text.{line_text};
+ghost use Rattle.text_words.specs.Words.{line_text};
 ghost use Rattle.sgxpage.specs.Ending.{ending_lines};
 ghost use Rattle.sgxpage.specs.OutText.{cpu_lines, done_reply, enclave_lines, init_line, out_of, refused_reply, reply_words};
 
-use crate::names::{fault_name, refusal_name};
-use crate::words::Word::{Decimal, Enclave, Name};
-use crate::words::push_line;
 use job_grammar::jobs::Job;
 use sgx_types::entries::{Action, Actor, Answer, Cause, Entry, Event};
 use sgx_types::names::Memory;
 use sgx_types::refusals::Refusal;
 use std::alloc::Global;
+use text_words::words::Word::{Decimal, Enclave, Name};
+use text_words::words::push_line;
+use trace_text::names::{fault_name, refusal_name};
 
 /// How an enclave's EINIT ended.
 #[derive(Clone, Copy)]

@@ -1,8 +1,0 @@
-use Rattle.std.proofs.Common.{◌≡◌, [], ◌∷◌, ◌++◌, take, reverse}
-use Rattle.std.specs.Prelude.{codes}
-use Rattle.job_grammar.specs.Text.{line_text}
-use Rattle.sgxpage.specs.TraceText.{entries_text}
-use Rattle.sgxpage.proofs.trace.print_trace.Given as goal
-
-abbrev pub invariant-loop-entry : goal.invariant-loop-entry
-invariant-loop-entry l = l.text.items ≡ line_text (codes "trace" ∷ codes "1" ∷ []) ++ entries_text (reverse (take l.entry-index l.entries))

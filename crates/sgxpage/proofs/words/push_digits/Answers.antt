@@ -1,6 +1,0 @@
-use Rattle.std.proofs.Common.{refl}
-use Rattle.sgxpage.proofs.Digits.{none_yet}
-use Rattle.sgxpage.proofs.words.push_digits.Goals as goal
-
-pub loop-start-init : goal.loop-start-init
-loop-start-init c = none_yet _ _ _ refl

@@ -1,0 +1,5 @@
+pub mod Digits
+pub mod LineLaws
+pub mod Numerals
+pub mod Splits
+pub mod WordLaws

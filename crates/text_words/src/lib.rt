@@ -1,0 +1,5 @@
+// The words of lines of text, as jobs, traces and replies spell them.
+#![tactic(auto)]
+
+pub mod readers;
+pub mod words;

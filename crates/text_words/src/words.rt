@@ -1,0 +1,126 @@
+ghost use Rattle.std.specs.Prelude.{◌≡◌, ◌≤◌, ◌<◌, ◌∷◌, ◌++◌, false, map, OnOk};
+ghost use Rattle.std.specs.Fmt.{digits, digit_glyph};
+ghost use Rattle.text_words.specs.Words.{digest_word, enclave_word, hexadecimal, line_text, with_words, word_text};
+
+use sgx_types::names::{Frame, Memory};
+
+/// A word of a line: a name as it stands, a number in one of two spellings, an enclave by its letter, or a digest.
+#[derive(Clone, Copy)]
+pub enum Word {
+    Name(&'static str),
+    Decimal(u64),
+    Hexadecimal(u64),
+    Enclave(u64),
+    Digest([u8; 32]),
+}
+
+impl From<Frame> for Word {
+    ghost use Rattle.text_words.specs.declared.words.Word.TheVariants as variants;
+
+    ghost from_gives = { λ frame word. word ≡ variants.Decimal frame.0 };
+
+    fn from(frame: Frame) -> Word {
+        Word::Decimal(frame.0.into())
+    }
+}
+
+fn digit(value: u64) -> u8
+    requires { value < 16 }
+    ensures { result ≡ digit_glyph false value }
+{
+    if value < 10 {
+        b'0' + value as u8
+    } else {
+        b'a' + (value - 10) as u8
+    }
+}
+
+// The digits are made from the last to the first. Base 2 has the most, 64.
+#[tactic(auto, using(crate::proofs::Digits::one_more, crate::proofs::Digits::last_one, crate::proofs::Digits::all_written))]
+fn push_digits(number: u64, base: u64, onto: &mut Vec<u8>) -> Result<(), Memory>
+    requires least { 2 ≤ base }
+    requires most { base ≤ 16 }
+    ensures { OnOk result (onto.new.items ≡ onto.old.items ++ digits base false number) }
+{
+    let mut digits = [0; 64];
+    let mut start = digits.len();
+    let mut rest = number;
+    while start > 0 {
+        start -= 1;
+        digits[start] = digit(rest % base);
+        rest /= base;
+        if rest == 0 {
+            break;
+        }
+    }
+    onto.extend_from_slice(&digits[start..])?;
+    Ok(())
+}
+
+fn push_hexadecimal(number: u64, onto: &mut Vec<u8>) -> Result<(), Memory>
+    ensures { OnOk result (onto.new.items ≡ onto.old.items ++ hexadecimal number) }
+{
+    onto.extend_from_slice(b"0x")?;
+    push_digits(number, 16, onto)
+}
+
+fn push_enclave(enclave: u64, onto: &mut Vec<u8>) -> Result<(), Memory>
+    ensures { OnOk result (onto.new.items ≡ onto.old.items ++ enclave_word enclave) }
+{
+    match enclave {
+        1..=8 => {
+            onto.push(b'A' + (enclave - 1) as u8)?;
+            Ok(())
+        }
+        _ => push_digits(enclave, 10, onto),
+    }
+}
+
+fn push_digest(digest: [u8; 32], onto: &mut Vec<u8>) -> Result<(), Memory>
+    ensures { OnOk result (onto.new.items ≡ onto.old.items ++ digest_word digest) }
+{
+    let mut digits = [0; 64];
+    hex::encode_to_slice(digest, &mut digits).unwrap();
+    onto.extend_from_slice(&digits)?;
+    Ok(())
+}
+
+/// Writes a word, with no space before it.
+pub fn push_word(word: Word, onto: &mut Vec<u8>) -> Result<(), Memory>
+    ensures { OnOk result (onto.new.items ≡ onto.old.items ++ word_text word) }
+{
+    match word {
+        Word::Name(name) => {
+            onto.extend_from_slice(name.as_bytes())?;
+            Ok(())
+        }
+        Word::Decimal(number) => push_digits(number, 10, onto),
+        Word::Hexadecimal(number) => push_hexadecimal(number, onto),
+        Word::Enclave(enclave) => push_enclave(enclave, onto),
+        Word::Digest(digest) => push_digest(digest, onto),
+    }
+}
+
+/// Writes words with a space before each.
+#[tactic(auto, using(crate::proofs::LineLaws::with_words_more))]
+pub fn push_words(words: &[Word], onto: &mut Vec<u8>) -> Result<(), Memory>
+    ensures { OnOk result (onto.new.items ≡ with_words onto.old.items (map word_text words.now)) }
+{
+    for word in words {
+        onto.push(b' ')?;
+        push_word(*word, onto)?;
+    }
+    Ok(())
+}
+
+/// Writes a line of words, the first of which is given by itself.
+#[tactic(auto, using(crate::proofs::LineLaws::line_text_cons))]
+pub fn push_line(first: Word, others: &[Word], onto: &mut Vec<u8>) -> Result<(), Memory>
+    ensures { OnOk result (
+        onto.new.items ≡ onto.old.items ++ line_text (word_text first ∷ map word_text others.now)) }
+{
+    push_word(first, onto)?;
+    push_words(others, onto)?;
+    onto.push(b'\n')?;
+    Ok(())
+}

@@ -1,0 +1,8 @@
+// The text of a trace: its printer, and the names that a trace has for what stands in its entries.
+#![tactic(auto)]
+
+mod actions;
+pub mod names;
+#[cfg(test)]
+mod tests;
+pub mod trace;

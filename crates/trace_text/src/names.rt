@@ -1,0 +1,126 @@
+ghost use Rattle.std.specs.Prelude.{◌≡◌, [], ◌∷◌};
+ghost use Rattle.trace_text.specs.TraceText.{access_word, cause_word, fault_word, kind_word, look_word, perms_word, refusal_name, stop_word};
+
+use sgx_types::entries::{AccessOp, BusWhy, Cause, Look, PfWhy};
+use sgx_types::names::{Kind, Perm};
+use sgx_types::refusals::Refusal;
+
+pub(crate) fn kind_name(kind: Kind) -> &'static str
+    ensures { result.now ≡ kind_word kind }
+{
+    match kind {
+        Kind::Secs => "secs",
+        Kind::Tcs => "tcs",
+        Kind::Reg => "reg",
+        Kind::Va => "va",
+    }
+}
+
+pub(crate) fn perms_name(perm: Perm) -> &'static str
+    ensures { result.now ≡ perms_word perm }
+{
+    match (perm.r, perm.w, perm.x) {
+        (false, false, false) => "-",
+        (false, false, true) => "x",
+        (false, true, false) => "w",
+        (false, true, true) => "wx",
+        (true, false, false) => "r",
+        (true, false, true) => "rx",
+        (true, true, false) => "rw",
+        (true, true, true) => "rwx",
+    }
+}
+
+pub(crate) fn cause_name(cause: Cause) -> &'static str
+    ensures { result.now ≡ cause_word cause }
+{
+    match cause {
+        Cause::Timer => "timer",
+        Cause::Fault => "fault",
+        Cause::Kick => "kick",
+        Cause::End => "end",
+    }
+}
+
+pub(crate) fn access_name(access: AccessOp) -> &'static str
+    ensures { result.now ≡ access_word access }
+{
+    match access {
+        AccessOp::Load => "load",
+        AccessOp::Store => "store",
+        AccessOp::Xadd => "xadd",
+    }
+}
+
+pub fn fault_name(fault: PfWhy) -> &'static str
+    ensures { result.now ≡ fault_word fault }
+{
+    match fault {
+        PfWhy::Absent => "absent",
+        PfWhy::WrongType => "type",
+        PfWhy::NoPerm => "perm",
+    }
+}
+
+pub(crate) fn look_name(look: Look) -> &'static str
+    ensures { result.now ≡ look_word look }
+{
+    match look {
+        Look::Young => "young",
+        Look::Held => "held",
+        Look::NoRoom => "noroom",
+        Look::Taken => "taken",
+    }
+}
+
+pub(crate) fn stop_name(stop: BusWhy) -> &'static str
+    ensures { result.now ≡ stop_word stop }
+{
+    match stop {
+        BusWhy::GetFailed => "get",
+        BusWhy::NoRecord => "none",
+        BusWhy::PutFailed => "put",
+        BusWhy::Mac => "mac",
+        BusWhy::Header => "header",
+    }
+}
+
+/// The name of a refusal, without its numbers.
+pub fn refusal_name(refusal: &Refusal) -> &'static str
+    ensures { refusal_name refusal.now ≡ result.now ∷ [] }
+{
+    match refusal {
+        Refusal::PgInvld => "PgInvld",
+        Refusal::PgIsSecs => "PgIsSecs",
+        Refusal::NotBlockable => "NotBlockable",
+        Refusal::BlkState => "BlkState",
+        Refusal::Conflict => "Conflict",
+        Refusal::PrevTrk { .. } => "PrevTrk",
+        Refusal::EpochSpent => "EpochSpent",
+        Refusal::PageNotBlocked => "PageNotBlocked",
+        Refusal::NotTracked { .. } => "NotTracked",
+        Refusal::SlotOccupied { .. } => "SlotOccupied",
+        Refusal::SlotEmpty => "SlotEmpty",
+        Refusal::VersionSpent => "VersionSpent",
+        Refusal::MacFail { .. } => "MacFail",
+        Refusal::BadHeader { .. } => "BadHeader",
+        Refusal::ChildPresent { .. } => "ChildPresent",
+        Refusal::PageExists => "PageExists",
+        Refusal::BadRange => "BadRange",
+        Refusal::BadPerm => "BadPerm",
+        Refusal::BadKind => "BadKind",
+        Refusal::NotInit => "NotInit",
+        Refusal::IsInit => "IsInit",
+        Refusal::BadMeasure { .. } => "BadMeasure",
+        Refusal::TcsBusy => "TcsBusy",
+        Refusal::NoFrame => "NoFrame",
+        Refusal::NoSaved => "NoSaved",
+        Refusal::FrameBusy => "FrameBusy",
+        Refusal::Absent => "Absent",
+        Refusal::Blocked => "Blocked",
+        Refusal::NoPerm => "NoPerm",
+        Refusal::Miss => "Miss",
+        Refusal::NoFault => "NoFault",
+        Refusal::WrongMode => "WrongMode",
+    }
+}

@@ -1,0 +1,44 @@
+mod building;
+mod paging;
+mod rows;
+mod running;
+
+use crate::tests::building::{OTHER_PAGES, TEXT, WHOLE};
+use crate::tests::paging::{PAGING, REFUSED};
+use crate::tests::rows::Row;
+use crate::tests::running::PROCESSORS;
+use crate::trace::{print_trace, push_entry};
+use std::process::Abort;
+use std::str;
+use std::test::Fail;
+
+// The entry of each row has the row's line, and a line feed behind it.
+fn are_printed(rt: &impl Abort, rows: &[Row], text: &mut Vec<u8>) -> Result<(), Fail> {
+    for row in rows {
+        text.clear();
+        push_entry(&row.entry(), text)?;
+        assert_eq!(rt; text.pop(), Some(b'\n'));
+        assert_eq!(rt; str::from_utf8(text)?, row.line());
+    }
+    Ok(())
+}
+
+#[test]
+fn an_entry_has_its_line(rt: HostRuntime) -> Result<(), Fail> {
+    let mut text = Vec::new(rt.alloc());
+    for rows in [WHOLE, PROCESSORS, PAGING, REFUSED, OTHER_PAGES] {
+        are_printed(&rt, rows, &mut text)?;
+    }
+    Ok(())
+}
+
+#[test]
+fn a_trace_has_a_first_and_a_last_line(rt: HostRuntime) -> Result<(), Fail> {
+    let mut entries = Vec::new(rt.alloc());
+    for row in WHOLE {
+        entries.push(row.entry())?;
+    }
+    let text = print_trace(rt.alloc(), &entries)?;
+    assert_eq!(rt; str::from_utf8(&text)?, TEXT);
+    Ok(())
+}

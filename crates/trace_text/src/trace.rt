@@ -1,0 +1,143 @@
+ghost use Rattle.std.specs.Prelude.{◌≡◌, ◌++◌, drop, reverse, OnOk, IfOk};
+ghost use Rattle.trace_text.specs.TraceText.{actor_word, answer_words, entry_text, event_words, refusal_words, trace_of};
+ghost use Rattle.text_words.specs.Words.{with_words};
+
+use crate::actions::push_action;
+use crate::names::{fault_name, look_name, refusal_name, stop_name};
+use sgx_types::entries::{Actor, Answer, Entry, Event};
+use sgx_types::names::Memory;
+use sgx_types::refusals::Refusal;
+use std::alloc::Global;
+use text_words::words::Word::{Decimal, Digest, Enclave, Name};
+use text_words::words::{push_line, push_word, push_words};
+
+/// The text of a trace, whose entries are given oldest first.
+#[tactic(auto, using(crate::proofs::EntryLaws::entries_text_more), unfolding(crate::specs::TraceText::trace_of))]
+pub fn print_trace(alloc: Global, entries: &[Entry]) -> Result<Vec<u8>, Memory>
+    ensures { IfOk result (λ text. text.items ≡ trace_of (reverse entries.now)) }
+{
+    let mut text = Vec::new(alloc);
+    push_line(Name("trace"), &[Name("1")], &mut text)?;
+    for entry in entries {
+        push_entry(entry, &mut text)?;
+    }
+    push_line(Name("end"), &[Decimal(entries.len() as u64)], &mut text)?;
+    Ok(text)
+}
+
+/// Writes the line of an entry.
+#[tactic(auto, using(text_words::proofs::LineLaws::line_text_cons), unfolding(crate::specs::TraceText::entry_text))]
+pub fn push_entry(entry: &Entry, onto: &mut Vec<u8>) -> Result<(), Memory>
+    ensures { OnOk result (onto.new.items ≡ onto.old.items ++ entry_text entry.now) }
+{
+    push_actor(&entry.actor, onto)?;
+    push_event(&entry.event, onto)?;
+    onto.push(b'\n')?;
+    Ok(())
+}
+
+fn push_actor(actor: &Actor, onto: &mut Vec<u8>) -> Result<(), Memory>
+    ensures { OnOk result (onto.new.items ≡ onto.old.items ++ actor_word actor.now) }
+{
+    match *actor {
+        Actor::Builder => push_word(Name("b"), onto),
+        Actor::Cpu(cpu) => {
+            push_word(Name("p"), onto)?;
+            push_word(Decimal(cpu.0.into()), onto)
+        }
+        Actor::Reclaimer => push_word(Name("r"), onto),
+    }
+}
+
+#[tactic(auto, using(text_words::proofs::LineLaws::with_words_append))]
+fn push_event(event: &Event, onto: &mut Vec<u8>) -> Result<(), Memory>
+    ensures { OnOk result (onto.new.items ≡ with_words onto.old.items (event_words event.now)) }
+{
+    match *event {
+        Event::Did { action, answer } => {
+            push_action(&action, onto)?;
+            push_answer(&answer, onto)
+        }
+        Event::Refused { action, why } => {
+            push_words(&[Name("refused")], onto)?;
+            push_action(&action, onto)?;
+            push_refusal(&why, onto)
+        }
+        Event::Age { page, look } => push_words(
+            &[
+                Name("age"),
+                Enclave(page.enclave.into()),
+                Decimal(page.number.into()),
+                Name(look_name(look)),
+            ],
+            onto,
+        ),
+        Event::Kick { cpu } => push_words(&[Name("kick"), Decimal(cpu.0.into())], onto),
+        Event::Bus { page, why } => push_words(
+            &[
+                Name("bus"),
+                Enclave(page.enclave.into()),
+                Decimal(page.number.into()),
+                Name(stop_name(why)),
+            ],
+            onto,
+        ),
+    }
+}
+
+fn push_answer(answer: &Answer, onto: &mut Vec<u8>) -> Result<(), Memory>
+    ensures { OnOk result (onto.new.items ≡ with_words onto.old.items (answer_words answer.now)) }
+{
+    match *answer {
+        Answer::Plain => Ok(()),
+        Answer::Cssa(count) => push_words(&[Decimal(count.into())], onto),
+        Answer::Value(value) => push_words(&[Decimal(value)], onto),
+        Answer::Hash(digest) => push_words(&[Digest(digest)], onto),
+        Answer::Version(version) => push_words(&[Decimal(version)], onto),
+        Answer::Moved { page, version, tag } => push_words(
+            &[
+                Enclave(page.enclave.into()),
+                Decimal(page.number.into()),
+                Decimal(version),
+                Digest(tag),
+            ],
+            onto,
+        ),
+        Answer::Pf(fault) => push_words(&[Name(fault_name(fault))], onto),
+    }
+}
+
+/// Writes a refusal's name and its numbers.
+#[tactic(auto, using(text_words::proofs::LineLaws::with_words_named))]
+fn push_refusal(refusal: &Refusal, onto: &mut Vec<u8>) -> Result<(), Memory>
+    ensures { OnOk result (onto.new.items ≡ with_words onto.old.items (refusal_words refusal.now)) }
+{
+    push_words(&[Name(refusal_name(refusal))], onto)?;
+    push_refusal_fields(refusal, onto)
+}
+
+fn push_refusal_fields(refusal: &Refusal, onto: &mut Vec<u8>) -> Result<(), Memory>
+    ensures { OnOk result (
+        onto.new.items ≡ with_words onto.old.items (drop 1 (refusal_words refusal.now))) }
+{
+    match *refusal {
+        Refusal::PrevTrk { older } => push_words(&[Decimal(older.into())], onto),
+        Refusal::NotTracked { epoch, older } => push_words(
+            &[Decimal(epoch), Decimal(older.into())],
+            onto,
+        ),
+        Refusal::SlotOccupied { version } => push_words(&[Decimal(version)], onto),
+        Refusal::MacFail { given, computed } => push_words(
+            &[Digest(given), Digest(computed)],
+            onto,
+        ),
+        Refusal::BadHeader {
+            enclave,
+            address,
+            flags,
+        } => push_words(&[Decimal(enclave), Decimal(address), Decimal(flags)], onto),
+        Refusal::ChildPresent { count } => push_words(&[Decimal(count.into())], onto),
+        Refusal::BadMeasure { made } => push_words(&[Digest(made)], onto),
+        _ => Ok(()),
+    }
+}

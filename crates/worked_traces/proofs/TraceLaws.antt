@@ -1,0 +1,101 @@
+-- What the check does not find by itself of the traces of a small job.
+use Rattle.std.proofs.Common.{◌≡◌, ℕ, ◌+◌, ◌==◌, Bool, true, false, if◌then◌else◌, List, [], ◌∷◌, Option, Some, None, refl, sym, ◌∙◌, arith}
+use Rattle.std.specs.Int.{is_power_of_two}
+use Rattle.std.proofs.lemmas.Bool.{eqb-true}
+use Rattle.std.proofs.lemmas.List.Elements.{All-head}
+use lib.Count.{ones}
+use Rattle.sgx_types.specs.declared.entries.Entry.{Entry}
+use Rattle.sgx_types.specs.declared.names.Page.{Page}
+use Rattle.sgx_types.specs.Frames.{Content, Put, added, put_by, held_after, content, is_sealing, same_page, is_page, page_at}
+use Rattle.sgx_types.specs.Processors.{Pair}
+use Rattle.sgx_types.specs.Rules.{Along, AtEachPlace, FlatRule, NoPageTwice, NoneStale, IsCurrent}
+use Rattle.worked_traces.specs.Traces.{first_trace, first_build, fill, enter, frame_beyond, frame_twice, page_twice, adds_exchanged, epa_by_reclaimer, no_fill, fill_from_other_frame}
+
+-- the count of a number's bits stays closed elsewhere
+pub first_size_is_lawful : is_power_of_two 0x10000 ≡ true
+unfolding ones
+first_size_is_lawful = refl
+
+-- ---- entries that answer as flat memory
+
+pub first_trace_flat : Along FlatRule first_trace
+unfolding ones
+first_trace_flat = search arith
+
+pub frame_beyond_flat : Along FlatRule frame_beyond
+unfolding ones
+frame_beyond_flat = search arith
+
+pub frame_twice_flat : Along FlatRule frame_twice
+unfolding ones
+frame_twice_flat = search arith
+
+pub adds_exchanged_flat : Along FlatRule adds_exchanged
+unfolding ones
+adds_exchanged_flat = search arith
+
+pub epa_by_reclaimer_flat : Along FlatRule epa_by_reclaimer
+unfolding ones
+epa_by_reclaimer_flat = search arith
+
+pub no_fill_flat : Along FlatRule no_fill
+unfolding ones
+no_fill_flat = search arith
+
+pub fill_from_other_frame_flat : Along FlatRule fill_from_other_frame
+unfolding ones
+fill_from_other_frame_flat = search arith
+
+-- ---- no page in two frames: page k comes into frame k + 2 alone
+
+InPlace : (ℕ → Content) → Type 0
+InPlace held = (n : ℕ) (g : Page) → is_page (held n) g ≡ true → n ≡ g.number + 2
+
+abbrev IsPutInPlace : Option Put → Type 0
+IsPutInPlace None = Unit {0}
+IsPutInPlace (Some put) = (g : Page) → is_page put.content g ≡ true → put.frame ≡ g.number + 2
+
+abbrev PutsInPlace : List Entry → Entry → Type 0
+PutsInPlace past e = IsPutInPlace (put_by e.event (added past))
+
+after_put : (put : Option Put) (held : ℕ → Content) → IsPutInPlace put → InPlace held → InPlace (λ n. held_after put n (held n))
+unfolding InPlace
+after_put None held here before n g = before n g
+after_put (Some put) held here before n g = by_frame (put.frame == n) (eqb-true put.frame n)
+  where
+    by_frame : (b : Bool) → (b ≡ true → put.frame ≡ n) → is_page (if b then put.content else held n) g ≡ true → n ≡ g.number + 2
+    by_frame true same holds = sym (same refl) ∙ here g holds
+    by_frame false same holds = before n g holds
+
+in_place : (past : List Entry) → Along PutsInPlace past → InPlace (content past)
+unfolding InPlace
+in_place [] along n g holds = cc
+in_place (e ∷ past) along n g holds = after_put (put_by e.event (added past)) (content past) along.0 (in_place past along.1) n g holds
+
+once : (past : List Entry) → Along PutsInPlace past → NoPageTwice past
+unfolding InPlace
+once past along m n g at_m at_n = in_place past along m g at_m ∙ sym (in_place past along n g at_n)
+
+pages_once : (past : List Entry) → Along PutsInPlace past → AtEachPlace NoPageTwice past
+pages_once [] along = once [] along
+pages_once (e ∷ past) along = (once (e ∷ past) along, pages_once past along.1)
+
+page_in_place : (k : ℕ) (g : Page) → same_page (page_at 1 k) g ≡ true → k + 2 ≡ g.number + 2
+page_in_place k g same = grind arith
+
+pub first_trace_pages : AtEachPlace NoPageTwice first_trace
+first_trace_pages = pages_once first_trace (search (arith, page_in_place))
+
+pub adds_exchanged_pages : AtEachPlace NoPageTwice adds_exchanged
+adds_exchanged_pages = pages_once adds_exchanged (search (arith, page_in_place))
+
+pub page_twice_not_pages : ¬ AtEachPlace NoPageTwice page_twice
+page_twice_not_pages h = absurd (omega (arith, h.1.1.1.1.1.0 4 5 (page_at 1 2) refl refl))
+
+-- ---- a translation to the wrong frame
+
+pub fill_from_other_frame_not_stale : ¬ AtEachPlace NoneStale fill_from_other_frame
+fill_from_other_frame_not_stale h =
+    let past = fill 3 ∷ enter 0 ∷ first_build in
+    let IsHeld : Pair → Type 0 = λ x. IsCurrent 1 x (content past x.frame) (is_sealing past x.frame) in
+    cc (All-head IsHeld (record { number = 2; frame = 3 }) [] (h.1.1.0 0).translations).page

@@ -1,0 +1,32 @@
+//! The right trace of a small job: it keeps every rule.
+
+ghost use Rattle.sgx_types.specs.Rules.{Along, Fits, FlatRule, KeepsRules, RefusalRule, Stale};
+ghost use Rattle.job_grammar.specs.Script.{Script};
+ghost use Rattle.worked_traces.specs.Traces.{first_job, first_trace};
+
+pub fn the_first_trace_keeps_the_script()
+    ensures { Script first_job first_trace }
+{}
+
+pub fn the_first_trace_keeps_the_table()
+    ensures { Along (RefusalRule 6) first_trace }
+{}
+
+#[tactic(auto, using(crate::proofs::TraceLaws::first_trace_flat))]
+pub fn the_first_trace_answers_as_flat_memory()
+    ensures { Along FlatRule first_trace }
+{}
+
+#[tactic(auto, using(crate::proofs::TraceLaws::first_trace_pages))]
+pub fn the_first_trace_fits()
+    ensures { Fits 6 first_trace }
+{}
+
+pub fn the_first_trace_has_nothing_stale()
+    ensures { Stale first_trace }
+{}
+
+#[tactic(auto, using(crate::proofs::TraceLaws::first_size_is_lawful, crate::proofs::TraceLaws::first_trace_pages, crate::proofs::TraceLaws::first_trace_flat))]
+pub fn the_first_trace_keeps_the_rules()
+    ensures { KeepsRules 6 first_trace }
+{}

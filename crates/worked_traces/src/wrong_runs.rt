@@ -1,0 +1,106 @@
+//! Traces that are wrong in the script of a processor: the rules that each breaks, and rules that it keeps.
+
+ghost use Rattle.sgx_types.specs.Rules.{Along, AtEachPlace, Fits, FitsRule, FlatRule, KeepsRules, NoneStale, RefusalRule, StaleRule};
+ghost use Rattle.job_grammar.specs.Script.{IsEnded, Script, ScriptRule};
+ghost use Rattle.worked_traces.specs.Traces.{enter_before_init, fill_from_other_frame, first_job, load_by_builder, load_by_other_cpu, no_exit, no_fill, other_cssa, other_value};
+
+pub fn an_enter_before_the_init_breaks_the_table()
+    ensures { ¬ Along (RefusalRule 6) enter_before_init }
+{}
+
+pub fn an_enter_before_the_init_is_no_step_of_flat_memory()
+    ensures { ¬ Along FlatRule enter_before_init }
+{}
+
+pub fn an_enter_before_the_init_names_frames_that_fit()
+    ensures { Along (FitsRule 6) enter_before_init }
+{}
+
+pub fn another_cssa_answers_unlike_flat_memory()
+    ensures { ¬ Along FlatRule other_cssa }
+{}
+
+pub fn another_cssa_keeps_the_table()
+    ensures { Along (RefusalRule 6) other_cssa }
+{}
+
+pub fn another_cssa_keeps_the_script()
+    ensures { Script first_job other_cssa }
+{}
+
+pub fn a_load_without_a_fill_breaks_the_script()
+    ensures { ¬ Along (ScriptRule first_job) no_fill }
+{}
+
+pub fn a_load_without_a_fill_has_no_translation()
+    ensures { ¬ Along StaleRule no_fill }
+{}
+
+pub fn a_load_without_a_fill_breaks_the_table()
+    ensures { ¬ Along (RefusalRule 6) no_fill }
+{}
+
+#[tactic(auto, using(crate::proofs::TraceLaws::no_fill_flat))]
+pub fn a_load_without_a_fill_answers_as_flat_memory()
+    ensures { Along FlatRule no_fill }
+{}
+
+pub fn a_fill_from_another_frame_breaks_the_table()
+    ensures { ¬ Along (RefusalRule 6) fill_from_other_frame }
+{}
+
+#[tactic(auto, using(crate::proofs::TraceLaws::fill_from_other_frame_not_stale))]
+pub fn a_fill_from_another_frame_leaves_a_stale_translation()
+    ensures { ¬ AtEachPlace NoneStale fill_from_other_frame }
+{}
+
+#[tactic(auto, using(crate::proofs::TraceLaws::fill_from_other_frame_flat))]
+pub fn a_fill_from_another_frame_answers_as_flat_memory()
+    ensures { Along FlatRule fill_from_other_frame }
+{}
+
+pub fn another_value_answers_unlike_flat_memory()
+    ensures { ¬ Along FlatRule other_value }
+{}
+
+pub fn another_value_keeps_the_table()
+    ensures { Along (RefusalRule 6) other_value }
+{}
+
+pub fn another_value_keeps_the_script()
+    ensures { Script first_job other_value }
+{}
+
+pub fn a_load_by_another_processor_breaks_the_script()
+    ensures { ¬ Along (ScriptRule first_job) load_by_other_cpu }
+{}
+
+pub fn a_load_by_another_processor_breaks_the_table()
+    ensures { ¬ Along (RefusalRule 6) load_by_other_cpu }
+{}
+
+#[tactic(auto, using(crate::proofs::TraceLaws::first_trace_pages))]
+pub fn a_load_by_another_processor_fits()
+    ensures { Fits 6 load_by_other_cpu }
+{}
+
+pub fn a_load_by_the_builder_is_no_step_of_flat_memory()
+    ensures { ¬ Along FlatRule load_by_builder }
+{}
+
+pub fn a_load_by_the_builder_breaks_the_table()
+    ensures { ¬ Along (RefusalRule 6) load_by_builder }
+{}
+
+pub fn a_run_without_an_exit_is_not_ended()
+    ensures { ¬ IsEnded first_job no_exit }
+{}
+
+pub fn a_run_without_an_exit_keeps_the_script()
+    ensures { Along (ScriptRule first_job) no_exit }
+{}
+
+#[tactic(auto, using(crate::proofs::TraceLaws::first_size_is_lawful, crate::proofs::TraceLaws::first_trace_pages, crate::proofs::TraceLaws::first_trace_flat))]
+pub fn a_run_without_an_exit_keeps_the_rules()
+    ensures { KeepsRules 6 no_exit }
+{}
