@@ -36,7 +36,7 @@ const ZEROS: [u8; 48] = [0; 48];
 fn digest_of(parts: &[&[u8]], count: usize) -> [u8; 32] {
     let mut hasher = Sha256::new();
     for part in parts.iter().take(count) {
-        hasher.update(part);
+        hasher.update(*part);
     }
     hasher.finalize()
 }
