@@ -3,13 +3,5 @@ pub mod OutText
 pub mod WorkedTraces
 pub mod Words
 pub mod Ending
-pub mod Homes
-pub mod Places
-pub mod Saves
-pub mod Asking
-pub mod Books
-pub mod Kept
-pub mod Building
-pub mod Playing
 pub mod Runs
 pub mod Commands

@@ -1,17 +1,10 @@
 #![tactic(auto)]
 
 mod actions;
-mod book;
-mod build;
 mod command;
-mod entering;
-mod homes;
 mod job_faults;
 mod names;
-mod play;
 mod replies;
-mod run;
-mod saves;
 #[cfg(test)]
 mod tests;
 mod trace;

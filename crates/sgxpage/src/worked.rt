@@ -4,7 +4,7 @@
 #![tactic(auto, using(crate::proofs::WorkedRules::first_size_is_lawful))]
 
 ghost use Rattle.sgx_types.specs.Rules.{Along, AtEachPlace, Fits, FitsRule, FlatRule, KeepsRules, NoPageTwice, NoneStale, RefusalRule, Stale, StaleRule};
-ghost use Rattle.job_grammar.specs.Script.{IsEnded, Script, ScriptRule};
+ghost use Rattle.turn_rules.specs.Script.{IsEnded, Script, ScriptRule};
 ghost use Rattle.sgxpage.specs.WorkedTraces.{adds_exchanged, enter_before_init, epa_by_reclaimer, fill_from_other_frame, first_job, first_trace, frame_beyond, frame_twice, load_by_builder, load_by_other_cpu, no_exit, no_fill, other_cssa, other_value, page_twice};
 
 fn the_first_trace_keeps_the_script()

@@ -1,5 +1,5 @@
 use Rattle.std.proofs.Common.{◌≡◌, ◌++◌, reverse, flat_map}
-use Rattle.job_grammar.specs.Script.{numbers_from}
+use Rattle.turn_rules.specs.Script.{numbers_from}
 use Rattle.job_grammar.specs.Text.{line_text}
 use Rattle.sgxpage.specs.OutText.{cpu_lines}
 use Rattle.sgxpage.proofs.replies.push_cpus.Given as goal
