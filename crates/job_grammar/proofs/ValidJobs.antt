@@ -1,4 +1,4 @@
--- A valid job has a text that is read, and a job that is accepted yet is determined by its lines.
+-- A valid job has a text that is read, and a small job is determined by its lines.
 use Rattle.std.proofs.Common.{◌≡◌, ℕ, zero, suc, ◌+◌, ◌/◌, ◌^◌, ◌<◌, ◌≤◌, true, ◌&&◌, List, [], ◌∷◌, ◌++◌, Option, Some, None, IfSome, drop, length, map, flat_map, take, All, refl, ap, ◌∙◌, arith, inl, inr}
 use Rattle.std.specs.List.{AllByRecursion}
 use Rattle.std.proofs.lemmas.Bool.{and_parts, or_cases, eqb-true, leb-true, false≢true}
@@ -16,7 +16,7 @@ use Rattle.job_grammar.specs.Text.{job_text}
 use Rattle.text_words.specs.Words.{line_text}
 use Rattle.text_words.specs.Reading.{IsDigest, IsLetter}
 use Rattle.job_grammar.specs.Lines.{line_words, lines_text, lines_inside, lines_of_expect, lines_of_enclaves, lines_of_scripts, HasLetter}
-use Rattle.job_grammar.specs.Valid.{IsOuterOffset, IsValidLine, IsValidEnclave, IsValidOp, IsValid, IsFittingForm}
+use Rattle.job_grammar.specs.Valid.{IsDigest, IsOuterOffset, IsValidLine, IsValidEnclave, IsValidOp, IsValid, IsSmallJob}
 use Rattle.job_grammar.specs.Checks.{default_job}
 use Rattle.job_grammar.proofs.LineWords.{FitsPage, FitsOp, FitsLine}
 use Rattle.job_grammar.proofs.WrittenJobs.{lines_of_job, job-written}
@@ -33,7 +33,7 @@ job_text-lines places j = lines_text-map (lines_of_job places j) ∙ ap (flat_ma
 
 -- ---- the numbers of a valid job fit their words
 
-lawful-size : (e : EnclaveView) → IsValidEnclave e → e.size ≤ 2 ^ 24
+pub lawful-size : (e : EnclaveView) → IsValidEnclave e → e.size ≤ 2 ^ 24
 lawful-size e valid = let size = and_parts _ _ valid.range in let most = and_parts _ _ size.0 in leb-true _ _ most.1
 
 page-fits : (size : ℕ) (page : PageLine) → size ≤ 4096 → IsValidLine size page → FitsPage page
@@ -168,13 +168,13 @@ module _ (j : JobView) (valid : IsValid j) where
   pub have_letters : All (All HasLetter) j.scripts
   have_letters = All-weaker (All (IsValidOp j)) (All HasLetter) letters-of j.scripts valid.ops
 
--- ---- a job that is accepted yet
+-- ---- a small job
 
 same-parts : (f : Marks → List ℕ → ℕ → ℕ → List PlanLine → JobView) {m m' : Marks} {k k' : List ℕ} {a a' b b' : ℕ} {ps ps' : List PlanLine}
     → m' ≡ m → k' ≡ k → a' ≡ a → b' ≡ b → ps' ≡ ps → f m k a b ps ≡ f m' k' a' b' ps'
 same-parts f em ek ea eb eps = cc
 
-pub default_job-form : (j : JobView) → IsFittingForm j → default_job j.epc j.enclaves j.scripts ≡ j
+pub default_job-form : (j : JobView) → IsSmallJob j → default_job j.epc j.enclaves j.scripts ≡ j
 default_job-form j form =
     same-parts
     (λ marks key epoch version plans. record { epc = j.epc; marks = marks; key = key; start_epoch = epoch; start_version = version; enclaves = j.enclaves; plans = plans; scripts = j.scripts })

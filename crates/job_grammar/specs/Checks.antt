@@ -5,7 +5,7 @@ use Rattle.job_grammar.specs.declared.refusals.JobRefusal.{JobRefusal}
 use Rattle.job_grammar.specs.declared.refusals.JobRefusal.TheVariants as refusals
 use Rattle.job_grammar.specs.declared.refusals.JobKind.TheVariants.{TooLong, NotYetBuilt}
 use Rattle.job_grammar.specs.Jobs.{EnclaveView, JobView, default_marks, job_pages, needed}
-use Rattle.job_grammar.specs.Valid.{IsValid, IsFittingForm}
+use Rattle.job_grammar.specs.Valid.{IsValid, IsSmallJob}
 
 -- the job of these enclaves and scripts, with no option and no store line
 abbrev pub default_job : ℕ → List EnclaveView → List (List Op) → JobView
@@ -39,7 +39,7 @@ pub record IsAccepted (epc : Option ℕ) (enclaves : List EnclaveView) (scripts 
   pub frames : epc ≡ Some job.epc
   pub parts : job ≡ default_job job.epc enclaves scripts
   pub valid : IsValid job
-  pub form : IsFittingForm job
+  pub form : IsSmallJob job
 
 -- no job has these parts and is accepted
 abbrev pub IsRefused : Option ℕ → List EnclaveView → List (List Op) → Type 0

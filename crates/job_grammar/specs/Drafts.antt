@@ -33,7 +33,7 @@ script_ops scripts = map (λ script. script.items) scripts
 abbrev pub draft_view : Draft → DraftView
 draft_view d = record { epc = d.epc; enclaves = enclave_views d.enclaves.items; places = d.places.items; scripts = script_ops d.scripts.items }
 
--- a refusal where reading gives nothing: the text is not accepted yet. Memory may run out at any time
+-- a refusal where reading gives nothing: the text is not accepted. Memory may run out at any time
 abbrev pub Refuses : {Y : Type 0} → JobRefusal → Option Y → Type 0
 Refuses refusals.Memory read = ⊤
 Refuses (refusals.Fault line kind) read = (read ≡ None) × (line ≡ 0) × (kind ≡ NotYetBuilt)

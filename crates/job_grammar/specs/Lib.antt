@@ -7,4 +7,3 @@ pub mod Checks
 pub mod Reading
 pub mod Drafts
 pub mod Kept
-pub mod Script

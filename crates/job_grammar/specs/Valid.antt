@@ -1,4 +1,4 @@
--- When a job is valid, and which jobs are accepted yet.
+-- When a job is valid, and when it is small. A text is accepted where its job is both.
 use Rattle.std.specs.Prelude.{ℕ, ◌≡◌, ◌+◌, ◌/◌, ◌%◌, ◌^◌, ◌<◌, ◌≤◌, true, List, [], Option, None, Some, IfSome, length, count_by, replicate, sum_by}
 use Rattle.std.specs.List.{All}
 use Rattle.sgx_types.specs.Table.{is_lawful}
@@ -75,10 +75,9 @@ pub record IsValid (j : JobView) : Type 0 where
   pub few_ops : sum_by length j.scripts ≤ 100000
   pub ops : All (All (IsValidOp j)) j.scripts
 
--- ---- what is accepted yet: jobs with one processor and the default options, without plans for the store, whose frames are
--- enough for all pages at once
+-- ---- small jobs: one processor and the default options, no plans for the store, and frames for all pages at once
 
-pub record IsFittingForm (j : JobView) : Type 0 where
+pub record IsSmallJob (j : JobView) : Type 0 where
   pub marks : j.marks ≡ default_marks j.epc
   pub key : j.key ≡ replicate 32 0
   pub start_epoch : j.start_epoch ≡ 1
@@ -87,11 +86,11 @@ pub record IsFittingForm (j : JobView) : Type 0 where
   pub room : job_pages j + length j.enclaves + va_pages j ≤ j.epc
   pub one_script : length j.scripts ≡ 1
 
--- the bytes are a text of this job, which is valid and of the form that is accepted yet
+-- the bytes are a text of this job, which is valid and small
 pub record IsJobText (bytes : List ℕ) (j : JobView) : Type 0 where
   pub small : length bytes ≤ 2 ^ 24
   -- behind how many of its lines of pages each enclave has its `expect` line
   pub places : ℕ → ℕ
   pub text : bytes ≡ job_text places j
   pub valid : IsValid j
-  pub form : IsFittingForm j
+  pub form : IsSmallJob j

@@ -1,10 +1,9 @@
-// Jobs: their text, what makes one valid, and what each actor has to do under one.
+// Jobs: their text, and what makes one valid.
 #![tactic(auto)]
 
 mod counts;
 mod drafts;
 mod enclaves;
-mod forms;
 pub mod jobs;
 mod lines;
 mod page_tables;
@@ -12,4 +11,5 @@ mod printing;
 pub mod reader;
 pub mod refusals;
 mod scripts;
+mod small_jobs;
 mod words;

@@ -11,16 +11,16 @@ ghost use Rattle.job_grammar.specs.Checks.{Judges, IsJob, IsEarlyRefusal};
 use crate::counts::has_valid_counts;
 use crate::drafts::{Draft, read_draft};
 use crate::enclaves::enclave_tables;
-use crate::forms::has_fitting_form;
 use crate::jobs::{EnclaveJob, Job, Op};
 use crate::refusals::{JobKind, JobRefusal, NOT_YET_BUILT};
 use crate::scripts::are_valid_scripts;
+use crate::small_jobs::is_small_job;
 use std::alloc::Global;
 
 /// How many bytes a job may have.
 const MOST_BYTES: usize = 1 << 24;
 
-/// The job with these parts of a draft, where it is valid and of the form that is accepted yet.
+/// The job with these parts of a draft, where it is valid and small.
 fn accept(
     alloc: Global,
     epc: Option<u32>,
@@ -38,15 +38,13 @@ fn accept(
     let Some(tables) = enclave_tables(alloc, &enclaves)? else {
         return Err(NOT_YET_BUILT);
     };
-    if !are_valid_scripts(&enclaves, &tables, &scripts)
-        || !has_fitting_form(epc, &enclaves, &scripts)
-    {
+    if !are_valid_scripts(&enclaves, &tables, &scripts) || !is_small_job(epc, &enclaves, &scripts) {
         return Err(NOT_YET_BUILT);
     }
     Ok(Job::new(alloc, epc, enclaves, scripts))
 }
 
-/// Reads a job: a text of it, of at most 2^24 bytes. Accepted yet are valid jobs with one processor, whose pages all stay in
+/// Reads a job: a text of it, of at most 2^24 bytes. Accepted are valid jobs with one processor, whose pages all stay in
 /// the EPC, and with no option and no store line. An enclave's `expect` line may stand anywhere among its page lines. A
 /// longer text is refused as line 0, TooLong, and every other one as line 0, NotYetBuilt.
 pub fn read_job(alloc: Global, bytes: &[u8]) -> Result<Job, JobRefusal>

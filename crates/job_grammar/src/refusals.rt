@@ -42,7 +42,7 @@ pub enum JobKind {
     /// The job has more than 2^24 bytes.
     TooLong,
 
-    /// The job is none of those that are accepted yet.
+    /// The text is no small valid job's, and only those are accepted.
     NotYetBuilt,
 }
 
@@ -56,7 +56,7 @@ pub enum JobRefusal {
     Memory,
 }
 
-/// The refusal of every text that is not accepted yet.
+/// The refusal of every text that is no small valid job's.
 pub(crate) const NOT_YET_BUILT: JobRefusal = JobRefusal::Fault {
     line: 0,
     kind: JobKind::NotYetBuilt,

@@ -6,7 +6,7 @@ use Rattle.std.specs.List.{flat_map}
 use Rattle.std.proofs.lemmas.List.{flat_map_more}
 use Rattle.sgx_types.specs.declared.entries.Entry.{Entry}
 use Rattle.sgx_types.specs.Processors.{is_by}
-use Rattle.job_grammar.specs.Script.{interrupted_after, is_interrupted, is_reply, is_reply_of}
+use Rattle.turn_rules.specs.Script.{interrupted_after, is_interrupted, is_reply, is_reply_of}
 use Rattle.text_words.specs.Words.{Words, line_text}
 use Rattle.trace_text.proofs.EntryLaws.{newest_more}
 use Rattle.sgxpage.specs.OutText.{cpu_lines, enclave_lines, init_line, reply_lines, reply_words}

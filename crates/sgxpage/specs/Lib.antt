@@ -1,12 +1,4 @@
 pub mod OutText
 pub mod Ending
-pub mod Homes
-pub mod Places
-pub mod Saves
-pub mod Asking
-pub mod Books
-pub mod Kept
-pub mod Building
-pub mod Playing
 pub mod Runs
 pub mod Commands

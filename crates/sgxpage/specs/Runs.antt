@@ -8,7 +8,7 @@ use Rattle.measure_log.specs.Rule.{MeasureRule}
 use Rattle.job_grammar.specs.declared.refusals.JobKind.{JobKind}
 use Rattle.job_grammar.specs.declared.refusals.JobKind.TheVariants as kinds
 use Rattle.job_grammar.specs.Jobs.{JobView}
-use Rattle.job_grammar.specs.Script.{Script}
+use Rattle.turn_rules.specs.Script.{Script}
 use Rattle.job_grammar.specs.Valid.{IsJobText}
 use Rattle.sgxpage.specs.declared.command.Unread.{Unread}
 use Rattle.sgxpage.specs.declared.command.Unread.TheVariants.{Fault}
@@ -82,7 +82,7 @@ kind_text kinds.NotYetBuilt = codes "NotYetBuilt"
 abbrev pub fault_text : ℕ → JobKind → List ℕ
 fault_text line kind = codes "job line " ++ decimal line ++ codes ": " ++ kind_text kind ++ codes "\n"
 
--- what is wrong with bytes that no job has: there are too many, or the job is none that is accepted yet
+-- what is wrong with bytes that no job has: there are too many, or no small valid job has them
 abbrev pub kind_of : List ℕ → JobKind
 kind_of bytes = if nat_lt (2 ^ 24) (length bytes) then kinds.TooLong else kinds.NotYetBuilt
 

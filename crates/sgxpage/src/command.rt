@@ -2,13 +2,12 @@ ghost use Rattle.std.specs.Prelude.{◌≡◌, ◌≢◌, ◌<◌, ◌+◌, ◌^
 ghost use Rattle.io_edges.specs.Faults.{HasRisen};
 ghost use Rattle.io_edges.specs.Sinks.{GivesPart, followed_by};
 ghost use Rattle.io_edges.specs.Sources.{TakesAtMost};
-ghost use Rattle.job_grammar.specs.Valid.{IsFittingForm, IsJobText};
+ghost use Rattle.job_grammar.specs.Valid.{IsSmallJob, IsJobText};
 ghost use Rattle.sgxpage.specs.Commands.{IsRun, MayStandIn, NoFault, number_of};
 ghost use Rattle.sgxpage.specs.Runs.{Broke, BrokeOn, Gave, HalfTold, HasJob, IsFaultAnd, IsFaultOf, IsNoJob, OfRead, Ran, Told, fault_text};
 
 use crate::job_faults::print_fault;
 use crate::replies::print_out;
-use crate::run::run;
 use io_edges::faults::Failed;
 use io_edges::giving::give_all;
 use io_edges::reading::{ReadEnd, read_all};
@@ -17,6 +16,7 @@ use io_edges::sources::Source;
 use job_grammar::jobs::Job;
 use job_grammar::reader::read_job;
 use job_grammar::refusals::{JobKind, JobRefusal};
+use machine_book::run::run;
 use sgx_types::names::Memory;
 use std::alloc::Global;
 use trace_text::trace::print_trace;
@@ -167,7 +167,7 @@ fn run_over<K: Sink, L: Sink>(
     out: &mut K,
     trace: &mut L,
 ) -> Result<(), Ungiven>
-    requires { IsFittingForm job.now }
+    requires { IsSmallJob job.now }
     ensures gave { OnOk result (Gave job.now (K.given out.old) (K.given out.new) (L.given trace.old) (L.given trace.new)) }
     ensures broke { IsErrOf result Ungiven.Failed → Broke job.now (K.given out.old) (K.given out.new) (L.given trace.old) (L.given trace.new) }
     ensures memory { IsErrOf result Ungiven.Memory → (out.new ≡ out.old) × (trace.new ≡ trace.old) }

@@ -1,15 +1,8 @@
 #![tactic(auto)]
 
-mod book;
-mod build;
 mod command;
-mod entering;
-mod homes;
 mod job_faults;
-mod play;
 mod replies;
-mod run;
-mod saves;
 #[cfg(test)]
 mod tests;
 #[cfg(test)]

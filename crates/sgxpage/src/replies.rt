@@ -1,6 +1,6 @@
 ghost use Rattle.std.specs.Prelude.{◌≡◌, [], ◌++◌, reverse, flat_map, OnOk, IfOk};
 ghost use Rattle.sgx_types.specs.Processors.{is_by};
-ghost use Rattle.job_grammar.specs.Script.{interrupted_after, is_reply, is_reply_action, numbers_from};
+ghost use Rattle.turn_rules.specs.Script.{interrupted_after, is_reply, is_reply_action, numbers_from};
 ghost use Rattle.text_words.specs.Words.{line_text};
 ghost use Rattle.sgxpage.specs.Ending.{ending_lines};
 ghost use Rattle.sgxpage.specs.OutText.{cpu_lines, done_reply, enclave_lines, init_line, out_of, refused_reply, reply_words};

@@ -1,7 +1,7 @@
 //! The right trace of a small job: it keeps every rule.
 
 ghost use Rattle.sgx_types.specs.Rules.{Along, Fits, FlatRule, KeepsRules, RefusalRule, Stale};
-ghost use Rattle.job_grammar.specs.Script.{Script};
+ghost use Rattle.turn_rules.specs.Script.{Script};
 ghost use Rattle.worked_traces.specs.Traces.{first_job, first_trace};
 
 pub fn the_first_trace_keeps_the_script()

@@ -1,11 +1,11 @@
 use Rattle.std.proofs.Common.{◌≡◌, refl, subst}
 use Rattle.std.proofs.lemmas.Bool.{false≢true}
-use Rattle.job_grammar.specs.Valid.{IsFittingForm, IsValid}
+use Rattle.job_grammar.specs.Valid.{IsSmallJob, IsValid}
 use Rattle.job_grammar.specs.Drafts.{enclave_views, script_ops}
 use Rattle.job_grammar.specs.Checks.{default_job}
 use Rattle.job_grammar.proofs.ReadJobs.{accepted-default}
 use Rattle.job_grammar.proofs.reader.accept.Goals as goal
-use Rattle.job_grammar.proofs.reader.accept.Goals.{then-not-are_valid_scripts-via-then-not-are_valid_scripts, then-not-are_valid_scripts-via-else-not-are_valid_scripts+then-not-has_fitting_form}
+use Rattle.job_grammar.proofs.reader.accept.Goals.{then-not-are_valid_scripts-via-then-not-are_valid_scripts, then-not-are_valid_scripts-via-else-not-are_valid_scripts+then-not-is_small_job}
 
 pub new-requires : goal.new-requires
 new-requires c =
@@ -39,9 +39,9 @@ returns-then-not-are_valid_scripts c =
                 (let valid = rw (c.deref-4.ensures.value, c.deref-6.ensures.value) at w.if-not-are_valid_scripts.ensures in
                 let all = subst IsValid same accepted.valid in
                 false≢true ((valid j refl).1 all.ops))
-            | then-not-are_valid_scripts-via-else-not-are_valid_scripts+then-not-has_fitting_form w ↦
-                (let form = rw (w.deref-else-not-are_valid_scripts.ensures.value, w.deref-else-not-are_valid_scripts-2.ensures.value) at w.if-not-has_fitting_form.ensures in
-                false≢true (form.1 (subst IsFittingForm same accepted.form)))
+            | then-not-are_valid_scripts-via-else-not-are_valid_scripts+then-not-is_small_job w ↦
+                (let form = rw (w.deref-else-not-are_valid_scripts.ensures.value, w.deref-else-not-are_valid_scripts-2.ensures.value) at w.if-not-is_small_job.ensures in
+                false≢true (form.1 (subst IsSmallJob same accepted.form)))
           ],
       refl,
       refl,

@@ -1,7 +1,0 @@
-use Rattle.std.proofs.Common.{ap, ◌∙◌}
-use Rattle.sgx_types.specs.Table.{is_lawful_access}
-use Rattle.paging_laws.proofs.ColumnLaws.{added_flat}
-use Rattle.sgxpage.proofs.book.Book.lawful.Goals as goal
-
-pub returns : goal.returns
-returns c = rw (← c.self.view_is) (c.lawful.ensures ∙ ap (λ o. is_lawful_access o c.args.op) (added_flat c.self.invariant.stands.standing.stands c.args.page))

@@ -1,8 +1,0 @@
-use Rattle.std.proofs.Common.{sym, ◌∙◌}
-use Rattle.sgxpage.proofs.PlayEnters.{enter_due}
-use Rattle.sgxpage.proofs.entering.frames_to_enter.Goals as goal
-
-pub returns : goal.returns
-returns c = λ ready. (
-    let goes = sym c.is_turned_away.ensures ∙ c.if-is_turned_away.false in
-    rw c.unwrap_or.ensures (enter_due c.args.job.now c.args.cpu.0 c.args.enclave c.args.tcs c.args.book.now.past c.next_frames.result _ ready goes (c.next_frames.ensures c.args.cpu.0 ready.room)))
