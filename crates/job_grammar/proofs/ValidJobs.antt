@@ -16,7 +16,7 @@ use Rattle.job_grammar.specs.Text.{job_text}
 use Rattle.text_words.specs.Words.{line_text}
 use Rattle.text_words.specs.Reading.{IsDigest, IsLetter}
 use Rattle.job_grammar.specs.Lines.{line_words, lines_text, lines_inside, lines_of_expect, lines_of_enclaves, lines_of_scripts, HasLetter}
-use Rattle.job_grammar.specs.Valid.{IsDigest, IsOuterOffset, IsValidLine, IsValidEnclave, IsValidOp, IsValid, IsSmallJob}
+use Rattle.job_grammar.specs.Valid.{IsOuterOffset, IsValidLine, IsValidEnclave, IsValidOp, IsValid, IsSmallJob}
 use Rattle.job_grammar.specs.Checks.{default_job}
 use Rattle.job_grammar.proofs.LineWords.{FitsPage, FitsOp, FitsLine}
 use Rattle.job_grammar.proofs.WrittenJobs.{lines_of_job, job-written}

@@ -1,7 +1,9 @@
 use secs_state::secs::Secs;
 use secs_state::table::SecsTable;
 use sgx_types::lawful::is_lawful;
-use sgx_types::names::{Kind, Perm};
+use sgx_types::names::{Kind, Memory, Perm};
+use std::alloc::Global;
+use std::process::Abort;
 use std::test::Fail;
 
 const WRITABLE: Perm = Perm {
