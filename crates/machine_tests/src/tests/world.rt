@@ -1,5 +1,5 @@
 ghost use Rattle.std.specs.Prelude.{◌≡◌, ◌≤◌, IsTrue};
-ghost use Rattle.paging_machine.specs.Steps.{CanApply};
+ghost use Rattle.paging_laws.specs.Steps.{CanApply};
 
 use super::instructions::Instruction;
 use super::rows::{DONE, FIRST, Reader, Row, Told};
