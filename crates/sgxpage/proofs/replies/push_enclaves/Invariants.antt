@@ -1,6 +1,6 @@
 use Rattle.std.proofs.Common.{◌≡◌, ◌++◌, reverse, flat_map}
 use Rattle.turn_rules.specs.Script.{numbers_from}
-use Rattle.job_grammar.specs.Text.{line_text}
+use Rattle.text_words.specs.Words.{line_text}
 use Rattle.sgxpage.specs.OutText.{enclave_lines}
 use Rattle.sgxpage.proofs.replies.push_enclaves.Given as goal
 
