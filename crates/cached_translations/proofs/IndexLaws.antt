@@ -11,7 +11,8 @@ use Rattle.cached_translations.proofs.TranslationLaws.{translation_of-at, transl
 use Rattle.cached_translations.proofs.ProbeLaws.{leads_to_one, used_none}
 
 -- the page in a place is that of the translation there
-pub number_at-is : (places : List Translation) (i : ℕ) (d : Translation) → i < length places → number_at places i ≡ (get_or places i d).number
+pub number_at-is : (places : List Translation) (i : ℕ) (d : Translation) → i < length places
+    → number_at places i ≡ (get_or places i d).number
 number_at-is places i d low = get_or-map (λ (t : Translation). t.number) places i d 0 low
 
 pub index_none : (slots : List (Option Slot)) → ((n p : ℕ) → Leads slots n p → ⊥) → IsIndex slots []
@@ -23,7 +24,8 @@ index_none slots none = record {
 
 module _ (slots : List (Option Slot)) (places : List Translation) (is : IsIndex slots places) where
   -- where a translation is found, the table leads there
-  leads_where_found : (n : ℕ) (t : Translation) → translation_of places n ≡ Some t → (p : ℕ) × Leads slots n p × ((d : Translation) → get_or places p d ≡ t)
+  leads_where_found : (n : ℕ) (t : Translation) → translation_of places n ≡ Some t
+      → (p : ℕ) × Leads slots n p × ((d : Translation) → get_or places p d ≡ t)
   leads_where_found n t found =
       let at = translation_of-at places n t found in
       let of_page : number_at places at.place ≡ n =
@@ -56,7 +58,8 @@ module _ (slots : List (Option Slot)) (places : List Translation) (is : IsIndex 
       translation_of-none places n none p d only.1 (sym (number_at-is places p d only.1) ∙ only.2)
 
   -- a translation at the end
-  pub index_push : (new : List (Option Slot)) (t : Translation) (end : ℕ) → Adds slots new t.number end → end ≡ length places → IsIndex new (places ++ t ∷ [])
+  pub index_push : (new : List (Option Slot)) (t : Translation) (end : ℕ) → Adds slots new t.number end → end ≡ length places
+      → IsIndex new (places ++ t ∷ [])
   index_push new t end added at_end = record { leads = leads; only = only; count = adds.count ∙ rw (is.count, length_push) refl }
     where
       adds : Adds slots new t.number (length places)
@@ -64,7 +67,8 @@ module _ (slots : List (Option Slot)) (places : List Translation) (is : IsIndex 
 
       before : (i : ℕ) → i < length places → number_at (places ++ t ∷ []) i ≡ number_at places i
       before i low =
-          number_at-is (places ++ t ∷ []) i t (rw length_push (omega arith)) ∙ ap (λ (x : Translation). x.number) (get_or_append_left places (t ∷ []) t i low)
+          number_at-is (places ++ t ∷ []) i t (rw length_push (omega arith))
+          ∙ ap (λ (x : Translation). x.number) (get_or_append_left places (t ∷ []) t i low)
           ∙ sym (number_at-is places i t low)
 
       last : number_at (places ++ t ∷ []) (length places) ≡ t.number
@@ -76,7 +80,8 @@ module _ (slots : List (Option Slot)) (places : List Translation) (is : IsIndex 
       leads i low = by_order (cases_lt i (length places))
         where
           by_order : (i < length places) ⊎ (length places ≤ i) → Leads new (number_at (places ++ t ∷ []) i) i
-          by_order (inl less) = subst (λ m. Leads new m i) (sym (before i less)) ((adds.leads (number_at places i) i).1 (inl (is.leads i less)))
+          by_order (inl less) =
+              subst (λ m. Leads new m i) (sym (before i less)) ((adds.leads (number_at places i) i).1 (inl (is.leads i less)))
           by_order (inr most) =
               let same : length places ≡ i = omega (arith, simp length_push at low) in
               subst (λ k. Leads new (number_at (places ++ t ∷ []) k) k) same
@@ -85,15 +90,21 @@ module _ (slots : List (Option Slot)) (places : List Translation) (is : IsIndex 
       only : IsIndexOnly new (places ++ t ∷ []) 0
       only n p found = by_case ((adds.leads n p).0 found)
         where
-          by_case : Leads slots n p ⊎ ((n ≡ t.number) × (p ≡ length places)) → (0 ≤ p) × (p < length (places ++ t ∷ [])) × (number_at (places ++ t ∷ []) p ≡ n)
+          by_case : Leads slots n p ⊎ ((n ≡ t.number) × (p ≡ length places))
+              → (0 ≤ p) × (p < length (places ++ t ∷ [])) × (number_at (places ++ t ∷ []) p ≡ n)
           by_case (inl old) = let was = is.only n p old in (omega arith, rw length_push (omega (arith, was.1)), before p was.1 ∙ was.2)
-          by_case (inr page) =
-              (omega arith, rw length_push (omega (arith, page.1)), ap (λ (k : ℕ). number_at (places ++ t ∷ []) k) page.1 ∙ last ∙ sym page.0)
+          by_case (inr page) = (
+            omega arith,
+            rw length_push (omega (arith, page.1)),
+            ap (λ (k : ℕ). number_at (places ++ t ∷ []) k) page.1 ∙ last
+                ∙ sym page.0,
+          )
 
   -- a translation in the place of another
   pub index_set : IsProbed slots → (mid new : List (Option Slot)) (i : ℕ) (t : Translation) → i < length places
       → Drops slots mid (number_at places i) → Adds mid new t.number i → IsIndex new (set places i t)
-  index_set probed mid new i t low drops adds = record { leads = leads; only = only; count = adds.count ∙ rw length-set (omega (arith, drops.count, is.count)) }
+  index_set probed mid new i t low drops adds =
+      record { leads = leads; only = only; count = adds.count ∙ rw length-set (omega (arith, drops.count, is.count)) }
     where
       here : number_at (set places i t) i ≡ t.number
       here =
@@ -101,7 +112,8 @@ module _ (slots : List (Option Slot)) (places : List Translation) (is : IsIndex 
 
       apart : (j : ℕ) → j < length places → j ≢ i → number_at (set places i t) j ≡ number_at places j
       apart j less other =
-          number_at-is (set places i t) j t (rw length-set less) ∙ ap (λ (x : Translation). x.number) (get_or-set_other places i j t t other)
+          number_at-is (set places i t) j t (rw length-set less)
+          ∙ ap (λ (x : Translation). x.number) (get_or-set_other places i j t t other)
           ∙ sym (number_at-is places j t less)
 
       leads : (j : ℕ) → j < length (set places i t) → Leads new (number_at (set places i t) j) j
@@ -113,14 +125,16 @@ module _ (slots : List (Option Slot)) (places : List Translation) (is : IsIndex 
               (subst (λ m. Leads new m i) (sym here) ((adds.leads t.number i).1 (inr (refl, refl))))
           by_place (inr other) within =
               let differ : number_at places j ≢ number_at places i =
-              λ same. other (leads_to_one slots probed (number_at places j) j i (is.leads j within) (subst (λ m. Leads slots m i) (sym same) (is.leads i low))) in
+              λ same. other (leads_to_one slots probed (number_at places j) j i (is.leads j within)
+              (subst (λ m. Leads slots m i) (sym same) (is.leads i low))) in
               subst (λ m. Leads new m j) (sym (apart j within other))
               ((adds.leads (number_at places j) j).1 (inl ((drops.leads (number_at places j) j).1 (is.leads j within, differ))))
 
       only : IsIndexOnly new (set places i t) 0
       only n p found = by_case ((adds.leads n p).0 found)
         where
-          by_case : Leads mid n p ⊎ ((n ≡ t.number) × (p ≡ i)) → (0 ≤ p) × (p < length (set places i t)) × (number_at (set places i t) p ≡ n)
+          by_case : Leads mid n p ⊎ ((n ≡ t.number) × (p ≡ i))
+              → (0 ≤ p) × (p < length (set places i t)) × (number_at (set places i t) p ≡ n)
           by_case (inl old) =
               let kept = (drops.leads n p).0 old in
               let was = is.only n p kept.0 in
@@ -134,7 +148,8 @@ pub index_forget : (old new : List (Option Slot)) (places : List Translation) (i
     → ((n p : ℕ) → Leads new n p → Leads old n p) → ((p : ℕ) → Leads new (get_or places i d).number p → ⊥) → IsIndexOnly new places (i + 1)
 index_forget old new places i d only fewer gone n p leads = by_place (only n p (fewer n p leads)) (cases_eq p i)
   where
-    by_place : (i ≤ p) × (p < length places) × (number_at places p ≡ n) → (p ≡ i) ⊎ (p ≡ i → ⊥) → (i + 1 ≤ p) × (p < length places) × (number_at places p ≡ n)
+    by_place : (i ≤ p) × (p < length places) × (number_at places p ≡ n) → (p ≡ i) ⊎ (p ≡ i → ⊥)
+        → (i + 1 ≤ p) × (p < length places) × (number_at places p ≡ n)
     by_place was (inr other) = (omega (arith, was.0), was.1, was.2)
     by_place was (inl same) =
         let of_page : n ≡ (get_or places i d).number =

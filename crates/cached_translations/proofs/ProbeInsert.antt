@@ -15,7 +15,8 @@ module _ (slots : List (Option Slot)) (is : IsProbed slots) (e : Slot) (at : ℕ
   once none i j a b li lj hi hj same = by_reads (read_after_set slots at i (Some e) low) (read_after_set slots at j (Some e) low)
     where
       other_page : (k : ℕ) (o : Slot) → k < 128 → get_or slots k None ≡ Some o → o.number ≡ e.number → ⊥
-      other_page k o within here of_page = none o.place (subst (λ m. Leads slots m o.place) of_page (leads_from slots k o (omega (arith, is.whole)) here))
+      other_page k o within here of_page =
+          none o.place (subst (λ m. Leads slots m o.place) of_page (leads_from slots k o (omega (arith, is.whole)) here))
 
       by_reads : ReadAfterSet slots at i (Some e) → ReadAfterSet slots at j (Some e) → i ≡ j
       by_reads (written ei ri) (written ej rj) = ei ∙ sym ej
@@ -25,7 +26,8 @@ module _ (slots : List (Option Slot)) (is : IsProbed slots) (e : Slot) (at : ℕ
 
   reached : (steps : ℕ) (a : Slot) → steps < 128 → slot_at (set slots at (Some e)) (a.number + steps) ≡ Some a
       → (k : ℕ) → k < steps → is_some (slot_at (set slots at (Some e)) (a.number + k)) ≡ true
-  reached steps a few here k below = kept_in_use slots at ((a.number + k) % 128) e low (by_read (read_after_set slots at ((a.number + steps) % 128) (Some e) low))
+  reached steps a few here k below =
+      kept_in_use slots at ((a.number + k) % 128) e low (by_read (read_after_set slots at ((a.number + steps) % 128) (Some e) low))
     where
       by_read : ReadAfterSet slots at ((a.number + steps) % 128) (Some e) → is_some (slot_at slots (a.number + k)) ≡ true
       by_read (written same r) =
@@ -40,7 +42,8 @@ module _ (slots : List (Option Slot)) (is : IsProbed slots) (e : Slot) (at : ℕ
   to : (m q : ℕ) → Leads (set slots at (Some e)) m q → Leads slots m q ⊎ ((m ≡ e.number) × (q ≡ e.place))
   to m q leads = by_read (read_after_set slots at leads.0 (Some e) low) (leads_at (set slots at (Some e)) m q leads)
     where
-      by_read : ReadAfterSet slots at leads.0 (Some e) → get_or (set slots at (Some e)) leads.0 None ≡ Some (record { number = m; place = q })
+      by_read : ReadAfterSet slots at leads.0 (Some e)
+          → get_or (set slots at (Some e)) leads.0 None ≡ Some (record { number = m; place = q })
           → Leads slots m q ⊎ ((m ≡ e.number) × (q ≡ e.place))
       by_read (written same r) here =
           let o : Slot = record { number = m; place = q } in
@@ -53,10 +56,12 @@ module _ (slots : List (Option Slot)) (is : IsProbed slots) (e : Slot) (at : ℕ
   from m q (inr page) =
       let here : get_or (set slots at (Some e)) at None ≡ Some e = get_or-set_same slots at (Some e) None low in
       subst (λ k. Leads (set slots at (Some e)) k q) (sym page.0)
-      (subst (λ k. Leads (set slots at (Some e)) e.number k) (sym page.1) (leads_from (set slots at (Some e)) at e (rw length-set low) here))
+      (subst (λ k. Leads (set slots at (Some e)) e.number k) (sym page.1)
+      (leads_from (set slots at (Some e)) at e (rw length-set low) here))
   from m q (inl leads) = by_read (read_after_set slots at leads.0 (Some e) low) (leads_at slots m q leads)
     where
-      by_read : ReadAfterSet slots at leads.0 (Some e) → get_or slots leads.0 None ≡ Some (record { number = m; place = q }) → Leads (set slots at (Some e)) m q
+      by_read : ReadAfterSet slots at leads.0 (Some e) → get_or slots leads.0 None ≡ Some (record { number = m; place = q })
+          → Leads (set slots at (Some e)) m q
       by_read (written same r) here = let none : get_or slots leads.0 None ≡ None = rw same free.free in absurd cc
       by_read (kept other r) here =
           leads_from (set slots at (Some e)) leads.0 (record { number = m; place = q }) (rw length-set leads.1) (r ∙ here)

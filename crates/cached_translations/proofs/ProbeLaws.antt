@@ -31,10 +31,12 @@ read_after_set slots i j x low = by_place (cases_eq j i)
     by_place (inr other) = kept other (get_or-set_other slots i j x None other)
 
 -- a place where the table leads from a page
-pub leads_at : (slots : List (Option Slot)) (n p : ℕ) (l : Leads slots n p) → get_or slots l.0 None ≡ Some (record { number = n; place = p })
+pub leads_at : (slots : List (Option Slot)) (n p : ℕ) (l : Leads slots n p)
+    → get_or slots l.0 None ≡ Some (record { number = n; place = p })
 leads_at slots n p l = get_or_default slots l.0 None (Some (record { number = n; place = p })) l.1 ∙ l.2
 
-pub leads_from : (slots : List (Option Slot)) (at : ℕ) (a : Slot) → at < length slots → get_or slots at None ≡ Some a → Leads slots a.number a.place
+pub leads_from : (slots : List (Option Slot)) (at : ℕ) (a : Slot) → at < length slots → get_or slots at None ≡ Some a
+    → Leads slots a.number a.place
 leads_from slots at a low here = (at, low, get_or_default slots at (Some a) None low ∙ here)
 
 -- a search that saw other pages up to a free place, or in all places, has seen that the page is not there
@@ -48,7 +50,8 @@ absent slots is number step low others free place leads =
     let here : slot_at slots (number + to.steps) ≡ Some e = rw to.there (leads_at slots number place leads) in
     by_order e to.steps to.few refl here (cases_order to.steps step)
   where
-    by_order : (e : Slot) (s : ℕ) → s < 128 → e.number ≡ number → slot_at slots (number + s) ≡ Some e → (s ≡ step) ⊎ ((s < step) ⊎ (step < s)) → ⊥
+    by_order : (e : Slot) (s : ℕ) → s < 128 → e.number ≡ number → slot_at slots (number + s) ≡ Some e
+        → (s ≡ step) ⊎ ((s < step) ⊎ (step < s)) → ⊥
     by_order e s few of_page here (inl same) =
         let none = free (omega arith) in
         let at_step : slot_at slots (number + step) ≡ Some e = rw (← same) here in
@@ -100,7 +103,8 @@ none_from_test None is = refl
 none_from_test (Some a) is = cc
 
 -- one more place that is in use
-pub taken_more : (slots : List (Option Slot)) (n step : ℕ) → ((k : ℕ) → k < step → is_some (slot_at slots (n + k)) ≡ true) → is_some (slot_at slots (n + step)) ≡ true
+pub taken_more : (slots : List (Option Slot)) (n step : ℕ) → ((k : ℕ) → k < step → is_some (slot_at slots (n + k)) ≡ true)
+    → is_some (slot_at slots (n + step)) ≡ true
     → (k : ℕ) → k < step + 1 → is_some (slot_at slots (n + k)) ≡ true
 taken_more slots n step taken here k below = by_order (cases_lt k step)
   where
@@ -110,7 +114,8 @@ taken_more slots n step taken here k below = by_order (cases_lt k step)
 
 -- one more place that is another page's
 pub others_more : (slots : List (Option Slot)) (n step : ℕ) (o : Slot)
-    → ((k : ℕ) (a : Slot) → k < step → slot_at slots (n + k) ≡ Some a → a.number ≡ n → ⊥) → slot_at slots (n + step) ≡ Some o → (o.number ≡ n → ⊥)
+    → ((k : ℕ) (a : Slot) → k < step → slot_at slots (n + k) ≡ Some a → a.number ≡ n → ⊥) → slot_at slots (n + step) ≡ Some o
+    → (o.number ≡ n → ⊥)
     → (k : ℕ) (a : Slot) → k < step + 1 → slot_at slots (n + k) ≡ Some a → a.number ≡ n → ⊥
 others_more slots n step o others next other k a below here of_page = by_order (cases_lt k step)
   where
@@ -127,7 +132,8 @@ never_in_use n i a here = by_place (cases_lt i n)
   where
     by_place : (i < n) ⊎ (n ≤ i) → ⊥
     by_place (inl low) = let none : get_or (free_places n) i None ≡ None = get_or-replicate n i None None low in cc
-    by_place (inr far) = let none : get_or (free_places n) i None ≡ None = get_or_past (free_places n) i None (rw length-replicate far) in cc
+    by_place (inr far) =
+        let none : get_or (free_places n) i None ≡ None = get_or_past (free_places n) i None (rw length-replicate far) in cc
 
 pub free_places_probed : (n : ℕ) → n ≡ 128 → IsProbed (free_places n)
 free_places_probed n size = record {

@@ -31,7 +31,8 @@ module _ (slots : List (Option Slot)) (is : IsProbed slots) (at n : ℕ) (page :
       by_read (written same r) = absurd (other same)
       by_read (kept away r) = r ∙ here
 
-  free_or_in_use : (x : ℕ) → is_some (slot_at slots x) ≡ true → (is_some (slot_at (set slots at None) x) ≡ true) ⊎ (x % 128 ≡ (at + 0) % 128)
+  free_or_in_use : (x : ℕ) → is_some (slot_at slots x) ≡ true
+      → (is_some (slot_at (set slots at None) x) ≡ true) ⊎ (x % 128 ≡ (at + 0) % 128)
   free_or_in_use x full = by_read (read_after_set slots at (x % 128) None low)
     where
       by_read : ReadAfterSet slots at (x % 128) None → (is_some (slot_at (set slots at None) x) ≡ true) ⊎ (x % 128 ≡ (at + 0) % 128)
@@ -45,7 +46,8 @@ module _ (slots : List (Option Slot)) (is : IsProbed slots) (at n : ℕ) (page :
         let own : (at + 0) % 128 ≡ at = omega (arith, page.within) in
         rw own (get_or-set_same slots at None None low);
     once = λ i j a b li lj hi hj same. is.once i j a b li lj (was i a hi).1 (was j b hj).1 same;
-    reached = λ steps a few here k below. free_or_in_use (a.number + k) (is.reached steps a few (was ((a.number + steps) % 128) a here).1 k below);
+    reached = λ steps a few here k below. free_or_in_use (a.number + k)
+        (is.reached steps a few (was ((a.number + steps) % 128) a here).1 k below);
     passed = λ steps a few j after before same here. absurd (omega arith);
   }
 
@@ -56,7 +58,8 @@ module _ (slots : List (Option Slot)) (is : IsProbed slots) (at n : ℕ) (page :
       (leads_from slots leads.0 (record { number = m; place = q }) within old.1, other old.0 old.1 (omega (arith, within, is.whole)))
     where
       other : leads.0 ≢ at → get_or slots leads.0 None ≡ Some (record { number = m; place = q }) → leads.0 < 128 → m ≢ n
-      other away here within same = away (is.once leads.0 at (record { number = m; place = q }) page.slot within page.within here page.here (same ∙ sym page.of_page))
+      other away here within same =
+          away (is.once leads.0 at (record { number = m; place = q }) page.slot within page.within here page.here (same ∙ sym page.of_page))
 
   from : (m q : ℕ) → Leads slots m q × (m ≢ n) → Leads (set slots at None) m q
   from m q both = by_place (cases_eq both.0.0 at)
@@ -68,7 +71,8 @@ module _ (slots : List (Option Slot)) (is : IsProbed slots) (at n : ℕ) (page :
       by_place (inl same) =
           absurd (both.1 (number_of (record { number = m; place = q }) page.slot (sym here ∙ rw same page.here) ∙ page.of_page))
       by_place (inr away) =
-          leads_from (set slots at None) both.0.0 (record { number = m; place = q }) (rw length-set both.0.1) (still both.0.0 (record { number = m; place = q }) away here)
+          leads_from (set slots at None) both.0.0 (record { number = m; place = q }) (rw length-set both.0.1)
+          (still both.0.0 (record { number = m; place = q }) away here)
 
   pub drops_without : (new : List (Option Slot)) → IsPermutation (set slots at None) new → Drops slots new n
   drops_without new moved = record {
@@ -105,8 +109,10 @@ free_ahead slots from low is room =
         at_least (suc s) there = omega arith
 
 -- a table with a gap, where a page stands at the next place
-module _ (slots : List (Option Slot)) (from filled step : ℕ) (is : IsGapped slots from filled step) (before : filled < step) (few : step < 128)
-    (o : Slot) (next : slot_at slots (from + step) ≡ Some o) (steps : ℕ) (near : steps < 128) (there : (o.number + steps) % 128 ≡ (from + step) % 128) where
+module _ (slots : List (Option Slot)) (from filled step : ℕ) (is : IsGapped slots from filled step) (before : filled < step)
+    (few : step < 128)
+    (o : Slot) (next : slot_at slots (from + step) ≡ Some o) (steps : ℕ) (near : steps < 128)
+    (there : (o.number + steps) % 128 ≡ (from + step) % 128) where
   -- its run does not pass the gap: it stays
   pub stays : steps + filled < step → IsGapped slots from filled (step + 1)
   stays short = record {
@@ -117,7 +123,8 @@ module _ (slots : List (Option Slot)) (from filled step : ℕ) (is : IsGapped sl
     passed = λ s a low j after below same here. by_place s a low j after same here (cases_lt j step) below;
   }
     where
-      by_place : (s : ℕ) (a : Slot) → s < 128 → (j : ℕ) → filled < j → (a.number + s) % 128 ≡ (from + j) % 128 → slot_at slots (a.number + s) ≡ Some a
+      by_place : (s : ℕ) (a : Slot) → s < 128 → (j : ℕ) → filled < j → (a.number + s) % 128 ≡ (from + j) % 128
+          → slot_at slots (a.number + s) ≡ Some a
           → (j < step) ⊎ (step ≤ j) → j < step + 1 → s + filled < j
       by_place s a low j after same here (inl less) below = is.passed s a low j after less same here
       by_place s a low j after same here (inr most) below =
@@ -136,7 +143,8 @@ module _ (slots : List (Option Slot)) (from filled step : ℕ) (is : IsGapped sl
       by_order (inr other) = omega arith
 
   -- its run passes the gap: it moves there, and leaves a gap
-  module _ (long : step ≤ steps + filled) (new : List (Option Slot)) (swapped : new ≡ swap slots ((from + filled) % 128) ((from + step) % 128)) where
+  module _ (long : step ≤ steps + filled) (new : List (Option Slot))
+      (swapped : new ≡ swap slots ((from + filled) % 128) ((from + step) % 128)) where
     data ReadAfterMove (j : ℕ) : Type 0 where
       moved : j ≡ (from + filled) % 128 → get_or new j None ≡ Some o → ReadAfterMove j
       left : j ≡ (from + step) % 128 → get_or new j None ≡ None → ReadAfterMove j
@@ -148,9 +156,11 @@ module _ (slots : List (Option Slot)) (from filled step : ℕ) (is : IsGapped sl
         exchange : (get_or new ((from + filled) % 128) None ≡ get_or slots ((from + step) % 128) None)
             × (get_or new ((from + step) % 128) None ≡ get_or slots ((from + filled) % 128) None)
             × ((m : ℕ) → (m ≡ (from + filled) % 128 → ⊥) → (m ≡ (from + step) % 128 → ⊥) → get_or new m None ≡ get_or slots m None)
-        exchange = swapped_from_swap slots new ((from + filled) % 128) ((from + step) % 128) None (omega (arith, is.whole)) (omega (arith, is.whole)) swapped
+        exchange = swapped_from_swap slots new ((from + filled) % 128) ((from + step) % 128) None (omega (arith, is.whole))
+            (omega (arith, is.whole)) swapped
 
-        by_place : (j ≡ (from + filled) % 128) ⊎ (j ≡ (from + filled) % 128 → ⊥) → (j ≡ (from + step) % 128) ⊎ (j ≡ (from + step) % 128 → ⊥) → ReadAfterMove j
+        by_place : (j ≡ (from + filled) % 128) ⊎ (j ≡ (from + filled) % 128 → ⊥) → (j ≡ (from + step) % 128) ⊎ (j ≡ (from + step) % 128 → ⊥)
+            → ReadAfterMove j
         by_place (inl gap) at_next = moved gap (rw gap (exchange.0 ∙ next))
         by_place (inr away) (inl at_next) = left at_next (rw at_next (exchange.1 ∙ is.gap))
         by_place (inr away) (inr apart) = same_as away apart (exchange.2 j away apart)
@@ -186,11 +196,13 @@ module _ (slots : List (Option Slot)) (from filled step : ℕ) (is : IsGapped sl
         → (is_some (slot_at new (a.number + k)) ≡ true) ⊎ ((a.number + k) % 128 ≡ (from + step) % 128)
     reached_moved s a low here k below = in_use_or_left (a.number + k) (by_read (read_after_move ((a.number + s) % 128)))
       where
-        by_read : ReadAfterMove ((a.number + s) % 128) → (is_some (slot_at slots (a.number + k)) ≡ true) ⊎ ((a.number + k) % 128 ≡ (from + filled) % 128)
+        by_read : ReadAfterMove ((a.number + s) % 128)
+            → (is_some (slot_at slots (a.number + k)) ≡ true) ⊎ ((a.number + k) % 128 ≡ (from + filled) % 128)
         by_read (moved e r) =
             let page : a.number ≡ o.number = number_of a o (sym here ∙ r) in
             let e' : (o.number + s) % 128 ≡ (from + filled) % 128 = rw page at e in
-            let back : s + (step - filled) ≡ steps = same_steps o.number (s + (step - filled)) steps (nearer s low e') near (ahead s e' ∙ sym there) in
+            let back : s + (step - filled) ≡ steps =
+            same_steps o.number (s + (step - filled)) steps (nearer s low e') near (ahead s e' ∙ sym there) in
             rw page (is.reached steps o near (rw there next) k (omega arith))
           where
             ahead : (s : ℕ) → (o.number + s) % 128 ≡ (from + filled) % 128 → (o.number + (s + (step - filled))) % 128 ≡ (from + step) % 128
@@ -229,7 +241,8 @@ pub closed : (slots : List (Option Slot)) (from filled step : ℕ) → IsGapped 
     → slot_at slots (from + step) ≡ None → IsProbed slots
 closed slots from filled step is before few free = record { whole = is.whole; once = is.once; reached = reached }
   where
-    no_pass : (s : ℕ) (a : Slot) → s < 128 → slot_at slots (a.number + s) ≡ Some a → (k : ℕ) → k < s → (a.number + k) % 128 ≡ (from + filled) % 128 → ⊥
+    no_pass : (s : ℕ) (a : Slot) → s < 128 → slot_at slots (a.number + s) ≡ Some a → (k : ℕ) → k < s
+        → (a.number + k) % 128 ≡ (from + filled) % 128 → ⊥
     no_pass s a low here k below gap = by_place (cases_lt (filled + (s - k)) step)
       where
         at_end : (a.number + s) % 128 ≡ (from + (filled + (s - k))) % 128
@@ -241,7 +254,8 @@ closed slots from filled step is before few free = record { whole = is.whole; on
         none : slot_at slots (a.number + (k + (step - filled))) ≡ None
         none = rw at_next free
 
-        by_reach : (is_some (slot_at slots (a.number + (k + (step - filled)))) ≡ true) ⊎ ((a.number + (k + (step - filled))) % 128 ≡ (from + filled) % 128) → ⊥
+        by_reach : (is_some (slot_at slots (a.number + (k + (step - filled)))) ≡ true)
+            ⊎ ((a.number + (k + (step - filled))) % 128 ≡ (from + filled) % 128) → ⊥
         by_reach (inl full) = cc none
         by_reach (inr at_gap) = omega (arith, at_next)
 
@@ -256,9 +270,11 @@ closed slots from filled step is before few free = record { whole = is.whole; on
         by_place (inl less) = omega (arith, is.passed s a low (filled + (s - k)) (omega arith) less at_end here)
         by_place (inr far) = by_end far (cases_lt (k + (step - filled)) s)
 
-    reached : (s : ℕ) (a : Slot) → s < 128 → slot_at slots (a.number + s) ≡ Some a → (k : ℕ) → k < s → is_some (slot_at slots (a.number + k)) ≡ true
+    reached : (s : ℕ) (a : Slot) → s < 128 → slot_at slots (a.number + s) ≡ Some a → (k : ℕ) → k < s
+        → is_some (slot_at slots (a.number + k)) ≡ true
     reached s a low here k below = by_reach (is.reached s a low here k below)
       where
-        by_reach : (is_some (slot_at slots (a.number + k)) ≡ true) ⊎ ((a.number + k) % 128 ≡ (from + filled) % 128) → is_some (slot_at slots (a.number + k)) ≡ true
+        by_reach : (is_some (slot_at slots (a.number + k)) ≡ true) ⊎ ((a.number + k) % 128 ≡ (from + filled) % 128)
+            → is_some (slot_at slots (a.number + k)) ≡ true
         by_reach (inl full) = full
         by_reach (inr gap) = absurd (no_pass s a low here k below gap)

@@ -35,7 +35,8 @@ module _ (slots : List (Option Slot)) (n step : ℕ) (is : IsSwept slots n step)
     whole = rw length-set is.whole;
     once = λ i j a b li lj hi hj same. is.once i j a b li lj (was i a hi) (was j b hj) same;
     swept = λ k below. swept k below (read_after_set slots at ((n + k) % 128) None low);
-    reached = λ s a near here k below. in_use_or_swept (a.number + k) (read_after_set slots at ((a.number + k) % 128) None low) (is.reached s a near (was ((a.number + s) % 128) a here) k below);
+    reached = λ s a near here k below. in_use_or_swept (a.number + k) (read_after_set slots at ((a.number + k) % 128) None low)
+        (is.reached s a near (was ((a.number + s) % 128) a here) k below);
   }
     where
       swept : (k : ℕ) → k < step + 1 → ReadAfterSet slots at ((n + k) % 128) None → slot_at (set slots at None) (n + k) ≡ None
@@ -46,7 +47,8 @@ module _ (slots : List (Option Slot)) (n step : ℕ) (is : IsSwept slots n step)
           by_order (inl less) = less
           by_order (inr most) = let same : k ≡ step = omega arith in absurd (other (ap (λ i. (n + i) % 128) same))
 
-      in_use_or_swept : (x : ℕ) → ReadAfterSet slots at (x % 128) None → (is_some (slot_at slots x) ≡ true) ⊎ ((i : ℕ) × (i < step) × (x % 128 ≡ (n + i) % 128))
+      in_use_or_swept : (x : ℕ) → ReadAfterSet slots at (x % 128) None
+          → (is_some (slot_at slots x) ≡ true) ⊎ ((i : ℕ) × (i < step) × (x % 128 ≡ (n + i) % 128))
           → (is_some (slot_at (set slots at None) x) ≡ true) ⊎ ((i : ℕ) × (i < step + 1) × (x % 128 ≡ (n + i) % 128))
       in_use_or_swept x (written same r) was = inr (step, omega arith, same)
       in_use_or_swept x (kept other r) (inl full) = inl (rw r full)
@@ -58,9 +60,11 @@ module _ (slots : List (Option Slot)) (n step : ℕ) (is : IsSwept slots n step)
       (was leads.0 (record { number = m; place = q }) (leads_at (set slots at None) m q leads))
 
 -- swept up to a free place, or all around
-module _ (slots : List (Option Slot)) (n step : ℕ) (is : IsSwept slots n step) (most : step ≤ 128) (free : step < 128 → slot_at slots (n + step) ≡ None) where
+module _ (slots : List (Option Slot)) (n step : ℕ) (is : IsSwept slots n step) (most : step ≤ 128)
+    (free : step < 128 → slot_at slots (n + step) ≡ None) where
   -- no run passes what is swept: past it, place by place, stands what is free
-  no_pass : (s : ℕ) (a : Slot) → s < 128 → slot_at slots (a.number + s) ≡ Some a → (k : ℕ) → k < s → (i : ℕ) → i < step → (a.number + k) % 128 ≡ (n + i) % 128 → ⊥
+  no_pass : (s : ℕ) (a : Slot) → s < 128 → slot_at slots (a.number + s) ≡ Some a → (k : ℕ) → k < s → (i : ℕ) → i < step
+      → (a.number + k) % 128 ≡ (n + i) % 128 → ⊥
   no_pass s a low here k below i inside meets = by_place (cases_lt (i + (s - k)) step)
     where
       at_end : (a.number + s) % 128 ≡ (n + (i + (s - k))) % 128
@@ -69,7 +73,8 @@ module _ (slots : List (Option Slot)) (n step : ℕ) (is : IsSwept slots n step)
       ends_free : (j : ℕ) → (a.number + s) % 128 ≡ (n + j) % 128 → slot_at slots (n + j) ≡ None → ⊥
       ends_free j same none = let free_too : slot_at slots (a.number + s) ≡ None = rw same none in cc
 
-      by_reach : (x : ℕ) → step < 128 → x % 128 ≡ (n + step) % 128 → (is_some (slot_at slots x) ≡ true) ⊎ ((j : ℕ) × (j < step) × (x % 128 ≡ (n + j) % 128)) → ⊥
+      by_reach : (x : ℕ) → step < 128 → x % 128 ≡ (n + step) % 128
+          → (is_some (slot_at slots x) ≡ true) ⊎ ((j : ℕ) × (j < step) × (x % 128 ≡ (n + j) % 128)) → ⊥
       by_reach x few same (inl full) = let none : slot_at slots x ≡ None = rw same (free few) in cc
       by_reach x few same (inr again) =
           let alike : step ≡ again.0 = same_steps n step again.0 few (omega (arith, again.1)) (sym same ∙ again.2) in
@@ -88,10 +93,15 @@ module _ (slots : List (Option Slot)) (n step : ℕ) (is : IsSwept slots n step)
       by_place (inr far) = by_step far (cases_lt step 128)
 
   pub swept_probed : IsProbed slots
-  swept_probed = record { whole = is.whole; once = is.once; reached = λ s a low here k below. by_reach s a low here k below (is.reached s a low here k below) }
+  swept_probed = record {
+    whole = is.whole;
+    once = is.once;
+    reached = λ s a low here k below. by_reach s a low here k below (is.reached s a low here k below);
+  }
     where
       by_reach : (s : ℕ) (a : Slot) → s < 128 → slot_at slots (a.number + s) ≡ Some a → (k : ℕ) → k < s
-          → (is_some (slot_at slots (a.number + k)) ≡ true) ⊎ ((i : ℕ) × (i < step) × ((a.number + k) % 128 ≡ (n + i) % 128)) → is_some (slot_at slots (a.number + k)) ≡ true
+          → (is_some (slot_at slots (a.number + k)) ≡ true) ⊎ ((i : ℕ) × (i < step) × ((a.number + k) % 128 ≡ (n + i) % 128))
+          → is_some (slot_at slots (a.number + k)) ≡ true
       by_reach s a _ here k below (inl full) = full
       by_reach s a low here k below (inr free) = absurd (no_pass s a low here k below free.0 free.1 free.2)
 

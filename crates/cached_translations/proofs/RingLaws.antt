@@ -23,14 +23,16 @@ translation_of-parts : (xs ys : List Translation) (number : ℕ) → AllPairs (�
     → option_or (translation_of xs number) (translation_of ys number) ≡ option_or (translation_of ys number) (translation_of xs number)
 translation_of-parts xs ys number distinct = by_cases (translation_of xs number) refl (translation_of ys number) refl
   where
-    by_cases : (o : Option Translation) → translation_of xs number ≡ o → (p : Option Translation) → translation_of ys number ≡ p → option_or o p ≡ option_or p o
+    by_cases : (o : Option Translation) → translation_of xs number ≡ o → (p : Option Translation) → translation_of ys number ≡ p
+        → option_or o p ≡ option_or p o
     by_cases None is None also = refl
     by_cases None is (Some y) also = refl
     by_cases (Some x) is None also = refl
     by_cases (Some x) is (Some y) also =
         let at_x = translation_of-at xs number x is in
         let at_y = translation_of-at ys number y also in
-        let differ = distinct at_y.place (length ys + at_x.place) x (omega (arith, at_y.within)) (rw length-append (omega (arith, at_x.within))) in
+        let differ = distinct at_y.place (length ys + at_x.place) x (omega (arith, at_y.within))
+        (rw length-append (omega (arith, at_x.within))) in
         let first = get_or_append_left ys xs x at_y.place at_y.within ∙ at_y.here x in
         let second = get_or-append-add ys xs at_x.place x ∙ at_x.here x in
         absurd (rw (first, second) at differ (translation_of-number ys number y also ∙ sym (translation_of-number xs number x is)))
@@ -51,7 +53,8 @@ pub pushed : (places : List Translation) (first : ℕ) (t : Translation) → fir
     → is_some (translation_of (around_from places first) t.number) ≡ false
     → around_from (places ++ t ∷ []) first ≡ with_translation (around_from places first) t
 pushed places first t at_0 room none =
-    rw (none, at_0, append-nil places, append-nil (places ++ t ∷ []), le-ltb 64 (length (places ++ t ∷ [])) (rw length_push (omega arith))) refl
+    rw (none, at_0, append-nil places, append-nil (places ++ t ∷ []), le-ltb 64 (length (places ++ t ∷ [])) (rw length_push (omega arith)))
+    refl
 
 -- writing over the oldest where no place is free
 turned : (places : List Translation) (first next : ℕ) (t d : Translation) → first < length places
@@ -72,6 +75,7 @@ replaced places first t low full none =
     rw (none, lt-ltb 64 (length (around_from places first ++ t ∷ [])) (rw (length_push, length-around_from) (omega arith)))
     (turned places first ((first + 1) % 64) t t (omega arith) (next (cases_lt (first + 1) 64)))
   where
-    next : (first + 1 < 64) ⊎ (64 ≤ first + 1) → ((first + 1 < length places) × ((first + 1) % 64 ≡ first + 1)) ⊎ ((first + 1 ≡ length places) × ((first + 1) % 64 ≡ 0))
+    next : (first + 1 < 64) ⊎ (64 ≤ first + 1) → ((first + 1 < length places) × ((first + 1) % 64 ≡ first + 1))
+        ⊎ ((first + 1 ≡ length places) × ((first + 1) % 64 ≡ 0))
     next (inl inside) = inl (omega arith, mod-eq_of_lt inside)
     next (inr last) = inr (omega arith, omega arith)

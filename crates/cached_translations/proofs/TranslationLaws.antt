@@ -19,37 +19,45 @@ pub translation_of-at : (held : List Translation) (number : ℕ) (t : Translatio
 translation_of-at [] number t found = cc
 translation_of-at (x ∷ held) number t found = by_test (eqb x.number number) found (translation_of-at held number t)
   where
-    by_test : (b : Bool) → cond b (Some x) (translation_of held number) ≡ Some t → (translation_of held number ≡ Some t → IsAt held t) → IsAt (x ∷ held) t
+    by_test : (b : Bool) → cond b (Some x) (translation_of held number) ≡ Some t → (translation_of held number ≡ Some t → IsAt held t)
+        → IsAt (x ∷ held) t
     by_test true same rest = record { place = 0; within = omega arith; here = λ d. cc }
     by_test false later rest = let at = rest later in record { place = suc at.place; within = omega (arith, at.within); here = at.here }
 
 -- .. and it is of the page
-pub translation_of-number : (held : List Translation) (number : ℕ) (t : Translation) → translation_of held number ≡ Some t → t.number ≡ number
+pub translation_of-number : (held : List Translation) (number : ℕ) (t : Translation) → translation_of held number ≡ Some t
+    → t.number ≡ number
 translation_of-number [] number t found = cc
 translation_of-number (x ∷ held) number t found = by_test (eqb x.number number) refl found (translation_of-number held number t)
   where
-    by_test : (b : Bool) → eqb x.number number ≡ b → cond b (Some x) (translation_of held number) ≡ Some t → (translation_of held number ≡ Some t → t.number ≡ number)
+    by_test : (b : Bool) → eqb x.number number ≡ b → cond b (Some x) (translation_of held number) ≡ Some t
+        → (translation_of held number ≡ Some t → t.number ≡ number)
         → t.number ≡ number
     by_test true is same rest = let e = eqb-true x.number number is in cc
     by_test false is later rest = rest later
 
 -- .. and what is true of each translation is true of it
-pub translation_of-all : (P : Translation → Type 0) (held : List Translation) (number : ℕ) (t : Translation) → translation_of held number ≡ Some t → All P held → P t
+pub translation_of-all : (P : Translation → Type 0) (held : List Translation) (number : ℕ) (t : Translation)
+    → translation_of held number ≡ Some t → All P held → P t
 translation_of-all P [] number t found all = cc
-translation_of-all P (x ∷ held) number t found all = by_test (eqb x.number number) found (λ later. translation_of-all P held number t later (All-tail P x held all))
+translation_of-all P (x ∷ held) number t found all =
+    by_test (eqb x.number number) found (λ later. translation_of-all P held number t later (All-tail P x held all))
   where
     by_test : (b : Bool) → cond b (Some x) (translation_of held number) ≡ Some t → (translation_of held number ≡ Some t → P t) → P t
     by_test true same rest = let e : x ≡ t = cc in subst P e (All-head P x held all)
     by_test false later rest = rest later
 
 -- no translation is of a page whose number is past 32 bits
-pub translation_of-past : (held : List Translation) (number : ℕ) → All (λ (t : Translation). t.number < 2 ^ 32) held → 2 ^ 32 ≤ number → translation_of held number ≡ None
+pub translation_of-past : (held : List Translation) (number : ℕ) → All (λ (t : Translation). t.number < 2 ^ 32) held → 2 ^ 32 ≤ number
+    → translation_of held number ≡ None
 translation_of-past [] number small past = refl
 translation_of-past (x ∷ held) number small past =
-    by_test (eqb x.number number) refl (translation_of-past held number (All-tail (λ (t : Translation). t.number < 2 ^ 32) x held small) past)
+    by_test (eqb x.number number) refl (translation_of-past held number (All-tail (λ (t : Translation). t.number < 2 ^ 32) x held small)
+    past)
   where
     by_test : (b : Bool) → eqb x.number number ≡ b → translation_of held number ≡ None → cond b (Some x) (translation_of held number) ≡ None
-    by_test true is rest = absurd (omega (arith, eqb-true x.number number is, All-head (λ (t : Translation). t.number < 2 ^ 32) x held small))
+    by_test true is rest =
+        absurd (omega (arith, eqb-true x.number number is, All-head (λ (t : Translation). t.number < 2 ^ 32) x held small))
     by_test false is rest = rest
 
 -- no translation is of a page that is not found
@@ -70,19 +78,22 @@ pub FitsCache-empty : FitsCache []
 FitsCache-empty = record { within = omega arith; distinct = λ i j d below in_range. absurd (omega arith); small = All-nil _ }
 
 -- the newest of some translations, which are one more than fit at most, fit
-newest-fits : (held : List Translation) → length held ≤ 65 → AllPairs (λ (a b : Translation). a.number ≢ b.number) held → All (λ (t : Translation). t.number < 2 ^ 32) held → FitsCache (newest held)
+newest-fits : (held : List Translation) → length held ≤ 65 → AllPairs (λ (a b : Translation). a.number ≢ b.number) held
+    → All (λ (t : Translation). t.number < 2 ^ 32) held → FitsCache (newest held)
 newest-fits held few distinct small = by_test (ltb 64 (length held)) refl
   where
     by_test : (b : Bool) → ltb 64 (length held) ≡ b → FitsCache (cond b (drop 1 held) held)
     by_test true is = record {
       within = rw length-drop (omega arith);
-      distinct = all_pairs_remove (λ (a b : Translation). a.number ≢ b.number) held 0 (omega (arith, ltb-true 64 (length held) is)) distinct;
+      distinct = all_pairs_remove (λ (a b : Translation). a.number ≢ b.number) held 0 (omega (arith, ltb-true 64 (length held) is))
+          distinct;
       small = All-drop (λ (t : Translation). t.number < 2 ^ 32) 1 held small;
     }
     by_test false is = record { within = ltb-false 64 (length held) is; distinct = distinct; small = small }
 
 -- filling keeps a cache within its places, with no page twice
-pub FitsCache-with_translation : (held : List Translation) (t : Translation) → t.number < 2 ^ 32 → FitsCache held → FitsCache (with_translation held t)
+pub FitsCache-with_translation : (held : List Translation) (t : Translation) → t.number < 2 ^ 32 → FitsCache held
+    → FitsCache (with_translation held t)
 FitsCache-with_translation held t low h = by_test (is_some (translation_of held t.number)) refl
   where
     by_test : (b : Bool) → is_some (translation_of held t.number) ≡ b → FitsCache (cond b held (newest (held ++ t ∷ [])))

@@ -32,13 +32,15 @@ pub record IsFree (slots : List (Option Slot)) (number at : ℕ) : Type 0 where
 
 -- no page stands at two places
 abbrev pub AreOnce : List (Option Slot) → Type 0
-AreOnce slots = (i j : ℕ) (a b : Slot) → i < SLOTS → j < SLOTS → get_or slots i None ≡ Some a → get_or slots j None ≡ Some b → a.number ≡ b.number → i ≡ j
+AreOnce slots = (i j : ℕ) (a b : Slot) → i < SLOTS → j < SLOTS → get_or slots i None ≡ Some a → get_or slots j None ≡ Some b
+    → a.number ≡ b.number → i ≡ j
 
 -- no page stands twice, and from a page's number to its place no place is free
 pub record IsProbed (slots : List (Option Slot)) : Type 0 where
   pub whole : length slots ≡ SLOTS
   pub once : AreOnce slots
-  pub reached : (step : ℕ) (a : Slot) → step < SLOTS → slot_at slots (a.number + step) ≡ Some a → (k : ℕ) → k < step → is_some (slot_at slots (a.number + k)) ≡ true
+  pub reached : (step : ℕ) (a : Slot) → step < SLOTS → slot_at slots (a.number + step) ≡ Some a → (k : ℕ) → k < step
+      → is_some (slot_at slots (a.number + k)) ≡ true
 
 -- .. but for one place, `filled` places past another; and the pages that stand up to `step` places past that one are reached past no gap
 pub record IsGapped (slots : List (Option Slot)) (from filled step : ℕ) : Type 0 where

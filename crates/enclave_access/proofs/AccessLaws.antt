@@ -11,7 +11,8 @@ use Rattle.cached_translations.proofs.TranslationLaws.{translation_of-all}
 use Rattle.enclave_access.specs.Access.{LeadsBelow, translation_at, with_filled, with_word_in, with_stored}
 
 -- the translation of the page at an offset leads to a frame below the number
-pub leads_below : (cache : List Translation) (off frames : ℕ) (t : Translation) → LeadsBelow cache frames → translation_at cache off ≡ Some t → t.frame.0 < frames
+pub leads_below : (cache : List Translation) (off frames : ℕ) (t : Translation) → LeadsBelow cache frames
+    → translation_at cache off ≡ Some t → t.frame.0 < frames
 leads_below cache off frames t below found = translation_of-all (λ (x : Translation). x.frame.0 < frames) cache (off / 4096) t found below
 
 newest_below : (cache : List Translation) (frames : ℕ) → LeadsBelow cache frames → LeadsBelow (newest cache) frames
@@ -21,7 +22,8 @@ newest_below cache frames below = by_test (ltb 64 (length cache))
     by_test true = All-drop (λ (x : Translation). x.frame.0 < frames) 1 cache below
     by_test false = below
 
-translation_below : (cache : List Translation) (t : Translation) (frames : ℕ) → LeadsBelow cache frames → t.frame.0 < frames → LeadsBelow (with_translation cache t) frames
+translation_below : (cache : List Translation) (t : Translation) (frames : ℕ) → LeadsBelow cache frames → t.frame.0 < frames
+    → LeadsBelow (with_translation cache t) frames
 translation_below cache t frames below low = by_test (is_some (translation_of cache t.number))
   where
     by_test : (b : Bool) → LeadsBelow (cond b cache (newest (cache ++ t ∷ []))) frames
@@ -29,7 +31,8 @@ translation_below cache t frames below low = by_test (is_some (translation_of ca
     by_test false = newest_below (cache ++ t ∷ []) frames (All-push (λ (x : Translation). x.frame.0 < frames) cache t below low)
 
 -- a fill of a frame below the number leaves them so
-pub filled_below : (cpu : Processor) (number : ℕ) (frame : Frame) (perm : Option Perm) (frames : ℕ) → LeadsBelow cpu.cache frames → frame.0 < frames
+pub filled_below : (cpu : Processor) (number : ℕ) (frame : Frame) (perm : Option Perm) (frames : ℕ) → LeadsBelow cpu.cache frames
+    → frame.0 < frames
     → LeadsBelow (with_filled cpu number frame perm).cache frames
 filled_below cpu number frame None frames below low = below
 filled_below cpu number frame (Some perm) frames below low = translation_below cpu.cache _ frames below low

@@ -16,7 +16,8 @@ use Rattle.cached_translations.specs.Translations.{translation_of, with_translat
 -- the processor with a translation more, of a page in a frame with that frame's permissions
 abbrev pub with_filled : Processor → ℕ → Frame → Option Perm → Processor
 with_filled cpu number frame None = cpu
-with_filled cpu number frame (Some perm) = record cpu { cache = with_translation cpu.cache (record { number = number; frame = frame; perm = perm }) }
+with_filled cpu number frame (Some perm) =
+    record cpu { cache = with_translation cpu.cache (record { number = number; frame = frame; perm = perm }) }
 
 -- ---- accesses
 

@@ -18,7 +18,8 @@ use Rattle.enclave_build.specs.Build.{with_secs, with_added}
 pub length-with_secs : (epc : List EpcFrame) (f enclave : ℕ) → length (with_secs epc f enclave) ≡ length epc
 length-with_secs epc f enclave = length-with_entry epc f _
 
-pub entry_at-with_secs : (epc : List EpcFrame) (f enclave n : ℕ) → f < length epc → entry_at (with_secs epc f enclave) n ≡ cond (f == n) (holding (page_at enclave 0) kinds.Secs no_perm) (entry_at epc n)
+pub entry_at-with_secs : (epc : List EpcFrame) (f enclave n : ℕ) → f < length epc
+    → entry_at (with_secs epc f enclave) n ≡ cond (f == n) (holding (page_at enclave 0) kinds.Secs no_perm) (entry_at epc n)
 entry_at-with_secs epc f enclave n low = entry_at-with_entry epc f n _ low
 
 pub words_at-with_secs : (epc : List EpcFrame) (f enclave n : ℕ) → words_at (with_secs epc f enclave) n ≡ words_at epc n
@@ -26,14 +27,18 @@ words_at-with_secs epc f enclave n = words_at-with_entry epc f n _
 
 -- an added page
 
-pub length-with_added : (epc : List EpcFrame) (f : ℕ) (page : Page) (kind : Kind) (perm : Perm) (init : PageInit) → length (with_added epc f page kind perm init) ≡ length epc
-length-with_added epc f page kind perm init = length-with_words (with_page epc f page kind perm) f (first_words init) ∙ length-with_entry epc f _
+pub length-with_added : (epc : List EpcFrame) (f : ℕ) (page : Page) (kind : Kind) (perm : Perm) (init : PageInit)
+    → length (with_added epc f page kind perm init) ≡ length epc
+length-with_added epc f page kind perm init =
+    length-with_words (with_page epc f page kind perm) f (first_words init) ∙ length-with_entry epc f _
 
 pub entry_at-with_added : (epc : List EpcFrame) (f n : ℕ) (page : Page) (kind : Kind) (perm : Perm) (init : PageInit) → f < length epc
     → entry_at (with_added epc f page kind perm init) n ≡ cond (f == n) (holding page kind perm) (entry_at epc n)
-entry_at-with_added epc f n page kind perm init low = entry_at-with_words (with_page epc f page kind perm) f n (first_words init) ∙ entry_at-with_entry epc f n _ low
+entry_at-with_added epc f n page kind perm init low =
+    entry_at-with_words (with_page epc f page kind perm) f n (first_words init) ∙ entry_at-with_entry epc f n _ low
 
 pub words_at-with_added : (epc : List EpcFrame) (f n : ℕ) (page : Page) (kind : Kind) (perm : Perm) (init : PageInit) → f < length epc
     → words_at (with_added epc f page kind perm init) n ≡ cond (f == n) (first_words init) (words_at epc n)
 words_at-with_added epc f n page kind perm init low =
-    words_at-with_words (with_page epc f page kind perm) f n (first_words init) (rw length-set low) ∙ ap (cond (f == n) (first_words init)) (words_at-with_entry epc f n _)
+    words_at-with_words (with_page epc f page kind perm) f n (first_words init) (rw length-set low)
+    ∙ ap (cond (f == n) (first_words init)) (words_at-with_entry epc f n _)

@@ -39,7 +39,8 @@ pub fn eadd(
     init: PageInit,
 ) -> Result<(), Refusal>
     ensures row { refusal_in result
-        ≡ first_of_row (add_row number kind perm init (Some (sight_of secs.old)) (is_some (added_at secs.old number)) (sight_in epc.old frame.0)) }
+        ≡ first_of_row (add_row number kind perm init (Some (sight_of secs.old)) (is_some (added_at secs.old number))
+        (sight_in epc.old frame.0)) }
     ensures done { OnOk result (epc.new ≡ with_added epc.old frame.0 (page_at secs.old.enclave number) kind perm init) }
     ensures secs { OnOk result (secs.new ≡ with_resident secs.old number kind perm) }
     ensures log { OnOk result (Appends log.old log.new (eadd_block (4096 * number) (flags_of kind perm))) }
@@ -67,7 +68,8 @@ fn add_refusal(
     init: PageInit,
 ) -> Option<Refusal>
     ensures { result
-        ≡ first_of_row (add_row number kind perm init (Some (sight_of secs.now)) (is_some (added_at secs.now number)) (sight_in epc.now frame.0)) }
+        ≡ first_of_row (add_row number kind perm init (Some (sight_of secs.now)) (is_some (added_at secs.now number))
+        (sight_in epc.now frame.0)) }
 {
     if frame.0 >= epc.frames() {
         return Some(Refusal::BadRange);

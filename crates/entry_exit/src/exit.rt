@@ -5,7 +5,8 @@ ghost use Rattle.sgx_types.specs.Table.{refusal_in, first_of_row, exit_row};
 ghost use Rattle.secs_state.specs.Secs.{added_at, with_busy};
 ghost use Rattle.cached_translations.specs.Modes.{is_inside};
 ghost use Rattle.track_epoch.specs.Tracking.{left};
-ghost use Rattle.entry_exit.specs.Entry.{IsItsEnclave, HasItsTcs, CountsIt, HasItsFrames, outside, with_tcs_left, with_left, with_saved, with_its_saved};
+ghost use Rattle.entry_exit.specs.Entry.{IsItsEnclave, HasItsTcs, CountsIt, HasItsFrames, outside, with_tcs_left, with_left, with_saved};
+ghost use Rattle.entry_exit.specs.Entry.{with_its_saved};
 
 use crate::tcs::{fields, set_cssa};
 use cached_translations::processor::{Mode, Processor};

@@ -24,7 +24,8 @@ chunk_words (suc n) bytes sized fits =
       sized = rw length-take (omega (arith, sized));
       fits = λ i. ⊎_elim
           (λ low. rw (get_or-take 8 bytes i 0 low) (fits i))
-          (λ (past : 8 ≤ i). let short : length (take 8 bytes) ≤ i = omega (arith, length-take 8 bytes, past) in rw (get_or_past (take 8 bytes) i 0 short) (omega arith))
+          (λ (past : 8 ≤ i). let short : length (take 8 bytes) ≤ i = omega (arith, length-take 8 bytes, past) in
+          rw (get_or_past (take 8 bytes) i 0 short) (omega arith))
           (cases_lt i 8);
     })
     (chunk_words n (drop 8 bytes) (rw length-drop (omega (arith, sized))) (λ i. rw get_or-drop (fits (8 + i))))
@@ -36,7 +37,8 @@ length-first_chunks (suc n) bytes = ap suc (length-first_chunks n (drop 8 bytes)
 -- chunks joined end to end
 joined_chunks : (n : ℕ) (bytes : List ℕ) → length bytes ≡ 8 * n → flat_map (λ x. x) (first_chunks 8 n bytes) ≡ bytes
 joined_chunks zero bytes sized = sym (nil_from_length bytes sized)
-joined_chunks (suc n) bytes sized = ap (λ rest. take 8 bytes ++ rest) (joined_chunks n (drop 8 bytes) (rw length-drop (omega (arith, sized)))) ∙ take-append-drop 8 bytes
+joined_chunks (suc n) bytes sized =
+    ap (λ rest. take 8 bytes ++ rest) (joined_chunks n (drop 8 bytes) (rw length-drop (omega (arith, sized)))) ∙ take-append-drop 8 bytes
 
 -- words joined end to end, cut again
 chunks-joined : (page : List (List ℕ)) → All IsWord page → first_chunks 8 (length page) (flat_map (λ x. x) page) ≡ page
@@ -66,7 +68,8 @@ pub words_of-page : (page : List (List ℕ)) → All IsWord page → words_of (f
 unfolding words_of
 words_of-page page words =
     let count : length (flat_map (λ x. x) page) / 8 ≡ length page = rw (length-joined page words) (omega arith) in
-    ap (λ n. map (from_le_bytes w64) (first_chunks 8 n (flat_map (λ x. x) page))) count ∙ ap (map (from_le_bytes w64)) (chunks-joined page words)
+    ap (λ n. map (from_le_bytes w64) (first_chunks 8 n (flat_map (λ x. x) page))) count
+    ∙ ap (map (from_le_bytes w64)) (chunks-joined page words)
 
 -- a word's bytes
 low_bytes : (k i n : ℕ) → IsBytes (bytes_low_first i k n)
@@ -84,9 +87,11 @@ word_small word is = omega (arith, is.fits 0, is.fits 1, is.fits 2, is.fits 3, i
 
 -- the words of a page, and of bytes
 pub page_small : (page : List (List ℕ)) → All IsWord page → All (λ word. word < 2 ^ 64) (map (from_le_bytes w64) page)
-page_small page words = All-map (λ word. word < 2 ^ 64) (from_le_bytes w64) page (All-weaker IsWord (λ word. from_le_bytes w64 word < 2 ^ 64) word_small page words)
+page_small page words = All-map (λ word. word < 2 ^ 64) (from_le_bytes w64) page
+    (All-weaker IsWord (λ word. from_le_bytes w64 word < 2 ^ 64) word_small page words)
 
-pub words_of-fit : (bytes : List ℕ) (n : ℕ) → length bytes ≡ 8 * n → ((i : ℕ) → get_or bytes i 0 < 256) → All (λ word. word < 2 ^ 64) (words_of bytes)
+pub words_of-fit : (bytes : List ℕ) (n : ℕ) → length bytes ≡ 8 * n → ((i : ℕ) → get_or bytes i 0 < 256)
+    → All (λ word. word < 2 ^ 64) (words_of bytes)
 unfolding words_of
 words_of-fit bytes n sized fits =
     let count : length bytes / 8 ≡ n = omega (arith, sized) in
@@ -97,7 +102,8 @@ unfolding words_of
 length-words_of bytes = rw (length-map, length-first_chunks) refl
 
 -- bytes are the bytes of their words
-pub bytes_of-words_of : (bytes : List ℕ) (n : ℕ) → length bytes ≡ 8 * n → ((i : ℕ) → get_or bytes i 0 < 256) → bytes_of (words_of bytes) ≡ bytes
+pub bytes_of-words_of : (bytes : List ℕ) (n : ℕ) → length bytes ≡ 8 * n → ((i : ℕ) → get_or bytes i 0 < 256)
+    → bytes_of (words_of bytes) ≡ bytes
 unfolding words_of
 bytes_of-words_of bytes n sized fits =
     let count : length bytes / 8 ≡ n = omega (arith, sized) in
@@ -107,7 +113,8 @@ bytes_of-words_of bytes n sized fits =
 read_back : (words : List ℕ) → All (λ word. word < 2 ^ 64) words → map (from_le_bytes w64) (map (to_le_bytes w64) words) ≡ words
 read_back [] small = refl
 read_back (word ∷ words) small =
-    ap (λ w. w ∷ map (from_le_bytes w64) (map (to_le_bytes w64) words)) (from_le_bytes-to_le_bytes_8 word (All-head (λ w. w < 2 ^ 64) word words small))
+    ap (λ w. w ∷ map (from_le_bytes w64) (map (to_le_bytes w64) words))
+    (from_le_bytes-to_le_bytes_8 word (All-head (λ w. w < 2 ^ 64) word words small))
     ∙ ap (λ rest. word ∷ rest) (read_back words (All-tail (λ w. w < 2 ^ 64) word words small))
 
 -- words are the words of their bytes
@@ -133,7 +140,8 @@ unfolding zero_words
 zeros-page = map-replicate (from_le_bytes w64) 512 zero_word
 
 -- the page of bytes
-pub chunk_page : (bytes : List ℕ) → length bytes ≡ 4096 → ((i : ℕ) → get_or bytes i 0 < 256) → IsPage (first_chunks 8 (length bytes / 8) bytes)
+pub chunk_page : (bytes : List ℕ) → length bytes ≡ 4096 → ((i : ℕ) → get_or bytes i 0 < 256)
+    → IsPage (first_chunks 8 (length bytes / 8) bytes)
 chunk_page bytes sized fits =
     let count : length bytes / 8 ≡ 512 = omega (arith, sized) in
     rw count (record { sized = length-first_chunks 512 bytes; words = chunk_words 512 bytes sized fits })
@@ -143,19 +151,26 @@ unfolding words_of
 words_of-chunks bytes = refl
 
 -- a word of a page
-pub word-page : (page : List (List ℕ)) (i : ℕ) → IsPage page → i < 512 → from_le_bytes w64 (get_or page i []) ≡ get_or (map (from_le_bytes w64) page) i 0
+pub word-page : (page : List (List ℕ)) (i : ℕ) → IsPage page → i < 512
+    → from_le_bytes w64 (get_or page i []) ≡ get_or (map (from_le_bytes w64) page) i 0
 word-page page i is low = sym (get_or-map (from_le_bytes w64) page i [] 0 (rw is.sized low))
 
 -- a page with one word written
 pub word_page : (page : List (List ℕ)) (i n : ℕ) → IsPage page → IsPage (set page i (to_le_bytes w64 n))
 word_page page i n is = record { sized = rw length-set is.sized; words = All-set IsWord page i (to_le_bytes w64 n) (word_bytes n) is.words }
 
-pub words-word_page : (page : List (List ℕ)) (i n : ℕ) → n < 2 ^ 64 → map (from_le_bytes w64) (set page i (to_le_bytes w64 n)) ≡ set (map (from_le_bytes w64) page) i n
-words-word_page page i n small = map-set (from_le_bytes w64) page i (to_le_bytes w64 n) ∙ ap (set (map (from_le_bytes w64) page) i) (from_le_bytes-to_le_bytes_8 n small)
+pub words-word_page : (page : List (List ℕ)) (i n : ℕ) → n < 2 ^ 64
+    → map (from_le_bytes w64) (set page i (to_le_bytes w64 n)) ≡ set (map (from_le_bytes w64) page) i n
+words-word_page page i n small =
+    map-set (from_le_bytes w64) page i (to_le_bytes w64 n) ∙ ap (set (map (from_le_bytes w64) page) i) (from_le_bytes-to_le_bytes_8 n small)
 
 -- a page of one word over and over
 pub filled_page : (value : ℕ) → IsPage (replicate 512 (to_le_bytes w64 value))
-filled_page value = record { sized = length-replicate 512 (to_le_bytes w64 value); words = All-replicate IsWord 512 (to_le_bytes w64 value) (word_bytes value) }
+filled_page value = record {
+  sized = length-replicate 512 (to_le_bytes w64 value);
+  words = All-replicate IsWord 512 (to_le_bytes w64 value) (word_bytes value);
+}
 
 pub words-filled_page : (value : ℕ) → value < 2 ^ 64 → map (from_le_bytes w64) (replicate 512 (to_le_bytes w64 value)) ≡ replicate 512 value
-words-filled_page value fits = map-replicate (from_le_bytes w64) 512 (to_le_bytes w64 value) ∙ ap (replicate 512) (from_le_bytes-to_le_bytes_8 value fits)
+words-filled_page value fits =
+    map-replicate (from_le_bytes w64) 512 (to_le_bytes w64 value) ∙ ap (replicate 512) (from_le_bytes-to_le_bytes_8 value fits)

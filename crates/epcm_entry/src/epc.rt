@@ -3,7 +3,8 @@
 ghost use Rattle.std.specs.Prelude.{◌≡◌, ◌<◌, ◌≤◌, ◌||◌, true, false, length, replicate, count_by, IfOk, OnOk, OnErr};
 ghost use Rattle.epcm_entry.specs.EntryView.{is_free, is_busy, is_valid, claim_answer};
 ghost use Rattle.epcm_entry.specs.Words.{words_of};
-ghost use Rattle.epcm_entry.specs.Epc.{IsEpc, entry_at, word_at, words_at, bytes_at, free_frames, is_free_frame, first_free_of, with_entry, with_page, with_blocked, with_sealing, with_loading, with_word, with_words, cleared};
+ghost use Rattle.epcm_entry.specs.Epc.{IsEpc, entry_at, word_at, words_at, bytes_at, free_frames, is_free_frame, first_free_of, with_entry};
+ghost use Rattle.epcm_entry.specs.Epc.{with_page, with_blocked, with_sealing, with_loading, with_word, with_words, cleared};
 
 use crate::entry_view::EntryView;
 use crate::free_map::FreeMap;

@@ -15,7 +15,9 @@ newer_back e o n a b = omega arith
 pub seen_in-word_of : (s : Seen) → IsLawful s → seen_in (word_of s) ≡ s
 seen_in-word_of s h =
     let few = h.few in
-    λ i. seen (epoch_back s.epoch s.older s.newer (omega arith) (omega arith) i) (older_back s.epoch s.older s.newer (omega arith) (omega arith) i) (newer_back s.epoch s.older s.newer (omega arith) (omega arith) i)
+    λ i. seen (epoch_back s.epoch s.older s.newer (omega arith) (omega arith) i)
+    (older_back s.epoch s.older s.newer (omega arith) (omega arith) i)
+    (newer_back s.epoch s.older s.newer (omega arith) (omega arith) i)
 
 -- ---- the order
 
@@ -35,10 +37,17 @@ not_ahead_further s t u p q = record {
 
 left_is : (s : Seen) (epoch : ℕ) (t : Seen) → IsInside s epoch → (b : Bool) → eqb epoch s.epoch ≡ b → IsLawful s
     → t ≡ cond b (seen s.epoch s.older (s.newer - 1)) (seen s.epoch (s.older - 1) s.newer) → IsNotAhead s t × IsLawful t
-left_is s epoch t inside true same lawful is = rw is (record { epoch = omega arith; older = λ _. omega arith }, record { limited = lawful.limited; few = omega (arith, lawful.few) })
-left_is s epoch t inside false other lawful is = rw is (record { epoch = omega arith; older = λ _. omega arith }, record { limited = lawful.limited; few = omega (arith, lawful.few) })
+left_is s epoch t inside true same lawful is =
+    rw is (record { epoch = omega arith; older = λ _. omega arith }, record { limited = lawful.limited; few = omega (arith, lawful.few) })
+left_is s epoch t inside false other lawful is =
+    rw is (record { epoch = omega arith; older = λ _. omega arith }, record { limited = lawful.limited; few = omega (arith, lawful.few) })
 
 pub changes : (s t : Seen) → Changes s t → IsLawful s → IsNotAhead s t × IsLawful t
-changes s t (inl (room, is)) lawful = rw is (record { epoch = omega arith; older = λ _. omega arith }, record { limited = lawful.limited; few = omega (arith, room) })
+changes s t (inl (room, is)) lawful =
+    rw is (record { epoch = omega arith; older = λ _. omega arith }, record { limited = lawful.limited; few = omega (arith, room) })
 changes s t (inr (inl (epoch, inside, is))) lawful = left_is s epoch t inside (eqb epoch s.epoch) refl lawful is
-changes s t (inr (inr (can, is))) lawful = rw is (record { epoch = omega arith; older = λ same. absurd (omega arith) }, record { limited = omega (arith, can.1); few = omega (arith, lawful.few) })
+changes s t (inr (inr (can, is))) lawful = rw is (
+  record { epoch = omega arith; older = λ same. absurd (omega arith) },
+  record
+      { limited = omega (arith, can.1); few = omega (arith, lawful.few) },
+)

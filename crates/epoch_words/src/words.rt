@@ -47,7 +47,8 @@ impl Model for HardwareSeat {
 
     ghost view = { λ h. known h.seat.table_id h.seen.items };
 
-    ghost invariant = { λ h. (h.seat.me.0 ≡ hardware h.seen.items) × (length h.seen.items ≡ h.seat.table_id.words) × ((i : ℕ) → IsLawful (at h.seen.items i)) };
+    ghost invariant = { λ h. (h.seat.me.0 ≡ hardware h.seen.items) × (length h.seen.items ≡ h.seat.table_id.words)
+        × ((i : ℕ) → IsLawful (at h.seen.items i)) };
 }
 
 /// A reader of the words. Contracts see to which words it belongs and what it has last seen of each enclave.
@@ -74,7 +75,8 @@ impl Words {
     pub fn new(alloc: Global, job: &Job) -> Result<(Words, HardwareSeat, Pass), Memory>
         requires { job.now.start_epoch ≤ LAST_EPOCH }
         ensures words { IfOk result (λ made. enclaves made.0 ≡ length job.now.enclaves) }
-        ensures hardware { IfOk result (λ made. made.1 ≡ known made.0 (replicate (length job.now.enclaves) (starting_at job.now.start_epoch))) }
+        ensures hardware { IfOk result (λ made. made.1 ≡ known made.0
+            (replicate (length job.now.enclaves) (starting_at job.now.start_epoch))) }
         ensures pass { IfOk result (λ made. made.2 ≡ known made.0 (replicate (length job.now.enclaves) (starting_at job.now.start_epoch))) }
     {
         Words::starting_at(alloc, job.enclaves().len(), job.start_epoch())

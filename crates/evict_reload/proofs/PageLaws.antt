@@ -21,20 +21,28 @@ use Rattle.version_array.proofs.TableLaws.{has_page-with_slot, has_page-with_pag
 use Rattle.evict_reload.specs.Sights.{AreVaPages}
 
 -- the entry of one frame changes, and says as before whether the frame holds a version array page
-moved : (epc : List EpcFrame) (f n : ℕ) (entry : EntryView) → is_va (held entry) ≡ is_va (held (entry_at epc f)) → is_va (held (entry_at epc n)) ≡ is_va (held (cond (f == n) entry (entry_at epc n)))
+moved : (epc : List EpcFrame) (f n : ℕ) (entry : EntryView) → is_va (held entry) ≡ is_va (held (entry_at epc f))
+    → is_va (held (entry_at epc n)) ≡ is_va (held (cond (f == n) entry (entry_at epc n)))
 moved epc f n entry same =
-    sym (cond_both (f == n) entry (entry_at epc n) (λ v. is_va (held v) ≡ is_va (held (entry_at epc n))) (λ e. same ∙ ap (λ k. is_va (held (entry_at epc k))) (eqb-true f n e)) (λ _. refl))
+    sym (cond_both (f == n) entry (entry_at epc n) (λ v. is_va (held v) ≡ is_va (held (entry_at epc n)))
+    (λ e. same ∙ ap (λ k. is_va (held (entry_at epc k))) (eqb-true f n e)) (λ _. refl))
 
-pub pages-with_entry : (epc : List EpcFrame) (va : List (Option (List VaSlot))) (f : ℕ) (entry : EntryView) → AreVaPages epc va → f < length epc → is_va (held entry) ≡ is_va (held (entry_at epc f)) → AreVaPages (with_entry epc f entry) va
-pages-with_entry epc va f entry pages low same n = pages n ∙ moved epc f n entry same ∙ sym (ap (λ e. is_va (held e)) (entry_at-with_entry epc f n entry low))
+pub pages-with_entry : (epc : List EpcFrame) (va : List (Option (List VaSlot))) (f : ℕ) (entry : EntryView) → AreVaPages epc va
+    → f < length epc → is_va (held entry) ≡ is_va (held (entry_at epc f)) → AreVaPages (with_entry epc f entry) va
+pages-with_entry epc va f entry pages low same n =
+    pages n ∙ moved epc f n entry same ∙ sym (ap (λ e. is_va (held e)) (entry_at-with_entry epc f n entry low))
 
-pub pages-cleared : (epc : List EpcFrame) (va : List (Option (List VaSlot))) (f : ℕ) → AreVaPages epc va → f < length epc → is_va (sight_in epc f).content ≡ false → AreVaPages (cleared epc f) va
-pages-cleared epc va f pages low other n = pages n ∙ moved epc f n views.Free (sym other) ∙ sym (ap (λ e. is_va (held e)) (entry_at-cleared epc f n low))
+pub pages-cleared : (epc : List EpcFrame) (va : List (Option (List VaSlot))) (f : ℕ) → AreVaPages epc va → f < length epc
+    → is_va (sight_in epc f).content ≡ false → AreVaPages (cleared epc f) va
+pages-cleared epc va f pages low other n =
+    pages n ∙ moved epc f n views.Free (sym other) ∙ sym (ap (λ e. is_va (held e)) (entry_at-cleared epc f n low))
 
-pub pages-with_words : (epc : List EpcFrame) (va : List (Option (List VaSlot))) (f : ℕ) (words : List ℕ) → AreVaPages epc va → AreVaPages (with_words epc f words) va
+pub pages-with_words : (epc : List EpcFrame) (va : List (Option (List VaSlot))) (f : ℕ) (words : List ℕ) → AreVaPages epc va
+    → AreVaPages (with_words epc f words) va
 pages-with_words epc va f words pages n = pages n ∙ sym (ap (λ e. is_va (held e)) (entry_at-with_words epc f n words))
 
-pub pages-with_slot : (epc : List EpcFrame) (va : List (Option (List VaSlot))) (slot : SlotAt) (content : VaSlot) → AreVaPages epc va → IsSlot va slot → AreVaPages epc (with_slot va slot content)
+pub pages-with_slot : (epc : List EpcFrame) (va : List (Option (List VaSlot))) (slot : SlotAt) (content : VaSlot) → AreVaPages epc va
+    → IsSlot va slot → AreVaPages epc (with_slot va slot content)
 pages-with_slot epc va slot content pages at n = has_page-with_slot va slot content n at.paged ∙ pages n
 
 -- a block and a claim change no page
@@ -49,7 +57,8 @@ is_va-outgoing views.Loading = refl
 is_va-outgoing (views.Valid page kind perm blocked sealing) = refl
 
 -- a version array page more
-pub pages-with_va : (epc : List EpcFrame) (va : List (Option (List VaSlot))) (f : ℕ) (page : Page) (perm : Perm) → AreVaPages epc va → f < length epc → AreVaPages (with_page epc f page kinds.Va perm) (with_va_page va f)
+pub pages-with_va : (epc : List EpcFrame) (va : List (Option (List VaSlot))) (f : ℕ) (page : Page) (perm : Perm) → AreVaPages epc va
+    → f < length epc → AreVaPages (with_page epc f page kinds.Va perm) (with_va_page va f)
 pages-with_va epc va f page perm pages low n =
     has_page-with_page va f n ∙ ap (λ b. (f == n) || b) (pages n) ∙ either (f == n) (entry_at epc n)
     ∙ sym (ap (λ e. is_va (held e)) (entry_at-with_entry epc f n (holding page kinds.Va perm) low))

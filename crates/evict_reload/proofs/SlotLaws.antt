@@ -11,7 +11,8 @@ use Rattle.std.specs.Prelude.{is_some, slice_index_or}
 use Rattle.evict_reload.specs.Sights.{AreVaPages}
 
 -- the slots of a version array page in a frame are slots of the table
-pub is_slot : (epc : List EpcFrame) (va : List (Option (List VaSlot))) (slot : SlotAt) → AreVaPages epc va → is_va (sight_in epc slot.frame.0).content ≡ true → slot.index < 512 → IsSlot va slot
+pub is_slot : (epc : List EpcFrame) (va : List (Option (List VaSlot))) (slot : SlotAt) → AreVaPages epc va
+    → is_va (sight_in epc slot.frame.0).content ≡ true → slot.index < 512 → IsSlot va slot
 is_slot epc va slot pages here low = record { paged = pages slot.frame.0 ∙ here; within = low }
 
 -- a frame without a page has no busy slot
@@ -19,5 +20,6 @@ idle : (page : Option (List VaSlot)) (i : ℕ) → is_some page ≡ false → (s
 idle None i e = refl
 idle (Some slots) i e = absurd (false≢true (sym e))
 
-pub idle_without_page : (epc : List EpcFrame) (va : List (Option (List VaSlot))) (slot : SlotAt) → AreVaPages epc va → is_va (sight_in epc slot.frame.0).content ≡ false → is_busy_at va slot ≡ false
+pub idle_without_page : (epc : List EpcFrame) (va : List (Option (List VaSlot))) (slot : SlotAt) → AreVaPages epc va
+    → is_va (sight_in epc slot.frame.0).content ≡ false → is_busy_at va slot ≡ false
 idle_without_page epc va slot pages other = idle (page_at va slot.frame.0) slot.index (pages slot.frame.0 ∙ other)

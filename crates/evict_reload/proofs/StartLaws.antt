@@ -10,7 +10,8 @@ use Rattle.epcm_entry.specs.Epc.{EpcFrame, entry_at}
 use Rattle.epcm_entry.specs.Sights.{sight_in, held}
 
 -- the third case of a row does not hold where none does
-third : (a b c d : Bool) (x y z : Refusal) (rest : Option Refusal) → cond a (Some x) (cond b (Some y) (cond (c || d) (Some z) rest)) ≡ None → c ≡ false
+third : (a b c d : Bool) (x y z : Refusal) (rest : Option Refusal) → cond a (Some x) (cond b (Some y) (cond (c || d) (Some z) rest)) ≡ None
+    → c ≡ false
 third true b c d x y z rest none = cc
 third false true c d x y z rest none = cc
 third false false true d x y z rest none = cc
@@ -24,5 +25,8 @@ claimed (views.Valid page kind perm blocked true) idle = cc
 claimed (views.Valid page kind perm blocked false) idle = refl
 
 -- a frame that ELDU is not refused can be claimed
-pub loads : (epc : List EpcFrame) (f : ℕ) (added : Bool) (slot : SlotSight) → first_of_row (eldstart_row (sight_in epc f) added slot) ≡ None → claim_answer (entry_at epc f) ≡ Ok tt
-loads epc f added slot row = claimed (entry_at epc f) (third (is_out_of_range (sight_in epc f) slot) (not added) (is_busy (sight_in epc f)) slot.is_busy why.BadRange why.Absent why.Conflict _ row)
+pub loads : (epc : List EpcFrame) (f : ℕ) (added : Bool) (slot : SlotSight) → first_of_row (eldstart_row (sight_in epc f) added slot) ≡ None
+    → claim_answer (entry_at epc f) ≡ Ok tt
+loads epc f added slot row = claimed (entry_at epc f)
+    (third (is_out_of_range (sight_in epc f) slot) (not added) (is_busy (sight_in epc f)) slot.is_busy why.BadRange why.Absent why.Conflict
+    _ row)

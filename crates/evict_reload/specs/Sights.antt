@@ -45,7 +45,8 @@ slot_sight epc va slot = record {
 -- an enclave's track, seen from a block at an epoch
 abbrev pub drain_from : ℕ → Option Tracking → DrainSight
 drain_from block None = record { epoch = 0; kept_back = 0; is_drained = false }
-drain_from block (Some t) = record { epoch = t.epoch; kept_back = number_up_to t block; is_drained = nat_lt block t.epoch && (number_up_to t block == 0) }
+drain_from block (Some t) =
+    record { epoch = t.epoch; kept_back = number_up_to t block; is_drained = nat_lt block t.epoch && (number_up_to t block == 0) }
 
 -- the track of the enclave of a blocked page, seen from its block; where no page is blocked nothing asks for it
 abbrev pub drain_of : List Tracking → EntryView → DrainSight

@@ -39,7 +39,8 @@ pub fn ewb_start(
     requires pages { AreVaPages epc.old va.old }
     requires numbered { IsNumbered (sight_in epc.old frame.0).content }
     ensures row { refusal_in result
-        ≡ first_of_row (ewbstart_row (sight_in epc.old frame.0) (slot_sight epc.old va.old slot) (drain_sight epc.old tracks.now frame.0) (is_spent_at versions.old)) }
+        ≡ first_of_row (ewbstart_row (sight_in epc.old frame.0) (slot_sight epc.old va.old slot) (drain_sight epc.old tracks.now frame.0)
+        (is_spent_at versions.old)) }
     ensures answer { IfOk result (λ version. version ≡ versions.old) }
     ensures epc { OnOk result (epc.new ≡ with_sealing epc.old frame.0) }
     ensures va { OnOk result (va.new ≡ with_busy va.old slot true) }
@@ -67,7 +68,8 @@ fn start_refusal(
     requires pages { AreVaPages epc.now va.now }
     requires numbered { IsNumbered (sight_in epc.now frame.0).content }
     ensures { result
-        ≡ first_of_row (ewbstart_row (sight_in epc.now frame.0) (slot_sight epc.now va.now slot) (drain_sight epc.now tracks.now frame.0) (is_spent_at versions.now)) }
+        ≡ first_of_row (ewbstart_row (sight_in epc.now frame.0) (slot_sight epc.now va.now slot) (drain_sight epc.now tracks.now frame.0)
+        (is_spent_at versions.now)) }
 {
     if is_out_of_range(epc, va, frame, slot) {
         return Some(Refusal::BadRange);

@@ -19,14 +19,16 @@ like n i x = by_place (cases_lt i n)
     by_place (inr past) = get_or_past (replicate n x) i x (rw (length-replicate n x) past)
 
 -- a write to a list, read at each place
-pub get_or-set_if : {A : Type 0} (xs : List A) (i n : ℕ) (a d : A) → i < length xs → get_or (set xs i a) n d ≡ cond (i == n) a (get_or xs n d)
+pub get_or-set_if : {A : Type 0} (xs : List A) (i n : ℕ) (a d : A) → i < length xs
+    → get_or (set xs i a) n d ≡ cond (i == n) a (get_or xs n d)
 get_or-set_if xs i n a d low =
     cond_both (i == n) a (get_or xs n d) (λ v. get_or (set xs i a) n d ≡ v)
     (λ e. rw (← eqb-true i n e) (get_or-set_same xs i a d low))
     (λ e. get_or-set_other xs i n a d (λ same. false≢true (sym e ∙ eq-eqb i n (sym same))))
 
 -- a word of a page that was not added
-pub zero_word : (pages : List (Option PlainPage)) (n i : ℕ) → get_or pages n None ≡ None → i < 512 → 0 ≡ get_or (words_in (get_or pages n None)) i 0
+pub zero_word : (pages : List (Option PlainPage)) (n i : ℕ) → get_or pages n None ≡ None → i < 512
+    → 0 ≡ get_or (words_in (get_or pages n None)) i 0
 zero_word pages n i none low = rw none (sym (like 512 i 0))
 
 -- an item that was read from its place
@@ -36,11 +38,14 @@ read_at (y ∷ xs) zero x d low is = is
 read_at (y ∷ xs) (suc i) x d low is = read_at xs i x d (omega (arith, low)) is
 
 -- a word of a page of an enclave without a table
-pub zero_outside : (tables : List (List (Option PlainPage))) (e n i : ℕ) → false ≡ ltb e (length tables) → i < 512 → 0 ≡ get_or (words_in (get_or (get_or tables e []) n None)) i 0
-zero_outside tables e n i outside low = zero_word (get_or tables e []) n i (ap (λ row. get_or row n None) (get_or_past tables e [] (ltb-false e (length tables) (sym outside)))) low
+pub zero_outside : (tables : List (List (Option PlainPage))) (e n i : ℕ) → false ≡ ltb e (length tables) → i < 512
+    → 0 ≡ get_or (words_in (get_or (get_or tables e []) n None)) i 0
+zero_outside tables e n i outside low = zero_word (get_or tables e []) n i
+    (ap (λ row. get_or row n None) (get_or_past tables e [] (ltb-false e (length tables) (sym outside)))) low
 
 -- pieces joined end to end, each made of a word
-pub joined : (f : ℕ → List ℕ) (pieces : List (List ℕ)) (words : List ℕ) → length pieces ≡ length words → ((k : ℕ) → k < length words → get_or pieces k [] ≡ f (get_or words k 0))
+pub joined : (f : ℕ → List ℕ) (pieces : List (List ℕ)) (words : List ℕ) → length pieces ≡ length words
+    → ((k : ℕ) → k < length words → get_or pieces k [] ≡ f (get_or words k 0))
     → flat_map (λ x. x) pieces ≡ flat_map f words
 joined f [] [] same made = refl
 joined f [] (w ∷ words) same made = absurd (omega (arith, same))

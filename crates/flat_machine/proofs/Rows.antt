@@ -24,7 +24,8 @@ use Rattle.flat_machine.proofs.Columns.{slot_written}
 -- ---- init
 
 -- a created enclave has its place
-pub place_of : (enclaves : List (Option Enclave)) (e : ℕ) (x : FlatEnclave) → enclave_of (get_or enclaves e None) ≡ Some x → e < length enclaves
+pub place_of : (enclaves : List (Option Enclave)) (e : ℕ) (x : FlatEnclave) → enclave_of (get_or enclaves e None) ≡ Some x
+    → e < length enclaves
 place_of enclaves e x is = by_place (cases_lt e (length enclaves))
   where
     by_place : (e < length enclaves) ⊎ (length enclaves ≤ e) → e < length enclaves
@@ -38,11 +39,14 @@ memory_init d e x is = λ t. record (memory_of d) { enclaves = λ n. each n t }
     now : Enclave
     now = record x { is_init = true }
 
-    each : (n : ℕ) → enclave_of (get_or (set d.enclaves e (Some (record x { is_init = true }))) n None) ≡ cond (n == e) (marked (enclave_of (get_or d.enclaves n None))) (enclave_of (get_or d.enclaves n None))
-    each n = rw (get_or-set_if d.enclaves e n (Some (record x { is_init = true })) None (place_of d.enclaves e _ is), eqb-swap e n) (by_test (n == e) refl)
+    each : (n : ℕ) → enclave_of (get_or (set d.enclaves e (Some (record x { is_init = true }))) n None) ≡ cond (n == e)
+        (marked (enclave_of (get_or d.enclaves n None))) (enclave_of (get_or d.enclaves n None))
+    each n = rw (get_or-set_if d.enclaves e n (Some (record x { is_init = true })) None (place_of d.enclaves e _ is), eqb-swap e n)
+        (by_test (n == e) refl)
       where
         by_test : (b : Bool) → (n == e) ≡ b
-            → enclave_of (cond b (Some (record x { is_init = true })) (get_or d.enclaves n None)) ≡ cond b (marked (enclave_of (get_or d.enclaves n None))) (enclave_of (get_or d.enclaves n None))
+            → enclave_of (cond b (Some (record x { is_init = true })) (get_or d.enclaves n None)) ≡ cond b
+            (marked (enclave_of (get_or d.enclaves n None))) (enclave_of (get_or d.enclaves n None))
         by_test true same = sym (ap marked (ap (λ k. enclave_of (get_or d.enclaves k None)) (eqb-true n e same) ∙ is))
         by_test false other = refl
 
@@ -57,21 +61,33 @@ no_enclave : (o : Option Enclave) → is_some (enclave_of o) ≡ false → o ≡
 no_enclave None h = refl
 no_enclave (Some x) h = cc
 
-pub creates : (enclaves : List (Option Enclave)) (e base size : ℕ) → first_of_row (create_row e base size (is_some (enclave_of (get_or enclaves e None))) open_frame) ≡ None → Creates enclaves e
+pub creates : (enclaves : List (Option Enclave)) (e base size : ℕ)
+    → first_of_row (create_row e base size (is_some (enclave_of (get_or enclaves e None))) open_frame) ≡ None → Creates enclaves e
 creates enclaves e base size allowed =
     let none = none_holds (create_row e base size (is_some (enclave_of (get_or enclaves e None))) open_frame) allowed in
     let range = neither (not (table.is_enclave e)) (not (table.is_lawful base size)) none.0 in
     record { numbered = leb-true _ _ (both_true _ _ (not_false _ range.0)).1; new = no_enclave (get_or enclaves e None) none.1.0 }
 
-pub memory_created : (d : FlatParts) (e base size k : ℕ) → Creates d.enclaves e → length d.enclaves ≡ 9 → length d.tables ≡ 9 → length (get_or d.tables e []) ≡ page_count (get_or d.enclaves e None)
-    → memory_of (record d { enclaves = set d.enclaves e (Some (record { base = base; size = size; is_init = false })); tables = set d.tables e (replicate k None) }) ≡ with_enclave (memory_of d) e (record { base = base; size = size; is_init = false })
+pub memory_created : (d : FlatParts) (e base size k : ℕ) → Creates d.enclaves e → length d.enclaves ≡ 9 → length d.tables ≡ 9
+    → length (get_or d.tables e []) ≡ page_count (get_or d.enclaves e None)
+    → memory_of (record d {
+      enclaves = set d.enclaves e (Some (record { base = base; size = size; is_init = false }));
+      tables = set d.tables e (replicate k None);
+    }) ≡ with_enclave (memory_of d) e (record { base = base; size = size; is_init = false })
 memory_created d e base size k creates places tables pages =
     λ t. record (memory_of d) { enclaves = λ n. each n t; pages = λ q. page_of (same q t); is_busy = λ q. busy_of (same q t) }
   where
-    each : (n : ℕ) → enclave_of (get_or (set d.enclaves e (Some (record { base = base; size = size; is_init = false }))) n None) ≡ cond (n == e) (Some (record { base = base; size = size; is_init = false })) (enclave_of (get_or d.enclaves n None))
+    each : (n : ℕ) → enclave_of (get_or (set d.enclaves e (Some (record { base = base; size = size; is_init = false }))) n None) ≡ cond
+        (n == e) (Some (record { base = base; size = size; is_init = false })) (enclave_of (get_or d.enclaves n None))
     each n =
-        rw (get_or-set_if d.enclaves e n (Some (record { base = base; size = size; is_init = false })) None (omega (arith, creates.numbered, places)), eqb-swap e n)
-        (elim (n == e) as (λ b. enclave_of (cond b (Some (record { base = base; size = size; is_init = false })) (get_or d.enclaves n None)) ≡ cond b (Some (record { base = base; size = size; is_init = false })) (enclave_of (get_or d.enclaves n None))) [ true ↦ refl | false ↦ refl ])
+        rw (
+          get_or-set_if d.enclaves e n (Some (record { base = base; size = size; is_init = false })) None
+              (omega (arith, creates.numbered, places)),
+          eqb-swap e n,
+        )
+        (elim (n == e) as (λ b. enclave_of (cond b (Some (record { base = base; size = size; is_init = false })) (get_or d.enclaves n None))
+        ≡ cond b (Some (record { base = base; size = size; is_init = false })) (enclave_of (get_or d.enclaves n None)))
+        [ true ↦ refl | false ↦ refl ])
 
     empty : get_or d.tables e [] ≡ []
     empty = nil_from_length (get_or d.tables e []) (pages ∙ ap page_count creates.new)
@@ -80,7 +96,8 @@ memory_created d e base size k creates places tables pages =
     same q =
         rw (get_or-set_if d.tables e q.enclave (replicate k None) [] (omega (arith, creates.numbered, tables)))
         (cond_both (e == q.enclave) (replicate k None) (get_or d.tables q.enclave []) (λ row. get_or row q.number None ≡ look d.tables q)
-        (λ here. like k q.number None ∙ sym (ap (λ (row : List (Option PlainPage)). get_or row q.number None) (ap (λ j. get_or d.tables j []) (sym (eqb-true e q.enclave here)) ∙ empty))) (λ _. refl))
+        (λ here. like k q.number None ∙ sym (ap (λ (row : List (Option PlainPage)). get_or row q.number None)
+        (ap (λ j. get_or d.tables j []) (sym (eqb-true e q.enclave here)) ∙ empty))) (λ _. refl))
 
 -- ---- add
 
@@ -99,14 +116,18 @@ no_page None h = refl
 no_page (Some x) h = cc
 
 pub adds : (d : FlatParts) (e number : ℕ) (kind : Kind) (perm : Perm) (init : PageInit)
-    → first_of_row (add_row number kind perm init (enclave_sight_of (enclave_of (get_or d.enclaves e None))) (is_some (page_of (look d.tables (page_at e number)))) open_frame) ≡ None → Adds d e number
+    → first_of_row (add_row number kind perm init (enclave_sight_of (enclave_of (get_or d.enclaves e None)))
+    (is_some (page_of (look d.tables (page_at e number)))) open_frame) ≡ None → Adds d e number
 adds d e number kind perm init allowed = by_enclave (get_or d.enclaves e None) refl allowed
   where
     by_enclave : (o : Option Enclave) → get_or d.enclaves e None ≡ o
-        → first_of_row (add_row number kind perm init (enclave_sight_of (enclave_of o)) (is_some (page_of (look d.tables (page_at e number)))) open_frame) ≡ None → Adds d e number
-    by_enclave None is k = absurd (false≢true (sym (none_holds (add_row number kind perm init None (is_some (page_of (look d.tables (page_at e number)))) open_frame) k).1.0))
+        → first_of_row (add_row number kind perm init (enclave_sight_of (enclave_of o))
+        (is_some (page_of (look d.tables (page_at e number)))) open_frame) ≡ None → Adds d e number
+    by_enclave None is k = absurd (false≢true (sym
+        (none_holds (add_row number kind perm init None (is_some (page_of (look d.tables (page_at e number)))) open_frame) k).1.0))
     by_enclave (Some x) is k =
-        let none = none_holds (add_row number kind perm init (Some (record { size = x.size; is_init = x.is_init })) (is_some (page_of (look d.tables (page_at e number)))) open_frame) k in
+        let none = none_holds (add_row number kind perm init (Some (record { size = x.size; is_init = x.is_init }))
+        (is_some (page_of (look d.tables (page_at e number)))) open_frame) k in
         record {
           place = place_of d.enclaves e _ (ap enclave_of is);
           within = rw is (is_within_below x.size number init (not_false _ none.1.1.1.1.0));
@@ -114,14 +135,19 @@ adds d e number kind perm init allowed = by_enclave (get_or d.enclaves e None) r
         }
 
 -- a page that is put where nothing was
-pub memory_added : (d : FlatParts) (e n : ℕ) (x : PlainPage) → x.is_busy ≡ false → look d.tables (page_at e n) ≡ None → e < length d.tables → n < length (get_or d.tables e [])
-    → memory_of (record d { tables = with_slot d.tables e n (Some x) }) ≡ with_page (memory_of d) (page_at e n) (record { kind = x.kind; perm = x.perm; words = x.words })
+pub memory_added : (d : FlatParts) (e n : ℕ) (x : PlainPage) → x.is_busy ≡ false → look d.tables (page_at e n) ≡ None → e < length d.tables
+    → n < length (get_or d.tables e [])
+    → memory_of (record d { tables = with_slot d.tables e n (Some x) }) ≡ with_page (memory_of d) (page_at e n)
+    (record { kind = x.kind; perm = x.perm; words = x.words })
 memory_added d e n x idle none low in_table = λ t. record (memory_of d) { pages = λ q. pages q t; is_busy = λ q. busy q t }
   where
-    pages : (q : Page) → page_of (look (with_slot d.tables e n (Some x)) q) ≡ cond (same_page q (page_at e n)) (Some (record { kind = x.kind; perm = x.perm; words = x.words })) (page_of (look d.tables q))
+    pages : (q : Page) → page_of (look (with_slot d.tables e n (Some x)) q) ≡ cond (same_page q (page_at e n))
+        (Some (record { kind = x.kind; perm = x.perm; words = x.words })) (page_of (look d.tables q))
     pages q =
         ap page_of (slot_written d.tables e n (Some x) low in_table q)
-        ∙ (elim (same_page q (page_at e n)) as (λ b. page_of (cond b (Some x) (look d.tables q)) ≡ cond b (Some (record { kind = x.kind; perm = x.perm; words = x.words })) (page_of (look d.tables q))) [ true ↦ refl | false ↦ refl ])
+        ∙ (elim (same_page q (page_at e n)) as (λ b.
+        page_of (cond b (Some x) (look d.tables q)) ≡ cond b (Some (record { kind = x.kind; perm = x.perm; words = x.words }))
+        (page_of (look d.tables q))) [ true ↦ refl | false ↦ refl ])
 
     busy : (q : Page) → busy_of (look (with_slot d.tables e n (Some x)) q) ≡ busy_of (look d.tables q)
     busy q = ap busy_of (slot_written d.tables e n (Some x) low in_table q) ∙ by_test (same_page q (page_at e n)) refl
@@ -132,13 +158,16 @@ memory_added d e n x idle none low in_table = λ t. record (memory_of d) { pages
 
 -- ---- exits
 
-pub left_by : (m : FlatMemory) (p e t acc : ℕ) → (m.cpus p).inside ≡ Some (seat e t) → acc ≡ (m.cpus p).acc → with_busy (with_cpu m p (record { inside = None; acc = acc })) (page_at e t) false ≡ left m p
+pub left_by : (m : FlatMemory) (p e t acc : ℕ) → (m.cpus p).inside ≡ Some (seat e t) → acc ≡ (m.cpus p).acc
+    → with_busy (with_cpu m p (record { inside = None; acc = acc })) (page_at e t) false ≡ left m p
 left_by m p e t acc inside is = λ i. record m { cpus = λ q. each q i; is_busy = λ g. busy g i }
   where
-    each : (q : ℕ) → cond (p == q) (record { inside = None; acc = acc }) (m.cpus q) ≡ cond (p == q) (record (m.cpus q) { inside = None }) (m.cpus q)
+    each : (q : ℕ) → cond (p == q) (record { inside = None; acc = acc }) (m.cpus q) ≡ cond (p == q) (record (m.cpus q) { inside = None })
+        (m.cpus q)
     each q = by_test (p == q) refl
       where
-        by_test : (b : Bool) → (p == q) ≡ b → cond b (record { inside = None; acc = acc }) (m.cpus q) ≡ cond b (record (m.cpus q) { inside = None }) (m.cpus q)
+        by_test : (b : Bool) → (p == q) ≡ b → cond b (record { inside = None; acc = acc }) (m.cpus q) ≡ cond b
+            (record (m.cpus q) { inside = None }) (m.cpus q)
         by_test true same = λ i. record { inside = None; acc = (is ∙ ap (λ k. (m.cpus k).acc) (eqb-true p q same)) i }
         by_test false other = refl
 

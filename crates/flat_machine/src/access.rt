@@ -3,7 +3,8 @@
 ghost use Rattle.std.specs.Prelude.{◌≡◌, ◌<◌, ◌==◌, ◌&&◌, ◌^◌, ◌/◌, ◌%◌, ◌+◌, Bool, is_some, IfOk, Some};
 ghost use Rattle.sgx_types.specs.declared.entries.Answer.TheVariants as answers;
 ghost use Rattle.sgx_types.specs.Frames.{page_at};
-ghost use Rattle.sgx_types.specs.Table.{first_of_row, refusal_in, access_row, load_row, store_row, xadd_row, set_row, plus_row, pf_row, outload_row, outstore_row, allows, is_lawful_access, fault_of, inside_row};
+ghost use Rattle.sgx_types.specs.Table.{first_of_row, refusal_in, access_row, load_row, store_row, xadd_row, set_row, plus_row, pf_row};
+ghost use Rattle.sgx_types.specs.Table.{outload_row, outstore_row, allows, is_lawful_access, fault_of, inside_row};
 ghost use Rattle.sgx_types.specs.declared.entries.AccessOp.TheVariants as accesses;
 ghost use Rattle.sgx_types.specs.Flat.{flat_translation, added_at_offset, added_as, word_seen, stored, sum_of, all_ones, with_acc};
 ghost use Rattle.flat_machine.specs.Parts.{memory_of, kind_of};
@@ -20,7 +21,8 @@ impl Flat {
     /// A processor reads a word of its enclave.
     pub(crate) fn load(&self, cpu: Cpu, off: u64) -> FlatReply
         requires { cpu.0 < PROCESSORS }
-        ensures { result ≡ replied (first_of_row (load_row off (is_some ((memory_of self.now).cpus cpu.0).inside) (flat_translation (memory_of self.now) ((memory_of self.now).cpus cpu.0).inside off)))
+        ensures { result ≡ replied (first_of_row (load_row off (is_some ((memory_of self.now).cpus cpu.0).inside)
+            (flat_translation (memory_of self.now) ((memory_of self.now).cpus cpu.0).inside off)))
             (answers.Value (word_seen (memory_of self.now) ((memory_of self.now).cpus cpu.0).inside off)) }
     {
         if let Some(refusal) = self.access_refusal(cpu, off, AccessOp::Load) {
@@ -32,8 +34,12 @@ impl Flat {
     /// A processor writes a word of its enclave.
     pub(crate) fn store(&mut self, cpu: Cpu, off: u64, value: u64) -> FlatReply
         requires { cpu.0 < PROCESSORS }
-        ensures reply { result ≡ replied (first_of_row (store_row off (is_some ((memory_of self.old).cpus cpu.0).inside) (flat_translation (memory_of self.old) ((memory_of self.old).cpus cpu.0).inside off))) answers.Plain }
-        ensures memory { memory_of self.new ≡ taken (first_of_row (store_row off (is_some ((memory_of self.old).cpus cpu.0).inside) (flat_translation (memory_of self.old) ((memory_of self.old).cpus cpu.0).inside off)))
+        ensures reply { result ≡ replied (first_of_row
+            (store_row off (is_some ((memory_of self.old).cpus cpu.0).inside)
+            (flat_translation (memory_of self.old) ((memory_of self.old).cpus cpu.0).inside off))) answers.Plain }
+        ensures memory { memory_of self.new ≡ taken
+            (first_of_row (store_row off (is_some ((memory_of self.old).cpus cpu.0).inside)
+            (flat_translation (memory_of self.old) ((memory_of self.old).cpus cpu.0).inside off)))
             (stored (memory_of self.old) ((memory_of self.old).cpus cpu.0).inside off value) (memory_of self.old) }
     {
         if let Some(refusal) = self.access_refusal(cpu, off, AccessOp::Store) {
@@ -46,10 +52,15 @@ impl Flat {
     /// A processor adds to a word of its enclave, and takes what it was.
     pub(crate) fn xadd(&mut self, cpu: Cpu, off: u64, value: u64) -> FlatReply
         requires { cpu.0 < PROCESSORS }
-        ensures reply { result ≡ replied (first_of_row (xadd_row off (is_some ((memory_of self.old).cpus cpu.0).inside) (flat_translation (memory_of self.old) ((memory_of self.old).cpus cpu.0).inside off)))
+        ensures reply { result ≡ replied (first_of_row
+            (xadd_row off (is_some ((memory_of self.old).cpus cpu.0).inside)
+            (flat_translation (memory_of self.old) ((memory_of self.old).cpus cpu.0).inside off)))
             (answers.Value (word_seen (memory_of self.old) ((memory_of self.old).cpus cpu.0).inside off)) }
-        ensures memory { memory_of self.new ≡ taken (first_of_row (xadd_row off (is_some ((memory_of self.old).cpus cpu.0).inside) (flat_translation (memory_of self.old) ((memory_of self.old).cpus cpu.0).inside off)))
-            (stored (memory_of self.old) ((memory_of self.old).cpus cpu.0).inside off (sum_of (word_seen (memory_of self.old) ((memory_of self.old).cpus cpu.0).inside off) value)) (memory_of self.old) }
+        ensures memory { memory_of self.new ≡ taken
+            (first_of_row (xadd_row off (is_some ((memory_of self.old).cpus cpu.0).inside)
+            (flat_translation (memory_of self.old) ((memory_of self.old).cpus cpu.0).inside off)))
+            (stored (memory_of self.old) ((memory_of self.old).cpus cpu.0).inside off
+            (sum_of (word_seen (memory_of self.old) ((memory_of self.old).cpus cpu.0).inside off) value)) (memory_of self.old) }
     {
         if let Some(refusal) = self.access_refusal(cpu, off, AccessOp::Xadd) {
             return FlatReply::Refused(refusal);
@@ -63,7 +74,8 @@ impl Flat {
     pub(crate) fn set(&mut self, cpu: Cpu, value: u64) -> FlatReply
         requires { cpu.0 < PROCESSORS }
         ensures reply { result ≡ replied (first_of_row (set_row (is_some ((memory_of self.old).cpus cpu.0).inside))) answers.Plain }
-        ensures memory { memory_of self.new ≡ taken (first_of_row (set_row (is_some ((memory_of self.old).cpus cpu.0).inside))) (with_acc (memory_of self.old) cpu.0 value) (memory_of self.old) }
+        ensures memory { memory_of self.new ≡ taken (first_of_row (set_row (is_some ((memory_of self.old).cpus cpu.0).inside)))
+            (with_acc (memory_of self.old) cpu.0 value) (memory_of self.old) }
     {
         if !self.is_inside(cpu) {
             return FlatReply::Refused(Refusal::WrongMode);
@@ -75,8 +87,10 @@ impl Flat {
     /// A processor inside adds to its accumulator, mod 2^64.
     pub(crate) fn plus(&mut self, cpu: Cpu, value: u64) -> FlatReply
         requires { cpu.0 < PROCESSORS }
-        ensures reply { result ≡ replied (first_of_row (plus_row (is_some ((memory_of self.old).cpus cpu.0).inside))) (answers.Value (sum_of ((memory_of self.old).cpus cpu.0).acc value)) }
-        ensures memory { memory_of self.new ≡ taken (first_of_row (plus_row (is_some ((memory_of self.old).cpus cpu.0).inside))) (with_acc (memory_of self.old) cpu.0 (sum_of ((memory_of self.old).cpus cpu.0).acc value)) (memory_of self.old) }
+        ensures reply { result ≡ replied (first_of_row (plus_row (is_some ((memory_of self.old).cpus cpu.0).inside)))
+            (answers.Value (sum_of ((memory_of self.old).cpus cpu.0).acc value)) }
+        ensures memory { memory_of self.new ≡ taken (first_of_row (plus_row (is_some ((memory_of self.old).cpus cpu.0).inside)))
+            (with_acc (memory_of self.old) cpu.0 (sum_of ((memory_of self.old).cpus cpu.0).acc value)) (memory_of self.old) }
     {
         if !self.is_inside(cpu) {
             return FlatReply::Refused(Refusal::WrongMode);
@@ -89,7 +103,8 @@ impl Flat {
     /// A processor learns that no reload can help an access.
     pub(crate) fn fault(&self, cpu: Cpu, op: AccessOp, off: u64) -> FlatReply
         requires { cpu.0 < PROCESSORS }
-        ensures { result ≡ replied (first_of_row (pf_row op off (is_some ((memory_of self.now).cpus cpu.0).inside) (added_at_offset (memory_of self.now) ((memory_of self.now).cpus cpu.0).inside off)))
+        ensures { result ≡ replied (first_of_row (pf_row op off (is_some ((memory_of self.now).cpus cpu.0).inside)
+            (added_at_offset (memory_of self.now) ((memory_of self.now).cpus cpu.0).inside off)))
             (answers.Pf (fault_of (added_at_offset (memory_of self.now) ((memory_of self.now).cpus cpu.0).inside off))) }
     {
         let Mode::Inside { enclave, .. } = self.mode(cpu) else {
@@ -108,7 +123,8 @@ impl Flat {
     /// From outside, an enclave's memory reads as all ones.
     pub(crate) fn out_load(&self, cpu: Cpu) -> FlatReply
         requires { cpu.0 < PROCESSORS }
-        ensures { result ≡ replied (first_of_row (outload_row (is_some ((memory_of self.now).cpus cpu.0).inside))) (answers.Value all_ones) }
+        ensures { result ≡ replied (first_of_row (outload_row (is_some ((memory_of self.now).cpus cpu.0).inside)))
+            (answers.Value all_ones) }
     {
         if self.is_inside(cpu) {
             return FlatReply::Refused(Refusal::WrongMode);
@@ -137,7 +153,8 @@ impl Flat {
     // The first case that holds of the row of an access.
     fn access_refusal(&self, cpu: Cpu, off: u64, op: AccessOp) -> Option<Refusal>
         requires { cpu.0 < PROCESSORS }
-        ensures { result ≡ first_of_row (access_row off (is_some ((memory_of self.now).cpus cpu.0).inside) (flat_translation (memory_of self.now) ((memory_of self.now).cpus cpu.0).inside off)
+        ensures { result ≡ first_of_row (access_row off (is_some ((memory_of self.now).cpus cpu.0).inside)
+            (flat_translation (memory_of self.now) ((memory_of self.now).cpus cpu.0).inside off)
             (allowed_by op (flat_translation (memory_of self.now) ((memory_of self.now).cpus cpu.0).inside off))) }
     {
         let Mode::Inside { enclave, .. } = self.mode(cpu) else {

@@ -27,8 +27,10 @@ impl Flat {
         base: u64,
         size: u64,
     ) -> Result<FlatReply, Memory>
-        ensures reply { IfOk result (λ reply. reply ≡ replied (first_of_row (create_row enclave base size (is_some ((memory_of self.old).enclaves enclave)) open_frame)) answers.Plain) }
-        ensures memory { OnOk result (memory_of self.new ≡ taken (first_of_row (create_row enclave base size (is_some ((memory_of self.old).enclaves enclave)) open_frame))
+        ensures reply { IfOk result (λ reply. reply ≡ replied
+            (first_of_row (create_row enclave base size (is_some ((memory_of self.old).enclaves enclave)) open_frame)) answers.Plain) }
+        ensures memory { OnOk result (memory_of self.new ≡ taken
+            (first_of_row (create_row enclave base size (is_some ((memory_of self.old).enclaves enclave)) open_frame))
             (with_enclave (memory_of self.old) enclave (record { base = base; size = size; is_init = false })) (memory_of self.old)) }
         ensures refused { OnErr result (self.new ≡ self.old) }
     {
@@ -49,9 +51,14 @@ impl Flat {
         perm: Perm,
         init: PageInit,
     ) -> Result<FlatReply, Memory>
-        ensures reply { IfOk result (λ reply. reply ≡ replied (first_of_row (add_row number kind perm init (enclave_sight (memory_of self.old) enclave) (is_some ((memory_of self.old).pages (page_at enclave number))) open_frame)) answers.Plain) }
-        ensures memory { OnOk result (memory_of self.new ≡ taken (first_of_row (add_row number kind perm init (enclave_sight (memory_of self.old) enclave) (is_some ((memory_of self.old).pages (page_at enclave number))) open_frame))
-            (with_page (memory_of self.old) (page_at enclave number) (record { kind = kind; perm = perm; words = first_words init })) (memory_of self.old)) }
+        ensures reply { IfOk result (λ reply. reply ≡ replied
+            (first_of_row (add_row number kind perm init (enclave_sight (memory_of self.old) enclave)
+            (is_some ((memory_of self.old).pages (page_at enclave number))) open_frame)) answers.Plain) }
+        ensures memory { OnOk result (memory_of self.new ≡ taken
+            (first_of_row (add_row number kind perm init (enclave_sight (memory_of self.old) enclave)
+            (is_some ((memory_of self.old).pages (page_at enclave number))) open_frame))
+            (with_page (memory_of self.old) (page_at enclave number) (record { kind = kind; perm = perm; words = first_words init }))
+            (memory_of self.old)) }
         ensures refused { OnErr result (self.new ≡ self.old) }
     {
         if let Some(refusal) = self.add_refusal(enclave, number, kind, perm, init) {
@@ -64,7 +71,8 @@ impl Flat {
     /// An enclave is initialised (EINIT). Its measurement is not counted.
     pub(crate) fn init(&mut self, enclave: u16) -> FlatReply
         ensures reply { result ≡ replied (first_of_row (init_row (enclave_sight (memory_of self.old) enclave))) answers.Plain }
-        ensures memory { memory_of self.new ≡ taken (first_of_row (init_row (enclave_sight (memory_of self.old) enclave))) (initialised (memory_of self.old) enclave) (memory_of self.old) }
+        ensures memory { memory_of self.new ≡ taken (first_of_row (init_row (enclave_sight (memory_of self.old) enclave)))
+            (initialised (memory_of self.old) enclave) (memory_of self.old) }
     {
         if let Some(refusal) = self.init_refusal(enclave) {
             return FlatReply::Refused(refusal);
@@ -93,7 +101,8 @@ impl Flat {
         perm: Perm,
         init: PageInit,
     ) -> Option<Refusal>
-        ensures { result ≡ first_of_row (add_row number kind perm init (enclave_sight (memory_of self.now) enclave) (is_some ((memory_of self.now).pages (page_at enclave number))) open_frame) }
+        ensures { result ≡ first_of_row (add_row number kind perm init (enclave_sight (memory_of self.now) enclave)
+            (is_some ((memory_of self.now).pages (page_at enclave number))) open_frame) }
     {
         let Some(found) = self.enclave(enclave) else {
             return Some(Refusal::Absent);
@@ -135,7 +144,8 @@ impl Flat {
         size: u64,
     ) -> Result<(), Memory>
         requires { first_of_row (create_row enclave base size (is_some ((memory_of self.old).enclaves enclave)) open_frame) ≡ None }
-        ensures done { OnOk result (memory_of self.new ≡ with_enclave (memory_of self.old) enclave (record { base = base; size = size; is_init = false })) }
+        ensures done { OnOk result (memory_of self.new ≡ with_enclave (memory_of self.old) enclave
+            (record { base = base; size = size; is_init = false })) }
         ensures refused { OnErr result (self.new ≡ self.old) }
     {
         let table = Table::new(alloc, size / 4096)?;
@@ -159,8 +169,10 @@ impl Flat {
         perm: Perm,
         init: PageInit,
     ) -> Result<(), Memory>
-        requires { first_of_row (add_row number kind perm init (enclave_sight (memory_of self.old) enclave) (is_some ((memory_of self.old).pages (page_at enclave number))) open_frame) ≡ None }
-        ensures done { OnOk result (memory_of self.new ≡ with_page (memory_of self.old) (page_at enclave number) (record { kind = kind; perm = perm; words = first_words init })) }
+        requires { first_of_row (add_row number kind perm init (enclave_sight (memory_of self.old) enclave)
+            (is_some ((memory_of self.old).pages (page_at enclave number))) open_frame) ≡ None }
+        ensures done { OnOk result (memory_of self.new ≡ with_page (memory_of self.old) (page_at enclave number)
+            (record { kind = kind; perm = perm; words = first_words init })) }
         ensures refused { OnErr result (self.new ≡ self.old) }
     {
         let mut words = take_room(alloc, &mut self.spare)?;

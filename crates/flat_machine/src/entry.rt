@@ -4,7 +4,8 @@ ghost use Rattle.std.specs.Prelude.{◌≡◌, ◌<◌, ◌+◌, ◌-◌, ◌==�
 ghost use Rattle.sgx_types.specs.declared.entries.Answer.TheVariants as answers;
 ghost use Rattle.sgx_types.specs.Frames.{page_at, is_page};
 ghost use Rattle.sgx_types.specs.Table.{first_of_row, when, entry_row, ssa_row, exit_row, aex_row, is_tcs, is_reg, perm_in, allows_update};
-ghost use Rattle.sgx_types.specs.Flat.{enclave_sight, flat_frame, flat_enter_sight, flat_enter_row, flat_resume_row, fields_in, words_of, with_words, with_cssa, entered, left, saved, resumed, resumed_word, saved_word, is_inside_by};
+ghost use Rattle.sgx_types.specs.Flat.{enclave_sight, flat_frame, flat_enter_sight, flat_enter_row, flat_resume_row, fields_in, words_of};
+ghost use Rattle.sgx_types.specs.Flat.{with_words, with_cssa, entered, left, saved, resumed, resumed_word, saved_word, is_inside_by};
 ghost use Rattle.flat_machine.specs.Parts.{memory_of, fields_of, content_in, seat};
 ghost use Rattle.flat_machine.specs.Step.{replied, taken};
 
@@ -19,7 +20,8 @@ impl Flat {
     /// A processor goes into an enclave by a free TCS page (EENTER).
     pub(crate) fn enter(&mut self, cpu: Cpu, enclave: u16, tcs: u32) -> FlatReply
         requires { cpu.0 < PROCESSORS }
-        ensures reply { result ≡ replied (first_of_row (flat_enter_row (memory_of self.old) cpu.0 enclave tcs)) (answers.Cssa (fields_in (memory_of self.old) enclave tcs).cssa) }
+        ensures reply { result ≡ replied (first_of_row (flat_enter_row (memory_of self.old) cpu.0 enclave tcs))
+            (answers.Cssa (fields_in (memory_of self.old) enclave tcs).cssa) }
         ensures memory { memory_of self.new ≡ taken (first_of_row (flat_enter_row (memory_of self.old) cpu.0 enclave tcs))
             (entered (memory_of self.old) cpu.0 enclave tcs (fields_in (memory_of self.old) enclave tcs).cssa) (memory_of self.old) }
     {
@@ -43,8 +45,10 @@ impl Flat {
     /// A processor goes on where it was taken out last (ERESUME).
     pub(crate) fn resume(&mut self, cpu: Cpu, enclave: u16, tcs: u32) -> FlatReply
         requires { cpu.0 < PROCESSORS }
-        ensures reply { result ≡ replied (first_of_row (flat_resume_row (memory_of self.old) cpu.0 enclave tcs)) (answers.Value (resumed_word (memory_of self.old) enclave tcs)) }
-        ensures memory { memory_of self.new ≡ taken (first_of_row (flat_resume_row (memory_of self.old) cpu.0 enclave tcs)) (resumed (memory_of self.old) cpu.0 enclave tcs) (memory_of self.old) }
+        ensures reply { result ≡ replied (first_of_row (flat_resume_row (memory_of self.old) cpu.0 enclave tcs))
+            (answers.Value (resumed_word (memory_of self.old) enclave tcs)) }
+        ensures memory { memory_of self.new ≡ taken (first_of_row (flat_resume_row (memory_of self.old) cpu.0 enclave tcs))
+            (resumed (memory_of self.old) cpu.0 enclave tcs) (memory_of self.old) }
     {
         let fields = self.tcs_fields(enclave, tcs);
         let lacks = fields.cssa == 0;
@@ -66,7 +70,8 @@ impl Flat {
     pub(crate) fn exit(&mut self, cpu: Cpu) -> FlatReply
         requires { cpu.0 < PROCESSORS }
         ensures reply { result ≡ replied (first_of_row (exit_row (is_some ((memory_of self.old).cpus cpu.0).inside))) answers.Plain }
-        ensures memory { memory_of self.new ≡ taken (first_of_row (exit_row (is_some ((memory_of self.old).cpus cpu.0).inside))) (left (memory_of self.old) cpu.0) (memory_of self.old) }
+        ensures memory { memory_of self.new ≡ taken (first_of_row (exit_row (is_some ((memory_of self.old).cpus cpu.0).inside)))
+            (left (memory_of self.old) cpu.0) (memory_of self.old) }
     {
         let Mode::Inside { enclave, tcs } = self.mode(cpu) else {
             return FlatReply::Refused(Refusal::WrongMode);
@@ -80,7 +85,8 @@ impl Flat {
         requires { cpu.0 < PROCESSORS }
         ensures reply { result ≡ replied (first_of_row (aex_row (is_some ((memory_of self.old).cpus cpu.0).inside))) answers.Plain }
         ensures memory { memory_of self.new ≡ taken (first_of_row (aex_row (is_some ((memory_of self.old).cpus cpu.0).inside)))
-            (left (saved (memory_of self.old) ((memory_of self.old).cpus cpu.0).acc ((memory_of self.old).cpus cpu.0).inside) cpu.0) (memory_of self.old) }
+            (left (saved (memory_of self.old) ((memory_of self.old).cpus cpu.0).acc ((memory_of self.old).cpus cpu.0).inside) cpu.0)
+            (memory_of self.old) }
     {
         let Mode::Inside { enclave, tcs } = self.mode(cpu) else {
             return FlatReply::Refused(Refusal::WrongMode);
@@ -102,7 +108,8 @@ impl Flat {
         saved: u64,
     ) -> Option<Refusal>
         requires { cpu.0 < PROCESSORS }
-        ensures { result ≡ first_of_row (entry_row enclave tcs (flat_enter_sight (memory_of self.now) cpu.0 enclave tcs saved) (when lacks why) saved) }
+        ensures { result ≡ first_of_row (entry_row enclave tcs (flat_enter_sight (memory_of self.now) cpu.0 enclave tcs saved)
+            (when lacks why) saved) }
     {
         if let Mode::Inside { .. } = self.mode(cpu) {
             return Some(Refusal::WrongMode);

@@ -3,7 +3,8 @@
 ghost use Rattle.std.specs.Prelude.{◌≡◌, ◌<◌, true, replicate, slice_index, slice_set, is_some, IfOk, [], None};
 ghost use Rattle.sgx_types.specs.Frames.{page_at};
 ghost use Rattle.sgx_types.specs.Flat.{fresh, flat_content, reg_perm, added_as, words_of, with_cpu, with_words, with_busy};
-ghost use Rattle.flat_machine.specs.Parts.{memory_of, look, added_in, kind_of, content_in, words_in, enclave_of, inside_of, cpu_of, idle, with_slot, with_word, with_busy_mark};
+ghost use Rattle.flat_machine.specs.Parts.{memory_of, look, added_in, kind_of, content_in, words_in, enclave_of, inside_of, cpu_of, idle};
+ghost use Rattle.flat_machine.specs.Parts.{with_slot, with_word, with_busy_mark};
 ghost use Rattle.flat_machine.specs.Bytes.{bytes_in};
 
 use crate::table::{Added, Table};
@@ -95,7 +96,8 @@ impl Flat {
     /// How a page was added, None where it was not.
     pub(crate) fn added(&self, enclave: u16, number: u64) -> Option<Added>
         ensures added { kind_of result ≡ added_as ((memory_of self.now).pages (page_at enclave number)) }
-        ensures content { content_in (page_at enclave number) result ≡ flat_content (page_at enclave number) ((memory_of self.now).pages (page_at enclave number)) }
+        ensures content { content_in (page_at enclave number) result ≡ flat_content (page_at enclave number)
+            ((memory_of self.now).pages (page_at enclave number)) }
         ensures there { is_some result ≡ is_some ((memory_of self.now).pages (page_at enclave number)) }
     {
         added_at(&self.tables, enclave, number)
@@ -193,7 +195,8 @@ fn word_at(tables: &[Table], enclave: u16, number: u64, index: usize) -> u64
 
 fn write_word(tables: &mut Vec<Table>, enclave: u16, number: u64, index: usize, value: u64)
     requires { index < 512 }
-    ensures { tables.new.items ≡ with_slot tables.old.items enclave number (with_word (look tables.old.items (page_at enclave number)) index value) }
+    ensures { tables.new.items ≡ with_slot tables.old.items enclave number
+        (with_word (look tables.old.items (page_at enclave number)) index value) }
 {
     let place = usize::from(enclave);
     if place < tables.len() {
@@ -202,7 +205,8 @@ fn write_word(tables: &mut Vec<Table>, enclave: u16, number: u64, index: usize, 
 }
 
 fn write_busy(tables: &mut Vec<Table>, enclave: u16, number: u64, is_busy: bool)
-    ensures { tables.new.items ≡ with_slot tables.old.items enclave number (with_busy_mark (look tables.old.items (page_at enclave number)) is_busy) }
+    ensures { tables.new.items ≡ with_slot tables.old.items enclave number
+        (with_busy_mark (look tables.old.items (page_at enclave number)) is_busy) }
 {
     let place = usize::from(enclave);
     if place < tables.len() {

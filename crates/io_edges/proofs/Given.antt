@@ -5,13 +5,16 @@ use Rattle.std.proofs.lemmas.List.{append-nil}
 use Rattle.io_edges.specs.Sinks.{followed_by, GivesFront, GivesPart}
 
 -- one text, and then another
-pub followed_by-followed_by : (given : Option (List ℕ)) (xs ys : List ℕ) → followed_by (followed_by given xs) ys ≡ followed_by given (xs ++ ys)
+pub followed_by-followed_by : (given : Option (List ℕ)) (xs ys : List ℕ)
+    → followed_by (followed_by given xs) ys ≡ followed_by given (xs ++ ys)
 followed_by-followed_by None xs ys = refl
 followed_by-followed_by (Some bytes) xs ys = ap Some (append_assoc bytes xs ys)
 
 -- a front of a text, and then the front of the rest
-pub followed_by-front : (given : Option (List ℕ)) (text : List ℕ) (n m : ℕ) → followed_by (followed_by given (take n text)) (take m (drop n text)) ≡ followed_by given (take (n + m) text)
-followed_by-front given text n m = followed_by-followed_by given (take n text) (take m (drop n text)) ∙ ap (λ xs. followed_by given xs) (sym (take-add n m text))
+pub followed_by-front : (given : Option (List ℕ)) (text : List ℕ) (n m : ℕ)
+    → followed_by (followed_by given (take n text)) (take m (drop n text)) ≡ followed_by given (take (n + m) text)
+followed_by-front given text n m =
+    followed_by-followed_by given (take n text) (take m (drop n text)) ∙ ap (λ xs. followed_by given xs) (sym (take-add n m text))
 
 -- what is a part is a front
 pub GivesFront-from_part : (before now : Option (List ℕ)) (text : List ℕ) → GivesPart before now text → GivesFront before now text

@@ -88,10 +88,26 @@ plain-are_words true = (refl, tt)
 plain-are_words false = tt
 
 page-are_words : (page : PageLine) → FitsPage page → AreWords (page_words page)
-page-are_words (pages.Tcs page ossa nssa plain) fits =
-    (refl, (decimal-is_word page (omega arith), (decimal-is_word ossa (omega arith), (decimal-is_word nssa (omega arith), plain-are_words plain))))
-page-are_words (pages.Reg first count perm value plain) fits =
-    (refl, (decimal-is_word first (omega arith), (decimal-is_word count (omega arith), (perm-is_word perm fits.3, (decimal-is_word value fits.2, plain-are_words plain)))))
+page-are_words (pages.Tcs page ossa nssa plain) fits = (
+  refl,
+  (
+    decimal-is_word page (omega arith),
+    (
+      decimal-is_word ossa (omega arith),
+      (decimal-is_word nssa (omega arith), plain-are_words plain),
+    ),
+  ),
+)
+page-are_words (pages.Reg first count perm value plain) fits = (
+  refl,
+  (
+    decimal-is_word first (omega arith),
+    (
+      decimal-is_word count (omega arith),
+      (perm-is_word perm fits.3, (decimal-is_word value fits.2, plain-are_words plain)),
+    ),
+  ),
+)
 
 op-are_words : (op : Op) → FitsOp op → AreWords (op_words op)
 op-are_words (ops.Enter enclave tcs) fits = (refl, (letter-is_word enclave, (decimal-is_word tcs (omega arith), tt)))
@@ -150,10 +166,17 @@ unfolding line_of tcs_line reg_line keyword_of
 page-read (pages.Tcs page ossa nssa plain) fits =
     rw (small_of-decimal page fits.0, small_of-decimal ossa fits.1, small_of-decimal nssa fits.2, plain_of-plain_word plain) refl
 page-read (pages.Reg first count perm value plain) fits =
-    rw (small_of-decimal first fits.0, small_of-decimal count fits.1, perm_of-perm_word perm fits.3, number_of-decimal value fits.2, plain_of-plain_word plain) refl
+    rw (
+      small_of-decimal first fits.0,
+      small_of-decimal count fits.1,
+      perm_of-perm_word perm fits.3,
+      number_of-decimal value fits.2,
+      plain_of-plain_word plain,
+    ) refl
 
 op-read : (op : Op) → FitsOp op → line_of (op_words op) ≡ Some (lines.Op op)
-unfolding line_of enter_line resume_line exit_line timer_line load_line store_line xadd_line set_line plus_line outload_line outstore_line keyword_of
+unfolding line_of enter_line resume_line exit_line timer_line load_line store_line xadd_line set_line plus_line outload_line outstore_line
+    keyword_of
 op-read (ops.Enter enclave tcs) fits = rw (letter_of-letter enclave fits.0, small_of-decimal tcs fits.1) refl
 op-read (ops.Resume enclave tcs) fits = rw (letter_of-letter enclave fits.0, small_of-decimal tcs fits.1) refl
 op-read ops.Exit fits = refl

@@ -15,7 +15,8 @@ use Rattle.job_grammar.proofs.WrittenJobs.{draft_of, read_text-written, text-not
 use Rattle.job_grammar.proofs.ValidJobs.{lines-fit, default_job-form}
 
 -- the job that is accepted of these parts is their default job
-pub accepted-default : (epc : ℕ) (enclaves : List EnclaveView) (scripts : List (List Op)) (job : JobView) → IsAccepted (Some epc) enclaves scripts job → job ≡ default_job epc enclaves scripts
+pub accepted-default : (epc : ℕ) (enclaves : List EnclaveView) (scripts : List (List Op)) (job : JobView)
+    → IsAccepted (Some epc) enclaves scripts job → job ≡ default_job epc enclaves scripts
 accepted-default epc enclaves scripts job accepted =
     accepted.parts ∙ ap (λ (n : ℕ). default_job n enclaves scripts) (sym (same_Some epc job.epc accepted.frames))
 
@@ -35,7 +36,8 @@ module _ (bytes : List ℕ) (job : JobView) (is : IsJobText bytes job) where
   is_accepted = record { frames = refl; parts = sym (default_job-form job is.form); valid = is.valid; form = is.form }
 
   -- the draft is not refused
-  pub draft_gives : (d : DraftView) (e : JobRefusal) → read_text bytes ≡ Some d → Judges d.epc d.enclaves d.scripts (Err e) → IsJob (Err e) job
+  pub draft_gives : (d : DraftView) (e : JobRefusal) → read_text bytes ≡ Some d → Judges d.epc d.enclaves d.scripts (Err e)
+      → IsJob (Err e) job
   draft_gives d refusals.Memory read judges = tt
   draft_gives d (refusals.Fault line kind) read judges =
       judges.0 job (subst (λ (draft : DraftView). IsAccepted draft.epc draft.enclaves draft.scripts job) (draft_is d read) is_accepted)
@@ -43,7 +45,8 @@ module _ (bytes : List ℕ) (job : JobView) (is : IsJobText bytes job) where
   -- what is accepted is the job
   pub accepted_is : (d : DraftView) (found : JobView) → read_text bytes ≡ Some d → IsAccepted d.epc d.enclaves d.scripts found → found ≡ job
   accepted_is d found read accepted =
-      let mine : IsAccepted (Some job.epc) job.enclaves job.scripts found = subst (λ (draft : DraftView). IsAccepted draft.epc draft.enclaves draft.scripts found) (sym (draft_is d read)) accepted in
+      let mine : IsAccepted (Some job.epc) job.enclaves job.scripts found =
+      subst (λ (draft : DraftView). IsAccepted draft.epc draft.enclaves draft.scripts found) (sym (draft_is d read)) accepted in
       let epc : job.epc ≡ found.epc = same_Some job.epc found.epc mine.frames in
       mine.parts ∙ ap (λ (n : ℕ). default_job n job.enclaves job.scripts) (sym epc) ∙ default_job-form job is.form
 
@@ -53,7 +56,8 @@ module _ (bytes : List ℕ) (job : JobView) (is : IsJobText bytes job) where
       ap (λ (draft : DraftView). job_text (place_at draft.places) job) (sym (draft_is d read)) ∙ text-noted is.places job ∙ sym is.text
 
 -- a text that has a job is not refused
-pub no_fault : (r : Result JobView JobRefusal) (line : ℕ) (kind : JobKind) (job : JobView) → IsJob r job → r ≡ Err (refusals.Fault line kind) → ⊥
+pub no_fault : (r : Result JobView JobRefusal) (line : ℕ) (kind : JobKind) (job : JobView) → IsJob r job
+    → r ≡ Err (refusals.Fault line kind) → ⊥
 no_fault (Ok found) line kind job is e = absurd cc
 no_fault (Err refusals.Memory) line kind job is e = absurd cc
 no_fault (Err (refusals.Fault l k)) line kind job is e = is

@@ -63,7 +63,8 @@ inner-fits place e valid =
     append-fits (map lines.Page front ++ lines_of_expect e.expect) (map lines.Page back)
     (append-fits (map lines.Page front) (lines_of_expect e.expect) front_fits (expect-fits e.expect valid.expect)) back_fits
 
-enclaves-fit : (places : ℕ → ℕ) (n : ℕ) (es : List EnclaveView) → 1 ≤ n → n + length es ≤ 9 → All IsValidEnclave es → AllByRecursion FitsLine (lines_of_enclaves places n es)
+enclaves-fit : (places : ℕ → ℕ) (n : ℕ) (es : List EnclaveView) → 1 ≤ n → n + length es ≤ 9 → All IsValidEnclave es
+    → AllByRecursion FitsLine (lines_of_enclaves places n es)
 enclaves-fit places n [] low few valid = tt
 enclaves-fit places n (e ∷ es) low few valid =
     let first = All-head IsValidEnclave e es valid in
@@ -86,7 +87,8 @@ tcs-below size n (p ∷ ps) valid is =
     at-line (pages.Reg first count perm value plain) valid is = absurd (false≢true is)
 
 -- a TCS page that is found is of an enclave with a letter, and within it
-pub tcs-found : (es : List EnclaveView) (enclave tcs : ℕ) → All IsValidEnclave es → is_tcs_page (lines_at es enclave) tcs ≡ true → (1 ≤ enclave) × (enclave ≤ length es) × (tcs < 2 ^ 32)
+pub tcs-found : (es : List EnclaveView) (enclave tcs : ℕ) → All IsValidEnclave es → is_tcs_page (lines_at es enclave) tcs ≡ true
+    → (1 ≤ enclave) × (enclave ≤ length es) × (tcs < 2 ^ 32)
 tcs-found es zero tcs valid is = absurd (false≢true is)
 tcs-found [] (suc n) tcs valid is = absurd (false≢true is)
 tcs-found (e ∷ es) (suc zero) tcs valid is =
@@ -99,7 +101,8 @@ tcs-found (e ∷ es) (suc (suc n)) tcs valid is =
     (omega arith, omega (arith, later), later.2)
 
 -- an offset in an enclave is in one with a letter, and within it
-outer-found : (es : List EnclaveView) (enclave off : ℕ) → All IsValidEnclave es → IsOuterOffset off (enclave_at es enclave) → (1 ≤ enclave) × (enclave ≤ length es) × (off < 2 ^ 64)
+outer-found : (es : List EnclaveView) (enclave off : ℕ) → All IsValidEnclave es → IsOuterOffset off (enclave_at es enclave)
+    → (1 ≤ enclave) × (enclave ≤ length es) × (off < 2 ^ 64)
 outer-found es zero off valid is = absurd is
 outer-found [] (suc n) off valid is = absurd is
 outer-found (e ∷ es) (suc zero) off valid is =
@@ -118,7 +121,8 @@ module _ (j : JobView) (valid : IsValid j) where
   entry-fits enclave tcs is = let found = tcs-found j.enclaves enclave tcs valid.enclaves is in (lettered enclave found.0 found.1, found.2)
 
   outer-fits : (enclave off : ℕ) → IsOuterOffset off (enclave_at j.enclaves enclave) → IsLetter enclave × (off < 2 ^ 64)
-  outer-fits enclave off is = let found = outer-found j.enclaves enclave off valid.enclaves is in (lettered enclave found.0 found.1, found.2)
+  outer-fits enclave off is =
+      let found = outer-found j.enclaves enclave off valid.enclaves is in (lettered enclave found.0 found.1, found.2)
 
   op-fits : (op : Op) → IsValidOp j op → FitsOp op
   op-fits (ops.Enter enclave tcs) is = entry-fits enclave tcs is
@@ -147,7 +151,8 @@ module _ (j : JobView) (valid : IsValid j) where
   ops-fit [] are = tt
   ops-fit (op ∷ script) are = (op-fits op (All-head (IsValidOp j) op script are), ops-fit script (All-tail (IsValidOp j) op script are))
 
-  scripts-fit : (n : ℕ) (scripts : List (List Op)) → n + length scripts ≤ 16 → All (All (IsValidOp j)) scripts → AllByRecursion FitsLine (lines_of_scripts n scripts)
+  scripts-fit : (n : ℕ) (scripts : List (List Op)) → n + length scripts ≤ 16 → All (All (IsValidOp j)) scripts
+      → AllByRecursion FitsLine (lines_of_scripts n scripts)
   scripts-fit n [] few are = tt
   scripts-fit n (script ∷ scripts) few are = (
     omega arith,
@@ -158,7 +163,8 @@ module _ (j : JobView) (valid : IsValid j) where
   pub lines-fit : (places : ℕ → ℕ) → AllByRecursion FitsLine (lines_of_job places j)
   lines-fit places = (
     omega (arith, valid.few_frames),
-    append-fits (lines_of_enclaves places 1 j.enclaves) (lines_of_scripts 0 j.scripts) (enclaves-fit places 1 j.enclaves (omega arith) (omega (arith, valid.few_enclaves)) valid.enclaves)
+    append-fits (lines_of_enclaves places 1 j.enclaves) (lines_of_scripts 0 j.scripts)
+        (enclaves-fit places 1 j.enclaves (omega arith) (omega (arith, valid.few_enclaves)) valid.enclaves)
         (scripts-fit 0 j.scripts (omega (arith, valid.few_scripts)) valid.ops),
   )
 
@@ -177,5 +183,14 @@ same-parts f em ek ea eb eps = cc
 pub default_job-form : (j : JobView) → IsSmallJob j → default_job j.epc j.enclaves j.scripts ≡ j
 default_job-form j form =
     same-parts
-    (λ marks key epoch version plans. record { epc = j.epc; marks = marks; key = key; start_epoch = epoch; start_version = version; enclaves = j.enclaves; plans = plans; scripts = j.scripts })
+    (λ marks key epoch version plans. record {
+      epc = j.epc;
+      marks = marks;
+      key = key;
+      start_epoch = epoch;
+      start_version = version;
+      enclaves = j.enclaves;
+      plans = plans;
+      scripts = j.scripts;
+    })
     form.marks form.key form.start_epoch form.start_version form.plans

@@ -45,27 +45,38 @@ inner-written place e =
     let front = map lines.Page (take place e.lines) in
     let back = map lines.Page (drop place e.lines) in
     map-append line_words (front ++ lines_of_expect e.expect) back
-    ∙ rw (map-append line_words front (lines_of_expect e.expect), pages-written (take place e.lines), expect-written e.expect, pages-written (drop place e.lines)) refl
+    ∙ rw (
+      map-append line_words front (lines_of_expect e.expect),
+      pages-written (take place e.lines),
+      expect-written e.expect,
+      pages-written
+          (drop place e.lines),
+    ) refl
 
 map-ops : (ops : List Op) (rest : List Line) → map line_words (map lines.Op ops ++ rest) ≡ map op_words ops ++ map line_words rest
 map-ops [] rest = refl
 map-ops (op ∷ ops) rest = ap (λ (l : List Words). op_words op ∷ l) (map-ops ops rest)
 
-enclaves-written : (places : ℕ → ℕ) (n : ℕ) (es : List EnclaveView) → map line_words (lines_of_enclaves places n es) ≡ enclave_lines places n es
+enclaves-written : (places : ℕ → ℕ) (n : ℕ) (es : List EnclaveView)
+    → map line_words (lines_of_enclaves places n es) ≡ enclave_lines places n es
 enclaves-written places n [] = refl
 enclaves-written places n (e ∷ es) =
     ap (λ (l : List Words). line_words (lines.Enclave n e.base e.size) ∷ l)
-    (map-append line_words (lines_inside (places n) e) (lines_of_enclaves places (n + 1) es) ∙ rw (inner-written (places n) e, enclaves-written places (n + 1) es) refl)
+    (map-append line_words (lines_inside (places n) e) (lines_of_enclaves places (n + 1) es)
+    ∙ rw (inner-written (places n) e, enclaves-written places (n + 1) es) refl)
 
 scripts-written : (n : ℕ) (scripts : List (List Op)) → map line_words (lines_of_scripts n scripts) ≡ script_lines n scripts
 scripts-written n [] = refl
 scripts-written n (script ∷ scripts) =
-    ap (λ (l : List Words). line_words (lines.Cpu n) ∷ l) (map-ops script (lines_of_scripts (n + 1) scripts) ∙ ap (λ (l : List Words). map op_words script ++ l) (scripts-written (n + 1) scripts))
+    ap (λ (l : List Words). line_words (lines.Cpu n) ∷ l)
+    (map-ops script (lines_of_scripts (n + 1) scripts)
+    ∙ ap (λ (l : List Words). map op_words script ++ l) (scripts-written (n + 1) scripts))
 
 pub job-written : (places : ℕ → ℕ) (j : JobView) → map line_words (lines_of_job places j) ≡ lines_of places j
 job-written places j =
     ap (λ (l : List Words). line_words (lines.Epc j.epc) ∷ l)
-    (map-append line_words (lines_of_enclaves places 1 j.enclaves) (lines_of_scripts 0 j.scripts) ∙ rw (enclaves-written places 1 j.enclaves, scripts-written 0 j.scripts) refl)
+    (map-append line_words (lines_of_enclaves places 1 j.enclaves) (lines_of_scripts 0 j.scripts)
+    ∙ rw (enclaves-written places 1 j.enclaves, scripts-written 0 j.scripts) refl)
 
 -- ---- reading them is taking them line by line
 
@@ -88,17 +99,20 @@ read_line-empty : (d : DraftView) → read_line d [] ≡ Some d
 unfolding read_line words_of
 read_line-empty d = refl
 
-read_lines-written : (d : DraftView) (ls : List Line) → AllByRecursion FitsLine ls → read_lines d (map (join_with_byte 32) (map line_words ls) ++ [] ∷ []) ≡ steps d ls
+read_lines-written : (d : DraftView) (ls : List Line) → AllByRecursion FitsLine ls
+    → read_lines d (map (join_with_byte 32) (map line_words ls) ++ [] ∷ []) ≡ steps d ls
 read_lines-written d [] fits = rw (read_line-empty d) refl
 read_lines-written d (line ∷ ls) fits =
     rw (read_line-written d line fits.0)
-    (bind-same (step d line) (λ next. read_lines next (map (join_with_byte 32) (map line_words ls) ++ [] ∷ [])) (λ next. steps next ls) (λ next. read_lines-written next ls fits.1))
+    (bind-same (step d line) (λ next. read_lines next (map (join_with_byte 32) (map line_words ls) ++ [] ∷ [])) (λ next. steps next ls)
+    (λ next. read_lines-written next ls fits.1))
 
 all-words : (ls : List Line) → AllByRecursion FitsLine ls → AllByRecursion AreWords (map line_words ls)
 all-words [] fits = tt
 all-words (line ∷ ls) fits = (line-are_words line fits.0, all-words ls fits.1)
 
-text-steps : (places : ℕ → ℕ) (j : JobView) → AllByRecursion FitsLine (lines_of_job places j) → read_text (job_text places j) ≡ steps empty_draft (lines_of_job places j)
+text-steps : (places : ℕ → ℕ) (j : JobView) → AllByRecursion FitsLine (lines_of_job places j)
+    → read_text (job_text places j) ≡ steps empty_draft (lines_of_job places j)
 unfolding read_text job_text
 text-steps places j fits =
     ap (λ (l : List Words). read_lines empty_draft (slice_split (λ b. eqb b 10) (flat_map line_text l))) (sym (job-written places j))
@@ -110,7 +124,8 @@ text-steps places j fits =
 steps-append : (d : DraftView) (xs ys : List Line) → steps d (xs ++ ys) ≡ (steps d xs >>= λ next. steps next ys)
 steps-append d [] ys = refl
 steps-append d (line ∷ xs) ys =
-    bind-same (step d line) (λ next. steps next (xs ++ ys)) (λ next. steps next xs >>= λ after. steps after ys) (λ next. steps-append next xs ys)
+    bind-same (step d line) (λ next. steps next (xs ++ ys)) (λ next. steps next xs >>= λ after. steps after ys)
+    (λ next. steps-append next xs ys)
     ∙ sym (bind-assoc (step d line) (λ next. steps next xs) (λ after. steps after ys))
 
 -- the place that is noted of a digest behind so many lines of pages. Where none is expected, 0
@@ -131,13 +146,16 @@ building epc done marks e place = record { epc = Some epc; enclaves = done ++ e 
 
 module _ (epc : ℕ) (done : List EnclaveView) (marks : List ℕ) where
   page-step : (e : EnclaveView) (place : ℕ) (front : List PageLine) (page : PageLine)
-      → step (building epc done marks (record e { lines = front }) place) (lines.Page page) ≡ Some (building epc done marks (record e { lines = front ++ page ∷ [] }) place)
+      → step (building epc done marks (record e { lines = front }) place) (lines.Page page) ≡ Some
+      (building epc done marks (record e { lines = front ++ page ∷ [] }) place)
   unfolding step with_page
   page-step e place front page =
-      rw (with_last-push (λ (f : EnclaveView). Some (record f { lines = f.lines ++ page ∷ [] })) done (record e { lines = front }) (record e { lines = front ++ page ∷ [] }) refl) refl
+      rw (with_last-push (λ (f : EnclaveView). Some (record f { lines = f.lines ++ page ∷ [] })) done (record e { lines = front })
+      (record e { lines = front ++ page ∷ [] }) refl) refl
 
   pages-steps : (e : EnclaveView) (place : ℕ) (front pages : List PageLine)
-      → steps (building epc done marks (record e { lines = front }) place) (map lines.Page pages) ≡ Some (building epc done marks (record e { lines = front ++ pages }) place)
+      → steps (building epc done marks (record e { lines = front }) place) (map lines.Page pages) ≡ Some
+      (building epc done marks (record e { lines = front ++ pages }) place)
   pages-steps e place front [] = rw append-nil refl
   pages-steps e place front (page ∷ pages) =
       rw (page-step e place front page, pages-steps e place (front ++ page ∷ []) pages) (simp append_assoc)
@@ -158,7 +176,8 @@ module _ (epc : ℕ) (done : List EnclaveView) (marks : List ℕ) where
   -- the pages in front of the digest, the digest, and the pages behind it
   inner-steps : (base size : ℕ) (front back : List PageLine) (expect : Option (List ℕ))
       → steps (building epc done marks (new_enclave base size) 0) (map lines.Page front ++ lines_of_expect expect ++ map lines.Page back)
-      ≡ Some (building epc done marks (record (new_enclave base size) { lines = front ++ back; expect = expect }) (noted_of (length front) expect))
+      ≡ Some (building epc done marks (record (new_enclave base size) { lines = front ++ back; expect = expect })
+      (noted_of (length front) expect))
   inner-steps base size front back None =
       let e = new_enclave base size in
       rw (
@@ -179,26 +198,31 @@ module _ (epc : ℕ) (done : List EnclaveView) (marks : List ℕ) where
       )
       refl
 
-  enclave-steps : (place : ℕ) (e : EnclaveView) → steps (building epc done marks (new_enclave e.base e.size) 0) (lines_inside place e) ≡ Some (building epc done marks e (noted place e))
+  enclave-steps : (place : ℕ) (e : EnclaveView) → steps (building epc done marks (new_enclave e.base e.size) 0)
+      (lines_inside place e) ≡ Some (building epc done marks e (noted place e))
   enclave-steps place e =
       inner-steps e.base e.size (take place e.lines) (drop place e.lines) e.expect
-      ∙ ap (λ (ls : List PageLine). Some (building epc done marks (record e { lines = ls }) (noted place e))) (take-append-drop place e.lines)
+      ∙ ap (λ (ls : List PageLine). Some (building epc done marks (record e { lines = ls }) (noted place e)))
+      (take-append-drop place e.lines)
 
 abbrev with_enclaves : ℕ → List EnclaveView → List ℕ → DraftView
 with_enclaves epc es marks = record { epc = Some epc; enclaves = es; places = marks; scripts = [] }
 
 enclave-step : (epc : ℕ) (done : List EnclaveView) (marks : List ℕ) (n base size : ℕ) → n ≡ length done + 1
-    → step (with_enclaves epc done marks) (lines.Enclave n base size) ≡ Some (with_enclaves epc (done ++ new_enclave base size ∷ []) (marks ++ 0 ∷ []))
+    → step (with_enclaves epc done marks) (lines.Enclave n base size) ≡ Some
+    (with_enclaves epc (done ++ new_enclave base size ∷ []) (marks ++ 0 ∷ []))
 unfolding step
 enclave-step epc done marks n base size e = rw (eq-eqb n (length done + 1) e) refl
 
 enclaves-steps : (places : ℕ → ℕ) (epc : ℕ) (done : List EnclaveView) (marks : List ℕ) (n : ℕ) (es : List EnclaveView) → n ≡ length done + 1
-    → steps (with_enclaves epc done marks) (lines_of_enclaves places n es) ≡ Some (with_enclaves epc (done ++ es) (marks ++ noted_places places n es))
+    → steps (with_enclaves epc done marks) (lines_of_enclaves places n es) ≡ Some
+    (with_enclaves epc (done ++ es) (marks ++ noted_places places n es))
 enclaves-steps places epc done marks n [] e = rw (append-nil, append-nil) refl
 enclaves-steps places epc done marks n (e ∷ es) k =
     rw (
       enclave-step epc done marks n e.base e.size k,
-      steps-append (building epc done marks (new_enclave e.base e.size) 0) (lines_inside (places n) e) (lines_of_enclaves places (n + 1) es),
+      steps-append (building epc done marks (new_enclave e.base e.size) 0) (lines_inside (places n) e)
+          (lines_of_enclaves places (n + 1) es),
       enclave-steps epc done marks (places n) e,
       enclaves-steps places epc (done ++ e ∷ []) (marks ++ noted (places n) e ∷ []) (n + 1) es (omega (arith, length-append done (e ∷ []))),
     )
@@ -207,20 +231,24 @@ enclaves-steps places epc done marks n (e ∷ es) k =
 abbrev with_scripts : DraftView → List (List Op) → DraftView
 with_scripts d scripts = record d { scripts = scripts }
 
-op-step : (d : DraftView) (done : List (List Op)) (front : List Op) (op : Op) → step (with_scripts d (done ++ front ∷ [])) (lines.Op op) ≡ Some (with_scripts d (done ++ (front ++ op ∷ []) ∷ []))
+op-step : (d : DraftView) (done : List (List Op)) (front : List Op) (op : Op)
+    → step (with_scripts d (done ++ front ∷ [])) (lines.Op op) ≡ Some (with_scripts d (done ++ (front ++ op ∷ []) ∷ []))
 unfolding step with_op
 op-step d done front op = rw (with_last-push (λ (script : List Op). Some (script ++ op ∷ [])) done front (front ++ op ∷ []) refl) refl
 
-ops-steps : (d : DraftView) (done : List (List Op)) (front ops : List Op) → steps (with_scripts d (done ++ front ∷ [])) (map lines.Op ops) ≡ Some (with_scripts d (done ++ (front ++ ops) ∷ []))
+ops-steps : (d : DraftView) (done : List (List Op)) (front ops : List Op)
+    → steps (with_scripts d (done ++ front ∷ [])) (map lines.Op ops) ≡ Some (with_scripts d (done ++ (front ++ ops) ∷ []))
 ops-steps d done front [] = rw append-nil refl
 ops-steps d done front (op ∷ ops) =
     rw (op-step d done front op, ops-steps d done (front ++ op ∷ []) ops) (simp append_assoc)
 
-cpu-step : (d : DraftView) (done : List (List Op)) (n : ℕ) → n ≡ length done → step (with_scripts d done) (lines.Cpu n) ≡ Some (with_scripts d (done ++ [] ∷ []))
+cpu-step : (d : DraftView) (done : List (List Op)) (n : ℕ) → n ≡ length done
+    → step (with_scripts d done) (lines.Cpu n) ≡ Some (with_scripts d (done ++ [] ∷ []))
 unfolding step
 cpu-step d done n e = rw (eq-eqb n (length done) e) refl
 
-scripts-steps : (d : DraftView) (done : List (List Op)) (n : ℕ) (scripts : List (List Op)) → n ≡ length done → steps (with_scripts d done) (lines_of_scripts n scripts) ≡ Some (with_scripts d (done ++ scripts))
+scripts-steps : (d : DraftView) (done : List (List Op)) (n : ℕ) (scripts : List (List Op)) → n ≡ length done
+    → steps (with_scripts d done) (lines_of_scripts n scripts) ≡ Some (with_scripts d (done ++ scripts))
 scripts-steps d done n [] e = rw append-nil refl
 scripts-steps d done n (script ∷ scripts) e =
     rw (
@@ -239,7 +267,8 @@ epc-step : (n : ℕ) → step empty_draft (lines.Epc n) ≡ Some (with_enclaves 
 unfolding step
 epc-step n = refl
 
-pub read_text-written : (places : ℕ → ℕ) (j : JobView) → AllByRecursion FitsLine (lines_of_job places j) → read_text (job_text places j) ≡ Some (draft_of places j)
+pub read_text-written : (places : ℕ → ℕ) (j : JobView) → AllByRecursion FitsLine (lines_of_job places j)
+    → read_text (job_text places j) ≡ Some (draft_of places j)
 read_text-written places j fits =
     text-steps places j fits
     ∙ rw (
@@ -252,7 +281,9 @@ read_text-written places j fits =
 -- ---- the places that are noted give the same text
 
 inner-noted : (place : ℕ) (base size : ℕ) (ls : List PageLine) (expect : Option (List ℕ))
-    → inner_lines (noted_of (length (take place ls)) expect) (record { base = base; size = size; lines = ls; expect = expect }) ≡ inner_lines place (record { base = base; size = size; lines = ls; expect = expect })
+    → inner_lines (noted_of (length (take place ls)) expect)
+    (record { base = base; size = size; lines = ls; expect = expect }) ≡ inner_lines place
+    (record { base = base; size = size; lines = ls; expect = expect })
 inner-noted place base size ls None =
     rw append-nil (ap (map page_words) (sym (take-append-drop place ls)) ∙ map-append page_words (take place ls) (drop place ls))
 inner-noted place base size ls (Some digest) = rw (length-take place ls, take_min place ls, drop_min place ls) refl
@@ -266,9 +297,11 @@ enclaves-noted places pre n (e ∷ es) next =
     let here : place_at (pre ++ mark ∷ rest) n ≡ mark =
     let same : n - 1 ≡ length pre = omega arith in rw same (get_or-append_seam pre mark rest 0) in
     let later : enclave_lines (place_at (pre ++ mark ∷ rest)) (n + 1) es ≡ enclave_lines places (n + 1) es =
-    subst (λ (marks : List ℕ). enclave_lines (place_at marks) (n + 1) es ≡ enclave_lines places (n + 1) es) (append_assoc pre (mark ∷ []) rest)
+    subst (λ (marks : List ℕ). enclave_lines (place_at marks) (n + 1) es ≡ enclave_lines places (n + 1) es)
+    (append_assoc pre (mark ∷ []) rest)
     (enclaves-noted places (pre ++ mark ∷ []) (n + 1) es (omega (arith, length-append pre (mark ∷ [])))) in
-    let inner : inner_lines (place_at (pre ++ mark ∷ rest) n) e ≡ inner_lines (places n) e = rw here (inner-noted (places n) e.base e.size e.lines e.expect) in
+    let inner : inner_lines (place_at (pre ++ mark ∷ rest) n) e ≡ inner_lines (places n) e =
+    rw here (inner-noted (places n) e.base e.size e.lines e.expect) in
     ap (λ (ls : List Words). (codes "enclave" ∷ letter n ∷ hexadecimal e.base ∷ hexadecimal e.size ∷ []) ∷ ls) (cong_append inner later)
   where
     cong_append : {a b c d : List Words} → a ≡ b → c ≡ d → a ++ c ≡ b ++ d
@@ -277,4 +310,5 @@ enclaves-noted places pre n (e ∷ es) next =
 pub text-noted : (places : ℕ → ℕ) (j : JobView) → job_text (place_at (noted_places places 1 j.enclaves)) j ≡ job_text places j
 unfolding job_text
 text-noted places j =
-    ap (λ (ls : List Words). flat_map line_text ((codes "epc" ∷ decimal j.epc ∷ []) ∷ ls ++ script_lines 0 j.scripts)) (enclaves-noted places [] 1 j.enclaves refl)
+    ap (λ (ls : List Words). flat_map line_text ((codes "epc" ∷ decimal j.epc ∷ []) ∷ ls ++ script_lines 0 j.scripts))
+    (enclaves-noted places [] 1 j.enclaves refl)

@@ -31,7 +31,8 @@ abbrev pub script_ops : List (Vec Op) → List (List Op)
 script_ops scripts = map (λ script. script.items) scripts
 
 abbrev pub draft_view : Draft → DraftView
-draft_view d = record { epc = d.epc; enclaves = enclave_views d.enclaves.items; places = d.places.items; scripts = script_ops d.scripts.items }
+draft_view d =
+    record { epc = d.epc; enclaves = enclave_views d.enclaves.items; places = d.places.items; scripts = script_ops d.scripts.items }
 
 -- a refusal where reading gives nothing: the text is not accepted. Memory may run out at any time
 abbrev pub Refuses : {Y : Type 0} → JobRefusal → Option Y → Type 0
@@ -97,7 +98,8 @@ step d (lines.Epc frames) =
     if is_none d.epc && (length d.enclaves == 0) && (length d.scripts == 0) then Some (record d { epc = Some frames })
     else None
 step d (lines.Enclave enclave base size) =
-    if (length d.scripts == 0) && (enclave == length d.enclaves + 1) then Some (record d { enclaves = d.enclaves ++ new_enclave base size ∷ []; places = d.places ++ 0 ∷ [] })
+    if (length d.scripts == 0) && (enclave == length d.enclaves + 1)
+    then Some (record d { enclaves = d.enclaves ++ new_enclave base size ∷ []; places = d.places ++ 0 ∷ [] })
     else None
 step d (lines.Page page) =
     if length d.scripts == 0 then option_map (λ enclaves. record d { enclaves = enclaves }) (with_page d.enclaves page)

@@ -25,7 +25,8 @@ pub record Tells (table : Table) (lines : List PageLine) : Type 0 where
 
 -- the table with the pages of one line more, none of which it had before
 abbrev pub AddsLine : Table → Table → PageLine → Type 0
-AddsLine old new line = (n : ℕ) → (line_at new n ≡ (if covers n line then Some line else line_at old n)) × (covers n line ≡ true → line_at old n ≡ None)
+AddsLine old new line =
+    (n : ℕ) → (line_at new n ≡ (if covers n line then Some line else line_at old n)) × (covers n line ≡ true → line_at old n ≡ None)
 
 -- the lines of an enclave of so many pages are in range, and no page is added twice
 pub record AreValidPages (pages : ℕ) (lines : List PageLine) : Type 0 where

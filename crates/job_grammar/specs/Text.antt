@@ -14,7 +14,8 @@ plain_word false = []
 
 abbrev pub page_words : PageLine → Words
 page_words (Tcs page ossa nssa plain) = codes "tcs" ∷ decimal page ∷ decimal ossa ∷ decimal nssa ∷ plain_word plain
-page_words (Reg first count perm value plain) = codes "reg" ∷ decimal first ∷ decimal count ∷ perm_word perm ∷ decimal value ∷ plain_word plain
+page_words (Reg first count perm value plain) =
+    codes "reg" ∷ decimal first ∷ decimal count ∷ perm_word perm ∷ decimal value ∷ plain_word plain
 
 abbrev pub op_words : Op → Words
 op_words (Enter enclave tcs) = codes "eenter" ∷ letter enclave ∷ decimal tcs ∷ []
@@ -42,7 +43,8 @@ inner_lines place e = map page_words (take place e.lines) ++ expect_lines e.expe
 abbrev pub enclave_lines : (ℕ → ℕ) → ℕ → List EnclaveView → List Words
 enclave_lines places n [] = []
 enclave_lines places n (e ∷ es) =
-    (codes "enclave" ∷ letter n ∷ hexadecimal e.base ∷ hexadecimal e.size ∷ []) ∷ inner_lines (places n) e ++ enclave_lines places (n + 1) es
+    (codes "enclave" ∷ letter n ∷ hexadecimal e.base ∷ hexadecimal e.size ∷ []) ∷ inner_lines (places n) e
+    ++ enclave_lines places (n + 1) es
 
 -- the lines of the processors from this number on
 abbrev pub script_lines : ℕ → List (List Op) → List Words

@@ -2,7 +2,8 @@
 
 ghost use Rattle.std.specs.Prelude.{◌≡◌, map};
 ghost use Rattle.job_grammar.specs.Reading.{line_of};
-ghost use Rattle.job_grammar.specs.Drafts.{draft_view, enclave_views, script_ops, empty_draft, Gives, with_page, with_expect, with_place, with_op, step, read_line, read_text};
+ghost use Rattle.job_grammar.specs.Drafts.{draft_view, enclave_views, script_ops, empty_draft, Gives, with_page, with_expect, with_place};
+ghost use Rattle.job_grammar.specs.Drafts.{with_op, step, read_line, read_text};
 
 use crate::jobs::{EnclaveJob, Op, PageLine};
 use crate::lines::{Line, line_of};

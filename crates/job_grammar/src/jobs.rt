@@ -1,7 +1,8 @@
 //! A job: an EPC, enclaves, scripts, and what the store does.
 
 ghost use Rattle.std.specs.Prelude.{◌≡◌, map};
-ghost use Rattle.job_grammar.specs.Jobs.{JobView, enclave_view, default_marks, first_page, page_count, is_tcs_line, is_reg_line, is_save_line, va_pages, needed};
+ghost use Rattle.job_grammar.specs.Jobs.{JobView, enclave_view, default_marks, first_page, page_count, is_tcs_line, is_reg_line};
+ghost use Rattle.job_grammar.specs.Jobs.{is_save_line, va_pages, needed};
 
 use crate::counts::{needed_by, va_pages_of};
 use crate::printing::push_job;

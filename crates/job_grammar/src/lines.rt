@@ -1,7 +1,9 @@
 //! The lines of a job, each read from its words.
 
 ghost use Rattle.std.specs.Prelude.{◌≡◌, map};
-ghost use Rattle.job_grammar.specs.Reading.{epc_line, enclave_line, tcs_line, reg_line, expect_line, cpu_line, enter_line, resume_line, exit_line, timer_line, load_line, store_line, xadd_line, set_line, plus_line, outload_line, outstore_line, line_of};
+ghost use Rattle.job_grammar.specs.Reading.{epc_line, enclave_line, tcs_line, reg_line, expect_line, cpu_line, enter_line, resume_line};
+ghost use Rattle.job_grammar.specs.Reading.{exit_line, timer_line, load_line, store_line, xadd_line, set_line, plus_line, outload_line};
+ghost use Rattle.job_grammar.specs.Reading.{outstore_line, line_of};
 
 use crate::jobs::{Op, PageLine};
 use crate::words::{Keyword, keyword_of, perm, plain};

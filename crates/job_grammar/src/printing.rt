@@ -4,7 +4,8 @@ ghost use Rattle.std.specs.Prelude.{◌≡◌, ◌+◌, ◌≤◌, ◌++◌, All
 ghost use Rattle.job_grammar.specs.Jobs.{enclave_view};
 ghost use Rattle.text_words.specs.Words.{line_text};
 ghost use Rattle.job_grammar.specs.Drafts.{script_ops};
-ghost use Rattle.job_grammar.specs.Lines.{line_words, lines_text, lines_inside, lines_of_expect, lines_of_enclaves, lines_of_scripts, lines_of_parts, place_at, HasLetter};
+ghost use Rattle.job_grammar.specs.Lines.{line_words, lines_text, lines_inside, lines_of_expect, lines_of_enclaves, lines_of_scripts};
+ghost use Rattle.job_grammar.specs.Lines.{lines_of_parts, place_at, HasLetter};
 ghost use Rattle.job_grammar.specs.declared.lines.Line.TheVariants as lines;
 
 use crate::jobs::{EnclaveJob, Op, PageLine};
@@ -144,7 +145,8 @@ fn push_enclaves(
     places: &[usize],
 ) -> Result<(), AllocError>
     requires { length enclaves.now ≤ 8 }
-    ensures { OnOk result (string_bytes text.new ≡ string_bytes text.old ++ lines_text (lines_of_enclaves (place_at places.now) 1 (map enclave_view enclaves.now))) }
+    ensures { OnOk result (string_bytes text.new ≡ string_bytes text.old
+        ++ lines_text (lines_of_enclaves (place_at places.now) 1 (map enclave_view enclaves.now))) }
 {
     for (index, enclave) in enclaves.iter().enumerate() {
         let place = place_of(places, index);
@@ -186,7 +188,8 @@ pub(crate) fn push_job(
 ) -> Result<(), AllocError>
     requires enclaves { length enclaves.now ≤ 8 }
     requires scripts { All (All HasLetter) (script_ops scripts.now) }
-    ensures { OnOk result (string_bytes text.new ≡ string_bytes text.old ++ lines_text (lines_of_parts (place_at places.now) epc (map enclave_view enclaves.now) (script_ops scripts.now))) }
+    ensures { OnOk result (string_bytes text.new ≡ string_bytes text.old
+        ++ lines_text (lines_of_parts (place_at places.now) epc (map enclave_view enclaves.now) (script_ops scripts.now))) }
 {
     writeln!(text, "epc {epc}")?;
     push_enclaves(alloc, text, enclaves, places)?;

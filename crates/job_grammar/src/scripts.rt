@@ -89,7 +89,8 @@ pub(crate) fn are_valid_scripts(
     scripts: &[Vec<Op>],
 ) -> bool
     requires { AreTablesOf (map enclave_view enclaves.now) tables.now }
-    ensures { (j : JobView) → j.enclaves ≡ map enclave_view enclaves.now → (IsTrue result ↔ All (All (IsValidOp j)) (script_ops scripts.now)) }
+    ensures { (j : JobView) → j.enclaves ≡ map enclave_view enclaves.now
+        → (IsTrue result ↔ All (All (IsValidOp j)) (script_ops scripts.now)) }
 {
     for script in scripts {
         if !is_valid_script(enclaves, tables, script) {

@@ -39,13 +39,17 @@ same_frames s (actors.Cpu p) (actions.Plus value) = refl
 same_frames s a action = refl
 
 done_of : (s t : State) (a : Actor) (action : Action) (e : Entry) → IsDone s a action e t → IsOf a action e s.frames t.frames
-done_of s t a (actions.Create enclave f base size) e k = rw (k.0, k.1.state) (record { actor_is = refl; action_is = refl; frames_same = refl })
-done_of s t a (actions.Add enclave number f kind perm init) e k = rw (k.0, k.1.state) (record { actor_is = refl; action_is = refl; frames_same = refl })
+done_of s t a (actions.Create enclave f base size) e k =
+    rw (k.0, k.1.state) (record { actor_is = refl; action_is = refl; frames_same = refl })
+done_of s t a (actions.Add enclave number f kind perm init) e k =
+    rw (k.0, k.1.state) (record { actor_is = refl; action_is = refl; frames_same = refl })
 done_of s t a (actions.Extend f chunk) e k = rw (k.0, k.1.state) (record { actor_is = refl; action_is = refl; frames_same = refl })
 done_of s t a (actions.Init enclave expect) e k = by_measure k.judged
   where
-    by_measure : (IsExpected expect k.digest × (e ≡ did_by a (actions.Init enclave expect) (answers.Hash k.digest)) × (t ≡ after_init s enclave))
-        ⊎ (IsOther expect k.digest × (e ≡ refused_by a (actions.Init enclave expect) (why.BadMeasure k.digest)) × (t ≡ s)) → IsOf a (actions.Init enclave expect) e s.frames t.frames
+    by_measure : (IsExpected expect k.digest × (e ≡ did_by a (actions.Init enclave expect) (answers.Hash k.digest))
+        × (t ≡ after_init s enclave))
+        ⊎ (IsOther expect k.digest × (e ≡ refused_by a (actions.Init enclave expect) (why.BadMeasure k.digest)) × (t ≡ s))
+        → IsOf a (actions.Init enclave expect) e s.frames t.frames
     by_measure (inl done) = rw (done.1, done.2) (record { actor_is = refl; action_is = refl; frames_same = refl })
     by_measure (inr refused) = rw (refused.1, refused.2) (record { actor_is = refl; action_is = refl; frames_same = refl })
 done_of s t a action e k = rw (k.0, k.1) (record { actor_is = refl; action_is = refl; frames_same = same_frames s a action })
@@ -53,6 +57,7 @@ done_of s t a action e k = rw (k.0, k.1) (record { actor_is = refl; action_is = 
 pub step_of : (s t : State) (a : Actor) (action : Action) (e : Entry) → IsStep s a action e t → IsOf a action e s.frames t.frames
 step_of s t a action e = by_row (first_of_row (row_of s a action))
   where
-    by_row : (o : Option Refusal) → MatchOption o (IsDone s a action e t) (λ refusal. (e ≡ refused_by a action refusal) × (t ≡ s)) → IsOf a action e s.frames t.frames
+    by_row : (o : Option Refusal) → MatchOption o (IsDone s a action e t) (λ refusal. (e ≡ refused_by a action refusal) × (t ≡ s))
+        → IsOf a action e s.frames t.frames
     by_row None k = done_of s t a action e k
     by_row (Some refusal) k = rw (k.0, k.1) (record { actor_is = refl; action_is = refl; frames_same = refl })

@@ -55,7 +55,8 @@ room_more : (frames : ℕ) (past : List Entry) (act : Action) (event : Event) �
     → count_free (content past) frames ≤ count_free (content (entry_of event ∷ past)) frames + 1
 room_more frames past act (events.Did action ans) can is = by_action action (rw (some_same action act is) can)
   where
-    by_action : (action : Action) → IsBuilders action → count_free (content past) frames ≤ count_free (content (did_by actors.Builder action ans ∷ past)) frames + 1
+    by_action : (action : Action) → IsBuilders action
+        → count_free (content past) frames ≤ count_free (content (did_by actors.Builder action ans ∷ past)) frames + 1
     by_action (Epa f) can = put_room (content past) f.0 IsVa frames
     by_action (Create enclave f base size) can = put_room (content past) f.0 (SecsOf enclave) frames
     by_action (Add enclave number f kind perm init) can = put_room (content past) f.0 (Holds (page_at enclave number) kind perm) frames
@@ -64,7 +65,8 @@ room_more frames past act (events.Did action ans) can is = by_action action (rw 
     by_action action can = absurd can
 room_more frames past act (events.Refused action why) can is = by_action action (rw (some_same action act is) can)
   where
-    by_action : (action : Action) → IsBuilders action → count_free (content past) frames ≤ count_free (content (refused_by actors.Builder action why ∷ past)) frames + 1
+    by_action : (action : Action) → IsBuilders action
+        → count_free (content past) frames ≤ count_free (content (refused_by actors.Builder action why ∷ past)) frames + 1
     by_action (Epa f) can = same_room (count_free (content past) frames)
     by_action (Create enclave f base size) can = same_room (count_free (content past) frames)
     by_action (Add enclave number f kind perm init) can = same_room (count_free (content past) frames)
@@ -79,7 +81,8 @@ room_extend frames past f chunk (events.Did action ans) is = rw (some_same actio
 room_extend frames past f chunk (events.Refused action why) is = rw (some_same action (Extend f chunk) is) refl
 room_extend frames past f chunk _ is = cc
 
-room_init : (frames : ℕ) (past : List Entry) (enclave : ℕ) (expect : Option (List ℕ)) (event : Event) → action_of event ≡ Some (Init enclave expect)
+room_init : (frames : ℕ) (past : List Entry) (enclave : ℕ) (expect : Option (List ℕ)) (event : Event)
+    → action_of event ≡ Some (Init enclave expect)
     → count_free (content (entry_of event ∷ past)) frames ≡ count_free (content past) frames
 room_init frames past enclave expect (events.Did action ans) is = rw (some_same action (Init enclave expect) is) refl
 room_init frames past enclave expect (events.Refused action why) is = rw (some_same action (Init enclave expect) is) refl
@@ -87,7 +90,8 @@ room_init frames past enclave expect _ is = cc
 
 -- ---- one step
 
-saved_same : (act : Action) (event : Event) (left : Bool) (g : Page) (n : ℕ) → IsBuilders act → action_of event ≡ Some act → saved_after event left g n ≡ n
+saved_same : (act : Action) (event : Event) (left : Bool) (g : Page) (n : ℕ) → IsBuilders act → action_of event ≡ Some act
+    → saved_after event left g n ≡ n
 saved_same act (events.Did action ans) left g n can is = by_action action (rw (some_same action act is) can)
   where
     by_action : (action : Action) → IsBuilders action → saved_after (events.Did action ans) left g n ≡ n
@@ -100,36 +104,51 @@ saved_same act (events.Did action ans) left g n can is = by_action action (rw (s
 saved_same act (events.Refused action why) left g n can is = refl
 saved_same act _ left g n can is = cc
 
-due_step : (j : JobView) (past : List Entry) (step : BuildStep) → AreNext j past (step ∷ []) → slice_get (build_of j) (built past) ≡ Some step
+due_step : (j : JobView) (past : List Entry) (step : BuildStep) → AreNext j past (step ∷ [])
+    → slice_get (build_of j) (built past) ≡ Some step
 due_step j past step ahead =
     let here = ahead 0 step refl in
     let same : built past + 0 ≡ built past = omega arith in
     rw same at here
 
 -- an entry of the instruction that is due, by which at most so many free frames go
-pub grow : (b b' : BookView) (step : BuildStep) (act : Action) → IsBuilders act → step_due b.frames b.past step ≡ Some act → IsNext actors.Builder act b b'
+pub grow : (b b' : BookView) (step : BuildStep) (act : Action) → IsBuilders act → step_due b.frames b.past step ≡ Some act
+    → IsNext actors.Builder act b b'
     → free_frames b ≤ free_frames b' + frames_taken (step ∷ []) → Grows (step ∷ []) b b'
 grow b b' step act can due next room = record {
   goes = next.goes;
   built = rw next.past refl;
-  script = λ j size ahead before. rw next.past (record { is_instruction = rw next.is_action refl; is_due = next.is_action ∙ sym (due_of j size ahead) }, before);
+  script = λ j size ahead before. rw next.past (
+    record
+        { is_instruction = rw next.is_action refl; is_due = next.is_action ∙ sym (due_of j size ahead) },
+    before,
+  );
   room = room;
-  idle = λ p. record { replied = rw next.past refl; stays = rw next.past (others_stay (move_by next.event) b.past (stay b.past p)); interrupted = rw next.past refl };
+  idle = λ p. record {
+    replied = rw next.past refl;
+    stays = rw next.past (others_stay (move_by next.event) b.past (stay b.past p));
+    interrupted = rw next.past refl;
+  };
   saved = λ g. rw next.past (saved_same act next.event false g (saved b.past g) can next.is_action);
 }
   where
-    due_of : (j : JobView) → j.epc ≡ b.frames → AreNext j b.past (step ∷ []) → builder_due j b.past (slice_get (build_of j) (built b.past)) ≡ Some act
+    due_of : (j : JobView) → j.epc ≡ b.frames → AreNext j b.past (step ∷ [])
+        → builder_due j b.past (slice_get (build_of j) (built b.past)) ≡ Some act
     due_of j size ahead = rw (due_step j b.past step ahead, size) due
 
-pub grow_va : (b b' : BookView) (f : Frame) → least_free b.frames (content b.past) ≡ Some f.0 → IsNext actors.Builder (Epa f) b b' → Grows (builds.Va ∷ []) b b'
+pub grow_va : (b b' : BookView) (f : Frame) → least_free b.frames (content b.past) ≡ Some f.0 → IsNext actors.Builder (Epa f) b b'
+    → Grows (builds.Va ∷ []) b b'
 grow_va b b' f least next =
-    grow b b' builds.Va (Epa f) tt (rw least refl) next (rw (next.past, next.goes.frames) (room_more b.frames b.past (Epa f) next.event tt next.is_action))
+    grow b b' builds.Va (Epa f) tt (rw least refl) next
+    (rw (next.past, next.goes.frames) (room_more b.frames b.past (Epa f) next.event tt next.is_action))
 
 pub va_flat : (b b' : BookView) (f : Frame) → IsNext actors.Builder (Epa f) b b' → flat b'.past ≡ flat b.past
 va_flat b b' f next = rw next.past (by_event next.event next.is_action)
   where
     by_event : (event : Event) → action_of event ≡ Some (Epa f) → flat (entry_of event ∷ b.past) ≡ flat b.past
-    by_event (events.Did action ans) is = rw (some_same action (Epa f) is) (cond_both (accepts (flat b.past) actors.Builder (Epa f)) (flat b.past) (flat b.past) (λ v. v ≡ flat b.past) (λ _. refl) (λ _. refl))
+    by_event (events.Did action ans) is = rw (some_same action (Epa f) is)
+        (cond_both (accepts (flat b.past) actors.Builder (Epa f)) (flat b.past) (flat b.past) (λ v. v ≡ flat b.past) (λ _. refl)
+        (λ _. refl))
     by_event (events.Refused action why) is = refl
     by_event _ is = cc
 
@@ -143,73 +162,99 @@ record IsDid (act : Action) (event : Event) : Type 0 where
   pub is : event ≡ events.Did act answer
 
 -- an instruction whose row has no case against it was done
-did_of : (frames : ℕ) (past : List Entry) (act : Action) (event : Event) → action_of event ≡ Some act → KeepsRules frames (entry_of event ∷ past)
-    → ((why : Refusal) → RefusalRule frames past (entry_of (events.Refused act why)) → first_of_row (row_at frames past actors.Builder act) ≡ Some why)
+did_of : (frames : ℕ) (past : List Entry) (act : Action) (event : Event) → action_of event ≡ Some act
+    → KeepsRules frames (entry_of event ∷ past)
+    → ((why : Refusal) → RefusalRule frames past (entry_of (events.Refused act why))
+    → first_of_row (row_at frames past actors.Builder act) ≡ Some why)
     → first_of_row (row_at frames past actors.Builder act) ≡ None → IsDid act event
-did_of frames past act (events.Did action ans) is rules plain allowed = record { answer = ans; is = ap (λ a. events.Did a ans) (some_same action act is) }
+did_of frames past act (events.Did action ans) is rules plain allowed =
+    record { answer = ans; is = ap (λ a. events.Did a ans) (some_same action act is) }
 did_of frames past act (events.Refused action why) is rules plain allowed =
-    let rule : RefusalRule frames past (entry_of (events.Refused act why)) = subst (λ x. RefusalRule frames past (entry_of (events.Refused x why))) (some_same action act is) rules.refusal.0 in
+    let rule : RefusalRule frames past (entry_of (events.Refused act why)) =
+    subst (λ x. RefusalRule frames past (entry_of (events.Refused x why))) (some_same action act is) rules.refusal.0 in
     cc (plain why rule, allowed)
 did_of frames past act _ is rules plain allowed = cc
 
-one_taken : (past : List Entry) (step : BuildStep) → AreTaken past (step ∷ []) → accepts (flat past) actors.Builder (step_action step 0) ≡ true
+one_taken : (past : List Entry) (step : BuildStep) → AreTaken past (step ∷ [])
+    → accepts (flat past) actors.Builder (step_action step 0) ≡ true
 one_taken past step h = h 0 step (omega arith)
 
-create_did : (b b' : BookView) (enclave : ℕ) (f : Frame) (base size : ℕ) → IsCalm b.past → IsLeast (content b.past) b.frames f.0 → AreTaken b.past (builds.Create enclave base size ∷ [])
+create_did : (b b' : BookView) (enclave : ℕ) (f : Frame) (base size : ℕ) → IsCalm b.past → IsLeast (content b.past) b.frames f.0
+    → AreTaken b.past (builds.Create enclave base size ∷ [])
     → (next : IsNext actors.Builder (Create enclave f base size) b b') → IsDid (Create enclave f base size) next.event
 create_did b b' enclave f base size calm least taken next =
-    did_of b.frames b.past (Create enclave f base size) next.event next.is_action (rw (← next.goes.frames, ← next.past) next.rules) (λ why refused. refused)
-    (ap (λ s. first_of_row (create_row enclave base size (is_some ((flat b.past).enclaves enclave)) s)) (open_sight b f.0 calm least) ∙ taken_none _ (one_taken b.past (builds.Create enclave base size) taken))
+    did_of b.frames b.past (Create enclave f base size) next.event next.is_action (rw (← next.goes.frames, ← next.past) next.rules)
+    (λ why refused. refused)
+    (ap (λ s. first_of_row (create_row enclave base size (is_some ((flat b.past).enclaves enclave)) s)) (open_sight b f.0 calm least)
+    ∙ taken_none _ (one_taken b.past (builds.Create enclave base size) taken))
 
-add_did : (b b' : BookView) (g : Page) (f : Frame) (kind : Kind) (perm : Perm) (init : PageInit) → IsCalm b.past → IsLeast (content b.past) b.frames f.0
-    → AreTaken b.past (builds.Add g.enclave g.number kind perm init ∷ []) → (next : IsNext actors.Builder (Add g.enclave g.number f kind perm init) b b') → IsDid (Add g.enclave g.number f kind perm init) next.event
+add_did : (b b' : BookView) (g : Page) (f : Frame) (kind : Kind) (perm : Perm) (init : PageInit) → IsCalm b.past
+    → IsLeast (content b.past) b.frames f.0
+    → AreTaken b.past (builds.Add g.enclave g.number kind perm init ∷ [])
+    → (next : IsNext actors.Builder (Add g.enclave g.number f kind perm init) b b')
+    → IsDid (Add g.enclave g.number f kind perm init) next.event
 add_did b b' g f kind perm init calm least taken next =
-    did_of b.frames b.past (Add g.enclave g.number f kind perm init) next.event next.is_action (rw (← next.goes.frames, ← next.past) next.rules) (λ why refused. refused)
+    did_of b.frames b.past (Add g.enclave g.number f kind perm init) next.event next.is_action
+    (rw (← next.goes.frames, ← next.past) next.rules) (λ why refused. refused)
     (rw (open_sight b f.0 calm least) (taken_none _ (one_taken b.past (builds.Add g.enclave g.number kind perm init) taken)))
 
 -- ---- the enclave
 
-pub grow_secs : (b b' : BookView) (enclave : ℕ) (f : Frame) (base size : ℕ) → least_free b.frames (content b.past) ≡ Some f.0 → IsNext actors.Builder (Create enclave f base size) b b' → Grows (builds.Create enclave base size ∷ []) b b'
+pub grow_secs : (b b' : BookView) (enclave : ℕ) (f : Frame) (base size : ℕ) → least_free b.frames (content b.past) ≡ Some f.0
+    → IsNext actors.Builder (Create enclave f base size) b b' → Grows (builds.Create enclave base size ∷ []) b b'
 grow_secs b b' enclave f base size least next =
     grow b b' (builds.Create enclave base size) (Create enclave f base size) tt (rw least refl) next
     (rw (next.past, next.goes.frames) (room_more b.frames b.past (Create enclave f base size) next.event tt next.is_action))
 
-pub secs_made : (b b' : BookView) (enclave : ℕ) (f : Frame) (base size : ℕ) → IsCalm b.past → least_free b.frames (content b.past) ≡ Some f.0 → AreTaken b.past (builds.Create enclave base size ∷ [])
-    → IsNext actors.Builder (Create enclave f base size) b b' → flat b'.past ≡ with_enclave (flat b.past) enclave (record { base = base; size = size; is_init = false })
+pub secs_made : (b b' : BookView) (enclave : ℕ) (f : Frame) (base size : ℕ) → IsCalm b.past
+    → least_free b.frames (content b.past) ≡ Some f.0 → AreTaken b.past (builds.Create enclave base size ∷ [])
+    → IsNext actors.Builder (Create enclave f base size) b b'
+    → flat b'.past ≡ with_enclave (flat b.past) enclave (record { base = base; size = size; is_init = false })
 secs_made b b' enclave f base size calm least taken next =
     let did = create_did b b' enclave f base size calm (found_least (content b.past) b.frames f.0 least) taken next in
-    rw (next.past, did.is) (flat_done (flat b.past) actors.Builder (Create enclave f base size) did.answer (one_taken b.past (builds.Create enclave base size) taken))
+    rw (next.past, did.is) (flat_done (flat b.past) actors.Builder (Create enclave f base size) did.answer
+    (one_taken b.past (builds.Create enclave base size) taken))
 
 -- ---- its pages
 
-pub grow_page : (b b' : BookView) (g : Page) (f : Frame) (kind : Kind) (perm : Perm) (init : PageInit) → least_free b.frames (content b.past) ≡ Some f.0
+pub grow_page : (b b' : BookView) (g : Page) (f : Frame) (kind : Kind) (perm : Perm) (init : PageInit)
+    → least_free b.frames (content b.past) ≡ Some f.0
     → IsNext actors.Builder (Add g.enclave g.number f kind perm init) b b' → Grows (builds.Add g.enclave g.number kind perm init ∷ []) b b'
 grow_page b b' g f kind perm init least next =
     grow b b' (builds.Add g.enclave g.number kind perm init) (Add g.enclave g.number f kind perm init) tt (rw least refl) next
     (rw (next.past, next.goes.frames) (room_more b.frames b.past (Add g.enclave g.number f kind perm init) next.event tt next.is_action))
 
-pub page_made : (b b' : BookView) (g : Page) (f : Frame) (kind : Kind) (perm : Perm) (init : PageInit) → IsCalm b.past → least_free b.frames (content b.past) ≡ Some f.0
-    → AreTaken b.past (builds.Add g.enclave g.number kind perm init ∷ []) → IsNext actors.Builder (Add g.enclave g.number f kind perm init) b b'
+pub page_made : (b b' : BookView) (g : Page) (f : Frame) (kind : Kind) (perm : Perm) (init : PageInit) → IsCalm b.past
+    → least_free b.frames (content b.past) ≡ Some f.0
+    → AreTaken b.past (builds.Add g.enclave g.number kind perm init ∷ [])
+    → IsNext actors.Builder (Add g.enclave g.number f kind perm init) b b'
     → flat b'.past ≡ with_page (flat b.past) g (record { kind = kind; perm = perm; words = first_words init })
 page_made b b' g f kind perm init calm least taken next =
     let did = add_did b b' g f kind perm init calm (found_least (content b.past) b.frames f.0 least) taken next in
-    rw (next.past, did.is) (flat_done (flat b.past) actors.Builder (Add g.enclave g.number f kind perm init) did.answer (one_taken b.past (builds.Add g.enclave g.number kind perm init) taken))
+    rw (next.past, did.is) (flat_done (flat b.past) actors.Builder (Add g.enclave g.number f kind perm init) did.answer
+    (one_taken b.past (builds.Add g.enclave g.number kind perm init) taken))
 
-pub page_placed : (b b' : BookView) (g : Page) (f : Frame) (kind : Kind) (perm : Perm) (init : PageInit) → IsCalm b.past → least_free b.frames (content b.past) ≡ Some f.0
-    → AreTaken b.past (builds.Add g.enclave g.number kind perm init ∷ []) → IsNext actors.Builder (Add g.enclave g.number f kind perm init) b b' → IsPlaced b'.past g kind perm
+pub page_placed : (b b' : BookView) (g : Page) (f : Frame) (kind : Kind) (perm : Perm) (init : PageInit) → IsCalm b.past
+    → least_free b.frames (content b.past) ≡ Some f.0
+    → AreTaken b.past (builds.Add g.enclave g.number kind perm init ∷ [])
+    → IsNext actors.Builder (Add g.enclave g.number f kind perm init) b b' → IsPlaced b'.past g kind perm
 page_placed b b' g f kind perm init calm least taken next =
     next.goes.calm.placed g kind perm (rw (page_made b b' g f kind perm init calm least taken next, same_page-at g.enclave g.number) refl)
 
 -- ---- its measurement
 
-pub grow_chunk : (b b' : BookView) (g : Page) (f : Frame) (chunk : ℕ) → frame_of b.past g ≡ Some f.0 → IsNext actors.Builder (Extend f chunk) b b' → Grows (builds.Extend g.enclave g.number chunk ∷ []) b b'
+pub grow_chunk : (b b' : BookView) (g : Page) (f : Frame) (chunk : ℕ) → frame_of b.past g ≡ Some f.0
+    → IsNext actors.Builder (Extend f chunk) b b' → Grows (builds.Extend g.enclave g.number chunk ∷ []) b b'
 grow_chunk b b' g f chunk there next =
     let same = room_extend b.frames b.past f chunk next.event next.is_action in
-    grow b b' (builds.Extend g.enclave g.number chunk) (Extend f chunk) tt (rw there refl) next (rw (next.past, next.goes.frames, same) (omega arith))
+    grow b b' (builds.Extend g.enclave g.number chunk) (Extend f chunk) tt (rw there refl) next
+    (rw (next.past, next.goes.frames, same) (omega arith))
 
-flat_chunk : (past : List Entry) (f : Frame) (chunk : ℕ) (event : Event) → action_of event ≡ Some (Extend f chunk) → flat (entry_of event ∷ past) ≡ flat past
+flat_chunk : (past : List Entry) (f : Frame) (chunk : ℕ) (event : Event) → action_of event ≡ Some (Extend f chunk)
+    → flat (entry_of event ∷ past) ≡ flat past
 flat_chunk past f chunk (events.Did action ans) is =
-    rw (some_same action (Extend f chunk) is) (cond_both (accepts (flat past) actors.Builder (Extend f chunk)) (flat past) (flat past) (λ v. v ≡ flat past) (λ _. refl) (λ _. refl))
+    rw (some_same action (Extend f chunk) is) (cond_both (accepts (flat past) actors.Builder (Extend f chunk)) (flat past) (flat past)
+    (λ v. v ≡ flat past) (λ _. refl) (λ _. refl))
 flat_chunk past f chunk (events.Refused action why) is = refl
 flat_chunk past f chunk _ is = cc
 
@@ -221,21 +266,26 @@ here_later b b' g goes h = record { kind = h.kind; perm = h.perm; placed = goes.
 
 -- ---- its end
 
-pub grow_finish : (b b' : BookView) (enclave : ℕ) (expect : Option (List ℕ)) → IsNext actors.Builder (Init enclave expect) b b' → Grows (builds.Init enclave expect ∷ []) b b'
+pub grow_finish : (b b' : BookView) (enclave : ℕ) (expect : Option (List ℕ)) → IsNext actors.Builder (Init enclave expect) b b'
+    → Grows (builds.Init enclave expect ∷ []) b b'
 grow_finish b b' enclave expect next =
     let same = room_init b.frames b.past enclave expect next.event next.is_action in
     grow b b' (builds.Init enclave expect) (Init enclave expect) tt refl next (rw (next.past, next.goes.frames, same) (omega arith))
 
-unmade_after : (past : List Entry) (enclave : ℕ) (expect : Option (List ℕ)) (event : Event) (e : ℕ) → action_of event ≡ Some (Init enclave expect) → (enclave == e) ≡ false
+unmade_after : (past : List Entry) (enclave : ℕ) (expect : Option (List ℕ)) (event : Event) (e : ℕ)
+    → action_of event ≡ Some (Init enclave expect) → (enclave == e) ≡ false
     → IsUnmade past e → IsUnmade (entry_of event ∷ past) e
 unmade_after past enclave expect (events.Did action ans) e is other h = rw (some_same action (Init enclave expect) is) (record {
   created =
-      cond_both (accepts (flat past) actors.Builder (Init enclave expect)) (initialised (flat past) enclave) (flat past) (λ v. v.enclaves e ≡ None)
+      cond_both (accepts (flat past) actors.Builder (Init enclave expect)) (initialised (flat past) enclave) (flat past)
+      (λ v. v.enclaves e ≡ None)
       (λ _. rw (eqb-swap e enclave, other) h.created) (λ _. h.created);
-  added = λ n. cond_both (accepts (flat past) actors.Builder (Init enclave expect)) (initialised (flat past) enclave) (flat past) (λ v. v.pages (page_at e n) ≡ None) (λ _. h.added n) (λ _. h.added n);
+  added = λ n. cond_both (accepts (flat past) actors.Builder (Init enclave expect)) (initialised (flat past) enclave) (flat past)
+      (λ v. v.pages (page_at e n) ≡ None) (λ _. h.added n) (λ _. h.added n);
 })
 unmade_after past enclave expect (events.Refused action why) e is other h = record { created = h.created; added = h.added }
 unmade_after past enclave expect _ e is other h = cc
 
-pub finish_only : (b b' : BookView) (enclave : ℕ) (expect : Option (List ℕ)) → IsNext actors.Builder (Init enclave expect) b b' → MakesOnly enclave b b'
+pub finish_only : (b b' : BookView) (enclave : ℕ) (expect : Option (List ℕ)) → IsNext actors.Builder (Init enclave expect) b b'
+    → MakesOnly enclave b b'
 finish_only b b' enclave expect next e other h = rw next.past (unmade_after b.past enclave expect next.event e next.is_action other h)

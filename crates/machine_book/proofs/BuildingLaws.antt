@@ -33,11 +33,13 @@ first_enclaves es b calm unmade = record {
   unmade = λ e above. unmade e;
 }
 
-enclaves_append : (n : ℕ) (xs : List EnclaveView) (x : EnclaveView) → enclaves_steps n (xs ++ x ∷ []) ≡ enclaves_steps n xs ++ enclave_steps (n + length xs) x
+enclaves_append : (n : ℕ) (xs : List EnclaveView) (x : EnclaveView)
+    → enclaves_steps n (xs ++ x ∷ []) ≡ enclaves_steps n xs ++ enclave_steps (n + length xs) x
 enclaves_append n [] x = append-nil (enclave_steps n x) ∙ ap (λ k. enclave_steps k x) {x = n} {y = n + 0} (omega arith)
 enclaves_append n (y ∷ ys) x =
     ap (λ steps. enclave_steps n y ++ steps) (enclaves_append (n + 1) ys x)
-    ∙ ap (λ k. enclave_steps n y ++ (enclaves_steps (n + 1) ys ++ enclave_steps k x)) {x = n + 1 + length ys} {y = n + length (y ∷ ys)} (omega arith)
+    ∙ ap (λ k. enclave_steps n y ++ (enclaves_steps (n + 1) ys ++ enclave_steps k x)) {x = n + 1 + length ys} {y = n + length (y ∷ ys)}
+    (omega arith)
     ∙ sym (append_assoc (enclave_steps n y) (enclaves_steps (n + 1) ys) (enclave_steps (n + length (y ∷ ys)) x))
 
 abbrev pub frames_of : EnclaveView → ℕ
@@ -59,9 +61,11 @@ module _ (es : List EnclaveView) (i : ℕ) (d : EnclaveView) (here : i < length 
   steps_more : enclaves_steps 1 (take (i + 1) es) ≡ enclaves_steps 1 (take i es) ++ enclave_steps (i + 1) (get_or es i d)
   steps_more =
       ap (enclaves_steps 1) (take_more es i d here) ∙ enclaves_append 1 (take i es) (get_or es i d)
-      ∙ ap (λ n. enclaves_steps 1 (take i es) ++ enclave_steps n (get_or es i d)) {x = 1 + length (take i es)} {y = i + 1} (let len = length-take i es in omega (arith, len, here))
+      ∙ ap (λ n. enclaves_steps 1 (take i es) ++ enclave_steps n (get_or es i d)) {x = 1 + length (take i es)} {y = i + 1}
+      (let len = length-take i es in omega (arith, len, here))
 
-  pub enclaves_more : HasEnclaves es i b b' → Grows (enclave_steps (i + 1) (get_or es i d)) b' b'' → All (IsPlacedLine b''.past (i + 1)) (get_or es i d).lines → MakesOnly (i + 1) b' b''
+  pub enclaves_more : HasEnclaves es i b b' → Grows (enclave_steps (i + 1) (get_or es i d)) b' b''
+      → All (IsPlacedLine b''.past (i + 1)) (get_or es i d).lines → MakesOnly (i + 1) b' b''
       → HasEnclaves es (i + 1) b b''
   enclaves_more h grown placed only = record {
     grows = rw steps_more (grows_append (enclaves_steps 1 (take i es)) (enclave_steps (i + 1) (get_or es i d)) b b' b'' h.grows grown);
@@ -69,11 +73,13 @@ module _ (es : List EnclaveView) (i : ℕ) (d : EnclaveView) (here : i < length 
     unmade = λ e above. only e (apart (i + 1) e (λ same. omega (arith, same, above))) (h.unmade e (omega (arith, above)));
   }
     where
-      by_place : (k : ℕ) (e : EnclaveView) → ((nat_le i k ≡ true) × (i ≤ k)) ⊎ ((nat_le i k ≡ false) × (k < i)) → k < i + 1 → All (IsPlacedLine b''.past (k + 1)) (get_or es k e).lines
+      by_place : (k : ℕ) (e : EnclaveView) → ((nat_le i k ≡ true) × (i ≤ k)) ⊎ ((nat_le i k ≡ false) × (k < i)) → k < i + 1
+          → All (IsPlacedLine b''.past (k + 1)) (get_or es k e).lines
       by_place k e (inl last) below = let same : k ≡ i = omega (arith, last.1, below) in rw (same, same_default es i e d here) placed
       by_place k e (inr before) below = lines_kept b' b'' (k + 1) grown.goes (get_or es k e).lines (h.placed k e before.1)
 
-  pub enclave_room : HasEnclaves es i b b' → frames_taken (enclaves_steps 1 es) ≤ free_frames b → frames_taken (enclave_steps (i + 1) (get_or es i d)) ≤ free_frames b'
+  pub enclave_room : HasEnclaves es i b b' → frames_taken (enclaves_steps 1 es) ≤ free_frames b
+      → frames_taken (enclave_steps (i + 1) (get_or es i d)) ≤ free_frames b'
   enclave_room h room =
       let all = enclaves_taken 1 es in
       let some = enclaves_taken 1 (take i es) in
@@ -82,7 +88,8 @@ module _ (es : List EnclaveView) (i : ℕ) (d : EnclaveView) (here : i < length 
       let left = h.grows.room in
       omega (arith, room, all, some, this, part, left)
 
-pub all_placed : (es : List EnclaveView) (b b' : BookView) → HasEnclaves es (length es) b b' → (e : ℕ) → All (IsPlacedLine b'.past e) (lines_at es e)
+pub all_placed : (es : List EnclaveView) (b b' : BookView) → HasEnclaves es (length es) b b' → (e : ℕ)
+    → All (IsPlacedLine b'.past e) (lines_at es e)
 all_placed es b b' h zero = λ k d within. absurd (omega (arith, within))
 all_placed es b b' h (suc n) = by_enclave (slice_get es n) refl
   where
@@ -108,7 +115,8 @@ vas_room j b frames past form =
     let free : free_frames b ≡ j.epc = rw (past, frames) (all_free j.epc) in
     omega (arith, free, form.room)
 
-pub enclaves_room : (j : JobView) (b b' : BookView) → b.frames ≡ j.epc → b.past ≡ [] → IsSmallJob j → Grows (replicate (va_pages j) builds.Va) b b' → frames_taken (enclaves_steps 1 j.enclaves) ≤ free_frames b'
+pub enclaves_room : (j : JobView) (b b' : BookView) → b.frames ≡ j.epc → b.past ≡ [] → IsSmallJob j
+    → Grows (replicate (va_pages j) builds.Va) b b' → frames_taken (enclaves_steps 1 j.enclaves) ≤ free_frames b'
 enclaves_room j b b' frames past form grown =
     let sums = sum_frames j.enclaves in
     let free : free_frames b ≡ j.epc = rw (past, frames) (all_free j.epc) in
@@ -117,5 +125,6 @@ enclaves_room j b b' frames past form grown =
     let left = grown.room in
     omega (arith, sums, free, vas, taken, left, form.room)
 
-pub build_grows : (j : JobView) (b b' b'' : BookView) → Grows (replicate (va_pages j) builds.Va) b b' → Grows (enclaves_steps 1 j.enclaves) b' b'' → Grows (build_of j) b b''
+pub build_grows : (j : JobView) (b b' b'' : BookView) → Grows (replicate (va_pages j) builds.Va) b b'
+    → Grows (enclaves_steps 1 j.enclaves) b' b'' → Grows (build_of j) b b''
 build_grows j b b' b'' vas enclaves = grows_append (replicate (va_pages j) builds.Va) (enclaves_steps 1 j.enclaves) b b' b'' vas enclaves

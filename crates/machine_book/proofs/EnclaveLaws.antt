@@ -46,8 +46,13 @@ lines_taken enclave (line ∷ ls) =
 
 pub enclave_taken : (enclave : ℕ) (e : EnclaveView) → frames_taken (enclave_steps enclave e) ≡ 1 + sum_by page_count e.lines
 enclave_taken enclave e =
-    sum_by-cons frame_count (builds.Create enclave e.base e.size) (flat_map (line_steps enclave) e.lines ++ builds.Init enclave e.expect ∷ [])
-    ∙ rw (sum_by-append frame_count (flat_map (line_steps enclave) e.lines) (builds.Init enclave e.expect ∷ []), lines_taken enclave e.lines) (omega arith)
+    sum_by-cons frame_count (builds.Create enclave e.base e.size)
+    (flat_map (line_steps enclave) e.lines ++ builds.Init enclave e.expect ∷ [])
+    ∙ rw (
+      sum_by-append frame_count (flat_map (line_steps enclave) e.lines) (builds.Init enclave e.expect ∷ []),
+      lines_taken enclave
+          e.lines,
+    ) (omega arith)
 
 -- ---- the lines so far
 
@@ -64,7 +69,8 @@ pub record HasLines (enclave : ℕ) (e : EnclaveView) (done : List PageLine) (b 
 none_placed : (past : List Entry) (enclave : ℕ) → All (IsPlacedLine past enclave) []
 none_placed past enclave k d within = absurd (omega (arith, within))
 
-pub first_lines : (enclave : ℕ) (e : EnclaveView) (b b' : BookView) → IsUnmade b.past enclave → Grows (builds.Create enclave e.base e.size ∷ []) b b'
+pub first_lines : (enclave : ℕ) (e : EnclaveView) (b b' : BookView) → IsUnmade b.past enclave
+    → Grows (builds.Create enclave e.base e.size ∷ []) b b'
     → flat b'.past ≡ with_enclave (flat b.past) enclave (open_enclave e) → HasLines enclave e [] b b'
 first_lines enclave e b b' unmade grown is = record {
   grows = grown;
@@ -85,18 +91,22 @@ module _ (enclave : ℕ) (e : EnclaveView) (b b' b'' : BookView) (i : ℕ) (d : 
       (ap (flat_map (line_steps enclave)) (take_more e.lines i d here) ∙ flat_map-append (line_steps enclave) (take i e.lines) (this ∷ [])
       ∙ ap (λ steps. flat_map (line_steps enclave) (take i e.lines) ++ steps) (append-nil (line_steps enclave this)))
 
-  uncovered : (n : ℕ) → count_by (covers n) (take (i + 1) e.lines) ≡ 0 → (covers n this ≡ false) × (count_by (covers n) (take i e.lines) ≡ 0)
+  uncovered : (n : ℕ) → count_by (covers n) (take (i + 1) e.lines) ≡ 0
+      → (covers n this ≡ false) × (count_by (covers n) (take i e.lines) ≡ 0)
   uncovered n none = by_test (covers n this) refl
     where
       by_test : (t : Bool) → covers n this ≡ t → (t ≡ false) × (count_by (covers n) (take i e.lines) ≡ 0)
       by_test true is = let more = count_by_more_yes (covers n) e.lines i d here is in absurd (omega (arith, more, none))
       by_test false is = (refl, sym (count_by_more_no (covers n) e.lines i d here is) ∙ none)
 
-  pub lines_more : HasLines enclave e (take i e.lines) b b' → Grows (line_steps enclave this) b' b'' → IsPlacedLine b''.past enclave this → AddsOnly enclave this b' b''
+  pub lines_more : HasLines enclave e (take i e.lines) b b' → Grows (line_steps enclave this) b' b'' → IsPlacedLine b''.past enclave this
+      → AddsOnly enclave this b' b''
       → HasLines enclave e (take (i + 1) e.lines) b b''
   lines_more h grown placed only = record {
-    grows = rw steps_more (grows_append (builds.Create enclave e.base e.size ∷ flat_map (line_steps enclave) (take i e.lines)) (line_steps enclave this) b b' b'' h.grows grown);
-    placed = All-more (IsPlacedLine b''.past enclave) e.lines i d here (lines_kept b' b'' enclave grown.goes (take i e.lines) h.placed) placed;
+    grows = rw steps_more (grows_append (builds.Create enclave e.base e.size ∷ flat_map (line_steps enclave) (take i e.lines))
+        (line_steps enclave this) b b' b'' h.grows grown);
+    placed = All-more (IsPlacedLine b''.past enclave) e.lines i d here (lines_kept b' b'' enclave grown.goes (take i e.lines) h.placed)
+        placed;
     created = only.enclaves enclave ∙ h.created;
     unadded = λ n none.
         let out = uncovered n none in
@@ -109,7 +119,8 @@ module _ (enclave : ℕ) (e : EnclaveView) (b b' b'' : BookView) (i : ℕ) (d : 
         };
   }
 
-  pub line_room : HasLines enclave e (take i e.lines) b b' → frames_taken (enclave_steps enclave e) ≤ free_frames b → page_count this ≤ free_frames b'
+  pub line_room : HasLines enclave e (take i e.lines) b b' → frames_taken (enclave_steps enclave e) ≤ free_frames b
+      → page_count this ≤ free_frames b'
   line_room h room =
       let all = enclave_taken enclave e in
       let some = lines_taken enclave (take i e.lines) in
@@ -119,30 +130,46 @@ module _ (enclave : ℕ) (e : EnclaveView) (b b' b'' : BookView) (i : ℕ) (d : 
       omega (arith, room, all, some, secs, part, left)
 
   -- a page of this line was not added before
-  unadded_here : HasLines enclave e (take i e.lines) b b' → IsValidEnclave e → (n : ℕ) → covers n this ≡ true → (flat b'.past).pages (page_at enclave n) ≡ None
+  unadded_here : HasLines enclave e (take i e.lines) b b' → IsValidEnclave e → (n : ℕ) → covers n this ≡ true
+      → (flat b'.past).pages (page_at enclave n) ≡ None
   unadded_here h valid n covered =
       let more = count_by_more_yes (covers n) e.lines i d here covered in
       let most = count_take_le (covers n) e.lines (i + 1) in
       let once = valid.once n in
       h.unadded n (omega (arith, more, most, once))
 
-  tcs_taken : (page ossa nssa : ℕ) → (flat b'.past).enclaves enclave ≡ Some (open_enclave e) → (flat b'.past).pages (page_at enclave page) ≡ None → 1 ≤ nssa → page < e.size / 4096 → ossa + nssa ≤ e.size / 4096
+  tcs_taken : (page ossa nssa : ℕ) → (flat b'.past).enclaves enclave ≡ Some (open_enclave e)
+      → (flat b'.past).pages (page_at enclave page) ≡ None → 1 ≤ nssa → page < e.size / 4096 → ossa + nssa ≤ e.size / 4096
       → AreTaken b'.past (builds.Add enclave page kinds.Tcs no_perm (inits.Tcs ossa nssa) ∷ [])
   tcs_taken page ossa nssa created unadded some within room k d below =
       let zeroth : k ≡ 0 = omega (arith, below) in
-      rw zeroth (rw (created, unadded, lt-ltb page (e.size / 4096) within, le-leb (ossa + nssa) (e.size / 4096) room, apart nssa 0 (λ none. omega (arith, some, none))) refl)
+      rw zeroth (rw (
+        created,
+        unadded,
+        lt-ltb page (e.size / 4096) within,
+        le-leb (ossa + nssa) (e.size / 4096) room,
+        apart nssa 0
+            (λ none. omega (arith, some, none)),
+      ) refl)
 
-  reg_taken : (n value : ℕ) (perm : Perm) → (flat b'.past).enclaves enclave ≡ Some (open_enclave e) → (flat b'.past).pages (page_at enclave n) ≡ None → perm.r ≡ true → n < e.size / 4096
+  reg_taken : (n value : ℕ) (perm : Perm) → (flat b'.past).enclaves enclave ≡ Some (open_enclave e)
+      → (flat b'.past).pages (page_at enclave n) ≡ None → perm.r ≡ true → n < e.size / 4096
       → accepts (flat b'.past) actors.Builder (step_action (builds.Add enclave n kinds.Reg perm (inits.Words value)) 0) ≡ true
   reg_taken n value perm created unadded reads within = rw (created, unadded, reads, lt-ltb n (e.size / 4096) within) refl
 
-  line_taken : (line : PageLine) → this ≡ line → HasLines enclave e (take i e.lines) b b' → IsValidEnclave e → IsValidLine (e.size / 4096) line → AreTaken b'.past (line_adds enclave line)
+  line_taken : (line : PageLine) → this ≡ line → HasLines enclave e (take i e.lines) b b' → IsValidEnclave e
+      → IsValidLine (e.size / 4096) line → AreTaken b'.past (line_adds enclave line)
   line_taken (lines.Tcs page ossa nssa plain) is h valid ok =
       tcs_taken page ossa nssa h.created (unadded_here h valid page (rw (is, eq-eqb page page refl) refl)) ok.0 ok.2 ok.3
   line_taken (lines.Reg first count perm value plain) is h valid ok =
       steps_at enclave first perm value plain (λ step. accepts (flat b'.past) actors.Builder (step_action step 0) ≡ true) count
       (λ k below. reg_taken (first + k) value perm h.created
-      (unadded_here h valid (first + k) (rw (is, le-leb first (first + k) (omega arith), lt-ltb (first + k) (first + count) (omega (arith, below))) refl)) ok.2
+      (unadded_here h valid (first + k) (rw (
+        is,
+        le-leb first (first + k) (omega arith),
+        lt-ltb (first + k) (first + count)
+            (omega (arith, below)),
+      ) refl)) ok.2
       (omega (arith, below, ok.1)))
 
   pub this_taken : HasLines enclave e (take i e.lines) b b' → IsValidEnclave e → AreTaken b'.past (line_adds enclave this)
@@ -150,7 +177,8 @@ module _ (enclave : ℕ) (e : EnclaveView) (b b' b'' : BookView) (i : ℕ) (d : 
 
 -- ---- the first step and the last
 
-pub secs_taken : (enclave : ℕ) (e : EnclaveView) (b : BookView) → is_enclave enclave ≡ true → IsValidEnclave e → IsUnmade b.past enclave → AreTaken b.past (builds.Create enclave e.base e.size ∷ [])
+pub secs_taken : (enclave : ℕ) (e : EnclaveView) (b : BookView) → is_enclave enclave ≡ true → IsValidEnclave e → IsUnmade b.past enclave
+    → AreTaken b.past (builds.Create enclave e.base e.size ∷ [])
 secs_taken enclave e b number valid unmade k d below =
     let zeroth : k ≡ 0 = omega (arith, below) in
     rw zeroth (rw (number, valid.range, unmade.created) refl)
@@ -158,8 +186,11 @@ secs_taken enclave e b number valid unmade k d below =
 pub secs_room : (enclave : ℕ) (e : EnclaveView) (b : BookView) → frames_taken (enclave_steps enclave e) ≤ free_frames b → 1 ≤ free_frames b
 secs_room enclave e b room = let all = enclave_taken enclave e in omega (arith, all, room)
 
-pub finished : (enclave : ℕ) (e : EnclaveView) (b b' b'' : BookView) → HasLines enclave e e.lines b b' → Grows (builds.Init enclave e.expect ∷ []) b' b'' → Grows (enclave_steps enclave e) b b''
-finished enclave e b b' b'' h last = grows_append (builds.Create enclave e.base e.size ∷ flat_map (line_steps enclave) e.lines) (builds.Init enclave e.expect ∷ []) b b' b'' h.grows last
+pub finished : (enclave : ℕ) (e : EnclaveView) (b b' b'' : BookView) → HasLines enclave e e.lines b b'
+    → Grows (builds.Init enclave e.expect ∷ []) b' b'' → Grows (enclave_steps enclave e) b b''
+finished enclave e b b' b'' h last = grows_append (builds.Create enclave e.base e.size ∷ flat_map (line_steps enclave) e.lines)
+    (builds.Init enclave e.expect ∷ []) b b' b'' h.grows last
 
-pub kept_lines : (enclave : ℕ) (e : EnclaveView) (b b' b'' : BookView) → HasLines enclave e e.lines b b' → Grows (builds.Init enclave e.expect ∷ []) b' b'' → All (IsPlacedLine b''.past enclave) e.lines
+pub kept_lines : (enclave : ℕ) (e : EnclaveView) (b b' b'' : BookView) → HasLines enclave e e.lines b b'
+    → Grows (builds.Init enclave e.expect ∷ []) b' b'' → All (IsPlacedLine b''.past enclave) e.lines
 kept_lines enclave e b b' b'' h last = lines_kept b' b'' enclave last.goes e.lines h.placed

@@ -20,19 +20,24 @@ found_free held from (suc count) f h = by_test (is_free (held from)) refl h (fou
   where
     by_test : (b : Bool) → is_free (held from) ≡ b → cond b (Some from) (free_from held (from + 1) count) ≡ Some f
         → (free_from held (from + 1) count ≡ Some f → IsFreeFrom held (from + 1) count f) → IsFreeFrom held from (suc count) f
-    by_test true is k more = let same = some_same from f k in record { least = omega (arith, same); below = omega (arith, same); free = ap (λ n. is_free (held n)) (sym same) ∙ is }
-    by_test false is k more = let next = more k in record { least = omega (arith, next.least); below = omega (arith, next.below); free = next.free }
+    by_test true is k more = let same = some_same from f k in
+        record { least = omega (arith, same); below = omega (arith, same); free = ap (λ n. is_free (held n)) (sym same) ∙ is }
+    by_test false is k more =
+        let next = more k in record { least = omega (arith, next.least); below = omega (arith, next.below); free = next.free }
 
-none_free : (held : ℕ → Content) (from count f : ℕ) → free_from held from count ≡ None → from ≤ f → f < from + count → is_free (held f) ≡ false
+none_free : (held : ℕ → Content) (from count f : ℕ) → free_from held from count ≡ None → from ≤ f → f < from + count
+    → is_free (held f) ≡ false
 none_free held from zero f h low high = absurd (omega (arith, low, high))
 none_free held from (suc count) f h low high = by_test (is_free (held from)) refl h (none_free held (from + 1) count f)
   where
-    by_place : (b : Bool) → (from == f) ≡ b → is_free (held from) ≡ false → (from + 1 ≤ f → is_free (held f) ≡ false) → is_free (held f) ≡ false
+    by_place : (b : Bool) → (from == f) ≡ b → is_free (held from) ≡ false → (from + 1 ≤ f → is_free (held f) ≡ false)
+        → is_free (held f) ≡ false
     by_place true same is more = ap (λ n. is_free (held n)) (sym (eqb-true from f same)) ∙ is
     by_place false same is more = (let above : from < f = lt_of_le-ne low (eqb-false from f same) in more (omega (arith, above)))
 
     by_test : (b : Bool) → is_free (held from) ≡ b → cond b (Some from) (free_from held (from + 1) count) ≡ None
-        → (free_from held (from + 1) count ≡ None → from + 1 ≤ f → f < from + 1 + count → is_free (held f) ≡ false) → is_free (held f) ≡ false
+        → (free_from held (from + 1) count ≡ None → from + 1 ≤ f → f < from + 1 + count → is_free (held f) ≡ false)
+        → is_free (held f) ≡ false
     by_test true is k more = cc
     by_test false is k more = by_place (from == f) refl is (λ above. more k above (omega (arith, high)))
 
@@ -52,7 +57,8 @@ pub record IsLeast (held : ℕ → Content) (frames f : ℕ) : Type 0 where
   pub free : held f ≡ Free
 
 pub found_least : (held : ℕ → Content) (frames f : ℕ) → least_free frames held ≡ Some f → IsLeast held frames f
-found_least held frames f h = let k = found_free held 0 frames f h in record { below = omega (arith, k.below); free = is_free_Free (held f) k.free }
+found_least held frames f h =
+    let k = found_free held 0 frames f h in record { below = omega (arith, k.below); free = is_free_Free (held f) k.free }
 
 -- ---- a frame that is put
 
@@ -82,7 +88,8 @@ one_less held f c (suc n) = by_place (f == n) refl (one_less held f c n)
     less false k = omega arith
 
     by_place : (b : Bool) → (f == n) ≡ b → count_free held n ≤ count_free (put_at held f c) n + 1
-        → count_free held (suc n) ≤ cond (is_free (cond b c (held n))) (count_free (put_at held f c) n + 1) (count_free (put_at held f c) n) + 1
+        → count_free held (suc n) ≤ cond (is_free (cond b c (held n))) (count_free (put_at held f c) n + 1)
+        (count_free (put_at held f c) n) + 1
     by_place true is h =
         let same = before_put held f c n (omega (arith, eqb-true f n is)) in
         let low = less (is_free c) (count_free (put_at held f c) n) in

@@ -16,7 +16,8 @@ use Rattle.machine_book.specs.Books.{BookView, GoesOn, IsCalm, IsIdle}
 use Rattle.machine_book.proofs.OptionLaws.{get_left, get_right}
 use Rattle.machine_book.specs.Building.{AreNext, Grows, IsPlacedLine, frame_count, frames_taken}
 
-ahead_rest : (j : JobView) (past past' : List Entry) (xs ys : List BuildStep) → built past' ≡ built past + length xs → AreNext j past (xs ++ ys) → AreNext j past' ys
+ahead_rest : (j : JobView) (past past' : List Entry) (xs ys : List BuildStep) → built past' ≡ built past + length xs
+    → AreNext j past (xs ++ ys) → AreNext j past' ys
 ahead_rest j past past' xs ys is ahead i step h =
     let place : built past + (length xs + i) ≡ built past' + i = omega (arith, is) in
     rw (← place) (ahead (length xs + i) step (get_right xs ys i ∙ h))
@@ -42,7 +43,8 @@ pub idle_same : (p : ℕ) (b : BookView) → IsIdle p b b
 idle_same p b = record { replied = refl; stays = refl; interrupted = refl }
 
 pub idle_then : (p : ℕ) (b b' b'' : BookView) → IsIdle p b b' → IsIdle p b' b'' → IsIdle p b b''
-idle_then p b b' b'' g h = record { replied = h.replied ∙ g.replied; stays = h.stays ∙ g.stays; interrupted = h.interrupted ∙ g.interrupted }
+idle_then p b b' b'' g h =
+    record { replied = h.replied ∙ g.replied; stays = h.stays ∙ g.stays; interrupted = h.interrupted ∙ g.interrupted }
 
 pub grows_none : (b : BookView) → IsCalm b.past → Grows [] b b
 grows_none b calm = record {
@@ -71,17 +73,21 @@ grows_append xs ys b b' b'' g h =
 
 -- ---- version arrays
 
-pub grows_vas : (k : ℕ) (b b' b'' : BookView) → Grows (replicate k builds.Va) b b' → Grows (builds.Va ∷ []) b' b'' → Grows (replicate (k + 1) builds.Va) b b''
-grows_vas k b b' b'' g h = rw (← replicate-append-replicate k 1 builds.Va) (grows_append (replicate k builds.Va) (builds.Va ∷ []) b b' b'' g h)
+pub grows_vas : (k : ℕ) (b b' b'' : BookView) → Grows (replicate k builds.Va) b b' → Grows (builds.Va ∷ []) b' b''
+    → Grows (replicate (k + 1) builds.Va) b b''
+grows_vas k b b' b'' g h =
+    rw (← replicate-append-replicate k 1 builds.Va) (grows_append (replicate k builds.Va) (builds.Va ∷ []) b b' b'' g h)
 
 pub vas_taken : (k : ℕ) → frames_taken (replicate k builds.Va) ≡ k
 vas_taken k = sum_by-replicate frame_count k builds.Va ∙ omega arith
 
 -- ---- what was placed
 
-pub line_kept : (b b' : BookView) (enclave : ℕ) → GoesOn b b' → (line : PageLine) → IsPlacedLine b.past enclave line → IsPlacedLine b'.past enclave line
+pub line_kept : (b b' : BookView) (enclave : ℕ) → GoesOn b b' → (line : PageLine) → IsPlacedLine b.past enclave line
+    → IsPlacedLine b'.past enclave line
 line_kept b b' enclave g (lines.Tcs page ossa nssa plain) h = g.keeps _ _ _ h
 line_kept b b' enclave g (lines.Reg first count perm value plain) h = λ n low high. g.keeps _ _ _ (h n low high)
 
-pub lines_kept : (b b' : BookView) (enclave : ℕ) → GoesOn b b' → (ls : List PageLine) → All (IsPlacedLine b.past enclave) ls → All (IsPlacedLine b'.past enclave) ls
+pub lines_kept : (b b' : BookView) (enclave : ℕ) → GoesOn b b' → (ls : List PageLine) → All (IsPlacedLine b.past enclave) ls
+    → All (IsPlacedLine b'.past enclave) ls
 lines_kept b b' enclave g ls h = λ k d within. line_kept b b' enclave g (get_or ls k d) (h k d within)

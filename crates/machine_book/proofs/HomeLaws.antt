@@ -48,7 +48,8 @@ none_at n None = refl
 none_at n (Some place) = none_in n place
 
 pub homes_fresh : (homes : List Home) → homes ≡ replicate 36864 no_home → AreHomes (home_in homes) []
-homes_fresh homes is g = let none : home_in homes g ≡ no_home = rw is (none_at 36864 (place_of g)) in record { frame = rw none refl; saved = λ has. rw none refl }
+homes_fresh homes is g = let none : home_in homes g ≡ no_home = rw is (none_at 36864 (place_of g)) in
+    record { frame = rw none refl; saved = λ has. rw none refl }
 
 pub most_size : (base size : ℕ) → is_lawful base size ≡ true → size ≤ 2 ^ 24
 most_size base size h =
@@ -56,7 +57,8 @@ most_size base size h =
     let sizes = both_true (is_power_of_two size && nat_le 8192 size) (nat_le size (2 ^ 24)) range.0 in
     leb-true size (2 ^ 24) sizes.1
 
-lawful_sizes : (enclave base size : ℕ) → IsLawful enclave (record { base = base; size = size; is_init = false }) → (enclave ≤ 8) × (size ≤ 2 ^ 24)
+lawful_sizes : (enclave base size : ℕ) → IsLawful enclave (record { base = base; size = size; is_init = false })
+    → (enclave ≤ 8) × (size ≤ 2 ^ 24)
 lawful_sizes enclave base size h =
     let number = both_true (nat_le 1 enclave) (nat_le enclave 8) h.number in
     (leb-true enclave 8 number.1, most_size base size h.range)
@@ -66,7 +68,8 @@ within_size size number (inits.Words value) h = ltb-true number (size / 4096) h
 within_size size number (inits.Tcs ossa nssa) h = ltb-true number (size / 4096) (both_true _ _ (both_true _ _ h).0).0
 
 -- a page that was added can have a home
-added_has_home : (enclave number : ℕ) (kind : Kind) (perm : Perm) (init : PageInit) (is_added : Bool) (s : FrameSight) (o : Option FlatEnclave) → IfSome o (IsLawful enclave)
+added_has_home : (enclave number : ℕ) (kind : Kind) (perm : Perm) (init : PageInit) (is_added : Bool) (s : FrameSight)
+    (o : Option FlatEnclave) → IfSome o (IsLawful enclave)
     → first_of_row (add_row number kind perm init (enclave_sight_of o) is_added s) ≡ None → has_home (page_at enclave number) ≡ true
 added_has_home enclave number kind perm init is_added s None lawful allowed = absurd (no_add allowed)
   where
@@ -80,10 +83,13 @@ added_has_home enclave number kind perm init is_added s (Some x) lawful allowed 
 
 -- ---- one entry more
 
-frame_after : (page g : Page) (change : Home → Home) (h : Home) → ((x : Home) → (change x).frame ≡ x.frame) → (home_after page change g h).frame ≡ h.frame
-frame_after page g change h same = cond_both (has_home page && same_page page g) (change h) h (λ v. v.frame ≡ h.frame) (λ _. same h) (λ _. refl)
+frame_after : (page g : Page) (change : Home → Home) (h : Home) → ((x : Home) → (change x).frame ≡ x.frame)
+    → (home_after page change g h).frame ≡ h.frame
+frame_after page g change h same =
+    cond_both (has_home page && same_page page g) (change h) h (λ v. v.frame ≡ h.frame) (λ _. same h) (λ _. refl)
 
-saved_after : (page g : Page) (change : Home → Home) (count : ℕ → ℕ) (h : Home) (n : ℕ) → ((x : Home) → (change x).saved ≡ count x.saved) → has_home g ≡ true → h.saved ≡ n
+saved_after : (page g : Page) (change : Home → Home) (count : ℕ → ℕ) (h : Home) (n : ℕ) → ((x : Home) → (change x).saved ≡ count x.saved)
+    → has_home g ≡ true → h.saved ≡ n
     → (home_after page change g h).saved ≡ cond (same_page page g) (count n) n
 saved_after page g change count h n counts has is = by_test (same_page page g) refl
   where
@@ -92,70 +98,100 @@ saved_after page g change count h n counts has is = by_test (same_page page g) r
     by_test false same = rw (and-false (has_home page)) is
 
 -- by what a home was before
-more_home : (past : List Entry) (e : Entry) (g : Page) (before after new : Home) → after ≡ new → IsHome past g before → new.frame ≡ before.frame → frame_of (e ∷ past) g ≡ frame_of past g
+more_home : (past : List Entry) (e : Entry) (g : Page) (before after new : Home) → after ≡ new → IsHome past g before
+    → new.frame ≡ before.frame → frame_of (e ∷ past) g ≡ frame_of past g
     → (has_home g ≡ true → before.saved ≡ saved past g → new.saved ≡ saved (e ∷ past) g) → IsHome (e ∷ past) g after
 more_home past e g before after new is h frame same count = record {
   frame = ap (λ (x : Home). x.frame) is ∙ frame ∙ h.frame ∙ ap (option_map frame_at) (sym same);
   saved = λ has. ap (λ (x : Home). x.saved) is ∙ count has (h.saved has);
 }
 
-same_home : (past : List Entry) (e : Entry) (g : Page) (before after : Home) → after ≡ before → IsHome past g before → frame_of (e ∷ past) g ≡ frame_of past g → saved (e ∷ past) g ≡ saved past g
+same_home : (past : List Entry) (e : Entry) (g : Page) (before after : Home) → after ≡ before → IsHome past g before
+    → frame_of (e ∷ past) g ≡ frame_of past g → saved (e ∷ past) g ≡ saved past g
     → IsHome (e ∷ past) g after
 same_home past e g before after is h frame count = more_home past e g before after before is h refl frame (λ has saved. saved ∙ sym count)
 
-left_home : (p : ℕ) (cause : Cause) (ans : Answer) (past : List Entry) (cpu : Cpu) (g : Page) (before after : Home) (o : Option Stay) → stay past cpu.0 ≡ o → after ≡ home_left (page_of_stay o) g before → IsHome past g before
+left_home : (p : ℕ) (cause : Cause) (ans : Answer) (past : List Entry) (cpu : Cpu) (g : Page) (before after : Home) (o : Option Stay)
+    → stay past cpu.0 ≡ o → after ≡ home_left (page_of_stay o) g before → IsHome past g before
     → IsHome (did_by (actors.Cpu cpu) (Aex cause) ans ∷ past) g after
-left_home p cause ans past cpu g before after None at is h = more_home past (did_by (actors.Cpu cpu) (Aex cause) ans) g before after before is h refl refl (λ has saved. rw at saved)
+left_home p cause ans past cpu g before after None at is h =
+    more_home past (did_by (actors.Cpu cpu) (Aex cause) ans) g before after before is h refl refl (λ has saved. rw at saved)
 left_home p cause ans past cpu g before after (Some s) at is h =
     let page = page_at s.seat.enclave s.seat.tcs in
-    more_home past (did_by (actors.Cpu cpu) (Aex cause) ans) g before after (home_after page with_more g before) is h (frame_after page g with_more before (λ x. refl)) refl
+    more_home past (did_by (actors.Cpu cpu) (Aex cause) ans) g before after (home_after page with_more g before) is h
+    (frame_after page g with_more before (λ x. refl)) refl
     (λ has is_saved. rw at (saved_after page g with_more (λ n. n + 1) before (saved past g) (λ x. refl) has is_saved))
 
 homes_did : (cpus frames : ℕ) (a : Actor) (act : Action) (ans : Answer) (past : List Entry) (home home' : Page → Home) → CanAsk cpus a act
-    → KeepsRules frames (did_by a act ans ∷ past) → IsCalm past → AreHomes home past → ((g : Page) → home' g ≡ home_by (events.Did act ans) (page_left a act past) g (home g)) → AreHomes home' (did_by a act ans ∷ past)
-homes_did cpus frames a (Epa f) ans past home home' can rules calm h more g = same_home past (did_by a (Epa f) ans) g (home g) (home' g) (more g) (h g) refl refl
-homes_did cpus frames a (Create enclave f base size) ans past home home' can rules calm h more g = same_home past (did_by a (Create enclave f base size) ans) g (home g) (home' g) (more g) (h g) refl refl
+    → KeepsRules frames (did_by a act ans ∷ past) → IsCalm past → AreHomes home past
+    → ((g : Page) → home' g ≡ home_by (events.Did act ans) (page_left a act past) g (home g)) → AreHomes home' (did_by a act ans ∷ past)
+homes_did cpus frames a (Epa f) ans past home home' can rules calm h more g =
+    same_home past (did_by a (Epa f) ans) g (home g) (home' g) (more g) (h g) refl refl
+homes_did cpus frames a (Create enclave f base size) ans past home home' can rules calm h more g =
+    same_home past (did_by a (Create enclave f base size) ans) g (home g) (home' g) (more g) (h g) refl refl
 homes_did cpus frames a (Add enclave number f kind perm init) ans past home home' can rules calm h more g =
     let has = added_has_home enclave number kind perm init _ _ ((flat past).enclaves enclave) (calm.lawful enclave) rules.refusal.0.0 in
     record {
       frame = ap (λ (x : Home). x.frame) (more g) ∙ rw has (by_frame (same_page (page_at enclave number) g) (home g) (h g).frame);
-      saved = λ there. ap (λ (x : Home). x.saved) (more g) ∙ rw has (by_saved (same_page (page_at enclave number) g) (home g) ((h g).saved there));
+      saved = λ there. ap (λ (x : Home). x.saved) (more g)
+          ∙ rw has (by_saved (same_page (page_at enclave number) g) (home g) ((h g).saved there));
     }
   where
-    by_frame : (b : Bool) (x : Home) → x.frame ≡ option_map frame_at (frame_of past g) → (cond b (with_frame f x) x).frame ≡ option_map frame_at (cond b (Some f.0) (frame_of past g))
+    by_frame : (b : Bool) (x : Home) → x.frame ≡ option_map frame_at (frame_of past g)
+        → (cond b (with_frame f x) x).frame ≡ option_map frame_at (cond b (Some f.0) (frame_of past g))
     by_frame true x is = refl
     by_frame false x is = is
 
     by_saved : (b : Bool) (x : Home) → x.saved ≡ saved past g → (cond b (with_frame f x) x).saved ≡ saved past g
     by_saved true x is = is
     by_saved false x is = is
-homes_did cpus frames a (Extend f chunk) ans past home home' can rules calm h more g = same_home past (did_by a (Extend f chunk) ans) g (home g) (home' g) (more g) (h g) refl refl
-homes_did cpus frames a (Init enclave expect) ans past home home' can rules calm h more g = same_home past (did_by a (Init enclave expect) ans) g (home g) (home' g) (more g) (h g) refl refl
-homes_did cpus frames (actors.Cpu p) (Enter enclave tcs tf sf) ans past home home' can rules calm h more g = same_home past (did_by (actors.Cpu p) (Enter enclave tcs tf sf) ans) g (home g) (home' g) (more g) (h g) refl refl
+homes_did cpus frames a (Extend f chunk) ans past home home' can rules calm h more g =
+    same_home past (did_by a (Extend f chunk) ans) g (home g) (home' g) (more g) (h g) refl refl
+homes_did cpus frames a (Init enclave expect) ans past home home' can rules calm h more g =
+    same_home past (did_by a (Init enclave expect) ans) g (home g) (home' g) (more g) (h g) refl refl
+homes_did cpus frames (actors.Cpu p) (Enter enclave tcs tf sf) ans past home home' can rules calm h more g =
+    same_home past (did_by (actors.Cpu p) (Enter enclave tcs tf sf) ans) g (home g) (home' g) (more g) (h g) refl refl
 homes_did cpus frames (actors.Cpu p) (Resume enclave tcs tf sf) ans past home home' can rules calm h more g =
     let page = page_at enclave tcs in
-    more_home past (did_by (actors.Cpu p) (Resume enclave tcs tf sf) ans) g (home g) (home' g) (home_after page with_fewer g (home g)) (more g) (h g) (frame_after page g with_fewer (home g) (λ x. refl)) refl
+    more_home past (did_by (actors.Cpu p) (Resume enclave tcs tf sf) ans) g (home g) (home' g) (home_after page with_fewer g (home g))
+    (more g) (h g) (frame_after page g with_fewer (home g) (λ x. refl)) refl
     (saved_after page g with_fewer (λ n. n - 1) (home g) (saved past g) (λ x. refl))
-homes_did cpus frames (actors.Cpu p) Exit ans past home home' can rules calm h more g = same_home past (did_by (actors.Cpu p) Exit ans) g (home g) (home' g) (more g) (h g) refl refl
-homes_did cpus frames (actors.Cpu p) (Aex cause) ans past home home' can rules calm h more g = left_home p.0 cause ans past p g (home g) (home' g) (stay past p.0) refl (more g) (h g)
-homes_did cpus frames (actors.Cpu p) (Fill number f) ans past home home' can rules calm h more g = same_home past (did_by (actors.Cpu p) (Fill number f) ans) g (home g) (home' g) (more g) (h g) refl refl
-homes_did cpus frames (actors.Cpu p) (Load off) ans past home home' can rules calm h more g = same_home past (did_by (actors.Cpu p) (Load off) ans) g (home g) (home' g) (more g) (h g) refl refl
-homes_did cpus frames (actors.Cpu p) (Store off value) ans past home home' can rules calm h more g = same_home past (did_by (actors.Cpu p) (Store off value) ans) g (home g) (home' g) (more g) (h g) refl refl
-homes_did cpus frames (actors.Cpu p) (Xadd off value) ans past home home' can rules calm h more g = same_home past (did_by (actors.Cpu p) (Xadd off value) ans) g (home g) (home' g) (more g) (h g) refl refl
-homes_did cpus frames (actors.Cpu p) (Set value) ans past home home' can rules calm h more g = same_home past (did_by (actors.Cpu p) (Set value) ans) g (home g) (home' g) (more g) (h g) refl refl
-homes_did cpus frames (actors.Cpu p) (Plus value) ans past home home' can rules calm h more g = same_home past (did_by (actors.Cpu p) (Plus value) ans) g (home g) (home' g) (more g) (h g) refl refl
-homes_did cpus frames (actors.Cpu p) (Pf op off) ans past home home' can rules calm h more g = same_home past (did_by (actors.Cpu p) (Pf op off) ans) g (home g) (home' g) (more g) (h g) refl refl
-homes_did cpus frames (actors.Cpu p) (OutLoad enclave off) ans past home home' can rules calm h more g = same_home past (did_by (actors.Cpu p) (OutLoad enclave off) ans) g (home g) (home' g) (more g) (h g) refl refl
-homes_did cpus frames (actors.Cpu p) (OutStore enclave off value) ans past home home' can rules calm h more g = same_home past (did_by (actors.Cpu p) (OutStore enclave off value) ans) g (home g) (home' g) (more g) (h g) refl refl
+homes_did cpus frames (actors.Cpu p) Exit ans past home home' can rules calm h more g =
+    same_home past (did_by (actors.Cpu p) Exit ans) g (home g) (home' g) (more g) (h g) refl refl
+homes_did cpus frames (actors.Cpu p) (Aex cause) ans past home home' can rules calm h more g =
+    left_home p.0 cause ans past p g (home g) (home' g) (stay past p.0) refl (more g) (h g)
+homes_did cpus frames (actors.Cpu p) (Fill number f) ans past home home' can rules calm h more g =
+    same_home past (did_by (actors.Cpu p) (Fill number f) ans) g (home g) (home' g) (more g) (h g) refl refl
+homes_did cpus frames (actors.Cpu p) (Load off) ans past home home' can rules calm h more g =
+    same_home past (did_by (actors.Cpu p) (Load off) ans) g (home g) (home' g) (more g) (h g) refl refl
+homes_did cpus frames (actors.Cpu p) (Store off value) ans past home home' can rules calm h more g =
+    same_home past (did_by (actors.Cpu p) (Store off value) ans) g (home g) (home' g) (more g) (h g) refl refl
+homes_did cpus frames (actors.Cpu p) (Xadd off value) ans past home home' can rules calm h more g =
+    same_home past (did_by (actors.Cpu p) (Xadd off value) ans) g (home g) (home' g) (more g) (h g) refl refl
+homes_did cpus frames (actors.Cpu p) (Set value) ans past home home' can rules calm h more g =
+    same_home past (did_by (actors.Cpu p) (Set value) ans) g (home g) (home' g) (more g) (h g) refl refl
+homes_did cpus frames (actors.Cpu p) (Plus value) ans past home home' can rules calm h more g =
+    same_home past (did_by (actors.Cpu p) (Plus value) ans) g (home g) (home' g) (more g) (h g) refl refl
+homes_did cpus frames (actors.Cpu p) (Pf op off) ans past home home' can rules calm h more g =
+    same_home past (did_by (actors.Cpu p) (Pf op off) ans) g (home g) (home' g) (more g) (h g) refl refl
+homes_did cpus frames (actors.Cpu p) (OutLoad enclave off) ans past home home' can rules calm h more g =
+    same_home past (did_by (actors.Cpu p) (OutLoad enclave off) ans) g (home g) (home' g) (more g) (h g) refl refl
+homes_did cpus frames (actors.Cpu p) (OutStore enclave off value) ans past home home' can rules calm h more g =
+    same_home past (did_by (actors.Cpu p) (OutStore enclave off value) ans) g (home g) (home' g) (more g) (h g) refl refl
 homes_did cpus frames a action ans past home home' can rules calm h more g = absurd can
 
-pub homes_more : (cpus frames : ℕ) (a : Actor) (action : Action) (event : Event) (past : List Entry) (home home' : Page → Home) → CanAsk cpus a action
-    → action_of event ≡ Some action → KeepsRules frames ((let e : Entry = record { actor = a; event = event } in e) ∷ past) → IsCalm past → AreHomes home past
-    → ((g : Page) → home' g ≡ home_by event (page_left a action past) g (home g)) → AreHomes home' ((let e : Entry = record { actor = a; event = event } in e) ∷ past)
+pub homes_more : (cpus frames : ℕ) (a : Actor) (action : Action) (event : Event) (past : List Entry) (home home' : Page → Home)
+    → CanAsk cpus a action
+    → action_of event ≡ Some action → KeepsRules frames ((let e : Entry = record { actor = a; event = event } in e) ∷ past) → IsCalm past
+    → AreHomes home past
+    → ((g : Page) → home' g ≡ home_by event (page_left a action past) g (home g))
+    → AreHomes home' ((let e : Entry = record { actor = a; event = event } in e) ∷ past)
 homes_more cpus frames a action (events.Did act ans) past home home' can is rules calm h more =
     let same = some_same act action is in
-    homes_did cpus frames a act ans past home home' (rw same can) rules calm h (λ g. more g ∙ ap (λ x. home_by (events.Did act ans) (page_left a x past) g (home g)) (sym same))
-homes_more cpus frames a action (events.Refused act why) past home home' can is rules calm h more = λ g. record { frame = rw (more g) (h g).frame; saved = λ has. rw (more g) ((h g).saved has) }
+    homes_did cpus frames a act ans past home home' (rw same can) rules calm h
+    (λ g. more g ∙ ap (λ x. home_by (events.Did act ans) (page_left a x past) g (home g)) (sym same))
+homes_more cpus frames a action (events.Refused act why) past home home' can is rules calm h more =
+    λ g. record { frame = rw (more g) (h g).frame; saved = λ has. rw (more g) ((h g).saved has) }
 homes_more cpus frames a action _ past home home' can is rules calm h more = cc
 
 -- ---- the count fits
@@ -170,7 +206,8 @@ saved_did (Add enclave number f kind perm init) ans left g n = same_le n
 saved_did (Extend f chunk) ans left g n = same_le n
 saved_did (Init enclave expect) ans left g n = same_le n
 saved_did (Enter enclave tcs tf sf) ans left g n = same_le n
-saved_did (Resume enclave tcs tf sf) ans left g n = cond_both (same_page (page_at enclave tcs) g) (n - 1) n (λ v. v ≤ n + 1) (λ _. omega arith) (λ _. omega arith)
+saved_did (Resume enclave tcs tf sf) ans left g n =
+    cond_both (same_page (page_at enclave tcs) g) (n - 1) n (λ v. v ≤ n + 1) (λ _. omega arith) (λ _. omega arith)
 saved_did Exit ans left g n = same_le n
 saved_did (Aex cause) ans left g n = cond_both left (n + 1) n (λ v. v ≤ n + 1) (λ _. omega arith) (λ _. omega arith)
 saved_did (Fill number f) ans left g n = same_le n
@@ -199,15 +236,18 @@ saved_step (events.Bus page why) left g n = same_le n
 -- at most one state save frame for each entry
 pub saved_few : (past : List Entry) (g : Page) → saved past g ≤ length past
 saved_few [] g = omega arith
-saved_few (e ∷ past) g = let before = saved_few past g in let step = saved_step e.event (leaves_by e.actor past g) g (saved past g) in omega arith
+saved_few (e ∷ past) g =
+    let before = saved_few past g in let step = saved_step e.event (leaves_by e.actor past g) g (saved past g) in omega arith
 
 -- the count of a home by the entries of a vector
-pub home_small : (homes : List Home) (entries : List Entry) (g : Page) → AreHomes (home_in homes) (reverse entries) → length entries < 2 ^ 63 → (home_in homes g).saved < 2 ^ 63
+pub home_small : (homes : List Home) (entries : List Entry) (g : Page) → AreHomes (home_in homes) (reverse entries)
+    → length entries < 2 ^ 63 → (home_in homes g).saved < 2 ^ 63
 home_small homes entries g h few = by_home (has_home g) refl
   where
     none_saved : has_home g ≡ false → (home_in homes g).saved ≡ 0
     none_saved none = rw none refl
 
     by_home : (b : Bool) → has_home g ≡ b → (home_in homes g).saved < 2 ^ 63
-    by_home true has = let counted = (h g).saved has in let most = saved_few (reverse entries) g in let len = length-reverse entries in omega arith
+    by_home true has =
+        let counted = (h g).saved has in let most = saved_few (reverse entries) g in let len = length-reverse entries in omega arith
     by_home false none = let zero_saved = none_saved none in omega arith

@@ -48,29 +48,39 @@ pub record AddsNone (past : List Entry) (e : Entry) : Type 0 where
   pub added : (g : Page) → added_as ((flat (e ∷ past)).pages g) ≡ added_as ((flat past).pages g)
 
 stay_none : (past : List Entry) (e : Entry) → AddsNone past e
-    → ((n : ℕ) (g : Page) (kind : Kind) (perm : Perm) → content past n ≡ Holds g kind perm → content (e ∷ past) n ≡ Holds g kind perm) → PagesStay past e
+    → ((n : ℕ) (g : Page) (kind : Kind) (perm : Perm) → content past n ≡ Holds g kind perm → content (e ∷ past) n ≡ Holds g kind perm)
+    → PagesStay past e
 stay_none past e none held = record {
   keeps = keeps;
   placed = λ all g kind perm is. keeps g kind perm (all g kind perm (sym (none.added g) ∙ is));
 }
   where
     keeps : (g : Page) (kind : Kind) (perm : Perm) → IsPlaced past g kind perm → IsPlaced (e ∷ past) g kind perm
-    keeps g kind perm h = record { frame = h.frame; there = none.frame_of g ∙ h.there; held = held h.frame g kind perm h.held; added = none.added g ∙ h.added }
+    keeps g kind perm h = record {
+      frame = h.frame;
+      there = none.frame_of g ∙ h.there;
+      held = held h.frame g kind perm h.held;
+      added = none.added g ∙ h.added;
+    }
 
-added_did : (past : List Entry) (a : Actor) (act : Action) (ans : Answer) → ((g : Page) → added_as ((memory_after a act (flat past)).pages g) ≡ added_as ((flat past).pages g))
+added_did : (past : List Entry) (a : Actor) (act : Action) (ans : Answer)
+    → ((g : Page) → added_as ((memory_after a act (flat past)).pages g) ≡ added_as ((flat past).pages g))
     → (g : Page) → added_as ((flat (did_by a act ans ∷ past)).pages g) ≡ added_as ((flat past).pages g)
 added_did past a act ans h g =
-    cond_both (accepts (flat past) a act) (memory_after a act (flat past)) (flat past) (λ v. added_as (v.pages g) ≡ added_as ((flat past).pages g)) (λ _. h g) (λ _. refl)
+    cond_both (accepts (flat past) a act) (memory_after a act (flat past)) (flat past)
+    (λ v. added_as (v.pages g) ≡ added_as ((flat past).pages g)) (λ _. h g) (λ _. refl)
 
 -- .. and put nothing anywhere
 stay_same : (past : List Entry) (e : Entry) → AddsNone past e → ((n : ℕ) → content (e ∷ past) n ≡ content past n) → PagesStay past e
 stay_same past e none same = stay_none past e none (λ n g kind perm is. same n ∙ is)
 
-unlike : (past : List Entry) (f n : ℕ) (g : Page) (kind : Kind) (perm : Perm) → content past f ≡ Free → content past n ≡ Holds g kind perm → (f == n) ≡ false
+unlike : (past : List Entry) (f n : ℕ) (g : Page) (kind : Kind) (perm : Perm) → content past f ≡ Free → content past n ≡ Holds g kind perm
+    → (f == n) ≡ false
 unlike past f n g kind perm free held = apart f n (λ same. cc (free, held, same))
 
 -- .. or put something that is no page into a free frame
-stay_put : (past : List Entry) (e : Entry) (f : ℕ) (c : Content) → AddsNone past e → content past f ≡ Free → ((n : ℕ) → content (e ∷ past) n ≡ cond (f == n) c (content past n)) → PagesStay past e
+stay_put : (past : List Entry) (e : Entry) (f : ℕ) (c : Content) → AddsNone past e → content past f ≡ Free
+    → ((n : ℕ) → content (e ∷ past) n ≡ cond (f == n) c (content past n)) → PagesStay past e
 stay_put past e f c none free put = stay_none past e none (λ n g kind perm is. put n ∙ rw (unlike past f n g kind perm free is) is)
 
 -- ---- an entry that adds a page
@@ -79,13 +89,16 @@ placed_as : (past : List Entry) (g : Page) (x y : Kind × Perm) → x ≡ y → 
 placed_as past g x y same h = rw (← same) h
 
 unadded_of : (m : FlatMemory) (enclave number : ℕ) (kind : Kind) (perm : Perm) (init : PageInit) (o : Option EnclaveSight)
-    → first_of_row (add_row number kind perm init o (is_some (m.pages (page_at enclave number))) open_frame) ≡ None → m.pages (page_at enclave number) ≡ None
-unadded_of m enclave number kind perm init None allowed = let row = none_holds (add_row number kind perm init None (is_some (m.pages (page_at enclave number))) open_frame) allowed in cc
+    → first_of_row (add_row number kind perm init o (is_some (m.pages (page_at enclave number))) open_frame) ≡ None
+    → m.pages (page_at enclave number) ≡ None
+unadded_of m enclave number kind perm init None allowed =
+    let row = none_holds (add_row number kind perm init None (is_some (m.pages (page_at enclave number))) open_frame) allowed in cc
 unadded_of m enclave number kind perm init (Some x) allowed =
     let row = none_holds (add_row number kind perm init (Some x) (is_some (m.pages (page_at enclave number))) open_frame) allowed in
     none_there (m.pages (page_at enclave number)) row.1.1.1.1.1.0
 
-module _ (past : List Entry) (a : Actor) (enclave number : ℕ) (f : Frame) (kind : Kind) (perm : Perm) (init : PageInit) (ans : Answer) (taken : accepts (flat past) a (Add enclave number f kind perm init) ≡ true) (free : content past f.0 ≡ Free) where
+module _ (past : List Entry) (a : Actor) (enclave number : ℕ) (f : Frame) (kind : Kind) (perm : Perm) (init : PageInit) (ans : Answer)
+    (taken : accepts (flat past) a (Add enclave number f kind perm init) ≡ true) (free : content past f.0 ≡ Free) where
   abbrev new : Page
   new = page_at enclave number
 
@@ -99,7 +112,8 @@ module _ (past : List Entry) (a : Actor) (enclave number : ℕ) (f : Frame) (kin
   unadded = unadded_of (flat past) enclave number kind perm init (enclave_sight (flat past) enclave) (taken_none _ taken)
 
   -- a page that was added before is another
-  other_page : (g : Page) (x : Kind × Perm) → added_as ((flat past).pages g) ≡ Some x → (same_page new g ≡ false) × (same_page g new ≡ false)
+  other_page : (g : Page) (x : Kind × Perm) → added_as ((flat past).pages g) ≡ Some x
+      → (same_page new g ≡ false) × (same_page g new ≡ false)
   other_page g x was = (by_test (same_page new g) refl, by_swap (same_page g new) refl)
     where
       not_new : new ≡ g → ⊥
@@ -137,7 +151,8 @@ module _ (past : List Entry) (a : Actor) (enclave number : ℕ) (f : Frame) (kin
       by_test : (b : Bool) → same_page g new ≡ b → IsPlaced (e ∷ past) g k p
       by_test true same =
           let at : g ≡ new = same_pages g new same in
-          rw at (placed_as (e ∷ past) new (kind, perm) (k, p) (some_same (kind, perm) (k, p) (sym new_placed.added ∙ (rw at at is))) new_placed)
+          rw at (placed_as (e ∷ past) new (kind, perm) (k, p) (some_same (kind, perm) (k, p) (sym new_placed.added ∙ (rw at at is)))
+          new_placed)
       by_test false same = kept g k p (all g k p (rw (after, same) at is))
 
   pub stay_added : PagesStay past e
@@ -150,53 +165,83 @@ saved_added m acc None g = refl
 saved_added m acc (Some i) g =
     let fields = fields_in m i.enclave i.tcs in
     let save : Page = page_at i.enclave (fields.ossa + fields.cssa) in
-    added-changed (with_words m save (λ words. slice_set words 0 acc)) (page_at i.enclave i.tcs) (λ words. with_cssa words (fields.cssa + 1)) g
+    added-changed (with_words m save (λ words. slice_set words 0 acc)) (page_at i.enclave i.tcs)
+    (λ words. with_cssa words (fields.cssa + 1)) g
     ∙ added-changed m save (λ words. slice_set words 0 acc) g
 
-stored_added : (m : FlatMemory) (o : Option Inside) (off value : ℕ) (g : Page) → added_as ((stored m o off value).pages g) ≡ added_as (m.pages g)
+stored_added : (m : FlatMemory) (o : Option Inside) (off value : ℕ) (g : Page)
+    → added_as ((stored m o off value).pages g) ≡ added_as (m.pages g)
 stored_added m None off value g = refl
 stored_added m (Some i) off value g = added-changed m _ _ g
 
-stay_did : (cpus frames : ℕ) (a : Actor) (action : Action) (ans : Answer) (past : List Entry) → CanAsk cpus a action → KeepsRules frames (did_by a action ans ∷ past) → PagesStay past (did_by a action ans)
+stay_did : (cpus frames : ℕ) (a : Actor) (action : Action) (ans : Answer) (past : List Entry) → CanAsk cpus a action
+    → KeepsRules frames (did_by a action ans ∷ past) → PagesStay past (did_by a action ans)
 stay_did cpus frames a (Epa f) ans past can rules =
-    stay_put past (did_by a (Epa f) ans) f.0 IsVa (record { frame_of = λ g. refl; added = added_did past a (Epa f) ans (λ g. refl) }) rules.fits.entries.0.1 (λ n. refl)
+    stay_put past (did_by a (Epa f) ans) f.0 IsVa (record { frame_of = λ g. refl; added = added_did past a (Epa f) ans (λ g. refl) })
+    rules.fits.entries.0.1 (λ n. refl)
 stay_did cpus frames a (Create enclave f base size) ans past can rules =
-    stay_put past (did_by a (Create enclave f base size) ans) f.0 (SecsOf enclave) (record { frame_of = λ g. refl; added = added_did past a (Create enclave f base size) ans (λ g. refl) }) rules.fits.entries.0.1 (λ n. refl)
-stay_did cpus frames a (Add enclave number f kind perm init) ans past can rules = stay_added past a enclave number f kind perm init ans (rules.flat.0 refl).taken rules.fits.entries.0.1
+    stay_put past (did_by a (Create enclave f base size) ans) f.0 (SecsOf enclave)
+    (record { frame_of = λ g. refl; added = added_did past a (Create enclave f base size) ans (λ g. refl) }) rules.fits.entries.0.1
+    (λ n. refl)
+stay_did cpus frames a (Add enclave number f kind perm init) ans past can rules =
+    stay_added past a enclave number f kind perm init ans (rules.flat.0 refl).taken rules.fits.entries.0.1
 stay_did cpus frames a (Extend f chunk) ans past can rules =
-    stay_same past (did_by a (Extend f chunk) ans) (record { frame_of = λ g. refl; added = added_did past a (Extend f chunk) ans (λ g. refl) }) (λ n. refl)
+    stay_same past (did_by a (Extend f chunk) ans)
+    (record { frame_of = λ g. refl; added = added_did past a (Extend f chunk) ans (λ g. refl) }) (λ n. refl)
 stay_did cpus frames a (Init enclave expect) ans past can rules =
-    stay_same past (did_by a (Init enclave expect) ans) (record { frame_of = λ g. refl; added = added_did past a (Init enclave expect) ans (λ g. refl) }) (λ n. refl)
+    stay_same past (did_by a (Init enclave expect) ans)
+    (record { frame_of = λ g. refl; added = added_did past a (Init enclave expect) ans (λ g. refl) }) (λ n. refl)
 stay_did cpus frames (actors.Cpu p) (Enter enclave tcs tf sf) ans past can rules =
-    stay_same past (did_by (actors.Cpu p) (Enter enclave tcs tf sf) ans) (record { frame_of = λ g. refl; added = added_did past (actors.Cpu p) (Enter enclave tcs tf sf) ans (λ g. refl) }) (λ n. refl)
+    stay_same past (did_by (actors.Cpu p) (Enter enclave tcs tf sf) ans)
+    (record { frame_of = λ g. refl; added = added_did past (actors.Cpu p) (Enter enclave tcs tf sf) ans (λ g. refl) }) (λ n. refl)
 stay_did cpus frames (actors.Cpu p) (Resume enclave tcs tf sf) ans past can rules =
-    stay_same past (did_by (actors.Cpu p) (Resume enclave tcs tf sf) ans) (record { frame_of = λ g. refl; added = added_did past (actors.Cpu p) (Resume enclave tcs tf sf) ans (added-changed (flat past) _ _) }) (λ n. refl)
+    stay_same past (did_by (actors.Cpu p) (Resume enclave tcs tf sf) ans)
+    (record {
+      frame_of = λ g. refl;
+      added = added_did past (actors.Cpu p) (Resume enclave tcs tf sf) ans
+          (added-changed (flat past) _ _);
+    }) (λ n. refl)
 stay_did cpus frames (actors.Cpu p) Exit ans past can rules =
-    stay_same past (did_by (actors.Cpu p) Exit ans) (record { frame_of = λ g. refl; added = added_did past (actors.Cpu p) Exit ans (λ g. refl) }) (λ n. refl)
+    stay_same past (did_by (actors.Cpu p) Exit ans)
+    (record { frame_of = λ g. refl; added = added_did past (actors.Cpu p) Exit ans (λ g. refl) }) (λ n. refl)
 stay_did cpus frames (actors.Cpu p) (Aex cause) ans past can rules =
-    stay_same past (did_by (actors.Cpu p) (Aex cause) ans) (record { frame_of = λ g. refl; added = added_did past (actors.Cpu p) (Aex cause) ans (saved_added (flat past) _ _) }) (λ n. refl)
+    stay_same past (did_by (actors.Cpu p) (Aex cause) ans)
+    (record { frame_of = λ g. refl; added = added_did past (actors.Cpu p) (Aex cause) ans (saved_added (flat past) _ _) }) (λ n. refl)
 stay_did cpus frames (actors.Cpu p) (Fill number f) ans past can rules =
-    stay_same past (did_by (actors.Cpu p) (Fill number f) ans) (record { frame_of = λ g. refl; added = added_did past (actors.Cpu p) (Fill number f) ans (λ g. refl) }) (λ n. refl)
+    stay_same past (did_by (actors.Cpu p) (Fill number f) ans)
+    (record { frame_of = λ g. refl; added = added_did past (actors.Cpu p) (Fill number f) ans (λ g. refl) }) (λ n. refl)
 stay_did cpus frames (actors.Cpu p) (Load off) ans past can rules =
-    stay_same past (did_by (actors.Cpu p) (Load off) ans) (record { frame_of = λ g. refl; added = added_did past (actors.Cpu p) (Load off) ans (λ g. refl) }) (λ n. refl)
+    stay_same past (did_by (actors.Cpu p) (Load off) ans)
+    (record { frame_of = λ g. refl; added = added_did past (actors.Cpu p) (Load off) ans (λ g. refl) }) (λ n. refl)
 stay_did cpus frames (actors.Cpu p) (Store off value) ans past can rules =
-    stay_same past (did_by (actors.Cpu p) (Store off value) ans) (record { frame_of = λ g. refl; added = added_did past (actors.Cpu p) (Store off value) ans (stored_added (flat past) _ _ _) }) (λ n. refl)
+    stay_same past (did_by (actors.Cpu p) (Store off value) ans)
+    (record { frame_of = λ g. refl; added = added_did past (actors.Cpu p) (Store off value) ans (stored_added (flat past) _ _ _) })
+    (λ n. refl)
 stay_did cpus frames (actors.Cpu p) (Xadd off value) ans past can rules =
-    stay_same past (did_by (actors.Cpu p) (Xadd off value) ans) (record { frame_of = λ g. refl; added = added_did past (actors.Cpu p) (Xadd off value) ans (stored_added (flat past) _ _ _) }) (λ n. refl)
+    stay_same past (did_by (actors.Cpu p) (Xadd off value) ans)
+    (record { frame_of = λ g. refl; added = added_did past (actors.Cpu p) (Xadd off value) ans (stored_added (flat past) _ _ _) })
+    (λ n. refl)
 stay_did cpus frames (actors.Cpu p) (Set value) ans past can rules =
-    stay_same past (did_by (actors.Cpu p) (Set value) ans) (record { frame_of = λ g. refl; added = added_did past (actors.Cpu p) (Set value) ans (λ g. refl) }) (λ n. refl)
+    stay_same past (did_by (actors.Cpu p) (Set value) ans)
+    (record { frame_of = λ g. refl; added = added_did past (actors.Cpu p) (Set value) ans (λ g. refl) }) (λ n. refl)
 stay_did cpus frames (actors.Cpu p) (Plus value) ans past can rules =
-    stay_same past (did_by (actors.Cpu p) (Plus value) ans) (record { frame_of = λ g. refl; added = added_did past (actors.Cpu p) (Plus value) ans (λ g. refl) }) (λ n. refl)
+    stay_same past (did_by (actors.Cpu p) (Plus value) ans)
+    (record { frame_of = λ g. refl; added = added_did past (actors.Cpu p) (Plus value) ans (λ g. refl) }) (λ n. refl)
 stay_did cpus frames (actors.Cpu p) (Pf op off) ans past can rules =
-    stay_same past (did_by (actors.Cpu p) (Pf op off) ans) (record { frame_of = λ g. refl; added = added_did past (actors.Cpu p) (Pf op off) ans (λ g. refl) }) (λ n. refl)
+    stay_same past (did_by (actors.Cpu p) (Pf op off) ans)
+    (record { frame_of = λ g. refl; added = added_did past (actors.Cpu p) (Pf op off) ans (λ g. refl) }) (λ n. refl)
 stay_did cpus frames (actors.Cpu p) (OutLoad enclave off) ans past can rules =
-    stay_same past (did_by (actors.Cpu p) (OutLoad enclave off) ans) (record { frame_of = λ g. refl; added = added_did past (actors.Cpu p) (OutLoad enclave off) ans (λ g. refl) }) (λ n. refl)
+    stay_same past (did_by (actors.Cpu p) (OutLoad enclave off) ans)
+    (record { frame_of = λ g. refl; added = added_did past (actors.Cpu p) (OutLoad enclave off) ans (λ g. refl) }) (λ n. refl)
 stay_did cpus frames (actors.Cpu p) (OutStore enclave off value) ans past can rules =
-    stay_same past (did_by (actors.Cpu p) (OutStore enclave off value) ans) (record { frame_of = λ g. refl; added = added_did past (actors.Cpu p) (OutStore enclave off value) ans (λ g. refl) }) (λ n. refl)
+    stay_same past (did_by (actors.Cpu p) (OutStore enclave off value) ans)
+    (record { frame_of = λ g. refl; added = added_did past (actors.Cpu p) (OutStore enclave off value) ans (λ g. refl) }) (λ n. refl)
 stay_did cpus frames a action ans past can rules = absurd can
 
-stay_refused : (cpus : ℕ) (a : Actor) (action : Action) (why : Refusal) (past : List Entry) → CanAsk cpus a action → PagesStay past (refused_by a action why)
-stay_refused cpus a action why past can = stay_same past (refused_by a action why) (record { frame_of = λ g. refl; added = λ g. refl }) (by_action a action can)
+stay_refused : (cpus : ℕ) (a : Actor) (action : Action) (why : Refusal) (past : List Entry) → CanAsk cpus a action
+    → PagesStay past (refused_by a action why)
+stay_refused cpus a action why past can =
+    stay_same past (refused_by a action why) (record { frame_of = λ g. refl; added = λ g. refl }) (by_action a action can)
   where
     by_action : (a : Actor) (action : Action) → CanAsk cpus a action → (n : ℕ) → content (refused_by a action why ∷ past) n ≡ content past n
     by_action a (Epa f) can n = refl
@@ -219,8 +264,12 @@ stay_refused cpus a action why past can = stay_same past (refused_by a action wh
     by_action (actors.Cpu p) (OutStore enclave off value) can n = refl
     by_action a action can n = absurd can
 
-pub pages_stay : (cpus frames : ℕ) (a : Actor) (action : Action) (event : Event) (past : List Entry) → CanAsk cpus a action → action_of event ≡ Some action
-    → KeepsRules frames ((let e : Entry = record { actor = a; event = event } in e) ∷ past) → PagesStay past (record { actor = a; event = event })
-pages_stay cpus frames a action (events.Did act ans) past can is rules = stay_did cpus frames a act ans past (rw (some_same act action is) can) rules
-pages_stay cpus frames a action (events.Refused act why) past can is rules = stay_refused cpus a act why past (rw (some_same act action is) can)
+pub pages_stay : (cpus frames : ℕ) (a : Actor) (action : Action) (event : Event) (past : List Entry) → CanAsk cpus a action
+    → action_of event ≡ Some action
+    → KeepsRules frames ((let e : Entry = record { actor = a; event = event } in e) ∷ past)
+    → PagesStay past (record { actor = a; event = event })
+pages_stay cpus frames a action (events.Did act ans) past can is rules =
+    stay_did cpus frames a act ans past (rw (some_same act action is) can) rules
+pages_stay cpus frames a action (events.Refused act why) past can is rules =
+    stay_refused cpus a act why past (rw (some_same act action is) can)
 pages_stay cpus frames a action _ past can is rules = cc

@@ -33,7 +33,8 @@ use Rattle.machine_book.proofs.GrowthLaws.{grows_append}
 numbers_more : (first k : ℕ) → numbers_from first (suc k) ≡ numbers_from first k ++ (first + k) ∷ []
 numbers_more first zero = ap (λ n. n ∷ []) {x = first} {y = first + 0} (omega arith)
 numbers_more first (suc k) =
-    ap (λ ns. first ∷ ns) (numbers_more (first + 1) k) ∙ ap (λ n. first ∷ (numbers_from (first + 1) k ++ n ∷ [])) {x = first + 1 + k} {y = first + suc k} (omega arith)
+    ap (λ ns. first ∷ ns) (numbers_more (first + 1) k)
+    ∙ ap (λ n. first ∷ (numbers_from (first + 1) k ++ n ∷ [])) {x = first + 1 + k} {y = first + suc k} (omega arith)
 
 length_numbers : (first k : ℕ) → length (numbers_from first k) ≡ k
 length_numbers first zero = refl
@@ -50,20 +51,27 @@ chunks_taken : (enclave number : ℕ) (plain : Bool) → frames_taken (chunk_ste
 chunks_taken enclave number true = refl
 chunks_taken enclave number false = refl
 
-pub page_taken : (enclave number : ℕ) (kind : Kind) (perm : Perm) (init : PageInit) (plain : Bool) → frames_taken (page_steps enclave number kind perm init plain) ≡ 1
+pub page_taken : (enclave number : ℕ) (kind : Kind) (perm : Perm) (init : PageInit) (plain : Bool)
+    → frames_taken (page_steps enclave number kind perm init plain) ≡ 1
 page_taken enclave number kind perm init plain =
-    sum_by-cons frame_count (builds.Add enclave number kind perm init) (chunk_steps enclave number plain) ∙ rw (chunks_taken enclave number plain) refl
+    sum_by-cons frame_count (builds.Add enclave number kind perm init) (chunk_steps enclave number plain)
+    ∙ rw (chunks_taken enclave number plain) refl
 
-chunk_more : (enclave number k : ℕ) → map (builds.Extend enclave number) (numbers_from 0 (k + 1)) ≡ map (builds.Extend enclave number) (numbers_from 0 k) ++ builds.Extend enclave number k ∷ []
+chunk_more : (enclave number k : ℕ) → map (builds.Extend enclave number) (numbers_from 0 (k + 1)) ≡ map (builds.Extend enclave number)
+    (numbers_from 0 k) ++ builds.Extend enclave number k ∷ []
 chunk_more enclave number k =
     ap (λ n. map (builds.Extend enclave number) (numbers_from 0 n)) {x = k + 1} {y = suc k} (omega arith)
-    ∙ ap (map (builds.Extend enclave number)) (numbers_more 0 k) ∙ map-append (builds.Extend enclave number) (numbers_from 0 k) ((0 + k) ∷ [])
-    ∙ ap (λ n. map (builds.Extend enclave number) (numbers_from 0 k) ++ builds.Extend enclave number n ∷ []) {x = 0 + k} {y = k} (omega arith)
+    ∙ ap (map (builds.Extend enclave number)) (numbers_more 0 k)
+    ∙ map-append (builds.Extend enclave number) (numbers_from 0 k) ((0 + k) ∷ [])
+    ∙ ap (λ n. map (builds.Extend enclave number) (numbers_from 0 k) ++ builds.Extend enclave number n ∷ []) {x = 0 + k} {y = k}
+    (omega arith)
 
-pub chunks_more : (enclave number k : ℕ) (b b' b'' : BookView) → Grows (map (builds.Extend enclave number) (numbers_from 0 k)) b b' → Grows (builds.Extend enclave number k ∷ []) b' b''
+pub chunks_more : (enclave number k : ℕ) (b b' b'' : BookView) → Grows (map (builds.Extend enclave number) (numbers_from 0 k)) b b'
+    → Grows (builds.Extend enclave number k ∷ []) b' b''
     → Grows (map (builds.Extend enclave number) (numbers_from 0 (k + 1))) b b''
 chunks_more enclave number k b b' b'' h more =
-    rw (chunk_more enclave number k) (grows_append (map (builds.Extend enclave number) (numbers_from 0 k)) (builds.Extend enclave number k ∷ []) b b' b'' h more)
+    rw (chunk_more enclave number k) (grows_append (map (builds.Extend enclave number) (numbers_from 0 k))
+    (builds.Extend enclave number k ∷ []) b b' b'' h more)
 
 -- ---- the pages of a line of REG pages
 
@@ -86,18 +94,22 @@ module _ (enclave first : ℕ) (perm : Perm) (value : ℕ) (plain : Bool) where
       ∙ ap (λ steps. flat_map whole_page (numbers_from first k) ++ steps) (append-nil (whole_page (first + k)))
 
   -- what holds of the step of each page holds of all steps
-  pub steps_at : (P : BuildStep → Type 0) (count : ℕ) → ((k : ℕ) → k < count → P (page_step (first + k))) → All P (line_adds enclave (first_ones count))
+  pub steps_at : (P : BuildStep → Type 0) (count : ℕ) → ((k : ℕ) → k < count → P (page_step (first + k)))
+      → All P (line_adds enclave (first_ones count))
   steps_at P count h k d within =
       let len = length_numbers first count in
       let all = length-map (numbers_from first count) page_step in
       let below : k < count = omega (arith, within, len, all) in
-      let is = get_or-map page_step (numbers_from first count) k 0 d (omega (arith, below, len)) ∙ ap page_step (numbers_at first count k 0 below) in
+      let is = get_or-map page_step (numbers_from first count) k 0 d (omega (arith, below, len))
+      ∙ ap page_step (numbers_at first count k 0 below) in
       rw is (h k below)
 
-  pub taken_at : (past : List Entry) (count k : ℕ) → AreTaken past (line_adds enclave (first_ones count)) → k < count → accepts (flat past) actors.Builder (step_action (page_step (first + k)) 0) ≡ true
+  pub taken_at : (past : List Entry) (count k : ℕ) → AreTaken past (line_adds enclave (first_ones count)) → k < count
+      → accepts (flat past) actors.Builder (step_action (page_step (first + k)) 0) ≡ true
   taken_at past count k h below =
       let len = length_numbers first count in
-      let is = get_or-map page_step (numbers_from first count) k 0 (page_step 0) (omega (arith, below, len)) ∙ ap page_step (numbers_at first count k 0 below) in
+      let is = get_or-map page_step (numbers_from first count) k 0 (page_step 0) (omega (arith, below, len))
+      ∙ ap page_step (numbers_at first count k 0 below) in
       let all = length-map (numbers_from first count) page_step in
       rw is at (h k (page_step 0) (omega (arith, below, len, all)))
 
@@ -105,16 +117,19 @@ module _ (enclave first : ℕ) (perm : Perm) (value : ℕ) (plain : Bool) where
   next_is_other : (k : ℕ) → adds enclave (first_ones k) (page_at enclave (first + k)) ≡ false
   next_is_other k = rw (le-ltb (first + k) (first + k) (omega arith), and-false (nat_le first (first + k))) (and-false (enclave == enclave))
 
-  pub next_taken : (b b' : BookView) (count k : ℕ) → AreTaken b.past (line_adds enclave (first_ones count)) → k < count → AddsOnly enclave (first_ones k) b b' → AreTaken b'.past (page_step (first + k) ∷ [])
+  pub next_taken : (b b' : BookView) (count k : ℕ) → AreTaken b.past (line_adds enclave (first_ones count)) → k < count
+      → AddsOnly enclave (first_ones k) b b' → AreTaken b'.past (page_step (first + k) ∷ [])
   next_taken b b' count k h below only i d within =
       let zeroth : i ≡ 0 = omega (arith, within) in
       rw zeroth (rw (only.enclaves enclave, only.pages (page_at enclave (first + k)) (next_is_other k)) (taken_at b.past count k h below))
 
-  placed_more : (b b' : BookView) (k : ℕ) → GoesOn b b' → IsPlacedLine b.past enclave (first_ones k) → IsPlaced b'.past (page_at enclave (first + k)) kinds.Reg perm
+  placed_more : (b b' : BookView) (k : ℕ) → GoesOn b b' → IsPlacedLine b.past enclave (first_ones k)
+      → IsPlaced b'.past (page_at enclave (first + k)) kinds.Reg perm
       → IsPlacedLine b'.past enclave (first_ones (k + 1))
   placed_more b b' k g h new n low high = by_place (leb_tells (first + k) n)
     where
-      by_place : ((nat_le (first + k) n ≡ true) × (first + k ≤ n)) ⊎ ((nat_le (first + k) n ≡ false) × (n < first + k)) → IsPlaced b'.past (page_at enclave n) kinds.Reg perm
+      by_place : ((nat_le (first + k) n ≡ true) × (first + k ≤ n)) ⊎ ((nat_le (first + k) n ≡ false) × (n < first + k))
+          → IsPlaced b'.past (page_at enclave n) kinds.Reg perm
       by_place (inl last) = let same : n ≡ first + k = omega (arith, last.1, high) in rw same new
       by_place (inr before) = g.keeps (page_at enclave n) kinds.Reg perm (h n low before.1)
 
@@ -126,7 +141,8 @@ module _ (enclave first : ℕ) (perm : Perm) (value : ℕ) (plain : Bool) where
   out_of : (k : ℕ) (g : Page) → adds enclave (first_ones (k + 1)) g ≡ false → IsOut k g
   out_of k g h = let o = by_enclave (g.enclave == enclave) h in record { before = o.0; next = o.1 }
     where
-      by_low : (low : Bool) → nat_le first g.number ≡ low → (low && nat_lt g.number (first + (k + 1))) ≡ false → ((low && nat_lt g.number (first + k)) ≡ false) × ((g.number == first + k) ≡ false)
+      by_low : (low : Bool) → nat_le first g.number ≡ low → (low && nat_lt g.number (first + (k + 1))) ≡ false
+          → ((low && nat_lt g.number (first + k)) ≡ false) × ((g.number == first + k) ≡ false)
       by_low true is h =
           let above = ltb-false g.number (first + (k + 1)) h in
           (le-ltb g.number (first + k) (omega (arith, above)), apart g.number (first + k) (λ same. omega (arith, above, same)))
@@ -137,7 +153,8 @@ module _ (enclave first : ℕ) (perm : Perm) (value : ℕ) (plain : Bool) where
       by_enclave true h = by_low (nat_le first g.number) refl h
       by_enclave false h = (refl, refl)
 
-  only_more : (b b' b'' : BookView) (k : ℕ) (x : FlatPage) → AddsOnly enclave (first_ones k) b b' → flat b''.past ≡ with_page (flat b'.past) (page_at enclave (first + k)) x → AddsOnly enclave (first_ones (k + 1)) b b''
+  only_more : (b b' b'' : BookView) (k : ℕ) (x : FlatPage) → AddsOnly enclave (first_ones k) b b'
+      → flat b''.past ≡ with_page (flat b'.past) (page_at enclave (first + k)) x → AddsOnly enclave (first_ones (k + 1)) b b''
   only_more b b' b'' k x only is = record {
     enclaves = λ e. rw is (only.enclaves e);
     pages = λ g out. let o = out_of k g out in rw (is, o.next) (only.pages g o.before);
@@ -147,7 +164,8 @@ module _ (enclave first : ℕ) (perm : Perm) (value : ℕ) (plain : Bool) where
       → Grows (line_steps enclave (first_ones k)) b b' × IsPlacedLine b'.past enclave (first_ones k) × AddsOnly enclave (first_ones k) b b'
       → Grows (whole_page (first + k)) b' b'' → IsPlaced b''.past (page_at enclave (first + k)) kinds.Reg perm
       → flat b''.past ≡ with_page (flat b'.past) (page_at enclave (first + k)) x
-      → Grows (line_steps enclave (first_ones (k + 1))) b b'' × IsPlacedLine b''.past enclave (first_ones (k + 1)) × AddsOnly enclave (first_ones (k + 1)) b b''
+      → Grows (line_steps enclave (first_ones (k + 1))) b b'' × IsPlacedLine b''.past enclave (first_ones (k + 1))
+      × AddsOnly enclave (first_ones (k + 1)) b b''
   page_more b b' b'' k x h grown new is = (
     rw (steps_more k) (grows_append (line_steps enclave (first_ones k)) (whole_page (first + k)) b b' b'' h.0 grown),
     placed_more b' b'' k grown.goes h.1 new,

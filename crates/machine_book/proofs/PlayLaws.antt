@@ -29,7 +29,8 @@ use Rattle.machine_book.proofs.RoomLaws.{IsOfScript, IsRoomyFor, entry_of, room_
 pub built_same : (cpu : Cpu) (action : Action) (b b' : BookView) → IsNext (actors.Cpu cpu) action b b' → built b'.past ≡ built b.past
 built_same cpu action b b' n = rw n.past refl
 
-pub idle_other : (cpu : Cpu) (action : Action) (b b' : BookView) → IsNext (actors.Cpu cpu) action b b' → (q : ℕ) → (cpu.0 == q) ≡ false → IsIdle q b b'
+pub idle_other : (cpu : Cpu) (action : Action) (b b' : BookView) → IsNext (actors.Cpu cpu) action b b' → (q : ℕ) → (cpu.0 == q) ≡ false
+    → IsIdle q b b'
 idle_other cpu action b b' n q other = record {
   replied = rw (n.past, other) refl;
   stays = rw (n.past, other) (others_stay (move_by n.event) b.past (stay b.past q));
@@ -41,13 +42,21 @@ reply_of i action (events.Did act ans) is = ap (is_reply_action i) (some_same ac
 reply_of i action (events.Refused act why) is = ap (is_reply_action i) (some_same act action is)
 reply_of i action _ is = cc
 
-replied_own : (cpu : Cpu) (action : Action) (b b' : BookView) → is_reply_action false action ≡ true → is_interrupted b.past cpu.0 ≡ false → IsNext (actors.Cpu cpu) action b b'
+replied_own : (cpu : Cpu) (action : Action) (b b' : BookView) → is_reply_action false action ≡ true → is_interrupted b.past cpu.0 ≡ false
+    → IsNext (actors.Cpu cpu) action b b'
     → replied b'.past cpu.0 ≡ replied b.past cpu.0 + 1
 replied_own cpu action b b' reply calm n = rw (n.past, eq-eqb cpu.0 cpu.0 refl, calm, reply_of false action n.event n.is_action, reply) refl
 
 -- an entry that answers no operation, whatever happened before
-pub replied_silent : (cpu : Cpu) (action : Action) (b b' : BookView) → ((i : Bool) → is_reply_action i action ≡ false) → IsNext (actors.Cpu cpu) action b b' → (q : ℕ) → replied b'.past q ≡ replied b.past q
-replied_silent cpu action b b' silent n q = rw (n.past, reply_of (is_interrupted b.past q) action n.event n.is_action, silent (is_interrupted b.past q), and-false (cpu.0 == q)) refl
+pub replied_silent : (cpu : Cpu) (action : Action) (b b' : BookView) → ((i : Bool) → is_reply_action i action ≡ false)
+    → IsNext (actors.Cpu cpu) action b b' → (q : ℕ) → replied b'.past q ≡ replied b.past q
+replied_silent cpu action b b' silent n q = rw (
+  n.past,
+  reply_of (is_interrupted b.past q) action n.event n.is_action,
+  silent
+      (is_interrupted b.past q),
+  and-false (cpu.0 == q),
+) refl
 
 calm_event : (action : Action) (event : Event) → IsOfScript action → action_of event ≡ Some action → interrupted_after event false ≡ false
 calm_event action (events.Did act ans) of is = by_action act (rw (some_same act action is) of)
@@ -70,7 +79,8 @@ calm_event action (events.Did act ans) of is = by_action act (rw (some_same act 
 calm_event action (events.Refused act why) of is = refl
 calm_event action _ of is = cc
 
-pub calm_own : (cpu : Cpu) (action : Action) (b b' : BookView) → IsOfScript action → is_interrupted b.past cpu.0 ≡ false → IsNext (actors.Cpu cpu) action b b' → is_interrupted b'.past cpu.0 ≡ false
+pub calm_own : (cpu : Cpu) (action : Action) (b b' : BookView) → IsOfScript action → is_interrupted b.past cpu.0 ≡ false
+    → IsNext (actors.Cpu cpu) action b b' → is_interrupted b'.past cpu.0 ≡ false
 calm_own cpu action b b' of calm n = rw (n.past, eq-eqb cpu.0 cpu.0 refl, calm) (calm_event action n.event of n.is_action)
 
 -- ---- what a job has, later
@@ -96,17 +106,21 @@ ready_on j p ops b m rests h = record {
 
 -- ---- an entry that is due
 
-pub due_is : (j : JobView) (p : ℕ) (op : Op) (ops : List Op) (action : Action) (past : List Entry) → IsReady j p (op ∷ ops) past → op_due j past p op ≡ Some action
+pub due_is : (j : JobView) (p : ℕ) (op : Op) (ops : List Op) (action : Action) (past : List Entry) → IsReady j p (op ∷ ops) past
+    → op_due j past p op ≡ Some action
     → cpu_due j past p ≡ Some action
 due_is j p op ops action past ready is =
     let next : slice_get (script_of j p) (replied past p) ≡ Some op = rw add-zero at (ready.next 0 op refl) in
-    let whole : nat_le (length (build_of j)) (built past) ≡ true = le-leb (length (build_of j)) (built past) (omega (arith, ready.job.whole)) in
+    let whole : nat_le (length (build_of j)) (built past) ≡ true =
+    le-leb (length (build_of j)) (built past) (omega (arith, ready.job.whole)) in
     rw (whole, next) is
 
-pub on_script : (j : JobView) (cpu : Cpu) (op : Op) (ops : List Op) (action : Action) (b b' : BookView) → IsReady j cpu.0 (op ∷ ops) b.past → op_due j b.past cpu.0 op ≡ Some action
+pub on_script : (j : JobView) (cpu : Cpu) (op : Op) (ops : List Op) (action : Action) (b b' : BookView) → IsReady j cpu.0 (op ∷ ops) b.past
+    → op_due j b.past cpu.0 op ≡ Some action
     → IsNext (actors.Cpu cpu) action b b' → Along (ScriptRule j) b.past → Along (ScriptRule j) b'.past
 on_script j cpu op ops action b b' ready is n along =
-    let rule : ScriptRule j b.past (entry_of cpu n.event) = record { is_instruction = rw n.is_action refl; is_due = n.is_action ∙ sym (due_is j cpu.0 op ops action b.past ready is) } in
+    let rule : ScriptRule j b.past (entry_of cpu n.event) =
+    record { is_instruction = rw n.is_action refl; is_due = n.is_action ∙ sym (due_is j cpu.0 op ops action b.past ready is) } in
     rw n.past (rule, along)
 
 -- an instruction that answers an operation of a script
@@ -115,8 +129,10 @@ pub record IsAnswer (action : Action) : Type 0 where
   pub reply : is_reply_action false action ≡ true
 
 -- an operation that its own entry replies to, where its processor did nothing before it but fill
-pub plays_after : (j : JobView) (cpu : Cpu) (op : Op) (action : Action) (b m b' : BookView) → IsAnswer action → Rests b m → IsNext (actors.Cpu cpu) action m b'
-    → (IsReady j cpu.0 (op ∷ []) b.past → (op_due j m.past cpu.0 op ≡ Some action) × (Along (ScriptRule j) b.past → Along (ScriptRule j) m.past) × IsRoomyFor j action m.past)
+pub plays_after : (j : JobView) (cpu : Cpu) (op : Op) (action : Action) (b m b' : BookView) → IsAnswer action → Rests b m
+    → IsNext (actors.Cpu cpu) action m b'
+    → (IsReady j cpu.0 (op ∷ []) b.past → (op_due j m.past cpu.0 op ≡ Some action)
+    × (Along (ScriptRule j) b.past → Along (ScriptRule j) m.past) × IsRoomyFor j action m.past)
     → Plays j cpu.0 (op ∷ []) b b'
 plays_after j cpu op action b m b' answer rests n each =
     let same = built_same cpu action m b' n in
@@ -138,22 +154,31 @@ plays_after j cpu op action b m b' answer rests n each =
 
 -- ---- operations that are nothing but one instruction
 
-plays_one : (j : JobView) (cpu : Cpu) (op : Op) (action : Action) (b b' : BookView) → IsCalm b.past → IsAnswer action → op_due j b.past cpu.0 op ≡ Some action → IsRoomyFor j action b.past
+plays_one : (j : JobView) (cpu : Cpu) (op : Op) (action : Action) (b b' : BookView) → IsCalm b.past → IsAnswer action
+    → op_due j b.past cpu.0 op ≡ Some action → IsRoomyFor j action b.past
     → IsNext (actors.Cpu cpu) action b b' → Plays j cpu.0 (op ∷ []) b b'
-plays_one j cpu op action b b' calm answer due roomy n = plays_after j cpu op action b b b' answer (rests_same b calm) n (λ ready. (due, λ along. along, roomy))
+plays_one j cpu op action b b' calm answer due roomy n =
+    plays_after j cpu op action b b b' answer (rests_same b calm) n (λ ready. (due, λ along. along, roomy))
 
-pub plays_plain : (j : JobView) (cpu : Cpu) (op : Op) (action : Action) (b b' : BookView) → IsCalm b.past → plain_action op ≡ Some action → IsNext (actors.Cpu cpu) action b b' → Plays j cpu.0 (op ∷ []) b b'
+pub plays_plain : (j : JobView) (cpu : Cpu) (op : Op) (action : Action) (b b' : BookView) → IsCalm b.past → plain_action op ≡ Some action
+    → IsNext (actors.Cpu cpu) action b b' → Plays j cpu.0 (op ∷ []) b b'
 plays_plain j cpu ops.Exit action b b' calm is n =
-    plays_one j cpu ops.Exit Exit b b' calm (record { of = tt; reply = refl }) refl (λ e k page ossa nssa plain at. tt) (rw (← some_same Exit action is) at n)
+    plays_one j cpu ops.Exit Exit b b' calm (record { of = tt; reply = refl }) refl (λ e k page ossa nssa plain at. tt)
+    (rw (← some_same Exit action is) at n)
 plays_plain j cpu ops.Timer action b b' calm is n =
-    plays_one j cpu ops.Timer (Aex Timer) b b' calm (record { of = refl; reply = refl }) refl (λ e k page ossa nssa plain at. tt) (rw (← some_same (Aex Timer) action is) at n)
+    plays_one j cpu ops.Timer (Aex Timer) b b' calm (record { of = refl; reply = refl }) refl (λ e k page ossa nssa plain at. tt)
+    (rw (← some_same (Aex Timer) action is) at n)
 plays_plain j cpu (ops.Set value) action b b' calm is n =
-    plays_one j cpu (ops.Set value) (Set value) b b' calm (record { of = tt; reply = refl }) refl (λ e k page ossa nssa plain at. tt) (rw (← some_same (Set value) action is) at n)
+    plays_one j cpu (ops.Set value) (Set value) b b' calm (record { of = tt; reply = refl }) refl (λ e k page ossa nssa plain at. tt)
+    (rw (← some_same (Set value) action is) at n)
 plays_plain j cpu (ops.Plus value) action b b' calm is n =
-    plays_one j cpu (ops.Plus value) (Plus value) b b' calm (record { of = tt; reply = refl }) refl (λ e k page ossa nssa plain at. tt) (rw (← some_same (Plus value) action is) at n)
+    plays_one j cpu (ops.Plus value) (Plus value) b b' calm (record { of = tt; reply = refl }) refl (λ e k page ossa nssa plain at. tt)
+    (rw (← some_same (Plus value) action is) at n)
 plays_plain j cpu (ops.OutLoad enclave off) action b b' calm is n =
-    plays_one j cpu (ops.OutLoad enclave off) (OutLoad enclave off) b b' calm (record { of = tt; reply = refl }) refl (λ e k page ossa nssa plain at. tt) (rw (← some_same (OutLoad enclave off) action is) at n)
+    plays_one j cpu (ops.OutLoad enclave off) (OutLoad enclave off) b b' calm (record { of = tt; reply = refl }) refl
+    (λ e k page ossa nssa plain at. tt) (rw (← some_same (OutLoad enclave off) action is) at n)
 plays_plain j cpu (ops.OutStore enclave off value) action b b' calm is n =
-    plays_one j cpu (ops.OutStore enclave off value) (OutStore enclave off value) b b' calm (record { of = tt; reply = refl }) refl (λ e k page ossa nssa plain at. tt)
+    plays_one j cpu (ops.OutStore enclave off value) (OutStore enclave off value) b b' calm (record { of = tt; reply = refl }) refl
+    (λ e k page ossa nssa plain at. tt)
     (rw (← some_same (OutStore enclave off value) action is) at n)
 plays_plain j cpu _ action b b' calm is n = cc

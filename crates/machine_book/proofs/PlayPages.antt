@@ -23,11 +23,13 @@ use Rattle.machine_book.specs.Playing.{IsBuilt}
 -- ---- lists
 
 -- an element that passes a test, where one does
-any_found : {X : Type 0} (test : X → Bool) (P : X → Type 0) (xs : List X) → All P xs → list_any test xs ≡ true → (x : X) × P x × (test x ≡ true)
+any_found : {X : Type 0} (test : X → Bool) (P : X → Type 0) (xs : List X) → All P xs → list_any test xs ≡ true
+    → (x : X) × P x × (test x ≡ true)
 any_found test P [] all h = cc
 any_found {X} test P (x ∷ xs) all h = by_test (test x) refl h (any_found test P xs (All-tail P x xs all))
   where
-    by_test : (b : Bool) → test x ≡ b → (b || list_any test xs) ≡ true → (list_any test xs ≡ true → (y : X) × P y × (test y ≡ true)) → (y : X) × P y × (test y ≡ true)
+    by_test : (b : Bool) → test x ≡ b → (b || list_any test xs) ≡ true → (list_any test xs ≡ true → (y : X) × P y × (test y ≡ true))
+        → (y : X) × P y × (test y ≡ true)
     by_test true e k more = (x, All-head P x xs all, e)
     by_test false e k more = more k
 
@@ -35,7 +37,8 @@ first_found : {X : Type 0} (test : X → Bool) (xs : List X) → list_any test x
 first_found test [] h = cc
 first_found {X} test (x ∷ xs) h = by_test (test x) refl h (first_found test xs)
   where
-    by_test : (b : Bool) → test x ≡ b → (b || list_any test xs) ≡ true → (list_any test xs ≡ true → (y : X) × (find test xs ≡ Some y) × (test y ≡ true))
+    by_test : (b : Bool) → test x ≡ b → (b || list_any test xs) ≡ true
+        → (list_any test xs ≡ true → (y : X) × (find test xs ≡ Some y) × (test y ≡ true))
         → (y : X) × (cond (test x) (Some x) (find test xs) ≡ Some y) × (test y ≡ true)
     by_test true e k more = (x, rw e refl, e)
     by_test false e k more = let rest = more k in (rest.0, rw e rest.1, rest.2)
@@ -80,7 +83,8 @@ valid_within pages (lines.Reg first count perm value plain) few h = (h.0, omega 
 
 enclave_lines : (o : Option EnclaveView) → IfSome o IsValidEnclave → All (IsLine (lines_in o)) (lines_in o)
 enclave_lines None h = all_nil (IsLine [])
-enclave_lines (Some e) h = λ k d within. record { valid = valid_within (e.size / 4096) _ (lawful_pages e h) (h.lines k d within); saved = h.saved k d within }
+enclave_lines (Some e) h =
+    λ k d within. record { valid = valid_within (e.size / 4096) _ (lawful_pages e h) (h.lines k d within); saved = h.saved k d within }
 
 enclave_there : (es : List EnclaveView) (n : ℕ) → All IsValidEnclave es → IfSome (enclave_at es n) IsValidEnclave
 enclave_there es zero all = tt
@@ -113,7 +117,8 @@ line_few j (suc e) n line valid is = by_enclave (slice_get j.enclaves e) refl is
     by_enclave None at found = cc
     by_enclave (Some x) at found = let within = slice_get_within j.enclaves e x at in let most = valid.few_enclaves in omega arith
 
-pub tcs_line_is : (j : JobView) (e n page ossa nssa : ℕ) (plain : Bool) → IsValid j → tcs_line (lines_at j.enclaves e) n ≡ Some (lines.Tcs page ossa nssa plain) → IsTcsLine j e n page ossa nssa
+pub tcs_line_is : (j : JobView) (e n page ossa nssa : ℕ) (plain : Bool) → IsValid j
+    → tcs_line (lines_at j.enclaves e) n ≡ Some (lines.Tcs page ossa nssa plain) → IsTcsLine j e n page ossa nssa
 tcs_line_is j e n page ossa nssa plain valid is =
     let ls = lines_at j.enclaves e in
     let test : PageLine → Bool = λ line. is_tcs_line line && covers n line in
@@ -129,7 +134,8 @@ tcs_line_is j e n page ossa nssa plain valid is =
       saves = h.saved;
     }
 
-pub some_frames : (j : JobView) (e n page ossa nssa : ℕ) (plain : Bool) → IsValid j → tcs_line (lines_at j.enclaves e) n ≡ Some (lines.Tcs page ossa nssa plain) → 1 ≤ nssa
+pub some_frames : (j : JobView) (e n page ossa nssa : ℕ) (plain : Bool) → IsValid j
+    → tcs_line (lines_at j.enclaves e) n ≡ Some (lines.Tcs page ossa nssa plain) → 1 ≤ nssa
 some_frames j e n page ossa nssa plain valid is = (tcs_line_is j e n page ossa nssa plain valid is).some_frames
 
 pub line_home : (j : JobView) (e n page ossa nssa : ℕ) → IsTcsLine j e n page ossa nssa → has_home (page_at e n) ≡ true
@@ -152,12 +158,14 @@ line_frame past e n (lines.Reg first count perm value plain) placed cover =
     let at = placed n (leb-true first n bounds.0) (ltb-true n (first + count) bounds.1) in
     record { frame = at.frame; there = at.there }
 
-pub save_frame : (j : JobView) (past : List Entry) (e n : ℕ) → IsBuilt j past → is_save_page (lines_at j.enclaves e) n ≡ true → HasFrame past (page_at e n)
+pub save_frame : (j : JobView) (past : List Entry) (e n : ℕ) → IsBuilt j past → is_save_page (lines_at j.enclaves e) n ≡ true
+    → HasFrame past (page_at e n)
 save_frame j past e n built is =
     let found = any_found (λ line. is_save_line line && covers n line) (IsPlacedLine past e) (lines_at j.enclaves e) (built.pages e) is in
     line_frame past e n found.0 found.1 (both_true (is_save_line found.0) (covers n found.0) found.2).1
 
-pub tcs_frame : (j : JobView) (past : List Entry) (e n : ℕ) → IsBuilt j past → is_tcs_page (lines_at j.enclaves e) n ≡ true → HasFrame past (page_at e n)
+pub tcs_frame : (j : JobView) (past : List Entry) (e n : ℕ) → IsBuilt j past → is_tcs_page (lines_at j.enclaves e) n ≡ true
+    → HasFrame past (page_at e n)
 tcs_frame j past e n built is =
     let found = any_found (λ line. is_tcs_line line && covers n line) (IsPlacedLine past e) (lines_at j.enclaves e) (built.pages e) is in
     line_frame past e n found.0 found.1 (both_true (is_tcs_line found.0) (covers n found.0) found.2).1

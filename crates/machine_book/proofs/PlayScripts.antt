@@ -49,13 +49,15 @@ ready_first j p xs ys past h = record {
   valid = all_left (IsValidOp j) xs ys h.valid;
 }
 
-ready_then : (j : JobView) (p : ℕ) (xs ys : List Op) (b m : BookView) → IsReady j p (xs ++ ys) b.past → HasPlayed j p xs b m → IsReady j p ys m.past
+ready_then : (j : JobView) (p : ℕ) (xs ys : List Op) (b m : BookView) → IsReady j p (xs ++ ys) b.past → HasPlayed j p xs b m
+    → IsReady j p ys m.past
 ready_then j p xs ys b m h played = record {
   job = played.job;
   calm = played.calm;
   room = played.room;
   next = λ i op is.
-      (let ahead : slice_get (script_of j p) (replied b.past p + (length xs + i)) ≡ Some op = h.next (length xs + i) op (get_right xs ys i ∙ is) in
+      (let ahead : slice_get (script_of j p) (replied b.past p + (length xs + i)) ≡ Some op =
+      h.next (length xs + i) op (get_right xs ys i ∙ is) in
       let place : replied m.past p + i ≡ replied b.past p + (length xs + i) = omega (arith, played.replied) in
       rw place ahead);
   valid = all_right (IsValidOp j) xs ys h.valid;
@@ -69,7 +71,8 @@ plays_none j p b calm = record {
   played = λ ready. record { job = ready.job; calm = ready.calm; room = ready.room; replied = omega arith; script = λ along. along };
 }
 
-pub plays_append : (j : JobView) (p : ℕ) (xs ys : List Op) (b m b' : BookView) → Plays j p xs b m → Plays j p ys m b' → Plays j p (xs ++ ys) b b'
+pub plays_append : (j : JobView) (p : ℕ) (xs ys : List Op) (b m b' : BookView) → Plays j p xs b m → Plays j p ys m b'
+    → Plays j p (xs ++ ys) b b'
 plays_append j p xs ys b m b' h k = record {
   goes = goes_on b m b' h.goes k.goes;
   built = k.built ∙ h.built;
@@ -88,16 +91,20 @@ plays_append j p xs ys b m b' h k = record {
 
 -- ---- a script as it is played
 
-pub plays_more : (j : JobView) (p : ℕ) (script : List Op) (i : ℕ) (d : Op) (b m b' : BookView) → i < length script → Plays j p (take i script) b m → Plays j p (get_or script i d ∷ []) m b'
+pub plays_more : (j : JobView) (p : ℕ) (script : List Op) (i : ℕ) (d : Op) (b m b' : BookView) → i < length script
+    → Plays j p (take i script) b m → Plays j p (get_or script i d ∷ []) m b'
     → Plays j p (take (i + 1) script) b b'
-plays_more j p script i d b m b' within h plays = rw (take_more script i d within) (plays_append j p (take i script) (get_or script i d ∷ []) b m b' h plays)
+plays_more j p script i d b m b' within h plays =
+    rw (take_more script i d within) (plays_append j p (take i script) (get_or script i d ∷ []) b m b' h plays)
 
 -- .. which is ready for its next operation
-pub ready_at : (j : JobView) (p : ℕ) (script : List Op) (i : ℕ) (d : Op) (b m : BookView) → i < length script → IsReady j p script b.past → Plays j p (take i script) b m → IsReady j p (get_or script i d ∷ []) m.past
+pub ready_at : (j : JobView) (p : ℕ) (script : List Op) (i : ℕ) (d : Op) (b m : BookView) → i < length script → IsReady j p script b.past
+    → Plays j p (take i script) b m → IsReady j p (get_or script i d ∷ []) m.past
 ready_at j p script i d b m within ready plays =
     let op = get_or script i d ∷ [] in
     let rest = drop (i + 1) script in
-    let split : script ≡ take i script ++ (op ++ rest) = sym (take-append-drop i script) ∙ ap (λ ops. take i script ++ ops) (drop_more script i d within) in
+    let split : script ≡ take i script ++ (op ++ rest) = sym (take-append-drop i script)
+    ∙ ap (λ ops. take i script ++ ops) (drop_more script i d within) in
     let whole : IsReady j p (take i script ++ (op ++ rest)) b.past = subst (λ ops. IsReady j p ops b.past) split ready in
     let played = plays.played (ready_first j p (take i script) (op ++ rest) b.past whole) in
     ready_first j p op rest m.past (ready_then j p (take i script) (op ++ rest) b m whole played)
@@ -108,23 +115,28 @@ outside_left : (o : Option Stay) (why : Refusal) → first_of_row (aex_row (is_s
 outside_left None why h = refl
 outside_left (Some s) why h = cc
 
-end_leaves : (frames : ℕ) (cpu : Cpu) (event : Event) (past : List Entry) → action_of event ≡ Some (Aex End) → RefusalRule frames past (entry_of cpu event)
+end_leaves : (frames : ℕ) (cpu : Cpu) (event : Event) (past : List Entry) → action_of event ≡ Some (Aex End)
+    → RefusalRule frames past (entry_of cpu event)
     → stay_after (move_by event) true past (stay past cpu.0) ≡ None
 end_leaves frames cpu (events.Did act ans) past is rule = rw (some_same act (Aex End) is) refl
 end_leaves frames cpu (events.Refused act why) past is rule = outside_left (stay past cpu.0) why (rw (some_same act (Aex End) is) at rule)
 end_leaves frames cpu _ past is rule = cc
 
 -- who is outside has nothing more to do
-pub finishes_outside : (j : JobView) (p : ℕ) (script : List Op) (b b' : BookView) → stay b'.past p ≡ None → Plays j p script b b' → Finishes j p script b b'
-finishes_outside j p script b b' outside h = record { goes = h.goes; built = h.built; others = h.others; outside = outside; played = λ ready all. h.played ready }
+pub finishes_outside : (j : JobView) (p : ℕ) (script : List Op) (b b' : BookView) → stay b'.past p ≡ None → Plays j p script b b'
+    → Finishes j p script b b'
+finishes_outside j p script b b' outside h =
+    record { goes = h.goes; built = h.built; others = h.others; outside = outside; played = λ ready all. h.played ready }
 
 -- who is inside leaves
-pub finishes_inside : (j : JobView) (cpu : Cpu) (script : List Op) (b m b' : BookView) → stay m.past cpu.0 ≢ None → Plays j cpu.0 script b m → IsNext (actors.Cpu cpu) (Aex End) m b' → Finishes j cpu.0 script b b'
+pub finishes_inside : (j : JobView) (cpu : Cpu) (script : List Op) (b m b' : BookView) → stay m.past cpu.0 ≢ None → Plays j cpu.0 script b m
+    → IsNext (actors.Cpu cpu) (Aex End) m b' → Finishes j cpu.0 script b b'
 finishes_inside j cpu script b m b' inside h n = record {
   goes = goes_on b m b' h.goes n.goes;
   built = same ∙ h.built;
   others = λ q other. idle_then q b m b' (h.others q other) (idle_other cpu (Aex End) m b' n q other);
-  outside = rw (n.past, eq-eqb cpu.0 cpu.0 refl) (end_leaves b'.frames cpu n.event m.past n.is_action (newest_refusal b'.frames m.past (entry_of cpu n.event) b'.past n.past n.rules));
+  outside = rw (n.past, eq-eqb cpu.0 cpu.0 refl) (end_leaves b'.frames cpu n.event m.past n.is_action
+      (newest_refusal b'.frames m.past (entry_of cpu n.event) b'.past n.past n.rules));
   played = λ ready all.
       (let there = h.played ready in
       record {
@@ -132,7 +144,10 @@ finishes_inside j cpu script b m b' inside h n = record {
         calm = calm_own cpu (Aex End) m b' refl there.calm n;
         room = room_more j cpu (Aex End) m b' refl there.job.valid n (λ e k page ossa nssa plain is. tt) there.room;
         replied = replied_silent cpu (Aex End) m b' (λ i. refl) n cpu.0 ∙ there.replied;
-        script = λ along. rw n.past (record { is_instruction = rw n.is_action refl; is_due = n.is_action ∙ sym (due there all) }, there.script along);
+        script = λ along. rw n.past (
+          record { is_instruction = rw n.is_action refl; is_due = n.is_action ∙ sym (due there all) },
+          there.script along,
+        );
       });
 }
   where
@@ -143,9 +158,11 @@ finishes_inside j cpu script b m b' inside h n = record {
     ends None some = absurd (some refl)
     ends (Some s) some = refl
 
-    due : HasPlayed j cpu.0 script b m → replied b.past cpu.0 + length script ≡ length (script_of j cpu.0) → cpu_due j m.past cpu.0 ≡ Some (Aex End)
+    due : HasPlayed j cpu.0 script b m → replied b.past cpu.0 + length script ≡ length (script_of j cpu.0)
+        → cpu_due j m.past cpu.0 ≡ Some (Aex End)
     due there all =
-        let whole : nat_le (length (build_of j)) (built m.past) ≡ true = le-leb (length (build_of j)) (built m.past) (omega (arith, there.job.whole)) in
+        let whole : nat_le (length (build_of j)) (built m.past) ≡ true =
+        le-leb (length (build_of j)) (built m.past) (omega (arith, there.job.whole)) in
         let place : replied m.past cpu.0 ≡ length (script_of j cpu.0) = there.replied ∙ all in
         rw (whole, place, past_the_end (script_of j cpu.0)) (ends (stay m.past cpu.0) inside)
 
@@ -184,7 +201,8 @@ none_played j b calm built quiet = record {
 script_valid : (j : JobView) (i : ℕ) → IsValid j → i < length j.scripts → All (IsValidOp j) (script_of j i)
 script_valid j i valid within = rw (unwrap_or-slice_get j.scripts i []) (valid.ops i [] within)
 
-pub ready_script : (j : JobView) (i : ℕ) (script : List Op) (b m : BookView) → i < length j.scripts → script ≡ script_of j i → ArePlayed j i b m → IsReady j i script m.past
+pub ready_script : (j : JobView) (i : ℕ) (script : List Op) (b m : BookView) → i < length j.scripts → script ≡ script_of j i
+    → ArePlayed j i b m → IsReady j i script m.past
 ready_script j i script b m within is h = record {
   job = h.job;
   calm = h.uninterrupted i (le_self i);
@@ -193,7 +211,8 @@ ready_script j i script b m within is h = record {
   valid = rw is (script_valid j i h.job.valid within);
 }
 
-pub one_played : (j : JobView) (i : ℕ) (script : List Op) (b m b' : BookView) → i < length j.scripts → script ≡ script_of j i → ArePlayed j i b m → Finishes j i script m b' → ArePlayed j (i + 1) b b'
+pub one_played : (j : JobView) (i : ℕ) (script : List Op) (b m b' : BookView) → i < length j.scripts → script ≡ script_of j i
+    → ArePlayed j i b m → Finishes j i script m b' → ArePlayed j (i + 1) b b'
 one_played j i script b m b' within is h ends = record {
   frames = ends.goes.frames ∙ h.frames;
   cpus = ends.goes.cpus ∙ h.cpus;
@@ -227,8 +246,10 @@ one_played j i script b m b' within is h ends = record {
         (ends.others p (ne_eqb i p (λ same. absurd (other (sym same))))).replied ∙ h.replied p (omega (arith, other, low))
 
 -- a script by its place
-pub script_is : {X : Type 0} (v : X → List Op) (xs : List X) (j : JobView) (i : ℕ) (x : X) → map v xs ≡ j.scripts → i < length xs → x ≡ get_or xs i x → v x ≡ script_of j i
+pub script_is : {X : Type 0} (v : X → List Op) (xs : List X) (j : JobView) (i : ℕ) (x : X) → map v xs ≡ j.scripts → i < length xs
+    → x ≡ get_or xs i x → v x ≡ script_of j i
 script_is v xs j i x all within is = rw (← all, slice_get-map v xs i, slice_get_read xs (length xs) i x refl within is) refl
 
-pub scripts_within : {X : Type 0} (v : X → List Op) (xs : List X) (j : JobView) (i : ℕ) → map v xs ≡ j.scripts → i < length xs → i < length j.scripts
+pub scripts_within : {X : Type 0} (v : X → List Op) (xs : List X) (j : JobView) (i : ℕ) → map v xs ≡ j.scripts → i < length xs
+    → i < length j.scripts
 scripts_within v xs j i all within = rw (← all, length-map) within

@@ -58,12 +58,14 @@ IsRoomy _ past g limit = Unit {0}
 
 -- .. by each TCS page of a job
 abbrev pub IsRoomyFor : JobView → Action → List Entry → Type 0
-IsRoomyFor j action past = (e n page ossa nssa : ℕ) (plain : Bool) → tcs_line (lines_at j.enclaves e) n ≡ Some (lines.Tcs page ossa nssa plain) → IsRoomy action past (page_at e n) nssa
+IsRoomyFor j action past = (e n page ossa nssa : ℕ) (plain : Bool)
+    → tcs_line (lines_at j.enclaves e) n ≡ Some (lines.Tcs page ossa nssa plain) → IsRoomy action past (page_at e n) nssa
 
 -- ---- an entry
 
 saved_used : (past : List Entry) (p : ℕ) (g : Page) → saved past g ≤ used past p g
-saved_used past p g = cond_both (is_seated_at g (stay past p)) (saved past g + 1) (saved past g) (λ v. saved past g ≤ v) (λ _. omega arith) (λ _. omega arith)
+saved_used past p g =
+    cond_both (is_seated_at g (stay past p)) (saved past g + 1) (saved past g) (λ v. saved past g ≤ v) (λ _. omega arith) (λ _. omega arith)
 
 module _ (frames : ℕ) (past : List Entry) (p enclave tcs : ℕ) (tf sf : Frame) where
   abbrev seen : EnterSight
@@ -71,19 +73,24 @@ module _ (frames : ℕ) (past : List Entry) (p enclave tcs : ℕ) (tf sf : Frame
 
   -- who enters is outside before
   enter_outside : first_of_row (enter_row enclave tcs seen) ≡ None → stay past p ≡ None
-  enter_outside allowed = none_there (stay past p) (enters enclave tcs seen (when (seen.fields.cssa == seen.fields.nssa) why.NoFrame) (seen.fields.ossa + seen.fields.cssa) allowed).outside
+  enter_outside allowed = none_there (stay past p)
+      (enters enclave tcs seen (when (seen.fields.cssa == seen.fields.nssa) why.NoFrame) (seen.fields.ossa + seen.fields.cssa)
+      allowed).outside
 
   resume_outside : first_of_row (resume_row enclave tcs seen) ≡ None → stay past p ≡ None
-  resume_outside allowed = none_there (stay past p) (enters enclave tcs seen (when (seen.fields.cssa == 0) why.NoSaved) (seen.fields.ossa + seen.fields.cssa - 1) allowed).outside
+  resume_outside allowed = none_there (stay past p)
+      (enters enclave tcs seen (when (seen.fields.cssa == 0) why.NoSaved) (seen.fields.ossa + seen.fields.cssa - 1) allowed).outside
 
   -- .. and by two frames
   enter_apart : first_of_row (enter_row enclave tcs seen) ≡ None → tf.0 ≢ sf.0
   enter_apart allowed = λ same.
-      (let e = enters enclave tcs seen (when (seen.fields.cssa == seen.fields.nssa) why.NoFrame) (seen.fields.ossa + seen.fields.cssa) allowed in
+      (let e = enters enclave tcs seen (when (seen.fields.cssa == seen.fields.nssa) why.NoFrame) (seen.fields.ossa + seen.fields.cssa)
+      allowed in
       let tcs_there : is_tcs (content past tf.0) ≡ true = not_false _ e.tcs_kind in
       tcs_no_reg (content past sf.0) (rw same at tcs_there) (not_false _ e.ssa_kind))
 
-used_did : (frames : ℕ) (cpu : Cpu) (act : Action) (ans : Answer) (past : List Entry) (g : Page) (limit : ℕ) → IsOfScript act → RefusalRule frames past (did_by (actors.Cpu cpu) act ans) → IsRoomy act past g limit
+used_did : (frames : ℕ) (cpu : Cpu) (act : Action) (ans : Answer) (past : List Entry) (g : Page) (limit : ℕ) → IsOfScript act
+    → RefusalRule frames past (did_by (actors.Cpu cpu) act ans) → IsRoomy act past g limit
     → 1 ≤ limit → used past cpu.0 g ≤ limit → used (did_by (actors.Cpu cpu) act ans ∷ past) cpu.0 g ≤ limit
 used_did frames cpu (Enter enclave tcs tf sf) ans past g limit of rule roomy some h =
     let out : stay past cpu.0 ≡ None = enter_outside frames past cpu.0 enclave tcs tf sf rule.0 in
@@ -99,7 +106,8 @@ used_did frames cpu (Resume enclave tcs tf sf) ans past g limit of rule roomy so
     by_test : (b : Bool) (n : ℕ) → n ≤ limit → cond b (cond b (n - 1) n + 1) (cond b (n - 1) n) ≤ limit
     by_test true n le = omega arith
     by_test false n le = le
-used_did frames cpu Exit ans past g limit of rule roomy some h = rw (eq-eqb cpu.0 cpu.0 refl) (let le = saved_used past cpu.0 g in omega arith)
+used_did frames cpu Exit ans past g limit of rule roomy some h =
+    rw (eq-eqb cpu.0 cpu.0 refl) (let le = saved_used past cpu.0 g in omega arith)
 used_did frames cpu (Aex cause) ans past g limit of rule roomy some h = rw (eq-eqb cpu.0 cpu.0 refl) h
 used_did frames cpu (Fill number f) ans past g limit of rule roomy some h = h
 used_did frames cpu (Load off) ans past g limit of rule roomy some h = h
@@ -112,7 +120,8 @@ used_did frames cpu (OutLoad enclave off) ans past g limit of rule roomy some h 
 used_did frames cpu (OutStore enclave off value) ans past g limit of rule roomy some h = h
 used_did frames cpu act ans past g limit of rule roomy some h = absurd of
 
-used_more : (frames : ℕ) (cpu : Cpu) (action : Action) (event : Event) (past : List Entry) (g : Page) (limit : ℕ) → IsOfScript action → action_of event ≡ Some action → RefusalRule frames past (entry_of cpu event)
+used_more : (frames : ℕ) (cpu : Cpu) (action : Action) (event : Event) (past : List Entry) (g : Page) (limit : ℕ) → IsOfScript action
+    → action_of event ≡ Some action → RefusalRule frames past (entry_of cpu event)
     → IsRoomy action past g limit → 1 ≤ limit → used past cpu.0 g ≤ limit → used (entry_of cpu event ∷ past) cpu.0 g ≤ limit
 used_more frames cpu action (events.Did act ans) past g limit of is rule roomy some h =
     let same = some_same act action is in
@@ -120,23 +129,30 @@ used_more frames cpu action (events.Did act ans) past g limit of is rule roomy s
 used_more frames cpu action (events.Refused act why) past g limit of is rule roomy some h = h
 used_more frames cpu action _ past g limit of is rule roomy some h = cc
 
-pub newest_refusal : (frames : ℕ) (past : List Entry) (e : Entry) (whole : List Entry) → whole ≡ e ∷ past → KeepsRules frames whole → RefusalRule frames past e
+pub newest_refusal : (frames : ℕ) (past : List Entry) (e : Entry) (whole : List Entry) → whole ≡ e ∷ past → KeepsRules frames whole
+    → RefusalRule frames past e
 newest_refusal frames past e whole is rules = (rw is at rules.refusal).0
 
-pub room_more : (j : JobView) (cpu : Cpu) (action : Action) (b b' : BookView) → IsOfScript action → IsValid j → IsNext (actors.Cpu cpu) action b b' → IsRoomyFor j action b.past
+pub room_more : (j : JobView) (cpu : Cpu) (action : Action) (b b' : BookView) → IsOfScript action → IsValid j
+    → IsNext (actors.Cpu cpu) action b b' → IsRoomyFor j action b.past
     → HasRoom j b.past cpu.0 → HasRoom j b'.past cpu.0
 room_more j cpu action b b' of valid n roomy room = λ e k page ossa nssa plain is.
     (let rule = newest_refusal b'.frames b.past (entry_of cpu n.event) b'.past n.past n.rules in
-    rw n.past (used_more b'.frames cpu action n.event b.past (page_at e k) nssa of n.is_action rule (roomy e k page ossa nssa plain is) (some_frames j e k page ossa nssa plain valid is) (room e k page ossa nssa plain is)))
+    rw n.past (used_more b'.frames cpu action n.event b.past (page_at e k) nssa of n.is_action rule (roomy e k page ossa nssa plain is)
+    (some_frames j e k page ossa nssa plain valid is) (room e k page ossa nssa plain is)))
 
 -- ---- where nobody entered or left
 
 pub room_rests : (j : JobView) (p : ℕ) (b m : BookView) → Rests b m → HasRoom j b.past p → HasRoom j m.past p
-room_rests j p b m rests h = λ e n page ossa nssa plain is. rw ((rests.idle p).stays, rests.saved (page_at e n)) (h e n page ossa nssa plain is)
+room_rests j p b m rests h =
+    λ e n page ossa nssa plain is. rw ((rests.idle p).stays, rests.saved (page_at e n)) (h e n page ossa nssa plain is)
 
 -- processors that are outside
-pub room_outside : (j : JobView) (p q : ℕ) (past : List Entry) → stay past p ≡ None → stay past q ≡ None → HasRoom j past p → HasRoom j past q
+pub room_outside : (j : JobView) (p q : ℕ) (past : List Entry) → stay past p ≡ None → stay past q ≡ None → HasRoom j past p
+    → HasRoom j past q
 room_outside j p q past out out' h = λ e n page ossa nssa plain is. (let few = h e n page ossa nssa plain is in rw out' (rw out at few))
 
-pub saved_fits : (j : JobView) (p e n page ossa nssa : ℕ) (plain : Bool) (past : List Entry) → HasRoom j past p → tcs_line (lines_at j.enclaves e) n ≡ Some (lines.Tcs page ossa nssa plain) → saved past (page_at e n) ≤ nssa
-saved_fits j p e n page ossa nssa plain past h is = let few = h e n page ossa nssa plain is in let le = saved_used past p (page_at e n) in omega arith
+pub saved_fits : (j : JobView) (p e n page ossa nssa : ℕ) (plain : Bool) (past : List Entry) → HasRoom j past p
+    → tcs_line (lines_at j.enclaves e) n ≡ Some (lines.Tcs page ossa nssa plain) → saved past (page_at e n) ≤ nssa
+saved_fits j p e n page ossa nssa plain past h is =
+    let few = h e n page ossa nssa plain is in let le = saved_used past p (page_at e n) in omega arith

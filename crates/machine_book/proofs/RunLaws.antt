@@ -13,7 +13,8 @@ use Rattle.machine_book.specs.Playing.{IsBuilt, IsQuiet}
 all_next : (j : JobView) (past : List Entry) → past ≡ [] → AreNext j past (build_of j)
 all_next j past none i step h = let place : built [] + i ≡ i = omega arith in rw (none, place) h
 
-pub built_of : (j : JobView) (b b' : BookView) → IsValid j → b.past ≡ [] → Grows (build_of j) b b' → ((e : ℕ) → All (IsPlacedLine b'.past e) (lines_at j.enclaves e)) → IsBuilt j b'.past
+pub built_of : (j : JobView) (b b' : BookView) → IsValid j → b.past ≡ [] → Grows (build_of j) b b'
+    → ((e : ℕ) → All (IsPlacedLine b'.past e) (lines_at j.enclaves e)) → IsBuilt j b'.past
 built_of j b b' valid none grown placed = record {
   valid = valid;
   whole = let count = grown.built in let zero_built : built b.past ≡ 0 = rw none refl in omega (arith, count, zero_built);
@@ -28,5 +29,6 @@ quiet_of j b b' none grown = record {
   saved = λ g. grown.saved g ∙ rw none refl;
 }
 
-pub build_scripted : (j : JobView) (b b' : BookView) → b.frames ≡ j.epc → b.past ≡ [] → Grows (build_of j) b b' → Along (ScriptRule j) b'.past
+pub build_scripted : (j : JobView) (b b' : BookView) → b.frames ≡ j.epc → b.past ≡ [] → Grows (build_of j) b b'
+    → Along (ScriptRule j) b'.past
 build_scripted j b b' frames none grown = grown.script j (sym frames) (all_next j b.past none) (rw none tt)

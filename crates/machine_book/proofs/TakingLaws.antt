@@ -39,10 +39,12 @@ with_of None step action h = cc
 with_of (Some f) step action h = record { frame = f; is = refl; by = sym (some_same _ action h) }
 
 -- what a step's instruction asks
-pub asks : (cpus frames : ℕ) (past : List Entry) (step : BuildStep) (action : Action) → step_due frames past step ≡ Some action → CanAsk cpus actors.Builder action
+pub asks : (cpus frames : ℕ) (past : List Entry) (step : BuildStep) (action : Action) → step_due frames past step ≡ Some action
+    → CanAsk cpus actors.Builder action
 asks cpus frames past builds.Va action h = rw (with_of _ builds.Va action h).by tt
 asks cpus frames past (builds.Create enclave base size) action h = rw (with_of _ (builds.Create enclave base size) action h).by tt
-asks cpus frames past (builds.Add enclave number kind perm init) action h = rw (with_of _ (builds.Add enclave number kind perm init) action h).by tt
+asks cpus frames past (builds.Add enclave number kind perm init) action h =
+    rw (with_of _ (builds.Add enclave number kind perm init) action h).by tt
 asks cpus frames past (builds.Extend enclave number chunk) action h = rw (with_of _ (builds.Extend enclave number chunk) action h).by tt
 asks cpus frames past (builds.Init enclave expect) action h = rw (← some_same _ action h) tt
 
@@ -61,17 +63,20 @@ due_va b some = with_there builds.Va _ (free_there b some _ refl)
 pub due_secs : (b : BookView) (enclave base size : ℕ) → 1 ≤ free_frames b → IsDue (builds.Create enclave base size) b
 due_secs b enclave base size some = with_there (builds.Create enclave base size) _ (free_there b some _ refl)
 
-pub due_page : (b : BookView) (enclave number : ℕ) (kind : Kind) (perm : Perm) (init : PageInit) → 1 ≤ free_frames b → IsDue (builds.Add enclave number kind perm init) b
+pub due_page : (b : BookView) (enclave number : ℕ) (kind : Kind) (perm : Perm) (init : PageInit) → 1 ≤ free_frames b
+    → IsDue (builds.Add enclave number kind perm init) b
 due_page b enclave number kind perm init some = with_there (builds.Add enclave number kind perm init) _ (free_there b some _ refl)
 
-pub due_chunk : (b : BookView) (enclave number chunk : ℕ) → IsHere b.past (page_at enclave number) → IsDue (builds.Extend enclave number chunk) b
+pub due_chunk : (b : BookView) (enclave number chunk : ℕ) → IsHere b.past (page_at enclave number)
+    → IsDue (builds.Extend enclave number chunk) b
 due_chunk b enclave number chunk here = rw here.placed.there refl
 
 -- ---- what was taken
 
 module _ (b b' : BookView) where
   -- the entry, by the frame that the rule names
-  by_frame : (step : BuildStep) (o : Option ℕ) (action : Action) → with_frame step o ≡ Some action → IsNext actors.Builder action b b' → (h : HasFrame o step action) × IsNext actors.Builder (step_action step h.frame) b b'
+  by_frame : (step : BuildStep) (o : Option ℕ) (action : Action) → with_frame step o ≡ Some action → IsNext actors.Builder action b b'
+      → (h : HasFrame o step action) × IsNext actors.Builder (step_action step h.frame) b b'
   by_frame step o action due next = let h = with_of o step action due in (h, rw h.by at next)
 
   pub took_va : Takes builds.Va b b' → Grows (builds.Va ∷ []) b b' × (flat b'.past ≡ flat b.past)
@@ -79,13 +84,19 @@ module _ (b b' : BookView) where
       let x = by_frame builds.Va _ t.action t.due t.next in
       (grow_va b b' (frame_at x.0.frame) x.0.is x.1, va_flat b b' (frame_at x.0.frame) x.1)
 
-  pub took_secs : (enclave base size : ℕ) → IsCalm b.past → AreTaken b.past (builds.Create enclave base size ∷ []) → Takes (builds.Create enclave base size) b b'
-      → Grows (builds.Create enclave base size ∷ []) b b' × (flat b'.past ≡ with_enclave (flat b.past) enclave (record { base = base; size = size; is_init = false }))
+  pub took_secs : (enclave base size : ℕ) → IsCalm b.past → AreTaken b.past (builds.Create enclave base size ∷ [])
+      → Takes (builds.Create enclave base size) b b'
+      → Grows (builds.Create enclave base size ∷ []) b b'
+      × (flat b'.past ≡ with_enclave (flat b.past) enclave (record { base = base; size = size; is_init = false }))
   took_secs enclave base size calm taken t =
-      let x = by_frame (builds.Create enclave base size) _ t.action t.due t.next in
-      (grow_secs b b' enclave (frame_at x.0.frame) base size x.0.is x.1, secs_made b b' enclave (frame_at x.0.frame) base size calm x.0.is taken x.1)
+      let x = by_frame (builds.Create enclave base size) _ t.action t.due t.next in (
+        grow_secs b b' enclave (frame_at x.0.frame) base size x.0.is x.1,
+        secs_made b b' enclave (frame_at x.0.frame) base size calm x.0.is
+            taken x.1,
+      )
 
-  pub took_page : (enclave number : ℕ) (kind : Kind) (perm : Perm) (init : PageInit) → IsCalm b.past → AreTaken b.past (builds.Add enclave number kind perm init ∷ []) → Takes (builds.Add enclave number kind perm init) b b'
+  pub took_page : (enclave number : ℕ) (kind : Kind) (perm : Perm) (init : PageInit) → IsCalm b.past
+      → AreTaken b.past (builds.Add enclave number kind perm init ∷ []) → Takes (builds.Add enclave number kind perm init) b b'
       → Grows (builds.Add enclave number kind perm init ∷ []) b b' × IsPlaced b'.past (page_at enclave number) kind perm
       × (flat b'.past ≡ with_page (flat b.past) (page_at enclave number) (record { kind = kind; perm = perm; words = first_words init }))
   took_page enclave number kind perm init calm taken t =
@@ -96,12 +107,14 @@ module _ (b b' : BookView) where
         page_made b b' g (frame_at x.0.frame) kind perm init calm x.0.is taken x.1,
       )
 
-  pub took_chunk : (enclave number chunk : ℕ) → Takes (builds.Extend enclave number chunk) b b' → Grows (builds.Extend enclave number chunk ∷ []) b b' × (flat b'.past ≡ flat b.past)
+  pub took_chunk : (enclave number chunk : ℕ) → Takes (builds.Extend enclave number chunk) b b'
+      → Grows (builds.Extend enclave number chunk ∷ []) b b' × (flat b'.past ≡ flat b.past)
   took_chunk enclave number chunk t =
       let x = by_frame (builds.Extend enclave number chunk) _ t.action t.due t.next in
       (grow_chunk b b' (page_at enclave number) (frame_at x.0.frame) chunk x.0.is x.1, chunk_flat b b' (frame_at x.0.frame) chunk x.1)
 
-  pub took_init : (enclave : ℕ) (expect : Option (List ℕ)) → Takes (builds.Init enclave expect) b b' → Grows (builds.Init enclave expect ∷ []) b b' × MakesOnly enclave b b'
+  pub took_init : (enclave : ℕ) (expect : Option (List ℕ)) → Takes (builds.Init enclave expect) b b'
+      → Grows (builds.Init enclave expect ∷ []) b b' × MakesOnly enclave b b'
   took_init enclave expect t =
       let next : IsNext actors.Builder (Init enclave expect) b b' = rw (some_same (Init enclave expect) t.action t.due) t.next in
       (grow_finish b b' enclave expect next, finish_only b b' enclave expect next)
@@ -109,5 +122,6 @@ module _ (b b' : BookView) where
 -- ---- the turn
 
 -- the next step of a job's build is the builder's turn
-pub builder_turn : (j : JobView) (b b' : BookView) (step : BuildStep) → j.epc ≡ b.frames → slice_get (build_of j) (built b.past) ≡ Some step → Takes step b b' → IsTurn j actors.Builder b b'
+pub builder_turn : (j : JobView) (b b' : BookView) (step : BuildStep) → j.epc ≡ b.frames → slice_get (build_of j) (built b.past) ≡ Some step
+    → Takes step b b' → IsTurn j actors.Builder b b'
 builder_turn j b b' step size at t = record { action = t.action; is_due = rw (at, size) t.due; next = t.next }

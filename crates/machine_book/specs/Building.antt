@@ -67,7 +67,8 @@ pub record IsUnmade (past : List Entry) (enclave : ℕ) : Type 0 where
 -- the adds among a line's steps
 abbrev pub line_adds : ℕ → PageLine → List BuildStep
 line_adds enclave (lines.Tcs page ossa nssa plain) = builds.Add enclave page kinds.Tcs no_perm (inits.Tcs ossa nssa) ∷ []
-line_adds enclave (lines.Reg first count perm value plain) = map (λ n. builds.Add enclave n kinds.Reg perm (inits.Words value)) (numbers_from first count)
+line_adds enclave (lines.Reg first count perm value plain) =
+    map (λ n. builds.Add enclave n kinds.Reg perm (inits.Words value)) (numbers_from first count)
 
 -- a page is in a frame
 pub record IsHere (past : List Entry) (g : Page) : Type 0 where
@@ -78,7 +79,8 @@ pub record IsHere (past : List Entry) (g : Page) : Type 0 where
 -- the pages of a line are in frames
 abbrev pub IsPlacedLine : List Entry → ℕ → PageLine → Type 0
 IsPlacedLine past enclave (lines.Tcs page ossa nssa plain) = IsPlaced past (page_at enclave page) kinds.Tcs no_perm
-IsPlacedLine past enclave (lines.Reg first count perm value plain) = (n : ℕ) → first ≤ n → n < first + count → IsPlaced past (page_at enclave n) kinds.Reg perm
+IsPlacedLine past enclave (lines.Reg first count perm value plain) =
+    (n : ℕ) → first ≤ n → n < first + count → IsPlaced past (page_at enclave n) kinds.Reg perm
 
 -- a line of an enclave adds this page
 abbrev pub adds : ℕ → PageLine → Page → Bool

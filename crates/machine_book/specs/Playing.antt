@@ -71,7 +71,8 @@ used past p g = if is_seated_at g (stay past p) then saved past g + 1 else saved
 
 -- each TCS page of the job has as many state save frames
 abbrev pub HasRoom : JobView → List Entry → ℕ → Type 0
-HasRoom j past p = (e n page ossa nssa : ℕ) (plain : Bool) → tcs_line (lines_at j.enclaves e) n ≡ Some (lines.Tcs page ossa nssa plain) → used past p (page_at e n) ≤ nssa
+HasRoom j past p = (e n page ossa nssa : ℕ) (plain : Bool) → tcs_line (lines_at j.enclaves e) n ≡ Some (lines.Tcs page ossa nssa plain)
+    → used past p (page_at e n) ≤ nssa
 
 -- where a job was built and these operations are next, a processor can play them
 pub record IsReady (j : JobView) (p : ℕ) (ops : List Op) (past : List Entry) : Type 0 where
@@ -122,14 +123,16 @@ pub record Rests (b b' : BookView) : Type 0 where
 
 -- an operation asks for the translation of a page, where its processor holds none
 abbrev pub AsksFor : JobView → ℕ → Page → Op → List Entry → Type 0
-AsksFor j p page o past = (f : ℕ) → holds_number (translations past p) page.number ≡ false → frame_of past page ≡ Some f → op_due j past p o ≡ Some (actions.Fill page.number (frame_at f))
+AsksFor j p page o past = (f : ℕ) → holds_number (translations past p) page.number ≡ false → frame_of past page ≡ Some f
+    → op_due j past p o ≡ Some (actions.Fill page.number (frame_at f))
 
 -- a processor holds a translation of a page of the enclave that it is inside; where it held none, it filled it by the script,
 -- and nobody else did anything
 pub record Fills (p : ℕ) (page : Page) (b b' : BookView) : Type 0 where
   pub rests : Rests b b'
   pub held : enclave_of_stay (stay b.past p) ≡ Some page.enclave → holds_number (translations b'.past p) page.number ≡ true
-  pub script : (j : JobView) (o : Op) → IsReady j p (o ∷ []) b.past → AsksFor j p page o b.past → Along (ScriptRule j) b.past → Along (ScriptRule j) b'.past
+  pub script : (j : JobView) (o : Op) → IsReady j p (o ∷ []) b.past → AsksFor j p page o b.past → Along (ScriptRule j) b.past
+      → Along (ScriptRule j) b'.past
 
 -- ---- the start
 

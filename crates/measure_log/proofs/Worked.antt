@@ -21,17 +21,20 @@ use Rattle.measure_log.specs.Log.{log_of}
 use Rattle.measure_log.specs.Rule.{log, measurement, MeasureRule}
 
 -- ECREATE of an enclave of 65536 bytes
-ecreate_worked : ecreate_block 0x10000 ≡ (0x45 ∷ 0x43 ∷ 0x52 ∷ 0x45 ∷ 0x41 ∷ 0x54 ∷ 0x45 ∷ 0 ∷ 1 ∷ 0 ∷ 0 ∷ 0 ∷ 0 ∷ 0 ∷ 1 ∷ 0 ∷ 0 ∷ 0 ∷ 0 ∷ 0 ∷ []) ++ replicate 44 0
+ecreate_worked : ecreate_block 0x10000 ≡ (0x45 ∷ 0x43 ∷ 0x52 ∷ 0x45 ∷ 0x41 ∷ 0x54 ∷ 0x45 ∷ 0 ∷ 1 ∷ 0 ∷ 0 ∷ 0 ∷ 0 ∷ 0 ∷ 1 ∷ 0 ∷ 0 ∷ 0 ∷ 0 ∷ 0
+    ∷ []) ++ replicate 44 0
 unfolding ecreate_block
 ecreate_worked = refl
 
 -- EADD of page 2 with R and W
-eadd_worked : eadd_block 0x2000 0x203 ≡ (0x45 ∷ 0x41 ∷ 0x44 ∷ 0x44 ∷ 0 ∷ 0 ∷ 0 ∷ 0 ∷ 0 ∷ 0x20 ∷ 0 ∷ 0 ∷ 0 ∷ 0 ∷ 0 ∷ 0 ∷ 3 ∷ 2 ∷ 0 ∷ 0 ∷ 0 ∷ 0 ∷ 0 ∷ 0 ∷ []) ++ replicate 40 0
+eadd_worked : eadd_block 0x2000 0x203 ≡ (0x45 ∷ 0x41 ∷ 0x44 ∷ 0x44 ∷ 0 ∷ 0 ∷ 0 ∷ 0 ∷ 0 ∷ 0x20 ∷ 0 ∷ 0 ∷ 0 ∷ 0 ∷ 0 ∷ 0 ∷ 3 ∷ 2 ∷ 0 ∷ 0 ∷ 0
+    ∷ 0 ∷ 0 ∷ 0 ∷ []) ++ replicate 40 0
 unfolding eadd_block
 eadd_worked = refl
 
 -- EEXTEND of chunk 1 of page 2
-eextend_worked : (chunk : List ℕ) → eextend_block 0x2100 chunk ≡ (0x45 ∷ 0x45 ∷ 0x58 ∷ 0x54 ∷ 0x45 ∷ 0x4e ∷ 0x44 ∷ 0 ∷ 0 ∷ 0x21 ∷ 0 ∷ 0 ∷ 0 ∷ 0 ∷ 0 ∷ 0 ∷ []) ++ replicate 48 0 ++ chunk
+eextend_worked : (chunk : List ℕ) → eextend_block 0x2100
+    chunk ≡ (0x45 ∷ 0x45 ∷ 0x58 ∷ 0x54 ∷ 0x45 ∷ 0x4e ∷ 0x44 ∷ 0 ∷ 0 ∷ 0x21 ∷ 0 ∷ 0 ∷ 0 ∷ 0 ∷ 0 ∷ 0 ∷ []) ++ replicate 48 0 ++ chunk
 unfolding eextend_block
 eextend_worked chunk = refl
 
@@ -53,7 +56,8 @@ writable = record { r = true; w = true; x = false }
 
 abbrev built : List Entry
 built =
-    did (Extend (frame 5) 0) ∷ did (Add 2 3 (frame 4) Reg writable (Words 1)) ∷ did (Add 1 2 (frame 2) Reg writable (Words 7)) ∷ did (Create 2 (frame 3) 0x10000 0x2000)
+    did (Extend (frame 5) 0) ∷ did (Add 2 3 (frame 4) Reg writable (Words 1)) ∷ did (Add 1 2 (frame 2) Reg writable (Words 7)) ∷ did
+    (Create 2 (frame 3) 0x10000 0x2000)
     ∷ did (Create 1 (frame 1) 0x10000 0x10000) ∷ refused (Create 1 (frame 0) 0x10000 0x10000) ∷ did (Epa (frame 0)) ∷ []
 
 abbrev build : List Entry
@@ -61,7 +65,8 @@ build = did (Extend (frame 2) 1) ∷ built
 
 -- frame 2 holds page 2 of enclave 1, whose bytes are given
 log_worked : (bytes : Page → List ℕ)
-    → log_of (λ past f. if f == 2 then Some page_two else None) (λ past page. bytes page) build 1 ≡ ecreate_block 0x10000 ++ eadd_block 0x2000 0x203 ++ eextend_block 0x2100 (chunk_of (bytes page_two) 1)
+    → log_of (λ past f. if f == 2 then Some page_two else None) (λ past page. bytes page) build 1 ≡ ecreate_block 0x10000
+    ++ eadd_block 0x2000 0x203 ++ eextend_block 0x2100 (chunk_of (bytes page_two) 1)
 log_worked bytes = refl
 
 -- by the entries: each word of page 2 is 7
@@ -88,10 +93,14 @@ entries_worked = ap (λ bytes. ecreate_block 0x10000 ++ eadd_block 0x2000 0x203 
 init_worked : MeasureRule build (record { actor = Builder; event = Did (Init 1 None) (Hash (measurement build 1)) })
 init_worked = (refl, tt)
 
-expected_worked : MeasureRule build (record { actor = Builder; event = Did (Init 1 (Some (measurement build 1))) (Hash (measurement build 1)) })
+expected_worked : MeasureRule build (record {
+  actor = Builder;
+  event = Did (Init 1 (Some (measurement build 1))) (Hash (measurement build 1));
+})
 expected_worked = (refl, refl)
 
-other_answer : (digest : List ℕ) → (digest ≡ measurement build 1 → ⊥) → MeasureRule build (record { actor = Builder; event = Did (Init 1 None) (Hash digest) }) → ⊥
+other_answer : (digest : List ℕ) → (digest ≡ measurement build 1 → ⊥)
+    → MeasureRule build (record { actor = Builder; event = Did (Init 1 None) (Hash digest) }) → ⊥
 other_answer digest other keeps = let is : Hash digest ≡ Hash (measurement build 1) = keeps.0 in other cc
 
 -- it is not refused for its measurement where none is expected, nor where this one is

@@ -24,12 +24,14 @@ module _ (page_in : List Entry → ℕ → Option Page) (bytes_of : List Entry �
   -- the block of a chunk of a page's bytes
   abbrev pub logged_chunk : List Entry → ℕ → Option Page → Option Logged
   logged_chunk past chunk None = None
-  logged_chunk past chunk (Some page) = Some (record { enclave = page.enclave; block = eextend_block (4096 * page.number + 256 * chunk) (chunk_of (bytes_of past page) chunk) })
+  logged_chunk past chunk (Some page) = Some (record
+      { enclave = page.enclave; block = eextend_block (4096 * page.number + 256 * chunk) (chunk_of (bytes_of past page) chunk) })
 
   -- the block of a done instruction
   abbrev pub logged_by_action : List Entry → Action → Option Logged
   logged_by_action past (Create enclave frame base size) = Some (record { enclave = enclave; block = ecreate_block size })
-  logged_by_action past (Add enclave number frame kind perm init) = Some (record { enclave = enclave; block = eadd_block (4096 * number) (flags_of kind perm) })
+  logged_by_action past (Add enclave number frame kind perm init) =
+      Some (record { enclave = enclave; block = eadd_block (4096 * number) (flags_of kind perm) })
   logged_by_action past (Extend frame chunk) = logged_chunk past chunk (page_in past frame.0)
   logged_by_action past _ = None
 

@@ -46,5 +46,6 @@ MeasureRule past e = by_event e.event
   where
     by_event : Event → Type 0
     by_event (Did (Init enclave expect) answer) = (answer ≡ Hash (measurement past enclave)) × IsExpected expect (measurement past enclave)
-    by_event (Refused (Init enclave expect) (BadMeasure made)) = (made ≡ measurement past enclave) × IsOther expect (measurement past enclave)
+    by_event (Refused (Init enclave expect) (BadMeasure made)) =
+        (made ≡ measurement past enclave) × IsOther expect (measurement past enclave)
     by_event _ = Unit {0}

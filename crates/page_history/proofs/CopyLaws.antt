@@ -47,7 +47,8 @@ one_page (SecsOf e) a b h k = cc
 one_page IsLoading a b h k = cc
 
 -- a page stands in no two frames
-one_frame : (past : List Entry) → OneLiveCopy past → (m n : ℕ) (g : Page) → is_page (content past m) g ≡ true → is_page (content past n) g ≡ true → m ≡ n
+one_frame : (past : List Entry) → OneLiveCopy past → (m n : ℕ) (g : Page) → is_page (content past m) g ≡ true
+    → is_page (content past n) g ≡ true → m ≡ n
 one_frame past live m n g h k = same_frame (sym (live.framed m g h) ∙ live.framed n g k)
   where
     same_frame : Some (InFrame m) ≡ Some (InFrame n) → m ≡ n
@@ -64,7 +65,8 @@ pub copy_is_last : (past : List Entry) (g : Page) (s : SlotAt) (v : ℕ) → cop
 copy_is_last [] g s v there = cc
 copy_is_last (e ∷ past) g s v there = by_event e.event there (copy_is_last past g s v)
   where
-    by_add : (b : Bool) (n : ℕ) → cond b (Some (InFrame n)) (copy past g) ≡ Some (InSlot s v) → (copy past g ≡ Some (InSlot s v) → IsUnder v (last_out past g)) → IsUnder v (last_out past g)
+    by_add : (b : Bool) (n : ℕ) → cond b (Some (InFrame n)) (copy past g) ≡ Some (InSlot s v)
+        → (copy past g ≡ Some (InSlot s v) → IsUnder v (last_out past g)) → IsUnder v (last_out past g)
     by_add true n k before = cc
     by_add false n k before = before k
 
@@ -72,23 +74,27 @@ copy_is_last (e ∷ past) g s v there = by_event e.event there (copy_is_last pas
     by_slot None w k = cc
     by_slot (Some start) w k = cc
 
-    by_ewb : (b : Bool) (o : Option Start) (w : ℕ) (tag : List ℕ) → cond b (in_slot o w) (copy past g) ≡ Some (InSlot s v) → (copy past g ≡ Some (InSlot s v) → IsUnder v (last_out past g))
+    by_ewb : (b : Bool) (o : Option Start) (w : ℕ) (tag : List ℕ) → cond b (in_slot o w) (copy past g) ≡ Some (InSlot s v)
+        → (copy past g ≡ Some (InSlot s v) → IsUnder v (last_out past g))
         → IsUnder v (cond b (Some (record { version = w; tag = tag })) (last_out past g))
     by_ewb true o w tag k before = (tag, λ i. Some (record { version = by_slot o w k i; tag = tag }))
     by_ewb false o w tag k before = before k
 
-    by_eld : (b : Bool) (n : ℕ) → cond b (Some (InFrame n)) (copy past g) ≡ Some (InSlot s v) → (copy past g ≡ Some (InSlot s v) → IsUnder v (last_out past g)) → IsUnder v (cond b None (last_out past g))
+    by_eld : (b : Bool) (n : ℕ) → cond b (Some (InFrame n)) (copy past g) ≡ Some (InSlot s v)
+        → (copy past g ≡ Some (InSlot s v) → IsUnder v (last_out past g)) → IsUnder v (cond b None (last_out past g))
     by_eld true n k before = cc
     by_eld false n k before = before k
 
-    by_event : (ev : Event) → copy_after ev (open_start past) g (copy past g) ≡ Some (InSlot s v) → (copy past g ≡ Some (InSlot s v) → IsUnder v (last_out past g)) → IsUnder v (out_after ev g (last_out past g))
+    by_event : (ev : Event) → copy_after ev (open_start past) g (copy past g) ≡ Some (InSlot s v)
+        → (copy past g ≡ Some (InSlot s v) → IsUnder v (last_out past g)) → IsUnder v (out_after ev g (last_out past g))
     by_event (Did (Add enclave number f kind perm init) answer) k before = by_add (same_page (page_at enclave number) g) f.0 k before
     by_event (Did (Ewb f) (Moved page version tag)) k before = by_ewb (same_page page g) (open_start past f.0) version tag k before
     by_event (Did (Eld f) (Moved page version tag)) k before = by_eld (same_page page g) f.0 k before
     by_event _ k before = before k
 
 -- a page that is out went out under the version of its last write-out
-pub out_is_gone : (past : List Entry) (g : Page) (o : Out) → last_out past g ≡ Some o → IsGone past (record { page = g; version = o.version })
+pub out_is_gone : (past : List Entry) (g : Page) (o : Out) → last_out past g ≡ Some o
+    → IsGone past (record { page = g; version = o.version })
 out_is_gone [] g o h = cc
 out_is_gone (e ∷ past) g o h = by_event e.event h (out_is_gone past g o)
   where
@@ -99,10 +105,12 @@ out_is_gone (e ∷ past) g o h = by_event e.event h (out_is_gone past g o)
     told : (x : Out) → Some x ≡ Some o → x.version ≡ o.version
     told x k = let same : x ≡ o = cc in ap (λ (y : Out). y.version) same
 
-    by_page : (page : Page) (w : ℕ) (tag : List ℕ) (b : Bool) → same_page page g ≡ b → cond b (Some (record { version = w; tag = tag })) (last_out past g) ≡ Some o
+    by_page : (page : Page) (w : ℕ) (tag : List ℕ) (b : Bool) → same_page page g ≡ b
+        → cond b (Some (record { version = w; tag = tag })) (last_out past g) ≡ Some o
         → (last_out past g ≡ Some o → IsGone past (record { page = g; version = o.version }))
         → Any (λ one. one ≡ record { page = g; version = o.version }) (record { page = page; version = w } ∷ gone past)
-    by_page page w tag true is k before = any_head (λ one. one ≡ _) _ (gone past) (λ i. record { page = same_pages page g is i; version = told (record { version = w; tag = tag }) k i })
+    by_page page w tag true is k before = any_head (λ one. one ≡ _) _ (gone past)
+        (λ i. record { page = same_pages page g is i; version = told (record { version = w; tag = tag }) k i })
     by_page page w tag false is k before = any_rest (λ one. one ≡ _) _ (gone past) (before k)
 
     by_event : (ev : Event) → out_after ev g (last_out past g) ≡ Some o
@@ -113,7 +121,8 @@ out_is_gone (e ∷ past) g o h = by_event e.event h (out_is_gone past g o)
     by_event _ k before = before k
 
 -- .. and so did a page whose copy is in a slot
-pub went_out : (past : List Entry) (g : Page) (s : SlotAt) (v : ℕ) → copy past g ≡ Some (InSlot s v) → IsGone past (record { page = g; version = v })
+pub went_out : (past : List Entry) (g : Page) (s : SlotAt) (v : ℕ) → copy past g ≡ Some (InSlot s v)
+    → IsGone past (record { page = g; version = v })
 went_out past g s v there = let last = copy_is_last past g s v there in out_is_gone past g _ last.1
 
 -- so a page that went out under the version of a slot has its live copy there
@@ -140,8 +149,10 @@ record Adds (is_added : Bool) (v : FrameSight) : Type 0 where
   new : is_added ≡ false
   empty : is_valid v.content ≡ false
 
-adds : (number : ℕ) (kind : Kind) (perm : Perm) (init : PageInit) (o : Option EnclaveSight) (is_added : Bool) (v : FrameSight) → first_of_row (add_row number kind perm init o is_added v) ≡ None → Adds is_added v
-adds number kind perm init None is_added v allowed = absurd (false≢true (sym (none_holds (add_row number kind perm init None is_added v) allowed).1.0))
+adds : (number : ℕ) (kind : Kind) (perm : Perm) (init : PageInit) (o : Option EnclaveSight) (is_added : Bool) (v : FrameSight)
+    → first_of_row (add_row number kind perm init o is_added v) ≡ None → Adds is_added v
+adds number kind perm init None is_added v allowed =
+    absurd (false≢true (sym (none_holds (add_row number kind perm init None is_added v) allowed).1.0))
 adds number kind perm init (Some enclave) is_added v allowed =
     let none = none_holds (add_row number kind perm init (Some enclave) is_added v) allowed in
     record { new = none.1.1.1.1.1.0; empty = none.1.1.1.1.1.1.1.0 }
@@ -154,15 +165,18 @@ pub record IsLive (past : List Entry) : Type 0 where
   pub known : (g : Page) → is_some (copy past g) ≡ true → is_some (added past g) ≡ true
 
 -- where a frame held no page and then holds none, each page stands where it stood
-unpaged : (past : List Entry) (f : ℕ) (c : Content) → ((g : Page) → is_page c g ≡ false) → ((g : Page) → is_page (content past f) g ≡ false) → (n : ℕ) (g : Page)
+unpaged : (past : List Entry) (f : ℕ) (c : Content) → ((g : Page) → is_page c g ≡ false) → ((g : Page) → is_page (content past f) g ≡ false)
+    → (n : ℕ) (g : Page)
     → is_page (cond (f == n) c (content past n)) g ≡ is_page (content past n) g
 unpaged past f c after before n g =
     cond_both (f == n) c (content past n) (λ x. is_page x g ≡ is_page (content past n) g)
     (λ here. after g ∙ sym (ap (λ m. is_page (content past m) g) (sym (eqb-true f n here)) ∙ before g)) (λ _. refl)
 
 -- an entry that moves no page
-live_still : (past : List Entry) (e : Entry) → ((g : Page) → copy (e ∷ past) g ≡ copy past g) → ((n : ℕ) (g : Page) → is_page (content (e ∷ past) n) g ≡ is_page (content past n) g)
-    → ((s : SlotAt) → version_in (e ∷ past) s ≡ version_in past s) → ((g : Page) → added (e ∷ past) g ≡ added past g) → IsLive past → IsLive (e ∷ past)
+live_still : (past : List Entry) (e : Entry) → ((g : Page) → copy (e ∷ past) g ≡ copy past g)
+    → ((n : ℕ) (g : Page) → is_page (content (e ∷ past) n) g ≡ is_page (content past n) g)
+    → ((s : SlotAt) → version_in (e ∷ past) s ≡ version_in past s) → ((g : Page) → added (e ∷ past) g ≡ added past g) → IsLive past
+    → IsLive (e ∷ past)
 live_still past e copies pages versions kinds live = record {
   one = record {
     some = λ g. rw (kinds g, copies g) (live.one.some g);
@@ -186,7 +200,8 @@ framed_there : (past : List Entry) (f : ℕ) (g : Page) (c : Content) → OneLiv
     → is_page (cond (f == n) c (content past n)) h ≡ true → cond (same_page g h) (Some (InFrame f)) (copy past h) ≡ Some (InFrame n)
 framed_there past f g c live comes n h = by_tests (f == n) refl (same_page g h) refl
   where
-    by_tests : (b : Bool) → (f == n) ≡ b → (d : Bool) → same_page g h ≡ d → is_page (cond b c (content past n)) h ≡ true → cond d (Some (InFrame f)) (copy past h) ≡ Some (InFrame n)
+    by_tests : (b : Bool) → (f == n) ≡ b → (d : Bool) → same_page g h ≡ d → is_page (cond b c (content past n)) h ≡ true
+        → cond d (Some (InFrame f)) (copy past h) ≡ Some (InFrame n)
     by_tests true e true k is = ap (λ m. Some (InFrame m)) (eqb-true f n e)
     by_tests true e false k is = absurd (false≢true (sym k ∙ sym (comes.held h) ∙ is))
     by_tests false e true k is = absurd (comes.away n (live.framed n g (rw (same_pages g h k) is)))
@@ -197,15 +212,18 @@ back_there : (past : List Entry) (f : ℕ) (g : Page) (c : Content) → OneLiveC
     → cond (same_page g h) (Some (InFrame f)) (copy past h) ≡ Some (InFrame n) → is_page (cond (f == n) c (content past n)) h ≡ true
 back_there past f g c live comes n h = by_tests (f == n) refl (same_page g h) refl
   where
-    by_tests : (b : Bool) → (f == n) ≡ b → (d : Bool) → same_page g h ≡ d → cond d (Some (InFrame f)) (copy past h) ≡ Some (InFrame n) → is_page (cond b c (content past n)) h ≡ true
+    by_tests : (b : Bool) → (f == n) ≡ b → (d : Bool) → same_page g h ≡ d → cond d (Some (InFrame f)) (copy past h) ≡ Some (InFrame n)
+        → is_page (cond b c (content past n)) h ≡ true
     by_tests true e true k is = comes.held h ∙ k
     by_tests false e true k is = let same : f ≡ n = cc in absurd (false≢true (sym e ∙ eq-eqb f n same))
     by_tests true e false k is = absurd (false≢true (sym (comes.vacant h) ∙ rw (← eqb-true f n e) at (live.back n h is)))
     by_tests false e false k is = live.back n h is
 
 -- a page that was never added comes into a frame
-live_add : (past : List Entry) → IsLive past → (a : Actor) (enclave number : ℕ) (f : Frame) (kind : Kind) (perm : Perm) (init : PageInit) (answer : Answer)
-    → ((h : Page) → is_page (content past f.0) h ≡ false) → copy past (page_at enclave number) ≡ None → IsLive (entry_of a (Did (Add enclave number f kind perm init) answer) ∷ past)
+live_add : (past : List Entry) → IsLive past → (a : Actor) (enclave number : ℕ) (f : Frame) (kind : Kind) (perm : Perm) (init : PageInit)
+    (answer : Answer)
+    → ((h : Page) → is_page (content past f.0) h ≡ false) → copy past (page_at enclave number) ≡ None
+    → IsLive (entry_of a (Did (Add enclave number f kind perm init) answer) ∷ past)
 live_add past live a enclave number f kind perm init answer vacant new = record {
   one = record {
     some = λ h. some h (same_page g h);
@@ -224,32 +242,38 @@ live_add past live a enclave number f kind perm init answer vacant new = record 
     comes : Comes past f.0 g (Holds g kind perm)
     comes = record { held = λ h. refl; vacant = vacant; away = λ n is. cc (is, new) }
 
-    some : (h : Page) (b : Bool) → is_some (cond b (Some (kind, perm)) (added past h)) ≡ true → is_some (cond b (Some (InFrame f.0)) (copy past h)) ≡ true
+    some : (h : Page) (b : Bool) → is_some (cond b (Some (kind, perm)) (added past h)) ≡ true
+        → is_some (cond b (Some (InFrame f.0)) (copy past h)) ≡ true
     some h true k = refl
     some h false k = live.one.some h k
 
-    known : (h : Page) (b : Bool) → is_some (cond b (Some (InFrame f.0)) (copy past h)) ≡ true → is_some (cond b (Some (kind, perm)) (added past h)) ≡ true
+    known : (h : Page) (b : Bool) → is_some (cond b (Some (InFrame f.0)) (copy past h)) ≡ true
+        → is_some (cond b (Some (kind, perm)) (added past h)) ≡ true
     known h true k = refl
     known h false k = live.known h k
 
-    slotted : (t : SlotAt) (w : ℕ) (h : Page) (b : Bool) → cond b (Some (InFrame f.0)) (copy past h) ≡ Some (InSlot t w) → version_in past t ≡ w
+    slotted : (t : SlotAt) (w : ℕ) (h : Page) (b : Bool) → cond b (Some (InFrame f.0)) (copy past h) ≡ Some (InSlot t w)
+        → version_in past t ≡ w
     slotted t w h true is = cc
     slotted t w h false is = live.one.slotted t w h is
 
-    kept : (h : Page) (t : SlotAt) (w : ℕ) → copy past h ≡ Some (InSlot t w) → cond (same_page g h) (Some (InFrame f.0)) (copy past h) ≡ Some (InSlot t w)
+    kept : (h : Page) (t : SlotAt) (w : ℕ) → copy past h ≡ Some (InSlot t w)
+        → cond (same_page g h) (Some (InFrame f.0)) (copy past h) ≡ Some (InSlot t w)
     kept h t w is =
         cond_both (same_page g h) (Some (InFrame f.0)) (copy past h) (λ o. o ≡ Some (InSlot t w))
         (λ same. let here : copy past g ≡ Some (InSlot t w) = rw (same_pages g h same) is in cc (here, new)) (λ _. is)
 
     alone : (t : SlotAt) (x y : ℕ) (h i : Page) (b c : Bool)
-        → cond b (Some (InFrame f.0)) (copy past h) ≡ Some (InSlot t x) → cond c (Some (InFrame f.0)) (copy past i) ≡ Some (InSlot t y) → h ≡ i
+        → cond b (Some (InFrame f.0)) (copy past h) ≡ Some (InSlot t x) → cond c (Some (InFrame f.0)) (copy past i) ≡ Some (InSlot t y)
+        → h ≡ i
     alone t x y h i true c p q = cc
     alone t x y h i false true p q = cc
     alone t x y h i false false p q = live.one.alone t x y h i p q
 
 -- a page goes out into an empty slot
 live_ewb : (past : List Entry) → IsLive past → (a : Actor) (f : Frame) (g : Page) (v : ℕ) (tag : List ℕ) (start : Start)
-    → is_page (content past f.0) g ≡ true → open_start past f.0 ≡ Some start → version_in past start.slot ≡ 0 → ((t : SlotAt) (w : ℕ) (h : Page) → copy past h ≡ Some (InSlot t w) → 0 < w)
+    → is_page (content past f.0) g ≡ true → open_start past f.0 ≡ Some start → version_in past start.slot ≡ 0
+    → ((t : SlotAt) (w : ℕ) (h : Page) → copy past h ≡ Some (InSlot t w) → 0 < w)
     → IsLive (entry_of a (Did (Ewb f) (Moved g v tag)) ∷ past)
 live_ewb past live a f g v tag start held opened empty above = record {
   one = record {
@@ -273,14 +297,16 @@ live_ewb past live a f g v tag start held opened empty above = record {
     some h true k = refl
     some h false k = live.one.some h k
 
-    known : (h : Page) (b : Bool) → same_page g h ≡ b → is_some (cond b (Some (InSlot s v)) (copy past h)) ≡ true → is_some (added past h) ≡ true
+    known : (h : Page) (b : Bool) → same_page g h ≡ b → is_some (cond b (Some (InSlot s v)) (copy past h)) ≡ true
+        → is_some (added past h) ≡ true
     known h true same k = live.known h (rw (← same_pages g h same, was) refl)
     known h false other k = live.known h k
 
     framed : (n : ℕ) (h : Page) (b : Bool) → (f.0 == n) ≡ b → (c : Bool) → same_page g h ≡ c
         → is_page (cond b Free (content past n)) h ≡ true → cond c (in_slot (open_start past f.0) v) (copy past h) ≡ Some (InFrame n)
     framed n h true e c k is = cc
-    framed n h false e true k is = absurd (false≢true (sym e ∙ eq-eqb f.0 n (one_frame past live.one f.0 n h (rw (← same_pages g h k) held) is)))
+    framed n h false e true k is =
+        absurd (false≢true (sym e ∙ eq-eqb f.0 n (one_frame past live.one f.0 n h (rw (← same_pages g h k) held) is)))
     framed n h false e false k is = live.one.framed n h is
 
     back : (n : ℕ) (h : Page) (b : Bool) → (f.0 == n) ≡ b → (c : Bool) → same_page g h ≡ c
@@ -309,12 +335,14 @@ live_ewb past live a f g v tag start held opened empty above = record {
     filled t true e more = (g, rw (same_page-refl g, same_slots s t e) refl)
     filled t false e more = let old = live.one.filled t more in (old.0, other old.0 (same_page g old.0) refl old.1)
       where
-        other : (h : Page) (c : Bool) → same_page g h ≡ c → copy past h ≡ Some (InSlot t (version_in past t)) → cond c (Some (InSlot s v)) (copy past h) ≡ Some (InSlot t (version_in past t))
+        other : (h : Page) (c : Bool) → same_page g h ≡ c → copy past h ≡ Some (InSlot t (version_in past t))
+            → cond c (Some (InSlot s v)) (copy past h) ≡ Some (InSlot t (version_in past t))
         other h false k is = is
         other h true k is = let same : copy past g ≡ Some (InSlot t (version_in past t)) = rw (same_pages g h k) is in cc (was, same)
 
     alone : (t : SlotAt) (x y : ℕ) (h i : Page) (c : Bool) → same_page g h ≡ c → (d : Bool) → same_page g i ≡ d
-        → cond c (Some (InSlot s v)) (copy past h) ≡ Some (InSlot t x) → cond d (Some (InSlot s v)) (copy past i) ≡ Some (InSlot t y) → h ≡ i
+        → cond c (Some (InSlot s v)) (copy past h) ≡ Some (InSlot t x) → cond d (Some (InSlot s v)) (copy past i) ≡ Some (InSlot t y)
+        → h ≡ i
     alone t x y h i true k true l a b = sym (same_pages g h k) ∙ same_pages g i l
     alone t x y h i true k false l a b = absurd (taken t y i (cc) b)
     alone t x y h i false k true l a b = absurd (taken t x h (cc) a)
@@ -356,7 +384,8 @@ live_eld past live a f g told v tag start loading opened was = record {
     some h true k = refl
     some h false k = live.one.some h k
 
-    known : (h : Page) (b : Bool) → same_page g h ≡ b → is_some (cond b (Some (InFrame f.0)) (copy past h)) ≡ true → is_some (added past h) ≡ true
+    known : (h : Page) (b : Bool) → same_page g h ≡ b → is_some (cond b (Some (InFrame f.0)) (copy past h)) ≡ true
+        → is_some (added past h) ≡ true
     known h true same k = live.known h (rw (← same_pages g h same, was) refl)
     known h false other k = live.known h k
 
@@ -373,7 +402,8 @@ live_eld past live a f g told v tag start loading opened was = record {
     filled t true e more = absurd (omega (arith, more))
     filled t false e more = let old = live.one.filled t more in (old.0, other old.0 (same_page g old.0) refl old.1)
       where
-        other : (h : Page) (b : Bool) → same_page g h ≡ b → copy past h ≡ Some (InSlot t (version_in past t)) → cond b (Some (InFrame f.0)) (copy past h) ≡ Some (InSlot t (version_in past t))
+        other : (h : Page) (b : Bool) → same_page g h ≡ b → copy past h ≡ Some (InSlot t (version_in past t))
+            → cond b (Some (InFrame f.0)) (copy past h) ≡ Some (InSlot t (version_in past t))
         other h false k is = is
         other h true k is =
             let same : copy past g ≡ Some (InSlot t (version_in past t)) = rw (same_pages g h k) is in
@@ -381,7 +411,8 @@ live_eld past live a f g told v tag start loading opened was = record {
             absurd (false≢true (sym e ∙ ap (same_slot s) (sym slots) ∙ same_slot-refl s))
 
     alone : (t : SlotAt) (x y : ℕ) (h i : Page) (b d : Bool)
-        → cond b (Some (InFrame f.0)) (copy past h) ≡ Some (InSlot t x) → cond d (Some (InFrame f.0)) (copy past i) ≡ Some (InSlot t y) → h ≡ i
+        → cond b (Some (InFrame f.0)) (copy past h) ≡ Some (InSlot t x) → cond d (Some (InFrame f.0)) (copy past i) ≡ Some (InSlot t y)
+        → h ≡ i
     alone t x y h i true d p q = cc
     alone t x y h i false true p q = cc
     alone t x y h i false false p q = live.one.alone t x y h i p q
@@ -394,7 +425,8 @@ no_value None h = refl
 no_value (Some x) h = absurd (h refl)
 
 -- an entry that keeps the rules leaves each page one live copy
-live_more : (k : Making) (past : List Entry) (e : Entry) → 1 ≤ k.first_version → KeepsMoves k past → RefusalRule k.frames past e → MovesRule k past e → FreshRule k.first_version past e
+live_more : (k : Making) (past : List Entry) (e : Entry) → 1 ≤ k.first_version → KeepsMoves k past → RefusalRule k.frames past e
+    → MovesRule k past e → FreshRule k.first_version past e
     → IsLive past → IsLive (e ∷ past)
 live_more k past e low keeps refusal moves fresh live = by_event e.event refusal moves fresh
   where
@@ -415,39 +447,50 @@ live_more k past e low keeps refusal moves fresh live = by_event e.event refusal
     in_flat (Some x) is = refl
 
     unadded : (g : Page) → is_some ((flat past).pages g) ≡ false → copy past g ≡ None
-    unadded g new = no_value (copy past g) (λ is. false≢true (sym new ∙ in_flat ((flat past).pages g) (rw (added_flat past keeps.flat g) at (live.known g is))))
+    unadded g new = no_value (copy past g) (λ is.
+        false≢true (sym new ∙ in_flat ((flat past).pages g) (rw (added_flat past keeps.flat g) at (live.known g is))))
 
     loading : (n : ℕ) (g : Page) → EndsIn past n g → (h : Page) → is_page (content past n) h ≡ false
     loading n g ends h = rw (apart.loading n ends.start g ends.opened ends.loads) refl
 
     -- the page's copy is in the slot of the start that ends
-    slotted : (n : ℕ) (g : Page) (version : ℕ) (tag : List ℕ) (ends : EndsIn past n g) → IsLastOut past n g version tag → copy past g ≡ Some (InSlot ends.start.slot (version_in past ends.start.slot))
+    slotted : (n : ℕ) (g : Page) (version : ℕ) (tag : List ℕ) (ends : EndsIn past n g) → IsLastOut past n g version tag
+        → copy past g ≡ Some (InSlot ends.start.slot (version_in past ends.start.slot))
     slotted n g version tag ends last =
         let found = apart.found n ends.start g ends.opened ends.loads in
         let at : version_in past ends.start.slot ≡ version = rw ends.opened at last.slot in
-        whose_copy k.first_version past live.one drawn ends.start.slot g (omega (arith, found.0, found.1)) (rw at (out_is_gone past g _ last.last))
+        whose_copy k.first_version past live.one drawn ends.start.slot g (omega (arith, found.0, found.1))
+        (rw at (out_is_gone past g _ last.last))
 
-    by_event : (ev : Event) → RefusalRule k.frames past (entry_of a ev) → MovesRule k past (entry_of a ev) → FreshRule k.first_version past (entry_of a ev) → IsLive (entry_of a ev ∷ past)
+    by_event : (ev : Event) → RefusalRule k.frames past (entry_of a ev) → MovesRule k past (entry_of a ev)
+        → FreshRule k.first_version past (entry_of a ev) → IsLive (entry_of a ev ∷ past)
     by_event (Did (Epa f) answer) refusal moves fresh =
         let none = none_holds (epa_row (sight_at k.frames past f.0)) refusal.0 in
-        live_still past _ (λ g. refl) (unpaged past f.0 IsVa (λ g. refl) (vacant (content past f.0) none.1.1.0)) (λ s. refl) (λ g. refl) live
+        live_still past _ (λ g. refl) (unpaged past f.0 IsVa (λ g. refl) (vacant (content past f.0) none.1.1.0)) (λ s. refl) (λ g. refl)
+        live
     by_event (Did (Create enclave f base size) answer) refusal moves fresh =
         let none = none_holds (create_row enclave base size _ (sight_at k.frames past f.0)) refusal.0 in
-        live_still past _ (λ g. refl) (unpaged past f.0 (SecsOf enclave) (λ g. refl) (vacant (content past f.0) none.1.1.1.0)) (λ s. refl) (λ g. refl) live
+        live_still past _ (λ g. refl) (unpaged past f.0 (SecsOf enclave) (λ g. refl) (vacant (content past f.0) none.1.1.1.0)) (λ s. refl)
+        (λ g. refl) live
     by_event (Did (Add enclave number f kind perm init) answer) refusal moves fresh =
         let adding = adds number kind perm init _ _ (sight_at k.frames past f.0) refusal.0 in
-        live_add past live a enclave number f kind perm init answer (vacant (content past f.0) adding.empty) (unadded (page_at enclave number) adding.new)
+        live_add past live a enclave number f kind perm init answer (vacant (content past f.0) adding.empty)
+        (unadded (page_at enclave number) adding.new)
     by_event (Did (EldStart f page slot) answer) refusal moves fresh =
         let none = none_holds (eldstart_row (sight_at k.frames past f.0) _ (slot_sight_at k.frames past slot)) (moves tt).0 in
-        live_still past _ (λ g. refl) (unpaged past f.0 IsLoading (λ g. refl) (vacant (content past f.0) none.1.1.1.0)) (λ s. refl) (λ g. refl) live
+        live_still past _ (λ g. refl) (unpaged past f.0 IsLoading (λ g. refl) (vacant (content past f.0) none.1.1.1.0)) (λ s. refl)
+        (λ g. refl) live
     by_event (Did (Ewb f) answer) refusal out fresh =
         rw out.told
-        (live_ewb past live a f out.page out.version out.tag out.start (rw out.held (same_page-refl out.page)) out.opened (apart.empty f.0 out.start out.opened out.writes) above)
+        (live_ewb past live a f out.page out.version out.tag out.start (rw out.held (same_page-refl out.page)) out.opened
+        (apart.empty f.0 out.start out.opened out.writes) above)
     by_event (Did (Eld f) answer) refusal back fresh =
         let ends = back.ends in
         let last : IsLastOut past f.0 back.page back.version back.tag = rw back.told at fresh.reload in
         rw back.told
-        (live_eld past live a f back.page back.version (version_in past ends.start.slot) back.tag ends.start (apart.loading f.0 ends.start back.page ends.opened ends.loads) ends.opened (slotted f.0 back.page back.version back.tag ends last))
+        (live_eld past live a f back.page back.version (version_in past ends.start.slot) back.tag ends.start
+        (apart.loading f.0 ends.start back.page ends.opened ends.loads) ends.opened
+        (slotted f.0 back.page back.version back.tag ends last))
     by_event (Refused (Eld f) why) refusal unfit fresh =
         live_still past _ (λ g. refl) (unpaged past f.0 Free (λ g. refl) (loading f.0 unfit.page unfit.ends)) (λ s. refl) (λ g. refl) live
     by_event ev refusal moves fresh = live_still past (entry_of a ev) (λ g. refl) (λ n g. refl) (λ s. refl) (λ g. refl) live
@@ -466,7 +509,13 @@ all_live k [] low keeps = record {
   known = λ g is. cc;
 }
 all_live k (e ∷ past) low keeps =
-    let before : KeepsMoves k past = record { refusal = keeps.refusal.1; flat = keeps.flat.1; moves = keeps.moves.1; evict = keeps.evict.1; fresh = keeps.fresh.1 } in
+    let before : KeepsMoves k past = record {
+      refusal = keeps.refusal.1;
+      flat = keeps.flat.1;
+      moves = keeps.moves.1;
+      evict = keeps.evict.1;
+      fresh = keeps.fresh.1;
+    } in
     live_more k past e low before keeps.refusal.0 keeps.moves.0 keeps.fresh.0 (all_live k past low before)
 
 -- .. of which the contract tells the first

@@ -28,8 +28,10 @@ first_below first (e ∷ past) = by_test (is_draw e.event) (first_below first pa
     by_test false h = h
 
 -- where no start of a write-out is new, nor a page that went out, each version is still drawn once
-fewer_drawn : (first : ℕ) (past : List Entry) (e : Entry) → ((n : ℕ) (x : Start) → open_start (e ∷ past) n ≡ Some x → x.loads ≡ None → open_start past n ≡ Some x)
-    → ((x : Gone) → IsGone (e ∷ past) x → IsGone past x) → next_version first (e ∷ past) ≡ next_version first past → DrawnOnce first past → DrawnOnce first (e ∷ past)
+fewer_drawn : (first : ℕ) (past : List Entry) (e : Entry)
+    → ((n : ℕ) (x : Start) → open_start (e ∷ past) n ≡ Some x → x.loads ≡ None → open_start past n ≡ Some x)
+    → ((x : Gone) → IsGone (e ∷ past) x → IsGone past x) → next_version first (e ∷ past) ≡ next_version first past → DrawnOnce first past
+    → DrawnOnce first (e ∷ past)
 fewer_drawn first past e opens goes next h = record {
   from = λ n x is writes. h.from n x (opens n x is writes) writes;
   started = λ n x is writes. rw next (h.started n x (opens n x is writes) writes);
@@ -40,12 +42,14 @@ fewer_drawn first past e opens goes next h = record {
 }
 
 -- a load that starts ends the start of a write-out, if any
-load_opened : (b : Bool) (slot : SlotAt) (v : ℕ) (page : Page) (old : Option Start) (x : Start) → cond b (Some (record { slot = slot; version = v; loads = Some page })) old ≡ Some x → x.loads ≡ None → old ≡ Some x
+load_opened : (b : Bool) (slot : SlotAt) (v : ℕ) (page : Page) (old : Option Start) (x : Start)
+    → cond b (Some (record { slot = slot; version = v; loads = Some page })) old ≡ Some x → x.loads ≡ None → old ≡ Some x
 load_opened true slot v page old x is writes = cc
 load_opened false slot v page old x is writes = is
 
 -- a write-out starts with the next version
-module _ (first : ℕ) (past : List Entry) (actor : Actor) (f : Frame) (slot : SlotAt) (answer : Answer) (told : answer ≡ Version (next_version first past)) (h : DrawnOnce first past) where
+module _ (first : ℕ) (past : List Entry) (actor : Actor) (f : Frame) (slot : SlotAt) (answer : Answer)
+    (told : answer ≡ Version (next_version first past)) (h : DrawnOnce first past) where
   abbrev drawn : Start
   drawn = record { slot = slot; version = version_told answer; loads = None }
 
@@ -53,17 +57,21 @@ module _ (first : ℕ) (past : List Entry) (actor : Actor) (f : Frame) (slot : S
   later = entry_of actor (Did (EwbStart f slot) answer) ∷ past
 
   -- an open start of a write-out is this one, with the next version, or one from before
-  new_or_old : (n : ℕ) (x : Start) → open_start later n ≡ Some x → ((f.0 ≡ n) × (x.version ≡ next_version first past)) ⊎ (open_start past n ≡ Some x)
-  new_or_old n x is = elim (opened_cases (f.0 == n) drawn x (open_start past n) is) as (λ _. ((f.0 ≡ n) × (x.version ≡ next_version first past)) ⊎ (open_start past n ≡ Some x)) [
-    | inl k ↦ inl (eqb-true f.0 n k.0, sym (ap (λ (y : Start). y.version) k.1) ∙ ap version_told told)
-    | inr k ↦ inr k.1
-  ]
+  new_or_old : (n : ℕ) (x : Start) → open_start later n ≡ Some x
+      → ((f.0 ≡ n) × (x.version ≡ next_version first past)) ⊎ (open_start past n ≡ Some x)
+  new_or_old n x is = elim (opened_cases (f.0 == n) drawn x (open_start past n) is)
+      as (λ _. ((f.0 ≡ n) × (x.version ≡ next_version first past)) ⊎ (open_start past n ≡ Some x)) [
+        | inl k ↦ inl (eqb-true f.0 n k.0, sym (ap (λ (y : Start). y.version) k.1) ∙ ap version_told told)
+        | inr k ↦ inr k.1
+      ]
 
   -- no two open starts have one version
-  apart_still : (m n : ℕ) (x y : Start) → open_start later m ≡ Some x → open_start later n ≡ Some y → x.loads ≡ None → y.loads ≡ None → x.version ≡ y.version → m ≡ n
+  apart_still : (m n : ℕ) (x y : Start) → open_start later m ≡ Some x → open_start later n ≡ Some y → x.loads ≡ None → y.loads ≡ None
+      → x.version ≡ y.version → m ≡ n
   apart_still m n x y is too writes also same = by_cases (new_or_old m x is) (new_or_old n y too)
     where
-      by_cases : ((f.0 ≡ m) × (x.version ≡ next_version first past)) ⊎ (open_start past m ≡ Some x) → ((f.0 ≡ n) × (y.version ≡ next_version first past)) ⊎ (open_start past n ≡ Some y) → m ≡ n
+      by_cases : ((f.0 ≡ m) × (x.version ≡ next_version first past)) ⊎ (open_start past m ≡ Some x)
+          → ((f.0 ≡ n) × (y.version ≡ next_version first past)) ⊎ (open_start past n ≡ Some y) → m ≡ n
       by_cases (inl a) (inl b) = sym a.0 ∙ b.0
       by_cases (inl a) (inr b) = let low : y.version < next_version first past = h.started n y b also in omega (arith, a.1)
       by_cases (inr a) (inl b) = let low : x.version < next_version first past = h.started m x a writes in omega (arith, b.1)
@@ -72,11 +80,14 @@ module _ (first : ℕ) (past : List Entry) (actor : Actor) (f : Frame) (slot : S
   -- and so each version is drawn once still
   ewbstart_drawn : DrawnOnce first later
   ewbstart_drawn = record {
-    from = λ n x is writes. ⊎_elim (λ k. let low : first ≤ next_version first past = first_below first past in omega (arith, k.1)) (λ old. h.from n x old writes) (new_or_old n x is);
-    started = λ n x is writes. ⊎_elim (λ k. omega (arith, k.1)) (λ old. let low : x.version < next_version first past = h.started n x old writes in omega arith) (new_or_old n x is);
+    from = λ n x is writes. ⊎_elim (λ k. let low : first ≤ next_version first past = first_below first past in omega (arith, k.1))
+        (λ old. h.from n x old writes) (new_or_old n x is);
+    started = λ n x is writes. ⊎_elim (λ k. omega (arith, k.1))
+        (λ old. let low : x.version < next_version first past = h.started n x old writes in omega arith) (new_or_old n x is);
     apart = apart_still;
     ended = λ x is. let k = h.ended x is in (k.0, omega (arith, k.1));
-    not_open = λ n x y is writes went same. ⊎_elim (λ k. let low = (h.ended y went).1 in omega (arith, k.1, low)) (λ old. h.not_open n x y old writes went same) (new_or_old n x is);
+    not_open = λ n x y is writes went same. ⊎_elim (λ k. let low = (h.ended y went).1 in omega (arith, k.1, low))
+        (λ old. h.not_open n x y old writes went same) (new_or_old n x is);
     once = h.once;
   }
 
@@ -105,7 +116,8 @@ module _ (first : ℕ) (past : List Entry) (actor : Actor) (f : Frame) (page : P
   not_before x went same = h.not_open f.0 its_start x opened refl went same
 
   -- no page went out with the version of an open start
-  not_open_still : (n : ℕ) (x : Start) (y : Gone) → open_start after n ≡ Some x → x.loads ≡ None → IsGone after y → x.version ≡ y.version → ⊥
+  not_open_still : (n : ℕ) (x : Start) (y : Gone) → open_start after n ≡ Some x → x.loads ≡ None → IsGone after y → x.version ≡ y.version
+      → ⊥
   not_open_still n x y is writes went same = ⊎_elim this before (out_or_before y went)
     where
       this : out ≡ y → ⊥
@@ -134,21 +146,31 @@ module _ (first : ℕ) (past : List Entry) (actor : Actor) (f : Frame) (page : P
     started = λ n x is writes. h.started n x (still_open n x is).1 writes;
     apart = λ m n x y is too writes also same. h.apart m n x y (still_open m x is).1 (still_open n y too).1 writes also same;
     ended = λ x is.
-        ⊎_elim (λ this. subst (λ (z : Gone). (first ≤ z.version) × (z.version < next_version first past)) this (h.from f.0 its_start opened refl, h.started f.0 its_start opened refl)) (h.ended x)
+        ⊎_elim (λ this. subst (λ (z : Gone). (first ≤ z.version) × (z.version < next_version first past)) this
+        (h.from f.0 its_start opened refl, h.started f.0 its_start opened refl)) (h.ended x)
         (out_or_before x is);
     not_open = not_open_still;
     once = once_still;
   }
 
 -- an entry that keeps the rules leaves each version drawn once
-drawn_still : (first : ℕ) (past : List Entry) (actor : Actor) (event : Event) → RisingRule first past (entry_of actor event) → EvictRule past (entry_of actor event) → DrawnOnce first past → DrawnOnce first (entry_of actor event ∷ past)
+drawn_still : (first : ℕ) (past : List Entry) (actor : Actor) (event : Event) → RisingRule first past (entry_of actor event)
+    → EvictRule past (entry_of actor event) → DrawnOnce first past → DrawnOnce first (entry_of actor event ∷ past)
 drawn_still first past actor (Did (EwbStart f slot) answer) rising evict h = ewbstart_drawn first past actor f slot answer rising h
-drawn_still first past actor (Did (Ewb f) (Moved page version tag)) rising evict h = ewb_drawn first past actor f page version tag evict.slot evict.opened h
-drawn_still first past actor (Did (Ewb f) answer) rising evict h = fewer_drawn first past (entry_of actor (Did (Ewb f) answer)) (λ n x is writes. (ended_cases (f.0 == n) x (open_start past n) is).1) (λ x is. is) refl h
+drawn_still first past actor (Did (Ewb f) (Moved page version tag)) rising evict h =
+    ewb_drawn first past actor f page version tag evict.slot evict.opened h
+drawn_still first past actor (Did (Ewb f) answer) rising evict h =
+    fewer_drawn first past (entry_of actor (Did (Ewb f) answer)) (λ n x is writes. (ended_cases (f.0 == n) x (open_start past n) is).1)
+    (λ x is. is) refl h
 drawn_still first past actor (Did (EldStart f page slot) answer) rising evict h =
-    fewer_drawn first past (entry_of actor (Did (EldStart f page slot) answer)) (λ n x is writes. load_opened (f.0 == n) slot (version_told answer) page (open_start past n) x is writes) (λ x is. is) refl h
-drawn_still first past actor (Did (Eld f) answer) rising evict h = fewer_drawn first past (entry_of actor (Did (Eld f) answer)) (λ n x is writes. (ended_cases (f.0 == n) x (open_start past n) is).1) (λ x is. is) refl h
-drawn_still first past actor (Refused (Eld f) why) rising evict h = fewer_drawn first past (entry_of actor (Refused (Eld f) why)) (λ n x is writes. (ended_cases (f.0 == n) x (open_start past n) is).1) (λ x is. is) refl h
+    fewer_drawn first past (entry_of actor (Did (EldStart f page slot) answer))
+    (λ n x is writes. load_opened (f.0 == n) slot (version_told answer) page (open_start past n) x is writes) (λ x is. is) refl h
+drawn_still first past actor (Did (Eld f) answer) rising evict h =
+    fewer_drawn first past (entry_of actor (Did (Eld f) answer)) (λ n x is writes. (ended_cases (f.0 == n) x (open_start past n) is).1)
+    (λ x is. is) refl h
+drawn_still first past actor (Refused (Eld f) why) rising evict h =
+    fewer_drawn first past (entry_of actor (Refused (Eld f) why)) (λ n x is writes. (ended_cases (f.0 == n) x (open_start past n) is).1)
+    (λ x is. is) refl h
 drawn_still first past actor event rising evict h = fewer_drawn first past (entry_of actor event) (λ n x is writes. is) (λ x is. is) refl h
 
 -- the rules were kept before the last entry

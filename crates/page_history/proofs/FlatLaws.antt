@@ -32,7 +32,8 @@ rewritten_kind true change (Some x) = refl
 rewritten_kind false change o = refl
 
 -- what an asynchronous exit saves leaves each page's kind and permissions
-saved_kinds : (m : FlatMemory) (acc : ℕ) (inside : Option Inside) (g : Page) → added_as ((saved m acc inside).pages g) ≡ added_as (m.pages g)
+saved_kinds : (m : FlatMemory) (acc : ℕ) (inside : Option Inside) (g : Page)
+    → added_as ((saved m acc inside).pages g) ≡ added_as (m.pages g)
 saved_kinds m acc None g = refl
 saved_kinds m acc (Some i) g =
     let fields = fields_in m i.enclave i.tcs in
@@ -41,13 +42,16 @@ saved_kinds m acc (Some i) g =
     ∙ rewritten_kind (same_page g (page_at i.enclave (fields.ossa + fields.cssa))) (λ words. slice_set words 0 acc) (m.pages g)
 
 -- .. and so does a store
-stored_kinds : (m : FlatMemory) (inside : Option Inside) (off value : ℕ) (g : Page) → added_as ((stored m inside off value).pages g) ≡ added_as (m.pages g)
+stored_kinds : (m : FlatMemory) (inside : Option Inside) (off value : ℕ) (g : Page)
+    → added_as ((stored m inside off value).pages g) ≡ added_as (m.pages g)
 stored_kinds m None off value g = refl
-stored_kinds m (Some i) off value g = rewritten_kind (same_page g (at_offset i.enclave off)) (λ words. slice_set words (word_index off) value) (m.pages g)
+stored_kinds m (Some i) off value g =
+    rewritten_kind (same_page g (at_offset i.enclave off)) (λ words. slice_set words (word_index off) value) (m.pages g)
 
 -- a processor's instruction leaves each page's kind and permissions
 cpu_kinds : (p : ℕ) (action : Action) (m : FlatMemory) (g : Page) → added_as ((cpu_after p action m).pages g) ≡ added_as (m.pages g)
-cpu_kinds p (Resume enclave tcs tf sf) m g = rewritten_kind (same_page g (page_at enclave tcs)) (λ words. with_cssa words ((fields_in m enclave tcs).cssa - 1)) (m.pages g)
+cpu_kinds p (Resume enclave tcs tf sf) m g =
+    rewritten_kind (same_page g (page_at enclave tcs)) (λ words. with_cssa words ((fields_in m enclave tcs).cssa - 1)) (m.pages g)
 cpu_kinds p (Aex cause) m g = saved_kinds m (m.cpus p).acc (m.cpus p).inside g
 cpu_kinds p (Store off value) m g = stored_kinds m (m.cpus p).inside off value g
 cpu_kinds p (Xadd off value) m g = stored_kinds m (m.cpus p).inside off (sum_of (word_seen m (m.cpus p).inside off) value) g
@@ -59,15 +63,18 @@ is_add (Add enclave number f kind perm init) = true
 is_add _ = false
 
 -- each instruction but `add` leaves each page's kind and permissions
-memory_kinds : (actor : Actor) (action : Action) (m : FlatMemory) (g : Page) → is_add action ≡ false → added_as ((memory_after actor action m).pages g) ≡ added_as (m.pages g)
+memory_kinds : (actor : Actor) (action : Action) (m : FlatMemory) (g : Page) → is_add action ≡ false
+    → added_as ((memory_after actor action m).pages g) ≡ added_as (m.pages g)
 memory_kinds actor (Add enclave number f kind perm init) m g h = cc
 memory_kinds (actors.Cpu p) action m g h = cpu_kinds p.0 action m g
 memory_kinds actors.Builder action m g h = refl
 memory_kinds actors.Reclaimer action m g h = refl
 
 -- .. whether flat memory takes it or not
-event_kinds : (actor : Actor) (action : Action) (answer : Answer) (m : FlatMemory) (g : Page) → is_add action ≡ false → added_as ((event_after actor (Did action answer) m).pages g) ≡ added_as (m.pages g)
-event_kinds actor action answer m g h = cond_both (accepts m actor action) (memory_after actor action m) m (λ (now : FlatMemory). added_as (now.pages g) ≡ added_as (m.pages g)) (λ _. memory_kinds actor action m g h) (λ _. refl)
+event_kinds : (actor : Actor) (action : Action) (answer : Answer) (m : FlatMemory) (g : Page) → is_add action ≡ false
+    → added_as ((event_after actor (Did action answer) m).pages g) ≡ added_as (m.pages g)
+event_kinds actor action answer m g h = cond_both (accepts m actor action) (memory_after actor action m) m
+    (λ (now : FlatMemory). added_as (now.pages g) ≡ added_as (m.pages g)) (λ _. memory_kinds actor action m g h) (λ _. refl)
 
 -- the kind and permissions of one more page
 added_one : (b : Bool) (x : FlatPage) (o : Option FlatPage) → cond b (Some (x.kind, x.perm)) (added_as o) ≡ added_as (cond b (Some x) o)
@@ -75,11 +82,13 @@ added_one true x o = refl
 added_one false x o = refl
 
 -- a done `add` adds the page, and no other entry does
-added_still : (past : List Entry) (actor : Actor) (event : Event) (g : Page) → FlatRule past (entry_of actor event) → added past g ≡ added_as ((flat past).pages g)
+added_still : (past : List Entry) (actor : Actor) (event : Event) (g : Page) → FlatRule past (entry_of actor event)
+    → added past g ≡ added_as ((flat past).pages g)
     → added (entry_of actor event ∷ past) g ≡ added_as ((flat (entry_of actor event ∷ past)).pages g)
 added_still past actor (Did (Add enclave number f kind perm init) answer) g rule h =
     let x : FlatPage = record { kind = kind; perm = perm; words = first_words init } in
-    rw (rule refl).taken (rw (same_page-swap (page_at enclave number) g, h) (added_one (same_page g (page_at enclave number)) x ((flat past).pages g)))
+    rw (rule refl).taken (rw (same_page-swap (page_at enclave number) g, h)
+    (added_one (same_page g (page_at enclave number)) x ((flat past).pages g)))
 added_still past actor (Did action answer) g rule h = h ∙ sym (event_kinds actor action answer (flat past) g refl)
 added_still past actor event g rule h = h
 
@@ -101,17 +110,22 @@ is_none-None None h = refl
 is_none-None (Some x) h = cc
 
 -- a page is added that was not added before
-fresh_page : (number : ℕ) (kind : Kind) (perm : Perm) (init : PageInit) (o : Option EnclaveSight) (is_added : Bool) (s : FrameSight) → NoneHolds (add_row number kind perm init o is_added s) → is_added ≡ false
+fresh_page : (number : ℕ) (kind : Kind) (perm : Perm) (init : PageInit) (o : Option EnclaveSight) (is_added : Bool) (s : FrameSight)
+    → NoneHolds (add_row number kind perm init o is_added s) → is_added ≡ false
 fresh_page number kind perm init None is_added s row = let no : true ≡ false = row.1.0 in cc
 fresh_page number kind perm init (Some enclave) is_added s row = row.1.1.1.1.1.0
 
 -- an enclave that was created keeps its base at an instruction that flat memory takes
-build_bases : (action : Action) (m : FlatMemory) (n : ℕ) → first_of_row (flat_build_row m action) ≡ None → is_some (m.enclaves n) ≡ true → base_of ((build_after action m).enclaves n) ≡ base_of (m.enclaves n)
+build_bases : (action : Action) (m : FlatMemory) (n : ℕ) → first_of_row (flat_build_row m action) ≡ None → is_some (m.enclaves n) ≡ true
+    → base_of ((build_after action m).enclaves n) ≡ base_of (m.enclaves n)
 build_bases (Create enclave f base size) m n row there =
     let k = none_holds (flat_build_row m (Create enclave f base size)) row in
-    cond_both (n == enclave) (Some (record { base = base; size = size; is_init = false })) (m.enclaves n) (λ v. base_of v ≡ base_of (m.enclaves n))
+    cond_both (n == enclave) (Some (record { base = base; size = size; is_init = false })) (m.enclaves n)
+    (λ v. base_of v ≡ base_of (m.enclaves n))
     (λ same. absurd (false≢true (sym k.1.0 ∙ ap (λ e. is_some (m.enclaves e)) (sym (eqb-true n enclave same)) ∙ there))) (λ _. refl)
-build_bases (Init enclave expect) m n row there = cond_both (n == enclave) (marked (m.enclaves n)) (m.enclaves n) (λ v. base_of v ≡ base_of (m.enclaves n)) (λ _. marked_base (m.enclaves n)) (λ _. refl)
+build_bases (Init enclave expect) m n row there =
+    cond_both (n == enclave) (marked (m.enclaves n)) (m.enclaves n) (λ v. base_of v ≡ base_of (m.enclaves n))
+    (λ _. marked_base (m.enclaves n)) (λ _. refl)
   where
     marked_base : (o : Option FlatEnclave) → base_of (marked o) ≡ base_of o
     marked_base None = refl
@@ -119,12 +133,15 @@ build_bases (Init enclave expect) m n row there = cond_both (n == enclave) (mark
 build_bases _ m n row there = refl
 
 -- .. and a page that was added its kind and permissions
-build_kinds : (action : Action) (m : FlatMemory) (g : Page) → first_of_row (flat_build_row m action) ≡ None → is_some (m.pages g) ≡ true → added_as ((build_after action m).pages g) ≡ added_as (m.pages g)
+build_kinds : (action : Action) (m : FlatMemory) (g : Page) → first_of_row (flat_build_row m action) ≡ None → is_some (m.pages g) ≡ true
+    → added_as ((build_after action m).pages g) ≡ added_as (m.pages g)
 build_kinds (Add enclave number f kind perm init) m g row there =
     let k = none_holds (flat_build_row m (Add enclave number f kind perm init)) row in
     let is_fresh = fresh_page number kind perm init (enclave_sight m enclave) (is_some (m.pages (page_at enclave number))) open_frame k in
-    cond_both (same_page g (page_at enclave number)) (Some (record { kind = kind; perm = perm; words = first_words init })) (m.pages g) (λ v. added_as v ≡ added_as (m.pages g))
-    (λ same. absurd (false≢true (sym is_fresh ∙ ap (λ q. is_some (m.pages q)) (sym (same_pages g (page_at enclave number) same)) ∙ there))) (λ _. refl)
+    cond_both (same_page g (page_at enclave number)) (Some (record { kind = kind; perm = perm; words = first_words init })) (m.pages g)
+    (λ v. added_as v ≡ added_as (m.pages g))
+    (λ same. absurd (false≢true (sym is_fresh ∙ ap (λ q. is_some (m.pages q)) (sym (same_pages g (page_at enclave number) same)) ∙ there)))
+    (λ _. refl)
 build_kinds _ m g row there = refl
 
 -- a store leaves each enclave
@@ -144,37 +161,55 @@ cpu_enclaves p (Xadd off value) m = after_stored m (m.cpus p).inside off (sum_of
 cpu_enclaves p _ m = refl
 
 -- what flat memory takes leaves the base of an enclave that was created
-memory_bases : (actor : Actor) (action : Action) (m : FlatMemory) (n : ℕ) → accepts m actor action ≡ true → is_some (m.enclaves n) ≡ true → base_of ((memory_after actor action m).enclaves n) ≡ base_of (m.enclaves n)
-memory_bases actor (Create enclave f base size) m n taken there = build_bases (Create enclave f base size) m n (is_none-None (first_of_row (flat_build_row m (Create enclave f base size))) taken) there
-memory_bases actor (Init enclave expect) m n taken there = build_bases (Init enclave expect) m n (is_none-None (first_of_row (flat_build_row m (Init enclave expect))) taken) there
-memory_bases (actors.Cpu p) action m n taken there = ap (λ (enclaves : ℕ → Option FlatEnclave). base_of (enclaves n)) (cpu_enclaves p.0 action m)
+memory_bases : (actor : Actor) (action : Action) (m : FlatMemory) (n : ℕ) → accepts m actor action ≡ true → is_some (m.enclaves n) ≡ true
+    → base_of ((memory_after actor action m).enclaves n) ≡ base_of (m.enclaves n)
+memory_bases actor (Create enclave f base size) m n taken there =
+    build_bases (Create enclave f base size) m n (is_none-None (first_of_row (flat_build_row m (Create enclave f base size))) taken) there
+memory_bases actor (Init enclave expect) m n taken there =
+    build_bases (Init enclave expect) m n (is_none-None (first_of_row (flat_build_row m (Init enclave expect))) taken) there
+memory_bases (actors.Cpu p) action m n taken there =
+    ap (λ (enclaves : ℕ → Option FlatEnclave). base_of (enclaves n)) (cpu_enclaves p.0 action m)
 memory_bases actors.Builder action m n taken there = refl
 memory_bases actors.Reclaimer action m n taken there = refl
 
 -- .. and the kind and permissions of a page that was added
-memory_pages : (actor : Actor) (action : Action) (m : FlatMemory) (g : Page) → accepts m actor action ≡ true → is_some (m.pages g) ≡ true → added_as ((memory_after actor action m).pages g) ≡ added_as (m.pages g)
+memory_pages : (actor : Actor) (action : Action) (m : FlatMemory) (g : Page) → accepts m actor action ≡ true → is_some (m.pages g) ≡ true
+    → added_as ((memory_after actor action m).pages g) ≡ added_as (m.pages g)
 memory_pages actor (Add enclave number f kind perm init) m g taken there =
-    build_kinds (Add enclave number f kind perm init) m g (is_none-None (first_of_row (flat_build_row m (Add enclave number f kind perm init))) taken) there
+    build_kinds (Add enclave number f kind perm init) m g
+    (is_none-None (first_of_row (flat_build_row m (Add enclave number f kind perm init))) taken) there
 memory_pages actor action m g taken there = memory_kinds actor action m g refl
 
 -- where base, kind and permissions stay, a page has its header still
-header_by : (m now : FlatMemory) (g : Page) (header : Header) → (is : IsHeader m g header) → base_of (now.enclaves g.enclave) ≡ Some is.enclave.base → added_as (now.pages g) ≡ Some (is.page.kind, is.page.perm) → IsHeader now g header
+header_by : (m now : FlatMemory) (g : Page) (header : Header) → (is : IsHeader m g header)
+    → base_of (now.enclaves g.enclave) ≡ Some is.enclave.base → added_as (now.pages g) ≡ Some (is.page.kind, is.page.perm)
+    → IsHeader now g header
 header_by m now g header is = by_values (now.enclaves g.enclave) (now.pages g) refl refl
   where
-    by_values : (enclave : Option FlatEnclave) (page : Option FlatPage) → now.enclaves g.enclave ≡ enclave → now.pages g ≡ page → base_of enclave ≡ Some is.enclave.base → added_as page ≡ Some (is.page.kind, is.page.perm)
+    by_values : (enclave : Option FlatEnclave) (page : Option FlatPage) → now.enclaves g.enclave ≡ enclave → now.pages g ≡ page
+        → base_of enclave ≡ Some is.enclave.base → added_as page ≡ Some (is.page.kind, is.page.perm)
         → IsHeader now g header
     by_values None page made there base kinds = cc
     by_values (Some x) None made there base kinds = cc
     by_values (Some x) (Some y) made there base kinds =
         let same_base : x.base ≡ is.enclave.base = cc in
         let same_kinds : ◌≡◌ {A = Kind × Perm} (y.kind, y.perm) (is.page.kind, is.page.perm) = cc in
-        record { enclave = x; made = made; page = y; added = there; headed = is.headed ∙ sym (λ i. header_of (same_base i) g ((same_kinds i).0) ((same_kinds i).1)) }
+        record {
+          enclave = x;
+          made = made;
+          page = y;
+          added = there;
+          headed = is.headed ∙ sym (λ i. header_of (same_base i) g ((same_kinds i).0) ((same_kinds i).1));
+        }
 
 -- a page has its header for ever
-pub header_still : (actor : Actor) (event : Event) (m : FlatMemory) (g : Page) (header : Header) → IsHeader m g header → IsHeader (event_after actor event m) g header
+pub header_still : (actor : Actor) (event : Event) (m : FlatMemory) (g : Page) (header : Header) → IsHeader m g header
+    → IsHeader (event_after actor event m) g header
 header_still actor (Did action answer) m g header is =
     cond_both (accepts m actor action) (memory_after actor action m) m (λ (now : FlatMemory). IsHeader now g header)
     (λ taken.
-    header_by m (memory_after actor action m) g header is (memory_bases actor action m g.enclave taken (ap is_some is.made) ∙ ap base_of is.made) (memory_pages actor action m g taken (ap is_some is.added) ∙ ap added_as is.added))
+    header_by m (memory_after actor action m) g header is
+    (memory_bases actor action m g.enclave taken (ap is_some is.made) ∙ ap base_of is.made)
+    (memory_pages actor action m g taken (ap is_some is.added) ∙ ap added_as is.added))
     (λ _. is)
 header_still actor event m g header is = is

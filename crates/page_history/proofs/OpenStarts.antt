@@ -31,7 +31,8 @@ any_last P [] x any = inr (elim (any_cases P x [] any) as (λ _. P x) [ inl p �
   where
     none_there : Any P [] → ⊥
     none_there (k, y, low, here, p) = omega arith
-any_last P (y ∷ xs) x any = ⊎_elim (λ p. inl (any_head P y xs p)) (λ more. ⊎_elim (λ inside. inl (any_rest P y xs inside)) inr (any_last P xs x more)) (any_cases P y (xs ++ x ∷ []) any)
+any_last P (y ∷ xs) x any = ⊎_elim (λ p. inl (any_head P y xs p))
+    (λ more. ⊎_elim (λ inside. inl (any_rest P y xs inside)) inr (any_last P xs x more)) (any_cases P y (xs ++ x ∷ []) any)
 
 -- what is of a list is of a longer one
 pub any_front : {X : Type 0} (P : X → Type 0) (xs ys : List X) → Any P xs → Any P (xs ++ ys)
@@ -42,7 +43,8 @@ any_front P xs ys (k, x, low, here, holds) =
 -- ---- open starts
 
 -- the start that is open where a test starts one
-pub opened_cases : {X : Type 0} (b : Bool) (new x : X) (old : Option X) → cond b (Some new) old ≡ Some x → ((b ≡ true) × (new ≡ x)) ⊎ ((b ≡ false) × (old ≡ Some x))
+pub opened_cases : {X : Type 0} (b : Bool) (new x : X) (old : Option X) → cond b (Some new) old ≡ Some x
+    → ((b ≡ true) × (new ≡ x)) ⊎ ((b ≡ false) × (old ≡ Some x))
 opened_cases true new x old h = inl (refl, cc)
 opened_cases false new x old h = inr (refl, h)
 

@@ -28,7 +28,8 @@ use Rattle.page_history.proofs.FlatLaws.{header_still}
 use Rattle.page_history.proofs.OpenStarts.{any_front, any_head, any_last, any_rest, ended_cases, entry_of, opened_cases}
 
 -- a record of a page stays one, whatever is done
-still_of_page : (key : List ℕ) (past : List Entry) (actor : Actor) (event : Event) → ((x : Gone) → IsGone past x → IsGone (entry_of actor event ∷ past) x) → (one : Made) → IsOfPage key past one
+still_of_page : (key : List ℕ) (past : List Entry) (actor : Actor) (event : Event)
+    → ((x : Gone) → IsGone past x → IsGone (entry_of actor event ∷ past) x) → (one : Made) → IsOfPage key past one
     → IsOfPage key (entry_of actor event ∷ past) one
 still_of_page key past actor event goes one is = record {
   page = is.page;
@@ -38,13 +39,17 @@ still_of_page key past actor event goes one is = record {
 }
 
 -- an entry that makes no record leaves them
-kept_records : (key : List ℕ) (past : List Entry) (actor : Actor) (event : Event) → ((x : Gone) → IsGone past x → IsGone (entry_of actor event ∷ past) x)
-    → ((one : Made) → IsMade key (entry_of actor event ∷ past) one → IsMade key past one) → ((one : Made) → IsMade key past one → IsMade key (entry_of actor event ∷ past) one)
-    → ((g : Page) (o : Out) → last_out (entry_of actor event ∷ past) g ≡ Some o → last_out past g ≡ Some o) → MadeOnce key past → MadeOnce key (entry_of actor event ∷ past)
+kept_records : (key : List ℕ) (past : List Entry) (actor : Actor) (event : Event)
+    → ((x : Gone) → IsGone past x → IsGone (entry_of actor event ∷ past) x)
+    → ((one : Made) → IsMade key (entry_of actor event ∷ past) one → IsMade key past one)
+    → ((one : Made) → IsMade key past one → IsMade key (entry_of actor event ∷ past) one)
+    → ((g : Page) (o : Out) → last_out (entry_of actor event ∷ past) g ≡ Some o → last_out past g ≡ Some o) → MadeOnce key past
+    → MadeOnce key (entry_of actor event ∷ past)
 kept_records key past actor event goes before after lasts h = record {
   own = λ one is. still_of_page key past actor event goes one (h.own one (before one is));
   once = λ one other is too same. h.once one other (before one is) (before other too) same;
-  last = λ g o is. let was = h.last g o (lasts g o is) in (was.0, record { made = after was.0 was.1.made; version = was.1.version; tag = was.1.tag });
+  last = λ g o is. let was = h.last g o (lasts g o is) in
+      (was.0, record { made = after was.0 was.1.made; version = was.1.version; tag = was.1.tag });
 }
 
 -- what a sealed record of a page is
@@ -53,20 +58,25 @@ record IsSealedOf (key : List ℕ) (version : ℕ) (m : FlatMemory) (g : Page) (
   pub tagged : rec.tag ≡ tag key version rec.header rec.cipher
 
 -- the sealed record of a page has the page's header and its own tag
-sealed_of : (key : List ℕ) (version : ℕ) (m : FlatMemory) (g : Page) (rec : Sealed) → record_in key version m g ≡ Some rec → IsSealedOf key version m g rec
+sealed_of : (key : List ℕ) (version : ℕ) (m : FlatMemory) (g : Page) (rec : Sealed) → record_in key version m g ≡ Some rec
+    → IsSealedOf key version m g rec
 sealed_of key version m g rec = by_values (m.enclaves g.enclave) (m.pages g) refl refl
   where
-    by_values : (enclave : Option FlatEnclave) (page : Option FlatPage) → m.enclaves g.enclave ≡ enclave → m.pages g ≡ page → record_by key version g enclave page ≡ Some rec → IsSealedOf key version m g rec
+    by_values : (enclave : Option FlatEnclave) (page : Option FlatPage) → m.enclaves g.enclave ≡ enclave → m.pages g ≡ page
+        → record_by key version g enclave page ≡ Some rec → IsSealedOf key version m g rec
     by_values None page made added is = cc
     by_values (Some x) None made added is = cc
     by_values (Some x) (Some y) made added is =
         let its : Sealed = sealed key version (header_of x.base g y.kind y.perm) (bytes_of y.words) in
         let same : its ≡ rec = cc in
-        subst (IsSealedOf key version m g) same (record { header = record { enclave = x; made = made; page = y; added = added; headed = refl }; tagged = refl })
+        subst (IsSealedOf key version m g) same (record
+        { header = record { enclave = x; made = made; page = y; added = added; headed = refl }; tagged = refl })
 
 -- a page is out, and its record is made
-module _ (first : ℕ) (key : List ℕ) (past : List Entry) (actor : Actor) (f : Frame) (page : Page) (version : ℕ) (digest : List ℕ) (slot : SlotAt)
-    (opened : open_start past f.0 ≡ Some (record { slot = slot; version = version; loads = None })) (drawn : DrawnOnce first past) (its : IsSealed key (flat past) page version digest) (h : MadeOnce key past) where
+module _ (first : ℕ) (key : List ℕ) (past : List Entry) (actor : Actor) (f : Frame) (page : Page) (version : ℕ) (digest : List ℕ)
+    (slot : SlotAt)
+    (opened : open_start past f.0 ≡ Some (record { slot = slot; version = version; loads = None })) (drawn : DrawnOnce first past)
+    (its : IsSealed key (flat past) page version digest) (h : MadeOnce key past) where
   abbrev event_out : Event
   event_out = Did (Ewb f) (Moved page version digest)
 
@@ -102,7 +112,8 @@ module _ (first : ℕ) (key : List ℕ) (past : List Entry) (actor : Actor) (f :
       let k = sealed_of key version (flat past) page its.rec its.made in
       record {
         page = page;
-        gone = any_head (λ one. one ≡ record { page = page; version = version }) (record { page = page; version = version }) (gone past) refl;
+        gone = any_head (λ one. one ≡ record { page = page; version = version }) (record { page = page; version = version }) (gone past)
+            refl;
         header = header_still actor event_out (flat past) page its.rec.header k.header;
         tagged = k.tagged;
       }
@@ -111,7 +122,8 @@ module _ (first : ℕ) (key : List ℕ) (past : List Entry) (actor : Actor) (f :
   other_version : (one : Made) → IsMade key past one → version ≡ one.version → ⊥
   other_version one is same =
       let own = h.own one is in
-      drawn.not_open f.0 (record { slot = slot; version = version; loads = None }) (record { page = own.page; version = one.version }) opened refl own.gone same
+      drawn.not_open f.0 (record { slot = slot; version = version; loads = None }) (record { page = own.page; version = one.version })
+      opened refl own.gone same
 
   -- no two records have one version
   once_still : (one other : Made) → IsMade key after one → IsMade key after other → one.version ≡ other.version → one ≡ other
@@ -130,26 +142,34 @@ module _ (first : ℕ) (key : List ℕ) (past : List Entry) (actor : Actor) (f :
   last_still : (g : Page) (o : Out) → last_out after g ≡ Some o → (one : Made) × IsLastMade key after g o one
   last_still g o is = by_cases (opened_cases (same_page page g) (record { version = version; tag = digest }) o (last_out past g) is)
     where
-      by_cases : ((same_page page g ≡ true) × (this ≡ o)) ⊎ ((same_page page g ≡ false) × (last_out past g ≡ Some o)) → (one : Made) × IsLastMade key after g o one
-      by_cases (inl a) = (new, record { made = new_made; version = ap (λ (z : Out). z.version) a.1; tag = sym its.told ∙ ap (λ (z : Out). z.tag) a.1 })
-      by_cases (inr a) = let was = h.last g o a.1 in (was.0, record { made = made_still was.0 was.1.made; version = was.1.version; tag = was.1.tag })
+      by_cases : ((same_page page g ≡ true) × (this ≡ o)) ⊎ ((same_page page g ≡ false) × (last_out past g ≡ Some o))
+          → (one : Made) × IsLastMade key after g o one
+      by_cases (inl a) =
+          (new, record { made = new_made; version = ap (λ (z : Out). z.version) a.1; tag = sym its.told ∙ ap (λ (z : Out). z.tag) a.1 })
+      by_cases (inr a) =
+          let was = h.last g o a.1 in (was.0, record { made = made_still was.0 was.1.made; version = was.1.version; tag = was.1.tag })
 
   -- each record is one page's still
   ewb_made : MadeOnce key after
   ewb_made = record {
-    own = λ one is. ⊎_elim (λ old. still_of_page key past actor event_out goes_still one (h.own one old)) (λ this. subst (IsOfPage key after) this new_of_page) (old_or_new one is);
+    own = λ one is. ⊎_elim (λ old. still_of_page key past actor event_out goes_still one (h.own one old))
+        (λ this. subst (IsOfPage key after) this new_of_page) (old_or_new one is);
     once = once_still;
     last = last_still;
   }
 
 -- an entry that keeps the rules leaves each record one page's
-records_still : (first : ℕ) (key : List ℕ) (past : List Entry) (actor : Actor) (event : Event) → EvictRule past (entry_of actor event) → SealedRule key past (entry_of actor event) → DrawnOnce first past → MadeOnce key past
+records_still : (first : ℕ) (key : List ℕ) (past : List Entry) (actor : Actor) (event : Event) → EvictRule past (entry_of actor event)
+    → SealedRule key past (entry_of actor event) → DrawnOnce first past → MadeOnce key past
     → MadeOnce key (entry_of actor event ∷ past)
-records_still first key past actor (Did (Ewb f) (Moved page version digest)) evict its drawn h = ewb_made first key past actor f page version digest evict.slot evict.opened drawn its h
+records_still first key past actor (Did (Ewb f) (Moved page version digest)) evict its drawn h =
+    ewb_made first key past actor f page version digest evict.slot evict.opened drawn its h
 records_still first key past actor (Did (Ewb f) answer) evict its drawn h = absurd its
 records_still first key past actor (Did (Eld f) (Moved page version digest)) evict its drawn h =
-    kept_records key past actor (Did (Eld f) (Moved page version digest)) (λ x is. is) (λ one is. is) (λ one is. is) (λ g o is. (ended_cases (same_page page g) o (last_out past g) is).1) h
-records_still first key past actor event evict its drawn h = kept_records key past actor event (λ x is. is) (λ one is. is) (λ one is. is) (λ g o is. is) h
+    kept_records key past actor (Did (Eld f) (Moved page version digest)) (λ x is. is) (λ one is. is) (λ one is. is)
+    (λ g o is. (ended_cases (same_page page g) o (last_out past g) is).1) h
+records_still first key past actor event evict its drawn h =
+    kept_records key past actor event (λ x is. is) (λ one is. is) (λ one is. is) (λ g o is. is) h
 
 -- where the rules are kept, each record that was made is of one page
 pub made_once : (k : Making) (key : List ℕ) (past : List Entry) → KeepsMoves k past → Along (SealedRule key) past → MadeOnce key past

@@ -38,7 +38,8 @@ pub record LeavesStarts (e : Event) : Type 0 where
   pub versions : (opened : ℕ → Option SlotAt) (slot : SlotAt) (v : ℕ) → version_after e opened slot v ≡ v
 
 -- .. leaves each start apart, where it takes no page that is added nor a frame that is being loaded
-kept_apart : (past : List Entry) (e : Entry) → LeavesStarts e.event → ((g : Page) → is_some (added past g) ≡ true → is_some (added (e ∷ past) g) ≡ true)
+kept_apart : (past : List Entry) (e : Entry) → LeavesStarts e.event
+    → ((g : Page) → is_some (added past g) ≡ true → is_some (added (e ∷ past) g) ≡ true)
     → ((n : ℕ) → content past n ≡ IsLoading → content (e ∷ past) n ≡ IsLoading) → StartsApart past → StartsApart (e ∷ past)
 kept_apart past e q adds puts h = record {
   busy = λ n x is. rw (q.busies (open_slot past) x.slot (is_slot_busy past x.slot)) (h.busy n x (before n x is));
@@ -57,9 +58,11 @@ kept_loading : (s : FrameSight) → is_busy s ≡ false → s.content ≡ IsLoad
 kept_loading s idle loads = let k = neither s.is_sealing (is_loading s.content) idle in false≢true (sym k.1 ∙ ap is_loading loads)
 
 -- .. and so each loading frame is left
-taken_idle : (k : Making) (past : List Entry) (f n : ℕ) (new : Content) → is_busy (sight_at k.frames past f) ≡ false → content past n ≡ IsLoading → cond (f == n) new (content past n) ≡ IsLoading
+taken_idle : (k : Making) (past : List Entry) (f n : ℕ) (new : Content) → is_busy (sight_at k.frames past f) ≡ false
+    → content past n ≡ IsLoading → cond (f == n) new (content past n) ≡ IsLoading
 taken_idle k past f n new idle loads =
-    cond_both (f == n) new (content past n) (λ v. v ≡ IsLoading) (λ same. absurd (kept_loading (sight_at k.frames past f) idle (ap (content past) (eqb-true f n same) ∙ loads))) (λ _. loads)
+    cond_both (f == n) new (content past n) (λ v. v ≡ IsLoading)
+    (λ same. absurd (kept_loading (sight_at k.frames past f) idle (ap (content past) (eqb-true f n same) ∙ loads))) (λ _. loads)
 
 -- one more page was added
 more_added : (b : Bool) (x : Kind × Perm) (o : Option (Kind × Perm)) → is_some o ≡ true → is_some (cond b (Some x) o) ≡ true
@@ -95,7 +98,8 @@ module _ (past : List Entry) (e : Entry) (f : ℕ) (h : StartsApart past) where
   ended_apart q = record {
     busy = λ n x is. let k = before n x is in q.busies x.slot (other_slot n x k.0 k.1) ∙ h.busy n x k.1;
     alone = λ m n x y is too same. h.alone m n x y (before m x is).1 (before n y too).1 same;
-    found = λ n x g is loads. let k = before n x is in let was = h.found n x g k.1 loads in (q.versions x.slot (other_slot n x k.0 k.1) ∙ was.0, was.1);
+    found = λ n x g is loads. let k = before n x is in let was = h.found n x g k.1 loads in
+        (q.versions x.slot (other_slot n x k.0 k.1) ∙ was.0, was.1);
     added = λ n x g is loads. ap is_some (q.adds g) ∙ h.added n x g (before n x is).1 loads;
     loading = λ n x g is loads. let k = before n x is in q.puts n k.0 ∙ h.loading n x g k.1 loads;
     empty = λ n x is writes. let k = before n x is in q.versions x.slot (other_slot n x k.0 k.1) ∙ h.empty n x k.1 writes;
@@ -141,35 +145,46 @@ module _ (past : List Entry) (e : Entry) (f : ℕ) (new : Start) (h : StartsApar
   -- and so it is apart from the others
   started_apart : Starts → StartsApart (e ∷ past)
   started_apart q = record {
-    busy = λ n x is. q.busies x.slot ∙ ⊎_elim (λ k. cond_same (same_slot new.slot x.slot) (is_slot_busy past x.slot) (ap (λ (z : Start). same_slot new.slot z.slot) (sym k.1) ∙ slot_itself new.slot))
+    busy = λ n x is. q.busies x.slot ∙ ⊎_elim (λ k.
+        cond_same (same_slot new.slot x.slot) (is_slot_busy past x.slot)
+        (ap (λ (z : Start). same_slot new.slot z.slot) (sym k.1) ∙ slot_itself new.slot))
         (λ k. more_busy (same_slot new.slot x.slot) (is_slot_busy past x.slot) (h.busy n x k.1)) (new_or_old n x is);
     alone = alone_still;
     found = λ n x g is loads.
-        ⊎_elim (λ k. subst (λ (z : Start). (version_in (e ∷ past) z.slot ≡ z.version) × (0 < z.version)) k.1 (let new_found = q.found g (ap (λ (z : Start). z.loads) k.1 ∙ loads) in (q.versions new.slot ∙ new_found.0, new_found.1)))
+        ⊎_elim (λ k. subst (λ (z : Start). (version_in (e ∷ past) z.slot ≡ z.version) × (0 < z.version)) k.1
+        (let new_found = q.found g (ap (λ (z : Start). z.loads) k.1 ∙ loads) in (q.versions new.slot ∙ new_found.0, new_found.1)))
         (λ k. let was = h.found n x g k.1 loads in (q.versions x.slot ∙ was.0, was.1)) (new_or_old n x is);
-    added = λ n x g is loads. ap is_some (q.adds g) ∙ ⊎_elim (λ k. q.there g (ap (λ (z : Start). z.loads) k.1 ∙ loads)) (λ k. h.added n x g k.1 loads) (new_or_old n x is);
+    added = λ n x g is loads. ap is_some (q.adds g)
+        ∙ ⊎_elim (λ k. q.there g (ap (λ (z : Start). z.loads) k.1 ∙ loads)) (λ k. h.added n x g k.1 loads) (new_or_old n x is);
     loading = λ n x g is loads.
-        ⊎_elim (λ k. ap (content (e ∷ past)) (sym (eqb-true f n k.0)) ∙ q.loading g (ap (λ (z : Start). z.loads) k.1 ∙ loads)) (λ k. q.puts n k.0 ∙ h.loading n x g k.1 loads) (new_or_old n x is);
+        ⊎_elim (λ k. ap (content (e ∷ past)) (sym (eqb-true f n k.0)) ∙ q.loading g (ap (λ (z : Start). z.loads) k.1 ∙ loads))
+        (λ k. q.puts n k.0 ∙ h.loading n x g k.1 loads) (new_or_old n x is);
     empty = λ n x is writes.
-        q.versions x.slot ∙ ⊎_elim (λ k. ap (λ (z : Start). version_in past z.slot) (sym k.1) ∙ q.empty (ap (λ (z : Start). z.loads) k.1 ∙ writes)) (λ k. h.empty n x k.1 writes) (new_or_old n x is);
+        q.versions x.slot ∙ ⊎_elim (λ k. ap (λ (z : Start). version_in past z.slot) (sym k.1)
+        ∙ q.empty (ap (λ (z : Start). z.loads) k.1 ∙ writes)) (λ k. h.empty n x k.1 writes) (new_or_old n x is);
   }
     where
-      new_or_old : (n : ℕ) (x : Start) → open_start (e ∷ past) n ≡ Some x → (((f == n) ≡ true) × (new ≡ x)) ⊎ (((f == n) ≡ false) × (open_start past n ≡ Some x))
+      new_or_old : (n : ℕ) (x : Start) → open_start (e ∷ past) n ≡ Some x
+          → (((f == n) ≡ true) × (new ≡ x)) ⊎ (((f == n) ≡ false) × (open_start past n ≡ Some x))
       new_or_old n x is = opened_cases (f == n) new x (open_start past n) (sym (q.opens n) ∙ is)
 
-      alone_still : (m n : ℕ) (x y : Start) → open_start (e ∷ past) m ≡ Some x → open_start (e ∷ past) n ≡ Some y → same_slot x.slot y.slot ≡ true → m ≡ n
+      alone_still : (m n : ℕ) (x y : Start) → open_start (e ∷ past) m ≡ Some x → open_start (e ∷ past) n ≡ Some y
+          → same_slot x.slot y.slot ≡ true → m ≡ n
       alone_still m n x y is too same = by_cases (new_or_old m x is) (new_or_old n y too)
         where
-          by_cases : (((f == m) ≡ true) × (new ≡ x)) ⊎ (((f == m) ≡ false) × (open_start past m ≡ Some x)) → (((f == n) ≡ true) × (new ≡ y)) ⊎ (((f == n) ≡ false) × (open_start past n ≡ Some y)) → m ≡ n
+          by_cases : (((f == m) ≡ true) × (new ≡ x)) ⊎ (((f == m) ≡ false) × (open_start past m ≡ Some x))
+              → (((f == n) ≡ true) × (new ≡ y)) ⊎ (((f == n) ≡ false) × (open_start past n ≡ Some y)) → m ≡ n
           by_cases (inl a) (inl b) = sym (eqb-true f m a.0) ∙ eqb-true f n b.0
           by_cases (inl a) (inr b) = absurd (other_slots n y q.idle b.1 (ap (λ (z : Start). z.slot) a.1 ∙ same_slots x.slot y.slot same))
-          by_cases (inr a) (inl b) = absurd (other_slots m x q.idle a.1 (ap (λ (z : Start). z.slot) b.1 ∙ sym (same_slots x.slot y.slot same)))
+          by_cases (inr a) (inl b) =
+              absurd (other_slots m x q.idle a.1 (ap (λ (z : Start). z.slot) b.1 ∙ sym (same_slots x.slot y.slot same)))
           by_cases (inr a) (inr b) = h.alone m n x y a.1 b.1 same
 
 -- ---- each entry
 
 -- a page is added only into a frame that is not busy
-add_idle : (number : ℕ) (kind : Kind) (perm : Perm) (init : PageInit) (o : Option EnclaveSight) (is_added : Bool) (s : FrameSight) → NoneHolds (add_row number kind perm init o is_added s) → is_busy s ≡ false
+add_idle : (number : ℕ) (kind : Kind) (perm : Perm) (init : PageInit) (o : Option EnclaveSight) (is_added : Bool) (s : FrameSight)
+    → NoneHolds (add_row number kind perm init o is_added s) → is_busy s ≡ false
 add_idle number kind perm init None is_added s row = let no : true ≡ false = row.1.0 in cc
 add_idle number kind perm init (Some enclave) is_added s row = row.1.1.1.1.1.1.0
 
@@ -187,24 +202,31 @@ above_zero zero h = let no : true ≡ false = h in absurd (false≢true (sym no)
 above_zero (suc n) h = omega arith
 
 -- an entry that keeps the rules leaves the starts apart
-starts_still : (k : Making) (past : List Entry) (actor : Actor) (event : Event) → RefusalRule k.frames past (entry_of actor event) → MovesRule k past (entry_of actor event) → Along FlatRule past → StartsApart past
+starts_still : (k : Making) (past : List Entry) (actor : Actor) (event : Event) → RefusalRule k.frames past (entry_of actor event)
+    → MovesRule k past (entry_of actor event) → Along FlatRule past → StartsApart past
     → StartsApart (entry_of actor event ∷ past)
 starts_still k past actor (Did (Epa f) answer) refusal moves answers h =
     let row = none_holds (row_at k.frames past actor (Epa f)) refusal.0 in
-    kept_apart past (entry_of actor (Did (Epa f) answer)) (record { opens = λ n o. refl; busies = λ opened slot b. refl; versions = λ opened slot v. refl }) (λ g is. is)
+    kept_apart past (entry_of actor (Did (Epa f) answer))
+    (record { opens = λ n o. refl; busies = λ opened slot b. refl; versions = λ opened slot v. refl }) (λ g is. is)
     (λ n loads. taken_idle k past f.0 n IsVa row.1.0 loads) h
 starts_still k past actor (Did (Create enclave f base size) answer) refusal moves answers h =
     let row = none_holds (row_at k.frames past actor (Create enclave f base size)) refusal.0 in
-    kept_apart past (entry_of actor (Did (Create enclave f base size) answer)) (record { opens = λ n o. refl; busies = λ opened slot b. refl; versions = λ opened slot v. refl }) (λ g is. is)
+    kept_apart past (entry_of actor (Did (Create enclave f base size) answer))
+    (record { opens = λ n o. refl; busies = λ opened slot b. refl; versions = λ opened slot v. refl }) (λ g is. is)
     (λ n loads. taken_idle k past f.0 n (SecsOf enclave) row.1.1.0 loads) h
 starts_still k past actor (Did (Add enclave number f kind perm init) answer) refusal moves answers h =
     let row = none_holds (row_at k.frames past actor (Add enclave number f kind perm init)) refusal.0 in
-    let idle = add_idle number kind perm init (enclave_sight (flat past) enclave) (is_some ((flat past).pages (page_at enclave number))) (sight_at k.frames past f.0) row in
-    kept_apart past (entry_of actor (Did (Add enclave number f kind perm init) answer)) (record { opens = λ n o. refl; busies = λ opened slot b. refl; versions = λ opened slot v. refl })
-    (λ g is. more_added (same_page (page_at enclave number) g) (kind, perm) (added past g) is) (λ n loads. taken_idle k past f.0 n (Holds (page_at enclave number) kind perm) idle loads) h
+    let idle = add_idle number kind perm init (enclave_sight (flat past) enclave) (is_some ((flat past).pages (page_at enclave number)))
+    (sight_at k.frames past f.0) row in
+    kept_apart past (entry_of actor (Did (Add enclave number f kind perm init) answer))
+    (record { opens = λ n o. refl; busies = λ opened slot b. refl; versions = λ opened slot v. refl })
+    (λ g is. more_added (same_page (page_at enclave number) g) (kind, perm) (added past g) is)
+    (λ n loads. taken_idle k past f.0 n (Holds (page_at enclave number) kind perm) idle loads) h
 starts_still k past actor (Did (EwbStart f slot) answer) refusal moves answers h =
     let row = none_holds (move_row_at k past (EwbStart f slot)) (moves tt).0 in
-    started_apart past (entry_of actor (Did (EwbStart f slot) answer)) f.0 (record { slot = slot; version = version_told answer; loads = None }) h
+    started_apart past (entry_of actor (Did (EwbStart f slot) answer)) f.0
+    (record { slot = slot; version = version_told answer; loads = None }) h
     (record {
       opens = λ n. refl;
       busies = λ at. refl;
@@ -221,7 +243,8 @@ starts_still k past actor (Did (EldStart f page slot) answer) refusal moves answ
     let row = none_holds (move_row_at k past (EldStart f page slot)) (moves tt).0 in
     let told : version_in past slot ≡ version_told answer = sym (ap version_told (moves tt).1) in
     let low : 0 < version_in past slot = above_zero (version_in past slot) row.1.1.1.1.1.0 in
-    started_apart past (entry_of actor (Did (EldStart f page slot) answer)) f.0 (record { slot = slot; version = version_told answer; loads = Some page }) h
+    started_apart past (entry_of actor (Did (EldStart f page slot) answer)) f.0
+    (record { slot = slot; version = version_told answer; loads = Some page }) h
     (record {
       opens = λ n. refl;
       busies = λ at. refl;
@@ -229,28 +252,61 @@ starts_still k past actor (Did (EldStart f page slot) answer) refusal moves answ
       adds = λ g. refl;
       idle = (neither (is_busy (sight_at k.frames past f.0)) (is_slot_busy past slot) row.1.1.0).1;
       found = λ g loads. (told, subst (λ v. 0 < v) told low);
-      there = λ g loads. let same : page ≡ g = cc in subst (λ q. is_some (added past q) ≡ true) same (is_added_flat past page answers (not_false (is_some ((flat past).pages page)) row.1.0));
+      there = λ g loads. let same : page ≡ g = cc in
+          subst (λ q. is_some (added past q) ≡ true) same
+          (is_added_flat past page answers (not_false (is_some ((flat past).pages page)) row.1.0));
       loading = λ g loads. rw (eq-eqb f.0 f.0 refl) refl;
       puts = λ n isnt. rw isnt refl;
       empty = λ writes. cc;
     })
 starts_still k past actor (Did (Ewb f) (Moved page version tag)) refusal moves answers h =
     ended_apart past (entry_of actor (Did (Ewb f) (Moved page version tag))) f.0 h
-    (record { opens = λ n. refl; busies = λ slot isnt. rw isnt refl; versions = λ slot isnt. rw isnt refl; adds = λ g. refl; puts = λ n isnt. rw isnt refl })
+    (record {
+      opens = λ n. refl;
+      busies = λ slot isnt. rw isnt refl;
+      versions = λ slot isnt. rw isnt refl;
+      adds = λ g. refl;
+      puts = λ n isnt. rw isnt refl;
+    })
 starts_still k past actor (Did (Ewb f) answer) refusal moves answers h =
     ended_apart past (entry_of actor (Did (Ewb f) answer)) f.0 h
-    (record { opens = λ n. refl; busies = λ slot isnt. rw isnt refl; versions = λ slot isnt. refl; adds = λ g. refl; puts = λ n isnt. rw isnt refl })
+    (record {
+      opens = λ n. refl;
+      busies = λ slot isnt. rw isnt refl;
+      versions = λ slot isnt. refl;
+      adds = λ g. refl;
+      puts = λ n isnt. rw isnt refl;
+    })
 starts_still k past actor (Did (Eld f) (Moved page version tag)) refusal moves answers h =
     ended_apart past (entry_of actor (Did (Eld f) (Moved page version tag))) f.0 h
-    (record { opens = λ n. refl; busies = λ slot isnt. rw isnt refl; versions = λ slot isnt. rw isnt refl; adds = λ g. refl; puts = λ n isnt. rw isnt refl })
+    (record {
+      opens = λ n. refl;
+      busies = λ slot isnt. rw isnt refl;
+      versions = λ slot isnt. rw isnt refl;
+      adds = λ g. refl;
+      puts = λ n isnt. rw isnt refl;
+    })
 starts_still k past actor (Did (Eld f) answer) refusal moves answers h =
     ended_apart past (entry_of actor (Did (Eld f) answer)) f.0 h
-    (record { opens = λ n. refl; busies = λ slot isnt. rw isnt refl; versions = λ slot isnt. rw isnt refl; adds = λ g. refl; puts = λ n isnt. refl })
+    (record {
+      opens = λ n. refl;
+      busies = λ slot isnt. rw isnt refl;
+      versions = λ slot isnt. rw isnt refl;
+      adds = λ g. refl;
+      puts = λ n isnt. refl;
+    })
 starts_still k past actor (Refused (Eld f) why) refusal moves answers h =
     ended_apart past (entry_of actor (Refused (Eld f) why)) f.0 h
-    (record { opens = λ n. refl; busies = λ slot isnt. rw isnt refl; versions = λ slot isnt. refl; adds = λ g. refl; puts = λ n isnt. rw isnt refl })
+    (record {
+      opens = λ n. refl;
+      busies = λ slot isnt. rw isnt refl;
+      versions = λ slot isnt. refl;
+      adds = λ g. refl;
+      puts = λ n isnt. rw isnt refl;
+    })
 starts_still k past actor event refusal moves answers h =
-    kept_apart past (entry_of actor event) (record { opens = λ n o. refl; busies = λ opened slot b. refl; versions = λ opened slot v. refl }) (λ g is. is) (λ n is. is) h
+    kept_apart past (entry_of actor event) (record
+    { opens = λ n o. refl; busies = λ opened slot b. refl; versions = λ opened slot v. refl }) (λ g is. is) (λ n is. is) h
 
 -- where the rules are kept, each open start has its slot for itself
 pub starts_apart : (k : Making) (past : List Entry) → KeepsMoves k past → StartsApart past

@@ -21,7 +21,8 @@ in_slot None version = None
 in_slot (Some start) version = Some (InSlot start.slot version)
 
 abbrev pub copy_after : Event → (ℕ → Option Start) → Page → Option Copy → Option Copy
-copy_after (Did (Add enclave number f kind perm init) answer) opened g before = if same_page (page_at enclave number) g then Some (InFrame f.0) else before
+copy_after (Did (Add enclave number f kind perm init) answer) opened g before =
+    if same_page (page_at enclave number) g then Some (InFrame f.0) else before
 copy_after (Did (Ewb f) (Moved page version tag)) opened g before = if same_page page g then in_slot (opened f.0) version else before
 copy_after (Did (Eld f) (Moved page version tag)) opened g before = if same_page page g then Some (InFrame f.0) else before
 copy_after _ opened g before = before

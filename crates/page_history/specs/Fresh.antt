@@ -19,7 +19,8 @@ pub record Out : Type 0 where
   pub tag : List ℕ
 
 abbrev pub out_after : Event → Page → Option Out → Option Out
-out_after (Did (Ewb f) (answers.Moved page version tag)) g before = if same_page page g then Some (record { version = version; tag = tag }) else before
+out_after (Did (Ewb f) (answers.Moved page version tag)) g before =
+    if same_page page g then Some (record { version = version; tag = tag }) else before
 out_after (Did (Eld f) (answers.Moved page version tag)) g before = if same_page page g then None else before
 out_after _ g before = before
 

@@ -56,8 +56,10 @@ abbrev pub move_row_at : Making → List Entry → Action → List Case
 move_row_at k past (Block f) = block_row (sight_at k.frames past f.0)
 move_row_at k past (Track enclave) = track_row (track_sight_at k.first_epoch past enclave)
 move_row_at k past (EwbStart f slot) =
-    ewbstart_row (sight_at k.frames past f.0) (slot_sight_at k.frames past slot) (drain_sight_at k.first_epoch past f.0) (next_version k.first_version past == 2 ^ 64)
-move_row_at k past (EldStart f page slot) = eldstart_row (sight_at k.frames past f.0) (is_some ((flat past).pages page)) (slot_sight_at k.frames past slot)
+    ewbstart_row (sight_at k.frames past f.0) (slot_sight_at k.frames past slot) (drain_sight_at k.first_epoch past f.0)
+    (next_version k.first_version past == 2 ^ 64)
+move_row_at k past (EldStart f page slot) =
+    eldstart_row (sight_at k.frames past f.0) (is_some ((flat past).pages page)) (slot_sight_at k.frames past slot)
 move_row_at k past _ = allowed
 
 -- ---- the ends of starts
@@ -100,7 +102,8 @@ pub record IsHeader (m : FlatMemory) (g : Page) (header : Header) : Type 0 where
 -- a record does not fit: its tag is not the one that is computed of it, or its header is not the page's
 abbrev pub DoesNotFit : List Entry → Page → Refusal → Type 0
 DoesNotFit past g (why.MacFail given computed) = given ≡ computed → ⊥
-DoesNotFit past g (why.BadHeader enclave address flags) = IsHeader (flat past) g (record { enclave = enclave; address = address; flags = flags }) → ⊥
+DoesNotFit past g (why.BadHeader enclave address flags) =
+    IsHeader (flat past) g (record { enclave = enclave; address = address; flags = flags }) → ⊥
 DoesNotFit past g _ = ⊥
 
 pub record IsNotBack (past : List Entry) (n : ℕ) (refusal : Refusal) : Type 0 where

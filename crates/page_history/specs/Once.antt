@@ -53,7 +53,8 @@ IsGone past x = Any (λ one. one ≡ x) (gone past)
 pub record DrawnOnce (first : ℕ) (past : List Entry) : Type 0 where
   pub from : (n : ℕ) (x : Start) → open_start past n ≡ Some x → x.loads ≡ None → first ≤ x.version
   pub started : (n : ℕ) (x : Start) → open_start past n ≡ Some x → x.loads ≡ None → x.version < next_version first past
-  pub apart : (m n : ℕ) (x y : Start) → open_start past m ≡ Some x → open_start past n ≡ Some y → x.loads ≡ None → y.loads ≡ None → x.version ≡ y.version → m ≡ n
+  pub apart : (m n : ℕ) (x y : Start) → open_start past m ≡ Some x → open_start past n ≡ Some y → x.loads ≡ None → y.loads ≡ None
+      → x.version ≡ y.version → m ≡ n
   pub ended : (x : Gone) → IsGone past x → (first ≤ x.version) × (x.version < next_version first past)
   pub not_open : (n : ℕ) (x : Start) (y : Gone) → open_start past n ≡ Some x → x.loads ≡ None → IsGone past y → x.version ≡ y.version → ⊥
   pub once : (x y : Gone) → IsGone past x → IsGone past y → x.version ≡ y.version → x ≡ y
@@ -64,7 +65,8 @@ pub record DrawnOnce (first : ℕ) (past : List Entry) : Type 0 where
 pub record StartsApart (past : List Entry) : Type 0 where
   pub busy : (n : ℕ) (x : Start) → open_start past n ≡ Some x → is_slot_busy past x.slot ≡ true
   pub alone : (m n : ℕ) (x y : Start) → open_start past m ≡ Some x → open_start past n ≡ Some y → same_slot x.slot y.slot ≡ true → m ≡ n
-  pub found : (n : ℕ) (x : Start) (g : Page) → open_start past n ≡ Some x → x.loads ≡ Some g → (version_in past x.slot ≡ x.version) × (0 < x.version)
+  pub found : (n : ℕ) (x : Start) (g : Page) → open_start past n ≡ Some x → x.loads ≡ Some g
+      → (version_in past x.slot ≡ x.version) × (0 < x.version)
   pub added : (n : ℕ) (x : Start) (g : Page) → open_start past n ≡ Some x → x.loads ≡ Some g → is_some (added past g) ≡ true
   pub loading : (n : ℕ) (x : Start) (g : Page) → open_start past n ≡ Some x → x.loads ≡ Some g → content past n ≡ IsLoading
   pub empty : (n : ℕ) (x : Start) → open_start past n ≡ Some x → x.loads ≡ None → version_in past x.slot ≡ 0

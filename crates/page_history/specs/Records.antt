@@ -15,7 +15,8 @@ use Rattle.seal_record.specs.Records.{Made}
 
 -- the record of a page under a key and a version, by what flat memory has of the page
 abbrev pub record_by : List ℕ → ℕ → Page → Option FlatEnclave → Option FlatPage → Option Sealed
-record_by key version g (Some enclave) (Some page) = Some (sealed key version (header_of enclave.base g page.kind page.perm) (bytes_of page.words))
+record_by key version g (Some enclave) (Some page) =
+    Some (sealed key version (header_of enclave.base g page.kind page.perm) (bytes_of page.words))
 record_by key version g _ _ = None
 
 abbrev pub record_in : List ℕ → ℕ → FlatMemory → Page → Option Sealed

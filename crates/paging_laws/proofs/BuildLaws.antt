@@ -44,14 +44,17 @@ is_free_frame IsLoading false idle none = cc
 -- ---- a frame that is put
 
 -- one that comes to hold no page has no page's words
-pub words_put : (content : ℕ → Content) (words : ℕ → List ℕ) (m : FlatMemory) (f : ℕ) (c : Content) → ((g : Page) (kind : Kind) (perm : Perm) → c ≡ Holds g kind perm → ⊥) → HasWords content words m
+pub words_put : (content : ℕ → Content) (words : ℕ → List ℕ) (m : FlatMemory) (f : ℕ) (c : Content)
+    → ((g : Page) (kind : Kind) (perm : Perm) → c ≡ Holds g kind perm → ⊥) → HasWords content words m
     → HasWords (λ n. cond (f == n) c (content n)) words m
 words_put content words m f c none h n g kind perm =
-    cond_both (f == n) c (content n) (λ v. v ≡ Holds g kind perm → m.pages g ≡ Some (record { kind = kind; perm = perm; words = words n })) (λ _ at. absurd (none g kind perm at)) (λ _. h n g kind perm)
+    cond_both (f == n) c (content n) (λ v. v ≡ Holds g kind perm → m.pages g ≡ Some (record { kind = kind; perm = perm; words = words n }))
+    (λ _ at. absurd (none g kind perm at)) (λ _. h n g kind perm)
 
 -- ---- epa
 
-pub epa_brings : (s : State) (past : List Entry) (a : Actor) (f : Frame) → first_of_row (row_of s a (Epa f)) ≡ None → Stands s past → BringsDone s (after_epa s f.0) past a (Epa f) Plain
+pub epa_brings : (s : State) (past : List Entry) (a : Actor) (f : Frame) → first_of_row (row_of s a (Epa f)) ≡ None → Stands s past
+    → BringsDone s (after_epa s f.0) past a (Epa f) Plain
 epa_brings s past a f allowed stands =
     let none = none_holds (epa_row (sight s f.0)) allowed in
     let free = is_free_frame (s.content f.0) (s.is_sealing f.0) none.1.0 none.1.1.0 in
@@ -77,36 +80,46 @@ create_open enclave base size is_created v allowed =
     let none = none_holds (create_row enclave base size is_created v) allowed in
     let range = neither (v.is_beyond || not (is_enclave enclave)) (not (is_lawful base size)) none.0 in
     let number = neither v.is_beyond (not (is_enclave enclave)) range.0 in
-    none_refused (create_row enclave base size is_created open_frame) (both_false (not (is_enclave enclave)) (not (is_lawful base size)) number.1 range.1, (none.1.0, (refl, (refl, tt))))
+    none_refused (create_row enclave base size is_created open_frame)
+    (both_false (not (is_enclave enclave)) (not (is_lawful base size)) number.1 range.1, (none.1.0, (refl, (refl, tt))))
 
-pub create_brings : (s : State) (past : List Entry) (a : Actor) (enclave : ℕ) (f : Frame) (base size : ℕ) (begun : Measure) → first_of_row (row_of s a (Create enclave f base size)) ≡ None → HoldsLog begun (ecreate_block size) → Stands s past
+pub create_brings : (s : State) (past : List Entry) (a : Actor) (enclave : ℕ) (f : Frame) (base size : ℕ) (begun : Measure)
+    → first_of_row (row_of s a (Create enclave f base size)) ≡ None → HoldsLog begun (ecreate_block size) → Stands s past
     → BringsDone s (after_create s enclave f.0 base size begun) past a (Create enclave f base size) Plain
 create_brings s past a enclave f base size begun allowed holds stands =
     let none = none_holds (create_row enclave base size (is_some (s.enclaves enclave)) (sight s f.0)) allowed in
-    let range = neither (leb s.frames f.0) (not (is_enclave enclave)) (neither (leb s.frames f.0 || not (is_enclave enclave)) (not (is_lawful base size)) none.0).0 in
+    let range = neither (leb s.frames f.0) (not (is_enclave enclave))
+    (neither (leb s.frames f.0 || not (is_enclave enclave)) (not (is_lawful base size)) none.0).0 in
     let free = is_free_frame (s.content f.0) (s.is_sealing f.0) none.1.1.0 none.1.1.1.0 in
     let k = stands.memory in
     let new : s.enclaves enclave ≡ None = none_there (s.enclaves enclave) none.1.0 in
     let no_log : log past enclave ≡ [] = rw new at (k.measure enclave) in
     record {
       form = refl;
-      taken = is_none-None _ (rw (enclave_flat stands enclave) at (create_open enclave base size (is_some (s.enclaves enclave)) (sight s f.0) allowed));
+      taken = is_none-None _ (rw (enclave_flat stands enclave) at
+          (create_open enclave base size (is_some (s.enclaves enclave)) (sight s f.0) allowed));
       same = λ seen. refl;
       measure = tt;
       memory = record {
-        enclaves = λ i. record (k.enclaves i) { enclaves = λ e. cond (e == enclave) (Some (record { base = base; size = size; is_init = false })) ((k.enclaves i).enclaves e) };
+        enclaves = λ i. record (k.enclaves i) {
+          enclaves =
+              λ e. cond (e == enclave) (Some (record { base = base; size = size; is_init = false })) ((k.enclaves i).enclaves e);
+        };
         cpus = k.cpus;
         words = words_put s.content s.words (flat past) f.0 (SecsOf enclave) (λ g kind perm at. cc at) k.words;
-        measure = λ e. begins e enclave (s.enclaves e) _ (s.measure e) begun (ecreate_block size) (log past e) (λ same. rw same no_log) holds (k.measure e);
+        measure = λ e. begins e enclave (s.enclaves e) _ (s.measure e) begun (ecreate_block size) (log past e) (λ same. rw same no_log)
+            holds (k.measure e);
       };
     }
 
 -- ---- add
 
 -- the row of `add`, whatever frame is given
-add_open : (number : ℕ) (kind : Kind) (perm : Perm) (init : PageInit) (o : Option EnclaveSight) (is_added : Bool) (v : FrameSight) → first_of_row (add_row number kind perm init o is_added v) ≡ None
+add_open : (number : ℕ) (kind : Kind) (perm : Perm) (init : PageInit) (o : Option EnclaveSight) (is_added : Bool) (v : FrameSight)
+    → first_of_row (add_row number kind perm init o is_added v) ≡ None
     → first_of_row (add_row number kind perm init o is_added open_frame) ≡ None
-add_open number kind perm init None is_added v allowed = absurd (false≢true (sym (none_holds (add_row number kind perm init None is_added v) allowed).1.0))
+add_open number kind perm init None is_added v allowed =
+    absurd (false≢true (sym (none_holds (add_row number kind perm init None is_added v) allowed).1.0))
 add_open number kind perm init (Some enclave) is_added v allowed =
     let none = none_holds (add_row number kind perm init (Some enclave) is_added v) allowed in
     none_refused (add_row number kind perm init (Some enclave) is_added open_frame)
@@ -120,8 +133,10 @@ pub record Adds (o : Option EnclaveSight) (is_added : Bool) (v : FrameSight) : T
   pub idle : is_busy v ≡ false
   pub empty : is_valid v.content ≡ false
 
-pub adds : (number : ℕ) (kind : Kind) (perm : Perm) (init : PageInit) (o : Option EnclaveSight) (is_added : Bool) (v : FrameSight) → first_of_row (add_row number kind perm init o is_added v) ≡ None → Adds o is_added v
-adds number kind perm init None is_added v allowed = absurd (false≢true (sym (none_holds (add_row number kind perm init None is_added v) allowed).1.0))
+pub adds : (number : ℕ) (kind : Kind) (perm : Perm) (init : PageInit) (o : Option EnclaveSight) (is_added : Bool) (v : FrameSight)
+    → first_of_row (add_row number kind perm init o is_added v) ≡ None → Adds o is_added v
+adds number kind perm init None is_added v allowed =
+    absurd (false≢true (sym (none_holds (add_row number kind perm init None is_added v) allowed).1.0))
 adds number kind perm init (Some enclave) is_added v allowed =
     let none = none_holds (add_row number kind perm init (Some enclave) is_added v) allowed in
     record { made = refl; within = none.0; new = none.1.1.1.1.1.0; idle = none.1.1.1.1.1.1.0; empty = none.1.1.1.1.1.1.1.0 }
@@ -136,11 +151,14 @@ is_some-added_as None = refl
 is_some-added_as (Some x) = refl
 
 -- the words of the frames, and of the pages in them, with a new page in a frame
-words_add : (s : State) (m : FlatMemory) (f : ℕ) (g : Page) (kind : Kind) (perm : Perm) (init : PageInit) (longer : Measure) → HasWords s.content s.words m → m.pages g ≡ None
-    → HasWords (after_add s g f kind perm init longer).content (after_add s g f kind perm init longer).words (with_page m g (record { kind = kind; perm = perm; words = first_words init }))
+words_add : (s : State) (m : FlatMemory) (f : ℕ) (g : Page) (kind : Kind) (perm : Perm) (init : PageInit) (longer : Measure)
+    → HasWords s.content s.words m → m.pages g ≡ None
+    → HasWords (after_add s g f kind perm init longer).content (after_add s g f kind perm init longer).words
+    (with_page m g (record { kind = kind; perm = perm; words = first_words init }))
 words_add s m f g kind perm init longer words new n q k p = by_frame (f == n)
   where
-    here : Holds g kind perm ≡ Holds q k p → cond (same_page q g) (Some (record { kind = kind; perm = perm; words = first_words init })) (m.pages q) ≡ Some (record { kind = k; perm = p; words = first_words init })
+    here : Holds g kind perm ≡ Holds q k p → cond (same_page q g) (Some (record { kind = kind; perm = perm; words = first_words init }))
+        (m.pages q) ≡ Some (record { kind = k; perm = p; words = first_words init })
     here at =
         let same : g ≡ q = cc in
         let found : same_page q g ≡ true = rw (← same) (same_page-at g.enclave g.number) in
@@ -149,18 +167,21 @@ words_add s m f g kind perm init longer words new n q k p = by_frame (f == n)
         rw (found, kinds, perms) refl
 
     elsewhere : s.content n ≡ Holds q k p → (b : Bool) → same_page q g ≡ b
-        → cond b (Some (record { kind = kind; perm = perm; words = first_words init })) (m.pages q) ≡ Some (record { kind = k; perm = p; words = s.words n })
+        → cond b (Some (record { kind = kind; perm = perm; words = first_words init })) (m.pages q) ≡ Some
+        (record { kind = k; perm = p; words = s.words n })
     elsewhere at true same = absurd (let there = words n q k p at in let is : q ≡ g = same_pages q g same in cc (there, new, is))
     elsewhere at false other = words n q k p at
 
     by_frame : (b : Bool) → cond b (Holds g kind perm) (s.content n) ≡ Holds q k p
-        → cond (same_page q g) (Some (record { kind = kind; perm = perm; words = first_words init })) (m.pages q) ≡ Some (record { kind = k; perm = p; words = cond b (first_words init) (s.words n) })
+        → cond (same_page q g) (Some (record { kind = kind; perm = perm; words = first_words init })) (m.pages q) ≡ Some
+        (record { kind = k; perm = p; words = cond b (first_words init) (s.words n) })
     by_frame true at = here at
     by_frame false at = elsewhere at (same_page q g) refl
 
 -- .. and what the pages were added as
 added_add : (s : State) (m : FlatMemory) (g : Page) (x : FlatPage) → enclaves_seen s ≡ enclaves_flat m
-    → ◌≡◌ {A = EnclavesSeen} (record (enclaves_seen s) { added = λ q. cond (same_page q g) (Some (x.kind, x.perm)) (s.added q) }) (enclaves_flat (with_page m g x))
+    → ◌≡◌ {A = EnclavesSeen} (record (enclaves_seen s) { added = λ q. cond (same_page q g) (Some (x.kind, x.perm)) (s.added q) })
+    (enclaves_flat (with_page m g x))
 added_add s m g x h = λ i. record (h i) { added = λ q. by_page q (same_page q g) i }
   where
     by_page : (q : Page) (b : Bool) → cond b (Some (x.kind, x.perm)) (s.added q) ≡ added_as (cond b (Some x) (m.pages q))
@@ -168,24 +189,29 @@ added_add s m g x h = λ i. record (h i) { added = λ q. by_page q (same_page q 
     by_page q false = λ i. (h i).added q
 
 -- a page in a free frame, with its first words
-pub sound_add : (s : State) (g : Page) (f : ℕ) (kind : Kind) (perm : Perm) (init : PageInit) (longer : Measure) → IsSound s → s.content f ≡ Free → IsSound (after_add s g f kind perm init longer)
+pub sound_add : (s : State) (g : Page) (f : ℕ) (kind : Kind) (perm : Perm) (init : PageInit) (longer : Measure) → IsSound s
+    → s.content f ≡ Free → IsSound (after_add s g f kind perm init longer)
 sound_add s g f kind perm init longer sound free =
     let k = sound-put s f (Holds g kind perm) (λ n. cond (f == n) (first_words init) (s.words n)) sound free (λ n other. rw other refl)
     (λ n. cond_both (f == n) (first_words init) (s.words n) (λ ws. length ws ≡ 512) (λ _. length-first_words init) (λ _. sound.sized n)) in
     record { seated = k.seated; busy = k.busy; apart = k.apart; sized = k.sized }
 
-pub add_brings : (s : State) (past : List Entry) (a : Actor) (enclave number : ℕ) (f : Frame) (kind : Kind) (perm : Perm) (init : PageInit) (longer : Measure)
-    → first_of_row (row_of s a (Add enclave number f kind perm init)) ≡ None → IsSomeAnd (s.measure enclave) (λ m. TakesIn m (eadd_block (4096 * number) (flags_of kind perm)) longer) → Stands s past
+pub add_brings : (s : State) (past : List Entry) (a : Actor) (enclave number : ℕ) (f : Frame) (kind : Kind) (perm : Perm) (init : PageInit)
+    (longer : Measure)
+    → first_of_row (row_of s a (Add enclave number f kind perm init)) ≡ None
+    → IsSomeAnd (s.measure enclave) (λ m. TakesIn m (eadd_block (4096 * number) (flags_of kind perm)) longer) → Stands s past
     → BringsDone s (after_add s (page_at enclave number) f.0 kind perm init longer) past a (Add enclave number f kind perm init) Plain
 add_brings s past a enclave number f kind perm init longer allowed takes stands =
     let g = page_at enclave number in
     let k = adds number kind perm init (enclave_sight_of (s.enclaves enclave)) (is_some (s.added g)) (sight s f.0) allowed in
     let free = is_free_frame (s.content f.0) (s.is_sealing f.0) k.idle k.empty in
-    let same_added : is_some (s.added g) ≡ is_some ((flat past).pages g) = ap is_some (added_flat stands g) ∙ is_some-added_as ((flat past).pages g) in
+    let same_added : is_some (s.added g) ≡ is_some ((flat past).pages g) = ap is_some (added_flat stands g)
+    ∙ is_some-added_as ((flat past).pages g) in
     let new : (flat past).pages g ≡ None = none_there ((flat past).pages g) (sym same_added ∙ k.new) in
     record {
       form = refl;
-      taken = is_none-None _ (rw (enclave_flat stands enclave, same_added) at (add_open number kind perm init (enclave_sight_of (s.enclaves enclave)) (is_some (s.added g)) (sight s f.0) allowed));
+      taken = is_none-None _ (rw (enclave_flat stands enclave, same_added) at
+          (add_open number kind perm init (enclave_sight_of (s.enclaves enclave)) (is_some (s.added g)) (sight s f.0) allowed));
       same = λ seen. refl;
       measure = tt;
       memory = record {
@@ -193,13 +219,16 @@ add_brings s past a enclave number f kind perm init longer allowed takes stands 
         cpus = stands.memory.cpus;
         words = words_add s (flat past) f.0 g kind perm init longer stands.memory.words new;
         measure = λ e.
-            goes_on e enclave s.enclaves s.measure longer (eadd_block (4096 * number) (flags_of kind perm)) (log past e) (is_some-sight (s.enclaves enclave) k.made) takes (stands.memory.measure e);
+            goes_on e enclave s.enclaves s.measure longer (eadd_block (4096 * number) (flags_of kind perm)) (log past e)
+            (is_some-sight (s.enclaves enclave) k.made) takes (stands.memory.measure e);
       };
     }
 
 -- ---- init
 
-pub init_brings : (s : State) (past : List Entry) (a : Actor) (enclave : ℕ) (expect : Option (List ℕ)) (digest : List ℕ) → first_of_row (row_of s a (Init enclave expect)) ≡ None → MeasureRule past (did_by a (Init enclave expect) (Hash digest)) → Stands s past
+pub init_brings : (s : State) (past : List Entry) (a : Actor) (enclave : ℕ) (expect : Option (List ℕ)) (digest : List ℕ)
+    → first_of_row (row_of s a (Init enclave expect)) ≡ None → MeasureRule past (did_by a (Init enclave expect) (Hash digest))
+    → Stands s past
     → BringsDone s (after_init s enclave) past a (Init enclave expect) (Hash digest)
 init_brings s past a enclave expect digest allowed measured stands =
     let k = stands.memory in
@@ -209,7 +238,10 @@ init_brings s past a enclave expect digest allowed measured stands =
       same = λ seen. refl;
       measure = measured;
       memory = record {
-        enclaves = λ i. record (k.enclaves i) { enclaves = λ e. cond (e == enclave) (marked ((k.enclaves i).enclaves e)) ((k.enclaves i).enclaves e) };
+        enclaves = λ i. record (k.enclaves i) {
+          enclaves =
+              λ e. cond (e == enclave) (marked ((k.enclaves i).enclaves e)) ((k.enclaves i).enclaves e);
+        };
         cpus = k.cpus;
         words = k.words;
         measure = λ e. stays (e == enclave) (s.enclaves e) (s.measure e) (log past e) (k.measure e);

@@ -31,7 +31,8 @@ start_is h n i = (h.frames i).start n
 pub inside_is : {s : State} {past : List Entry} → HasColumns s past → (p : ℕ) → s.inside p ≡ seat_of_stay (stay past p)
 inside_is h p i = (h.cpus i).inside p
 
-pub noted_is : {s : State} {past : List Entry} → HasColumns s past → (p : ℕ) → s.noted p ≡ noted_inside (stay past p) (noted s.first_epoch past p)
+pub noted_is : {s : State} {past : List Entry} → HasColumns s past → (p : ℕ)
+    → s.noted p ≡ noted_inside (stay past p) (noted s.first_epoch past p)
 noted_is h p i = (h.cpus i).noted p
 
 pub translations_are : {s : State} {past : List Entry} → HasColumns s past → (p : ℕ) → map without_perm (s.cache p) ≡ translations past p

@@ -51,7 +51,8 @@ pub record Enters (enclave tcs : ℕ) (v : EnterSight) (saves : Case) (saved : �
   pub ssa_open : v.ssa.is_blocked ≡ false
   pub ssa_perm : not (allows_update (perm_in v.ssa.content)) ≡ false
 
-pub enters : (enclave tcs : ℕ) (v : EnterSight) (saves : Case) (saved : ℕ) → first_of_row (entry_row enclave tcs v saves saved) ≡ None → Enters enclave tcs v saves saved
+pub enters : (enclave tcs : ℕ) (v : EnterSight) (saves : Case) (saved : ℕ) → first_of_row (entry_row enclave tcs v saves saved) ≡ None
+    → Enters enclave tcs v saves saved
 enters enclave tcs v saves saved allowed =
     let none = none_holds (entry_row enclave tcs v saves saved) allowed in
     let within = neither v.tcs.is_beyond v.ssa.is_beyond none.1.0 in
@@ -76,15 +77,48 @@ enters enclave tcs v saves saved allowed =
       ssa_perm = save.1.1.1.1.0;
     }
 
-enters_none : (enclave tcs : ℕ) (v : EnterSight) (saves : Case) (saved : ℕ) → Enters enclave tcs v saves saved → first_of_row (entry_row enclave tcs v saves saved) ≡ None
+enters_none : (enclave tcs : ℕ) (v : EnterSight) (saves : Case) (saved : ℕ) → Enters enclave tcs v saves saved
+    → first_of_row (entry_row enclave tcs v saves saved) ≡ None
 enters_none enclave tcs v saves saved h =
-    none_refused (entry_row enclave tcs v saves saved)
-    (h.outside, (both_false v.tcs.is_beyond v.ssa.is_beyond h.tcs_within h.ssa_within, (h.made, (h.ready, (h.tcs_idle, (h.tcs_page, (h.tcs_kind, (h.tcs_open, (h.tcs_free, (h.frame_left, (h.ssa_idle, (h.ssa_page, (h.ssa_kind, (h.ssa_open, (h.ssa_perm, tt)))))))))))))))
+    none_refused (entry_row enclave tcs v saves saved) (
+      h.outside,
+      (
+        both_false v.tcs.is_beyond v.ssa.is_beyond h.tcs_within h.ssa_within,
+        (
+          h.made,
+          (
+            h.ready,
+            (
+              h.tcs_idle,
+              (
+                h.tcs_page,
+                (
+                  h.tcs_kind,
+                  (
+                    h.tcs_open,
+                    (
+                      h.tcs_free,
+                      (
+                        h.frame_left,
+                        (h.ssa_idle, (h.ssa_page, (h.ssa_kind, (h.ssa_open, (h.ssa_perm, tt))))),
+                      ),
+                    ),
+                  ),
+                ),
+              ),
+            ),
+          ),
+        ),
+      ),
+    )
 
 -- the same row, seeing equal things
-pub enter_sight_of : (b b' : Bool) (o o' : Option EnclaveSight) (t t' : FrameSight) (k k' : Bool) (f f' : TcsSight) (u u' : FrameSight) → b ≡ b' → o ≡ o' → t ≡ t' → k ≡ k' → f ≡ f' → u ≡ u'
-    → (let v : EnterSight = record { is_inside = b; enclave = o; tcs = t; tcs_busy = k; fields = f; ssa = u } in v) ≡ record { is_inside = b'; enclave = o'; tcs = t'; tcs_busy = k'; fields = f'; ssa = u' }
-enter_sight_of b b' o o' t t' k k' f f' u u' e1 e2 e3 e4 e5 e6 = λ i. record { is_inside = e1 i; enclave = e2 i; tcs = e3 i; tcs_busy = e4 i; fields = e5 i; ssa = e6 i }
+pub enter_sight_of : (b b' : Bool) (o o' : Option EnclaveSight) (t t' : FrameSight) (k k' : Bool) (f f' : TcsSight) (u u' : FrameSight)
+    → b ≡ b' → o ≡ o' → t ≡ t' → k ≡ k' → f ≡ f' → u ≡ u'
+    → (let v : EnterSight = record { is_inside = b; enclave = o; tcs = t; tcs_busy = k; fields = f; ssa = u } in v) ≡ record
+    { is_inside = b'; enclave = o'; tcs = t'; tcs_busy = k'; fields = f'; ssa = u' }
+enter_sight_of b b' o o' t t' k k' f f' u u' e1 e2 e3 e4 e5 e6 =
+    λ i. record { is_inside = e1 i; enclave = e2 i; tcs = e3 i; tcs_busy = e4 i; fields = e5 i; ssa = e6 i }
 
 -- a frame that holds something, with nothing against it
 abbrev opened : Content → FrameSight
@@ -93,7 +127,8 @@ opened c = record { is_beyond = false; content = c; is_sealing = false; is_block
 abbrev opened_sight : EnterSight → EnterSight
 opened_sight v = record v { tcs = opened v.tcs.content; ssa = opened v.ssa.content }
 
-enters_opened : (enclave tcs : ℕ) (v : EnterSight) (saves : Case) (saved : ℕ) → Enters enclave tcs v saves saved → Enters enclave tcs (opened_sight v) saves saved
+enters_opened : (enclave tcs : ℕ) (v : EnterSight) (saves : Case) (saved : ℕ) → Enters enclave tcs v saves saved
+    → Enters enclave tcs (opened_sight v) saves saved
 enters_opened enclave tcs v saves saved h = record {
   outside = h.outside;
   tcs_within = refl;
@@ -113,7 +148,8 @@ enters_opened enclave tcs v saves saved h = record {
   ssa_perm = h.ssa_perm;
 }
 
-pub usable_there : {c : Content} {sealing : Bool} {enclave number : ℕ} {kind : Kind} {perm : Perm} → c ≡ Holds (page_at enclave number) kind perm → (sealing || is_loading c) ≡ false → IsUsable enclave c sealing
+pub usable_there : {c : Content} {sealing : Bool} {enclave number : ℕ} {kind : Kind} {perm : Perm}
+    → c ≡ Holds (page_at enclave number) kind perm → (sealing || is_loading c) ≡ false → IsUsable enclave c sealing
 usable_there {c} {sealing} holds idle = record { ours = rw holds refl; settled = (neither sealing (is_loading c) idle).0 }
 
 -- ---- what an entry that its row allows finds in the machine and in flat memory
@@ -123,13 +159,17 @@ abbrev pub by_fields : (TcsSight → Case) → (TcsSight → ℕ) → ℕ → �
 by_fields saves saved enclave tcs v = entry_row enclave tcs v (saves v.fields) (saved v.fields)
 
 pub record FindsPages (s : State) (past : List Entry) (p : ℕ) (seat : Seat) (saves : TcsSight → Case) (saved : TcsSight → ℕ) : Type 0 where
-  pub needs : Enters seat.enclave seat.tcs (enter_sight s p seat) (saves (tcs_fields (s.words seat.tcs_frame))) (saved (tcs_fields (s.words seat.tcs_frame)))
+  pub needs : Enters seat.enclave seat.tcs (enter_sight s p seat) (saves (tcs_fields (s.words seat.tcs_frame)))
+      (saved (tcs_fields (s.words seat.tcs_frame)))
   pub tcs : IsKindOf (s.content seat.tcs_frame) (page_at seat.enclave seat.tcs) kinds.Tcs
   pub ssa : IsKindOf (s.content seat.ssa_frame) (page_at seat.enclave (saved (tcs_fields (s.words seat.tcs_frame)))) kinds.Reg
-  pub tcs_flat : (flat past).pages (page_at seat.enclave seat.tcs) ≡ Some (record { kind = kinds.Tcs; perm = tcs.perm; words = s.words seat.tcs_frame })
-  pub ssa_flat : (flat past).pages (page_at seat.enclave (saved (tcs_fields (s.words seat.tcs_frame)))) ≡ Some (record { kind = kinds.Reg; perm = ssa.perm; words = s.words seat.ssa_frame })
+  pub tcs_flat : (flat past).pages (page_at seat.enclave seat.tcs) ≡ Some
+      (record { kind = kinds.Tcs; perm = tcs.perm; words = s.words seat.tcs_frame })
+  pub ssa_flat : (flat past).pages (page_at seat.enclave (saved (tcs_fields (s.words seat.tcs_frame)))) ≡ Some
+      (record { kind = kinds.Reg; perm = ssa.perm; words = s.words seat.ssa_frame })
   pub fields : tcs_fields (s.words seat.tcs_frame) ≡ fields_in (flat past) seat.enclave seat.tcs
-  pub by_flat : first_of_row (by_fields saves saved seat.enclave seat.tcs (flat_enter_sight (flat past) p seat.enclave seat.tcs (saved (fields_in (flat past) seat.enclave seat.tcs)))) ≡ None
+  pub by_flat : first_of_row (by_fields saves saved seat.enclave seat.tcs
+      (flat_enter_sight (flat past) p seat.enclave seat.tcs (saved (fields_in (flat past) seat.enclave seat.tcs)))) ≡ None
 
 pub finds_pages : (s : State) (past : List Entry) (p : ℕ) (seat : Seat) (saves : TcsSight → Case) (saved : TcsSight → ℕ) → Stands s past
     → first_of_row (by_fields saves saved seat.enclave seat.tcs (enter_sight s p seat)) ≡ None → FindsPages s past p seat saves saved
@@ -163,8 +203,10 @@ finds_pages s past p seat saves saved stands allowed =
     }
 
 -- .. so it may sit, where the state save page that CSSA names afterwards is the one in its frame
-seated_there : (s : State) (p : ℕ) (seat : Seat) (saves : Case) (saved : ℕ) (words : ℕ → List ℕ) → Enters seat.enclave seat.tcs (enter_sight s p seat) saves saved
-    → page_at seat.enclave saved ≡ next_save seat.enclave (tcs_fields (words seat.tcs_frame)) → IsSeated s.content s.is_sealing words [] seat
+seated_there : (s : State) (p : ℕ) (seat : Seat) (saves : Case) (saved : ℕ) (words : ℕ → List ℕ)
+    → Enters seat.enclave seat.tcs (enter_sight s p seat) saves saved
+    → page_at seat.enclave saved ≡ next_save seat.enclave (tcs_fields (words seat.tcs_frame))
+    → IsSeated s.content s.is_sealing words [] seat
 seated_there s p seat saves saved words k next =
     let tcs = tcs_there (s.content seat.tcs_frame) (page_at seat.enclave seat.tcs) (not_false _ k.tcs_page) (not_false _ k.tcs_kind) in
     let ssa = reg_there (s.content seat.ssa_frame) (page_at seat.enclave saved) (not_false _ k.ssa_page) (not_false _ k.ssa_kind) in
@@ -179,12 +221,15 @@ seated_there s p seat saves saved words k next =
     }
 
 -- a processor of flat memory that comes inside
-cpus_entered : (s : State) (past : List Entry) (m : FlatMemory) (p : ℕ) (seat : Seat) (acc acc' : ℕ) → acc' ≡ acc → ((q : ℕ) → m.cpus q ≡ cpu_shown s past q)
-    → (q : ℕ) → (let c : FlatCpu = cond (p == q) (record { inside = Some (record { enclave = seat.enclave; tcs = seat.tcs }); acc = acc' }) (m.cpus q) in c)
+cpus_entered : (s : State) (past : List Entry) (m : FlatMemory) (p : ℕ) (seat : Seat) (acc acc' : ℕ) → acc' ≡ acc
+    → ((q : ℕ) → m.cpus q ≡ cpu_shown s past q)
+    → (q : ℕ) → (let c : FlatCpu = cond (p == q) (record { inside = Some (record { enclave = seat.enclave; tcs = seat.tcs }); acc = acc' })
+    (m.cpus q) in c)
     ≡ record { inside = inside_of_stay (cond (p == q) (Some (stay_from past seat)) (stay past q)); acc = cond (p == q) acc (s.acc q) }
 cpus_entered s past m p seat acc acc' same cpus q = by_cpu (p == q)
   where
-    by_cpu : (b : Bool) → (let c : FlatCpu = cond b (record { inside = Some (record { enclave = seat.enclave; tcs = seat.tcs }); acc = acc' }) (m.cpus q) in c)
+    by_cpu : (b : Bool) → (let c : FlatCpu = cond b
+        (record { inside = Some (record { enclave = seat.enclave; tcs = seat.tcs }); acc = acc' }) (m.cpus q) in c)
         ≡ record { inside = inside_of_stay (cond b (Some (stay_from past seat)) (stay past q)); acc = cond b acc (s.acc q) }
     by_cpu true = λ i. record { inside = Some (record { enclave = seat.enclave; tcs = seat.tcs }); acc = same i }
     by_cpu false = cpus q
@@ -201,13 +246,16 @@ enter_saves f = when (f.cssa == f.nssa) why.NoFrame
 abbrev pub enter_saved : TcsSight → ℕ
 enter_saved f = f.ossa + f.cssa
 
-pub sound-enter : (s : State) (p : ℕ) (seat : Seat) → first_of_row (enter_row seat.enclave seat.tcs (enter_sight s p seat)) ≡ None → IsSound s → IsSound (after_enter s p seat)
+pub sound-enter : (s : State) (p : ℕ) (seat : Seat) → first_of_row (enter_row seat.enclave seat.tcs (enter_sight s p seat)) ≡ None
+    → IsSound s → IsSound (after_enter s p seat)
 sound-enter s p seat allowed sound =
     let f = tcs_fields (s.words seat.tcs_frame) in
     let k = enters seat.enclave seat.tcs (enter_sight s p seat) (enter_saves f) (enter_saved f) allowed in
-    sound-inside s p seat (cssa_in s seat.tcs_frame) s.words sound k.tcs_free (seated_there s p seat (enter_saves f) (enter_saved f) s.words k refl) (λ n other. refl) sound.sized
+    sound-inside s p seat (cssa_in s seat.tcs_frame) s.words sound k.tcs_free
+    (seated_there s p seat (enter_saves f) (enter_saved f) s.words k refl) (λ n other. refl) sound.sized
 
-pub enter_brings : (s : State) (past : List Entry) (p : Cpu) (enclave tcs : ℕ) (tf sf : Frame) → p.0 < 16 → first_of_row (row_of s (actors.Cpu p) (Enter enclave tcs tf sf)) ≡ None → Stands s past
+pub enter_brings : (s : State) (past : List Entry) (p : Cpu) (enclave tcs : ℕ) (tf sf : Frame) → p.0 < 16
+    → first_of_row (row_of s (actors.Cpu p) (Enter enclave tcs tf sf)) ≡ None → Stands s past
     → BringsDone s (after_enter s p.0 (seat_of enclave tcs tf.0 sf.0)) past (actors.Cpu p) (Enter enclave tcs tf sf) (Cssa (cssa_in s tf.0))
 enter_brings s past p enclave tcs tf sf low allowed stands =
     let seat = seat_of enclave tcs tf.0 sf.0 in
@@ -247,7 +295,8 @@ some_saved c is = by_place (cases_lt 0 c)
     by_place (inr none) = let zero_is : c ≡ 0 = omega arith in absurd (false≢true (sym is ∙ equal c 0 zero_is))
 
 -- the state save page that was taken is the one that CSSA names from now on
-next_resumed : (s : State) (enclave tf : ℕ) → length (s.words tf) ≡ 512 → (cssa_in s tf == 0) ≡ false → page_at enclave (resume_saved (tcs_fields (s.words tf))) ≡ next_save enclave (tcs_fields (resumed_words s tf tf))
+next_resumed : (s : State) (enclave tf : ℕ) → length (s.words tf) ≡ 512 → (cssa_in s tf == 0) ≡ false
+    → page_at enclave (resume_saved (tcs_fields (s.words tf))) ≡ next_save enclave (tcs_fields (resumed_words s tf tf))
 next_resumed s enclave tf sized left =
     let words = s.words tf in
     let here : (tf == tf) ≡ true = equal tf tf refl in
@@ -258,32 +307,41 @@ next_resumed s enclave tf sized left =
     let some = some_saved (cssa_in s tf) left in
     let whole : (cssa_in s tf - 1) % 2 ^ 32 ≡ cssa_in s tf - 1 = low_number (cssa_in s tf - 1) (omega (arith, few)) in
     let number : (tcs_fields words).ossa + cssa_in s tf - 1 ≡ (tcs_fields words).ossa + (cssa_in s tf - 1) = omega (arith, some) in
-    rw same (ap (page_at enclave) (number ∙ ap (λ c. (tcs_fields words).ossa + c) (sym (cssa ∙ whole)) ∙ ap (λ o. o + (tcs_fields (with_cssa words (cssa_in s tf - 1))).cssa) (sym ossa)))
+    rw same (ap (page_at enclave) (number ∙ ap (λ c. (tcs_fields words).ossa + c) (sym (cssa ∙ whole))
+    ∙ ap (λ o. o + (tcs_fields (with_cssa words (cssa_in s tf - 1))).cssa) (sym ossa)))
   where
     low_number : (c : ℕ) → c < 2 ^ 32 → c % 2 ^ 32 ≡ c
     low_number c low = omega arith
 
-pub sound-resume : (s : State) (p : ℕ) (seat : Seat) → first_of_row (resume_row seat.enclave seat.tcs (enter_sight s p seat)) ≡ None → IsSound s → IsSound (after_resume s p seat)
+pub sound-resume : (s : State) (p : ℕ) (seat : Seat) → first_of_row (resume_row seat.enclave seat.tcs (enter_sight s p seat)) ≡ None
+    → IsSound s → IsSound (after_resume s p seat)
 sound-resume s p seat allowed sound =
     let f = tcs_fields (s.words seat.tcs_frame) in
     let k = enters seat.enclave seat.tcs (enter_sight s p seat) (resume_saves f) (resume_saved f) allowed in
     sound-inside s p seat (saved_word s seat.ssa_frame) (resumed_words s seat.tcs_frame) sound k.tcs_free
-    (seated_there s p seat (resume_saves f) (resume_saved f) (resumed_words s seat.tcs_frame) k (next_resumed s seat.enclave seat.tcs_frame (sound.sized seat.tcs_frame) k.frame_left)) (λ n other. rw other refl)
-    (sized-rewritten s.words seat.tcs_frame (λ words. with_cssa words (cssa_in s seat.tcs_frame - 1)) sound.sized (λ words. length-with_cssa words _))
+    (seated_there s p seat (resume_saves f) (resume_saved f) (resumed_words s seat.tcs_frame) k
+    (next_resumed s seat.enclave seat.tcs_frame (sound.sized seat.tcs_frame) k.frame_left)) (λ n other. rw other refl)
+    (sized-rewritten s.words seat.tcs_frame (λ words. with_cssa words (cssa_in s seat.tcs_frame - 1)) sound.sized
+    (λ words. length-with_cssa words _))
 
-pub resume_brings : (s : State) (past : List Entry) (p : Cpu) (enclave tcs : ℕ) (tf sf : Frame) → p.0 < 16 → first_of_row (row_of s (actors.Cpu p) (Resume enclave tcs tf sf)) ≡ None → Stands s past → NoPageTwice past
-    → BringsDone s (after_resume s p.0 (seat_of enclave tcs tf.0 sf.0)) past (actors.Cpu p) (Resume enclave tcs tf sf) (Value (saved_word s sf.0))
+pub resume_brings : (s : State) (past : List Entry) (p : Cpu) (enclave tcs : ℕ) (tf sf : Frame) → p.0 < 16
+    → first_of_row (row_of s (actors.Cpu p) (Resume enclave tcs tf sf)) ≡ None → Stands s past → NoPageTwice past
+    → BringsDone s (after_resume s p.0 (seat_of enclave tcs tf.0 sf.0)) past (actors.Cpu p) (Resume enclave tcs tf sf)
+    (Value (saved_word s sf.0))
 resume_brings s past p enclave tcs tf sf low allowed stands once =
     let seat = seat_of enclave tcs tf.0 sf.0 in
     let g = page_at enclave tcs in
     let m = flat past in
     let k = finds_pages s past p.0 seat resume_saves resume_saved stands allowed in
     let change : List ℕ → List ℕ = λ words. with_cssa words (cssa_in s tf.0 - 1) in
-    let same_change : (λ (words : List ℕ). with_cssa words ((fields_in m enclave tcs).cssa - 1)) ≡ change = ap (λ (f : TcsSight). λ (words : List ℕ). with_cssa words (f.cssa - 1)) (sym k.fields) in
+    let same_change : (λ (words : List ℕ). with_cssa words ((fields_in m enclave tcs).cssa - 1)) ≡ change =
+    ap (λ (f : TcsSight). λ (words : List ℕ). with_cssa words (f.cssa - 1)) (sym k.fields) in
     let word : saved_word s sf.0 ≡ resumed_word m enclave tcs =
-    ap (λ x. slice_index (page_words x) 0) (sym k.ssa_flat) ∙ ap (λ (f : TcsSight). slice_index (words_of m (page_at enclave (f.ossa + f.cssa - 1))) 0) k.fields in
+    ap (λ x. slice_index (page_words x) 0) (sym k.ssa_flat)
+    ∙ ap (λ (f : TcsSight). slice_index (words_of m (page_at enclave (f.ossa + f.cssa - 1))) 0) k.fields in
     let changed = shows_changed s past m tf.0 g change stands.memory (once_in_state s past stands once) (not_false _ k.needs.tcs_page) in
-    let after : memory_after (actors.Cpu p) (Resume enclave tcs tf sf) m ≡ entered (with_words m g change) p.0 enclave tcs (resumed_word m enclave tcs) = ap (λ c. entered (with_words m g c) p.0 enclave tcs (resumed_word m enclave tcs)) same_change in
+    let after : memory_after (actors.Cpu p) (Resume enclave tcs tf sf) m ≡ entered (with_words m g change) p.0 enclave tcs
+    (resumed_word m enclave tcs) = ap (λ c. entered (with_words m g c) p.0 enclave tcs (resumed_word m enclave tcs)) same_change in
     record {
       form = (saved_word s sf.0, refl);
       taken = rw (lt-ltb p.0 16 low, k.by_flat) refl;

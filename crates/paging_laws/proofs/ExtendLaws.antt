@@ -35,24 +35,34 @@ IsMade s = (n : ℕ) (g : Page) → page_held (s.content n) ≡ Some g → is_so
 
 -- the block of a chunk of the words that a frame holds is the one that the entries log
 logs : (s : State) (past : List Entry) (f chunk : ℕ) (g : Page) → Stands s past → page_held (s.content f) ≡ Some g
-    → logged_chunk page_in bytes_at past chunk (page_in past f) ≡ Some (record { enclave = g.enclave; block = eextend_block (4096 * g.number + 256 * chunk) (chunk_of (bytes_of (s.words f)) chunk) })
+    → logged_chunk page_in bytes_at past chunk (page_in past f) ≡ Some
+    (record { enclave = g.enclave; block = eextend_block (4096 * g.number + 256 * chunk) (chunk_of (bytes_of (s.words f)) chunk) })
 logs s past f chunk g stands is = by_content (s.content f) refl is
   where
     by_content : (c : Content) → s.content f ≡ c → page_held c ≡ Some g
-        → logged_chunk page_in bytes_at past chunk (page_in past f) ≡ Some (record { enclave = g.enclave; block = eextend_block (4096 * g.number + 256 * chunk) (chunk_of (bytes_of (s.words f)) chunk) })
+        → logged_chunk page_in bytes_at past chunk (page_in past f) ≡ Some
+        (record { enclave = g.enclave; block = eextend_block (4096 * g.number + 256 * chunk) (chunk_of (bytes_of (s.words f)) chunk) })
     by_content (Holds page kind perm) e k =
         let same : page ≡ g = cc in
         let here : page_in past f ≡ Some page = ap page_held (sym (content_is stands.columns f) ∙ e) in
         ap (logged_chunk page_in bytes_at past chunk) here
-        ∙ ap (λ x. Some (let l : Logged = record { enclave = page.enclave; block = eextend_block (4096 * page.number + 256 * chunk) (chunk_of (flat_map (to_le_bytes w64) (page_words x)) chunk) } in l)) (stands.memory.words f page kind perm e)
-        ∙ ap (λ (q : Page). Some (let l : Logged = record { enclave = q.enclave; block = eextend_block (4096 * q.number + 256 * chunk) (chunk_of (bytes_of (s.words f)) chunk) } in l)) same
+        ∙ ap (λ x. Some (let l : Logged = record {
+          enclave = page.enclave;
+          block = eextend_block (4096 * page.number + 256 * chunk) (chunk_of (flat_map (to_le_bytes w64) (page_words x)) chunk);
+        } in l))
+        (stands.memory.words f page kind perm e)
+        ∙ ap (λ (q : Page). Some (let l : Logged =
+        record { enclave = q.enclave; block = eextend_block (4096 * q.number + 256 * chunk) (chunk_of (bytes_of (s.words f)) chunk) } in
+        l)) same
     by_content Free e k = cc
     by_content IsVa e k = cc
     by_content (SecsOf enclave) e k = cc
     by_content IsLoading e k = cc
 
-pub extend_brings : (s : State) (past : List Entry) (a : Actor) (f : Frame) (chunk : ℕ) (g : Page) (longer : Measure) → first_of_row (row_of s a (Extend f chunk)) ≡ None → page_held (s.content f.0) ≡ Some g
-    → IsSomeAnd (s.measure g.enclave) (λ m. TakesIn m (eextend_block (4096 * g.number + 256 * chunk) (chunk_of (bytes_of (s.words f.0)) chunk)) longer) → IsMade s → Stands s past
+pub extend_brings : (s : State) (past : List Entry) (a : Actor) (f : Frame) (chunk : ℕ) (g : Page) (longer : Measure)
+    → first_of_row (row_of s a (Extend f chunk)) ≡ None → page_held (s.content f.0) ≡ Some g
+    → IsSomeAnd (s.measure g.enclave) (λ m. TakesIn m
+    (eextend_block (4096 * g.number + 256 * chunk) (chunk_of (bytes_of (s.words f.0)) chunk)) longer) → IsMade s → Stands s past
     → BringsDone s (after_extend s g.enclave longer) past a (Extend f chunk) Plain
 extend_brings s past a f chunk g longer allowed here takes made stands =
     let none = none_holds (extend_row chunk (is_closed s (enclave_in (s.content f.0))) (sight s f.0)) allowed in
@@ -68,6 +78,7 @@ extend_brings s past a f chunk g longer allowed here takes made stands =
         enclaves = k.enclaves;
         cpus = k.cpus;
         words = k.words;
-        measure = λ e. rw (logs s past f.0 chunk g stands here) (goes_on e g.enclave s.enclaves s.measure longer block (log past e) (made f.0 g here) takes (k.measure e));
+        measure = λ e. rw (logs s past f.0 chunk g stands here)
+            (goes_on e g.enclave s.enclaves s.measure longer block (log past e) (made f.0 g here) takes (k.measure e));
       };
     }

@@ -56,7 +56,8 @@ abbrev IsAway : (ℕ → Content) → (ℕ → Option Start) → Page → Type 0
 IsAway held starts g = (n : ℕ) → (is_page (held n) g ≡ false) × (is_load_of (starts n) g ≡ false)
 
 -- a frame comes to hold at most a page that was away
-put_apart : (held : ℕ → Content) (starts : ℕ → Option Start) (f : ℕ) (c : Content) → ((g : Page) → is_page c g ≡ true → IsAway held starts g) → IsApart held starts
+put_apart : (held : ℕ → Content) (starts : ℕ → Option Start) (f : ℕ) (c : Content)
+    → ((g : Page) → is_page c g ≡ true → IsAway held starts g) → IsApart held starts
     → IsApart (λ n. cond (f == n) c (held n)) starts
 put_apart held starts f c away h = record {
   once = λ m n g.
@@ -67,16 +68,19 @@ put_apart held starts f c away h = record {
       (λ _ here.
       cond_both (f == n) c (held n) (λ v. is_page v g ≡ true → m ≡ n)
       (λ _ there. absurd (false≢true (sym (away g there m).0 ∙ here))) (λ _ there. h.once m n g here there));
-  frames = λ m n g loads. cond_both (f == n) c (held n) (λ v. is_page v g ≡ false) (λ _. never (is_page c g) (λ here. false≢true (sym (away g here m).1 ∙ loads))) (λ _. h.frames m n g loads);
+  frames = λ m n g loads. cond_both (f == n) c (held n) (λ v. is_page v g ≡ false)
+      (λ _. never (is_page c g) (λ here. false≢true (sym (away g here m).1 ∙ loads))) (λ _. h.frames m n g loads);
   loads = h.loads;
 }
 
 -- a start comes to load at most a page that was away
-start_apart : (held : ℕ → Content) (starts : ℕ → Option Start) (f : ℕ) (o : Option Start) → ((g : Page) → is_load_of o g ≡ true → IsAway held starts g) → IsApart held starts
+start_apart : (held : ℕ → Content) (starts : ℕ → Option Start) (f : ℕ) (o : Option Start)
+    → ((g : Page) → is_load_of o g ≡ true → IsAway held starts g) → IsApart held starts
     → IsApart held (λ n. cond (f == n) o (starts n))
 start_apart held starts f o away h = record {
   once = h.once;
-  frames = λ m n g. cond_both (f == m) o (starts m) (λ v. is_load_of v g ≡ true → is_page (held n) g ≡ false) (λ _ here. (away g here n).0) (λ _ here. h.frames m n g here);
+  frames = λ m n g. cond_both (f == m) o (starts m) (λ v. is_load_of v g ≡ true → is_page (held n) g ≡ false) (λ _ here. (away g here n).0)
+      (λ _ here. h.frames m n g here);
   loads = λ m n g.
       cond_both (f == m) o (starts m) (λ v. is_load_of v g ≡ true → is_load_of (cond (f == n) o (starts n)) g ≡ true → m ≡ n)
       (λ at_m here.
@@ -88,7 +92,8 @@ start_apart held starts f o away h = record {
 }
 
 -- what a frame's start loads is away once the start has ended
-loaded_away : (held : ℕ → Content) (starts : ℕ → Option Start) (f : ℕ) (g : Page) → is_load_of (starts f) g ≡ true → IsApart held starts → IsAway held (λ n. cond (f == n) None (starts n)) g
+loaded_away : (held : ℕ → Content) (starts : ℕ → Option Start) (f : ℕ) (g : Page) → is_load_of (starts f) g ≡ true → IsApart held starts
+    → IsAway held (λ n. cond (f == n) None (starts n)) g
 loaded_away held starts f g loads h n = (
   h.frames f n g loads,
   cond_both (f == n) None (starts n) (λ v. is_load_of v g ≡ false) (λ _. refl)
@@ -100,14 +105,16 @@ loaded_away held starts f g loads h n = (
 apart_in : (frames : ℕ) (past : List Entry) → FitsApart frames past → IsApart (content past) (open_start past)
 apart_in frames past h = record { once = last_place NoPageTwice past h.fits.pages; frames = h.apart.frames; loads = h.apart.loads }
 
-fits_more : (frames : ℕ) (past : List Entry) (e : Entry) → FitsRule frames past e → IsApart (content (e ∷ past)) (open_start (e ∷ past)) → FitsApart frames past → FitsApart frames (e ∷ past)
+fits_more : (frames : ℕ) (past : List Entry) (e : Entry) → FitsRule frames past e → IsApart (content (e ∷ past)) (open_start (e ∷ past))
+    → FitsApart frames past → FitsApart frames (e ∷ past)
 fits_more frames past e rule next h = record {
   fits = record { entries = (rule, h.fits.entries); pages = (next.once, h.fits.pages) };
   apart = record { frames = next.frames; loads = next.loads };
 }
 
 -- an entry that no content and no start sees
-fits_same : (frames : ℕ) (past : List Entry) (e : Entry) → ((n : ℕ) → content (e ∷ past) n ≡ content past n) → ((n : ℕ) → open_start (e ∷ past) n ≡ open_start past n) → FitsRule frames past e
+fits_same : (frames : ℕ) (past : List Entry) (e : Entry) → ((n : ℕ) → content (e ∷ past) n ≡ content past n)
+    → ((n : ℕ) → open_start (e ∷ past) n ≡ open_start past n) → FitsRule frames past e
     → FitsApart frames past → FitsApart frames (e ∷ past)
 fits_same frames past e held starts rule h =
     let before = apart_in frames past h in
@@ -142,34 +149,51 @@ unadded_away s guarded framed g new n = (by_content (s.content n) refl, by_start
     by_start (Some start) h = by_load start.loads h.loads
 
 -- .. by the entries too
-away_in : (s : State) (past : List Entry) → HasColumns s past → (g : Page) → IsAway s.content s.start g → IsAway (content past) (open_start past) g
-away_in s past columns g away n = (ap (λ c. is_page c g) (sym (content_is columns n)) ∙ (away n).0, ap (λ o. is_load_of o g) (sym (start_is columns n)) ∙ (away n).1)
+away_in : (s : State) (past : List Entry) → HasColumns s past → (g : Page) → IsAway s.content s.start g
+    → IsAway (content past) (open_start past) g
+away_in s past columns g away n =
+    (ap (λ c. is_page c g) (sym (content_is columns n)) ∙ (away n).0, ap (λ o. is_load_of o g) (sym (start_is columns n)) ∙ (away n).1)
 
 -- ---- the rows that put a frame or start
 
-module _ (s : State) (past : List Entry) (a : Actor) (guarded : IsGuarded s) (framed : IsFramed s) (columns : HasColumns s past) (h : FitsApart s.frames past) where
+module _ (s : State) (past : List Entry) (a : Actor) (guarded : IsGuarded s) (framed : IsFramed s) (columns : HasColumns s past)
+    (h : FitsApart s.frames past) where
   -- a page is added that stood nowhere
-  add_fits : (enclave number : ℕ) (f : Frame) (kind : Kind) (perm : Perm) (init : PageInit) (answer : Answer) → first_of_row (row_of s a (Add enclave number f kind perm init)) ≡ None
-      → FitsRule s.frames past (did_by a (Add enclave number f kind perm init) answer) → FitsApart s.frames (did_by a (Add enclave number f kind perm init) answer ∷ past)
+  add_fits : (enclave number : ℕ) (f : Frame) (kind : Kind) (perm : Perm) (init : PageInit) (answer : Answer)
+      → first_of_row (row_of s a (Add enclave number f kind perm init)) ≡ None
+      → FitsRule s.frames past (did_by a (Add enclave number f kind perm init) answer)
+      → FitsApart s.frames (did_by a (Add enclave number f kind perm init) answer ∷ past)
   add_fits enclave number f kind perm init answer allowed rule =
       let g = page_at enclave number in
-      let away : IsAway (content past) (open_start past) g = away_in s past columns g (unadded_away s guarded framed g (adds number kind perm init (enclave_sight_of (s.enclaves enclave)) (is_some (s.added g)) (sight s f.0) allowed).new) in
-      fits_more s.frames past _ rule (put_apart (content past) (open_start past) f.0 (Holds g kind perm) (λ q here. rw (← same_pages g q here) away) (apart_in s.frames past h)) h
+      let away : IsAway (content past) (open_start past) g =
+      away_in s past columns g (unadded_away s guarded framed g
+      (adds number kind perm init (enclave_sight_of (s.enclaves enclave)) (is_some (s.added g)) (sight s f.0) allowed).new) in
+      fits_more s.frames past _ rule (put_apart (content past) (open_start past) f.0 (Holds g kind perm)
+      (λ q here. rw (← same_pages g q here) away) (apart_in s.frames past h)) h
 
   -- a load starts of a page that is away
-  eldstart_fits : (f : Frame) (page : Page) (slot : SlotAt) (answer : Answer) → FitsRule s.frames past (did_by a (EldStart f page slot) answer) → IsAway (content past) (open_start past) page
+  eldstart_fits : (f : Frame) (page : Page) (slot : SlotAt) (answer : Answer)
+      → FitsRule s.frames past (did_by a (EldStart f page slot) answer) → IsAway (content past) (open_start past) page
       → FitsApart s.frames (did_by a (EldStart f page slot) answer ∷ past)
   eldstart_fits f page slot answer rule away =
-      let started = start_apart (content past) (open_start past) f.0 (Some (record { slot = slot; version = version_told answer; loads = Some page })) (λ g loads. rw (← same_pages page g loads) away) (apart_in s.frames past h) in
+      let started = start_apart (content past) (open_start past) f.0
+      (Some (record { slot = slot; version = version_told answer; loads = Some page })) (λ g loads. rw (← same_pages page g loads) away)
+      (apart_in s.frames past h) in
       fits_more s.frames past _ rule (put_apart (content past) _ f.0 IsLoading (λ g held. cc) started) h
 
   -- any instruction that is done
-  done_fits : (action : Action) (answer : Answer) → first_of_row (row_of s a action) ≡ None → is_end action ≡ false → LoadsAwayRule past (did_by a action answer) → FitsRule s.frames past (did_by a action answer)
+  done_fits : (action : Action) (answer : Answer) → first_of_row (row_of s a action) ≡ None → is_end action ≡ false
+      → LoadsAwayRule past (did_by a action answer) → FitsRule s.frames past (did_by a action answer)
       → FitsApart s.frames (did_by a action answer ∷ past)
-  done_fits (Epa f) answer allowed other away rule = fits_more s.frames past _ rule (put_apart (content past) (open_start past) f.0 IsVa (λ g held. cc) (apart_in s.frames past h)) h
-  done_fits (Create enclave f base size) answer allowed other away rule = fits_more s.frames past _ rule (put_apart (content past) (open_start past) f.0 (SecsOf enclave) (λ g held. cc) (apart_in s.frames past h)) h
-  done_fits (Add enclave number f kind perm init) answer allowed other away rule = add_fits enclave number f kind perm init answer allowed rule
-  done_fits (EwbStart f slot) answer allowed other away rule = fits_more s.frames past _ rule (start_apart (content past) (open_start past) f.0 _ (λ g loads. cc) (apart_in s.frames past h)) h
+  done_fits (Epa f) answer allowed other away rule =
+      fits_more s.frames past _ rule (put_apart (content past) (open_start past) f.0 IsVa (λ g held. cc) (apart_in s.frames past h)) h
+  done_fits (Create enclave f base size) answer allowed other away rule =
+      fits_more s.frames past _ rule (put_apart (content past) (open_start past) f.0 (SecsOf enclave) (λ g held. cc)
+      (apart_in s.frames past h)) h
+  done_fits (Add enclave number f kind perm init) answer allowed other away rule =
+      add_fits enclave number f kind perm init answer allowed rule
+  done_fits (EwbStart f slot) answer allowed other away rule =
+      fits_more s.frames past _ rule (start_apart (content past) (open_start past) f.0 _ (λ g loads. cc) (apart_in s.frames past h)) h
   done_fits (EldStart f page slot) answer allowed other away rule = eldstart_fits f page slot answer rule away
   done_fits (Ewb f) answer allowed other away rule = cc other
   done_fits (Eld f) answer allowed other away rule = cc other
@@ -182,40 +206,51 @@ pub open_below : (frames : ℕ) (past : List Entry) (n : ℕ) → Along (FitsRul
 open_below frames [] n rules is = absurd (false≢true is)
 open_below frames (e ∷ past) n rules is = by_event e.event rules.0 (open_below frames past n rules.1) is
   where
-    by_start : (f : ℕ) (o : Option Start) → f < frames → (is_some (open_start past n) ≡ true → n < frames) → is_some (cond (f == n) o (open_start past n)) ≡ true → n < frames
-    by_start f o below before = cond_both (f == n) o (open_start past n) (λ v. is_some v ≡ true → n < frames) (λ here is. rw (← eqb-true f n here) below) (λ _ is. before is)
+    by_start : (f : ℕ) (o : Option Start) → f < frames → (is_some (open_start past n) ≡ true → n < frames)
+        → is_some (cond (f == n) o (open_start past n)) ≡ true → n < frames
+    by_start f o below before = cond_both (f == n) o (open_start past n) (λ v. is_some v ≡ true → n < frames)
+        (λ here is. rw (← eqb-true f n here) below) (λ _ is. before is)
 
-    by_event : (v : Event) → FitsRule frames past (record { actor = e.actor; event = v }) → (is_some (open_start past n) ≡ true → n < frames) → is_some (opened_by v n (open_start past n)) ≡ true → n < frames
+    by_event : (v : Event) → FitsRule frames past (record { actor = e.actor; event = v })
+        → (is_some (open_start past n) ≡ true → n < frames) → is_some (opened_by v n (open_start past n)) ≡ true → n < frames
     by_event (Did (EwbStart f slot) answer) rule before is = by_start f.0 _ rule.0.0 before is
     by_event (Did (EldStart f page slot) answer) rule before is = by_start f.0 _ rule.0.0 before is
     by_event (Did (Ewb f) answer) rule before is = by_start f.0 _ rule.0 before is
     by_event (Did (Eld f) answer) rule before is = by_start f.0 _ rule.0 before is
     by_event (Refused (Eld f) refusal) rule before is =
-        cond_both (f.0 == n) None (open_start past n) (λ v. is_some v ≡ true → n < frames) (λ _ there. absurd (false≢true there)) (λ _ there. before there) is
+        cond_both (f.0 == n) None (open_start past n) (λ v. is_some v ≡ true → n < frames) (λ _ there. absurd (false≢true there))
+        (λ _ there. before there) is
     by_event _ rule before is = before is
 
-ewb_fits : (frames : ℕ) (past : List Entry) (a : Actor) (f : Frame) (answer : Answer) → f.0 < frames → FitsApart frames past → FitsApart frames (did_by a (Ewb f) answer ∷ past)
+ewb_fits : (frames : ℕ) (past : List Entry) (a : Actor) (f : Frame) (answer : Answer) → f.0 < frames → FitsApart frames past
+    → FitsApart frames (did_by a (Ewb f) answer ∷ past)
 ewb_fits frames past a f answer below h =
     fits_more frames past _ (below, tt)
-    (put_apart (content past) _ f.0 Free (λ g held. cc) (start_apart (content past) (open_start past) f.0 None (λ g loads. cc) (apart_in frames past h))) h
+    (put_apart (content past) _ f.0 Free (λ g held. cc)
+    (start_apart (content past) (open_start past) f.0 None (λ g loads. cc) (apart_in frames past h))) h
 
-eld_fits : (frames : ℕ) (past : List Entry) (a : Actor) (f : Frame) (page : Page) (kind : Kind) (perm : Perm) (version : ℕ) (tag : List ℕ) → f.0 < frames → is_load_of (open_start past f.0) page ≡ true → added past page ≡ Some (kind, perm)
+eld_fits : (frames : ℕ) (past : List Entry) (a : Actor) (f : Frame) (page : Page) (kind : Kind) (perm : Perm) (version : ℕ) (tag : List ℕ)
+    → f.0 < frames → is_load_of (open_start past f.0) page ≡ true → added past page ≡ Some (kind, perm)
     → FitsApart frames past → FitsApart frames (did_by a (Eld f) (answers.Moved page version tag) ∷ past)
 eld_fits frames past a f page kind perm version tag below loads kinds h =
     let before = apart_in frames past h in
     let ended = start_apart (content past) (open_start past) f.0 None (λ g loads. cc) before in
     let away = loaded_away (content past) (open_start past) f.0 page loads before in
-    fits_more frames past _ (below, tt) (put_apart (content past) _ f.0 (reloaded page (added past page)) (λ g held. rw (← same_pages page g (rw kinds at held)) away) ended) h
+    fits_more frames past _ (below, tt) (put_apart (content past) _ f.0 (reloaded page (added past page))
+    (λ g held. rw (← same_pages page g (rw kinds at held)) away) ended) h
 
-eld_refused_fits : (frames : ℕ) (past : List Entry) (a : Actor) (f : Frame) (refusal : Refusal) → FitsApart frames past → FitsApart frames (refused_by a (Eld f) refusal ∷ past)
+eld_refused_fits : (frames : ℕ) (past : List Entry) (a : Actor) (f : Frame) (refusal : Refusal) → FitsApart frames past
+    → FitsApart frames (refused_by a (Eld f) refusal ∷ past)
 eld_refused_fits frames past a f refusal h =
     fits_more frames past _ tt
-    (put_apart (content past) _ f.0 Free (λ g held. cc) (start_apart (content past) (open_start past) f.0 None (λ g loads. cc) (apart_in frames past h))) h
+    (put_apart (content past) _ f.0 Free (λ g held. cc)
+    (start_apart (content past) (open_start past) f.0 None (λ g loads. cc) (apart_in frames past h))) h
 
 -- ---- every step
 
 -- one that is refused changes no frame and no start
-refused_fits : (frames : ℕ) (past : List Entry) (a : Actor) (action : Action) (r : Refusal) → is_end action ≡ false → FitsApart frames past → FitsApart frames (refused_by a action r ∷ past)
+refused_fits : (frames : ℕ) (past : List Entry) (a : Actor) (action : Action) (r : Refusal) → is_end action ≡ false → FitsApart frames past
+    → FitsApart frames (refused_by a action r ∷ past)
 refused_fits frames past a (Eld f) r other h = cc other
 refused_fits frames past a _ r other h = fits_same frames past _ (λ n. refl) (λ n. refl) tt h
 
@@ -223,10 +258,12 @@ same_frames : (made : Making) (s : State) (past : List Entry) → ShapeWithRules
 same_frames made s past shaped = ap (λ (m : Making). m.frames) shaped.shape.making
 
 -- a law at the frames of a state, at those of its making
-at_making : (made : Making) (s : State) (past : List Entry) (e : Entry) → ShapeWithRules made s past → (FitsApart s.frames past → FitsApart s.frames (e ∷ past)) → FitsApart made.frames past → FitsApart made.frames (e ∷ past)
+at_making : (made : Making) (s : State) (past : List Entry) (e : Entry) → ShapeWithRules made s past
+    → (FitsApart s.frames past → FitsApart s.frames (e ∷ past)) → FitsApart made.frames past → FitsApart made.frames (e ∷ past)
 at_making made s past e shaped = subst (λ n. FitsApart n past → FitsApart n (e ∷ past)) (same_frames made s past shaped)
 
-step_in_state : (s t : State) (past : List Entry) (cpus : ℕ) (a : Actor) (action : Action) (e : Entry) → CanApply cpus a action → IsGuarded s → IsFramed s → IsStep s a action e t → HasColumns s past → LoadsAwayRule past e
+step_in_state : (s t : State) (past : List Entry) (cpus : ℕ) (a : Actor) (action : Action) (e : Entry) → CanApply cpus a action
+    → IsGuarded s → IsFramed s → IsStep s a action e t → HasColumns s past → LoadsAwayRule past e
     → FitsApart s.frames past → FitsApart s.frames (e ∷ past)
 step_in_state s t past cpus a action e can guarded framed k columns away h = by_row (first_of_row (row_of s a action)) refl k
   where
@@ -234,40 +271,54 @@ step_in_state s t past cpus a action e can guarded framed k columns away h = by_
     other = no_end cpus a action can
 
     done : first_of_row (row_of s a action) ≡ None → IsEntryOf a action e → FitsApart s.frames (e ∷ past)
-    done allowed (inl (answer, is)) = rw is (done_fits s past a guarded framed columns h action answer allowed other (rw is at away) (row_fits s past cpus a action can columns allowed))
+    done allowed (inl (answer, is)) = rw is (done_fits s past a guarded framed columns h action answer allowed other (rw is at away)
+        (row_fits s past cpus a action can columns allowed))
     done allowed (inr (r, is)) = rw is (refused_fits s.frames past a action r other h)
 
-    by_row : (o : Option Refusal) → first_of_row (row_of s a action) ≡ o → MatchOption o (IsDone s a action e t) (λ r. (e ≡ refused_by a action r) × (t ≡ s)) → FitsApart s.frames (e ∷ past)
+    by_row : (o : Option Refusal) → first_of_row (row_of s a action) ≡ o
+        → MatchOption o (IsDone s a action e t) (λ r. (e ≡ refused_by a action r) × (t ≡ s)) → FitsApart s.frames (e ∷ past)
     by_row None allowed now = done allowed (step_entry s t a action e k)
     by_row (Some r) refused is = rw is.0 (refused_fits s.frames past a action r other h)
 
-pub step_fits : (s t : State) (made : Making) (past : List Entry) (cpus : ℕ) (a : Actor) (action : Action) (e : Entry) → cpus ≤ 16 → CanApply cpus a action → IsSound s → IsGuarded s → IsFramed s
-    → IsStep s a action e t → ShapeWithRules made s past → LoadsAwayRule past e → FitsApart made.frames past → FitsApart made.frames (e ∷ past)
-step_fits s t made past cpus a action e few can sound guarded framed k shaped away = at_making made s past e shaped (step_in_state s t past cpus a action e can guarded framed k shaped.shape.columns away)
+pub step_fits : (s t : State) (made : Making) (past : List Entry) (cpus : ℕ) (a : Actor) (action : Action) (e : Entry) → cpus ≤ 16
+    → CanApply cpus a action → IsSound s → IsGuarded s → IsFramed s
+    → IsStep s a action e t → ShapeWithRules made s past → LoadsAwayRule past e → FitsApart made.frames past
+    → FitsApart made.frames (e ∷ past)
+step_fits s t made past cpus a action e few can sound guarded framed k shaped away =
+    at_making made s past e shaped (step_in_state s t past cpus a action e can guarded framed k shaped.shape.columns away)
 
-pub written_fits : (s t : State) (made : Making) (past : List Entry) (a : Actor) (f : Frame) (e : Entry) (rec : Sealed) → IsSound s → IsGuarded s → s.is_sealing f.0 ≡ true → f.0 < s.frames
+pub written_fits : (s t : State) (made : Making) (past : List Entry) (a : Actor) (f : Frame) (e : Entry) (rec : Sealed) → IsSound s
+    → IsGuarded s → s.is_sealing f.0 ≡ true → f.0 < s.frames
     → IsWrittenOut s a f e rec t → ShapeWithRules made s past → FitsApart made.frames past → FitsApart made.frames (e ∷ past)
-written_fits s t made past a f e rec sound guarded sealing below k shaped = at_making made s past e shaped (λ h. rw k.entry (ewb_fits s.frames past a f _ below h))
+written_fits s t made past a f e rec sound guarded sealing below k shaped =
+    at_making made s past e shaped (λ h. rw k.entry (ewb_fits s.frames past a f _ below h))
 
 -- what a frame waits for, its open start loads
-coming_in : (s : State) (past : List Entry) → HasColumns s past → (f : ℕ) (coming : IsComing s f) → is_load_of (open_start past f) coming.page ≡ true
+coming_in : (s : State) (past : List Entry) → HasColumns s past → (f : ℕ) (coming : IsComing s f)
+    → is_load_of (open_start past f) coming.page ≡ true
 coming_in s past columns f coming =
-    ap (λ o. is_load_of o coming.page) (sym (start_is columns f) ∙ coming.opened) ∙ ap (λ o. loads_page o coming.page) coming.loads ∙ same_page-itself coming.page
+    ap (λ o. is_load_of o coming.page) (sym (start_is columns f) ∙ coming.opened) ∙ ap (λ o. loads_page o coming.page) coming.loads
+    ∙ same_page-itself coming.page
   where
     same_page-itself : (g : Page) → same_page g g ≡ true
     same_page-itself g = rw (eq-eqb g.enclave g.enclave refl, eq-eqb g.number g.number refl) refl
 
-pub reloaded_fits : (s t : State) (made : Making) (past : List Entry) (a : Actor) (f : Frame) (rec : Sealed) (e : Entry) → IsSound s → IsGuarded s → s.content f.0 ≡ IsLoading → f.0 < s.frames
+pub reloaded_fits : (s t : State) (made : Making) (past : List Entry) (a : Actor) (f : Frame) (rec : Sealed) (e : Entry) → IsSound s
+    → IsGuarded s → s.content f.0 ≡ IsLoading → f.0 < s.frames
     → IsReloaded s a f rec e t → ShapeWithRules made s past → FitsApart made.frames past → FitsApart made.frames (e ∷ past)
-reloaded_fits s t made past a f rec e sound guarded loading below k shaped = at_making made s past e shaped (λ h. by_row (first_of_row (commit_row s f.0 k.coming rec)) k.row h)
+reloaded_fits s t made past a f rec e sound guarded loading below k shaped =
+    at_making made s past e shaped (λ h. by_row (first_of_row (commit_row s f.0 k.coming rec)) k.row h)
   where
     columns : HasColumns s past
     columns = shaped.shape.columns
 
     by_row : (o : Option Refusal)
-        → MatchOption o ((e ≡ did_by a (Eld f) (answers.Moved k.coming.page k.coming.start.version rec.tag)) × (t ≡ after_eld s f.0 k.coming.start k.coming.page k.coming.kind k.coming.perm (words_of (cipher s.key k.coming.start.version rec.cipher))))
+        → MatchOption o ((e ≡ did_by a (Eld f) (answers.Moved k.coming.page k.coming.start.version rec.tag))
+        × (t ≡ after_eld s f.0 k.coming.start k.coming.page k.coming.kind k.coming.perm
+        (words_of (cipher s.key k.coming.start.version rec.cipher))))
         (λ r. (e ≡ refused_by a (Eld f) r) × (t ≡ after_failed_eld s f.0 k.coming.start))
         → FitsApart s.frames past → FitsApart s.frames (e ∷ past)
     by_row None done h =
-        rw done.0 (eld_fits s.frames past a f k.coming.page k.coming.kind k.coming.perm _ _ below (coming_in s past columns f.0 k.coming) (sym (added_is columns k.coming.page) ∙ k.coming.added) h)
+        rw done.0 (eld_fits s.frames past a f k.coming.page k.coming.kind k.coming.perm _ _ below (coming_in s past columns f.0 k.coming)
+        (sym (added_is columns k.coming.page) ∙ k.coming.added) h)
     by_row (Some r) refused h = rw refused.0 (eld_refused_fits s.frames past a f r h)

@@ -33,12 +33,15 @@ unblocked None epoch h = tt
 unblocked (Some b) epoch h = cc h
 
 -- a processor that comes inside by frames that are not blocked, while words may change
-pub guarded_inside : (s : State) (p : ℕ) (seat : Seat) (acc : ℕ) (words : ℕ → List ℕ) → IsGuarded s → p < 16 → s.inside p ≡ None → is_some (s.blocked seat.tcs_frame) ≡ false → is_some (s.blocked seat.ssa_frame) ≡ false
+pub guarded_inside : (s : State) (p : ℕ) (seat : Seat) (acc : ℕ) (words : ℕ → List ℕ) → IsGuarded s → p < 16 → s.inside p ≡ None
+    → is_some (s.blocked seat.tcs_frame) ≡ false → is_some (s.blocked seat.ssa_frame) ≡ false
     → IsGuarded (record (with_inside s p seat acc) { words = words })
 guarded_inside s p seat acc words h low outside tcs ssa = record {
-  few = λ q high. cond_both (p == q) (Some seat) (s.inside q) (λ o. o ≡ None) (λ e. let same = eqb-true p q e in absurd (omega (arith, low, high, same))) (λ _. h.few q high);
+  few = λ q high. cond_both (p == q) (Some seat) (s.inside q) (λ o. o ≡ None)
+      (λ e. let same = eqb-true p q e in absurd (omega (arith, low, high, same))) (λ _. h.few q high);
   noted = λ q.
-      elim (p == q) as (λ b. IfSome (cond b (Some seat) (s.inside q)) (HasNoted s.epoch s.blocked (cond b (s.epoch seat.enclave) (s.noted q)) (cond b [] (s.cache q)))) [
+      elim (p == q) as (λ b. IfSome (cond b (Some seat) (s.inside q))
+      (HasNoted s.epoch s.blocked (cond b (s.epoch seat.enclave) (s.noted q)) (cond b [] (s.cache q)))) [
         | true ↦ record {
           not_ahead = omega arith;
           not_behind = omega arith;
@@ -54,13 +57,15 @@ guarded_inside s p seat acc words h low outside tcs ssa = record {
       (λ b k. record {
         tracked = k.tracked;
         left = λ q.
-            elim (p == q) as (λ v. IfSome (cond v (Some seat) (s.inside q)) (λ other. enclave_in (s.content n) ≡ Some other.enclave → b < cond v (s.epoch seat.enclave) (s.noted q))) [
+            elim (p == q) as (λ v. IfSome (cond v (Some seat) (s.inside q))
+            (λ other. enclave_in (s.content n) ≡ Some other.enclave → b < cond v (s.epoch seat.enclave) (s.noted q))) [
               | true ↦ λ same. rw same at k.tracked
               | false ↦ k.left q
             ];
       });
   taken = λ g.
-      cond_both (same_page g (page_at seat.enclave seat.tcs)) true (s.is_busy g) (λ b. b ≡ true → IsTakenIn (record (with_inside s p seat acc) { words = words }) g)
+      cond_both (same_page g (page_at seat.enclave seat.tcs)) true (s.is_busy g)
+      (λ b. b ≡ true → IsTakenIn (record (with_inside s p seat acc) { words = words }) g)
       (λ here _. record { cpu = p; by = rw (equal p p refl) (sym (same_pages g (page_at seat.enclave seat.tcs) here)) })
       (λ _ busy. let k = h.taken g busy in record { cpu = k.cpu; by = still g k.cpu k.by });
   opened = h.opened;
@@ -76,18 +81,21 @@ guarded_inside s p seat acc words h low outside tcs ssa = record {
         (λ e. let none : s.inside q ≡ None = ap s.inside (sym (eqb-true p q e)) ∙ outside in absurd (rw none at by)) (λ _. by)
 
 -- a processor that enters
-pub guarded_enter : (s : State) (p : ℕ) (seat : Seat) → first_of_row (enter_row seat.enclave seat.tcs (enter_sight s p seat)) ≡ None → p < 16 → IsGuarded s → IsGuarded (after_enter s p seat)
+pub guarded_enter : (s : State) (p : ℕ) (seat : Seat) → first_of_row (enter_row seat.enclave seat.tcs (enter_sight s p seat)) ≡ None
+    → p < 16 → IsGuarded s → IsGuarded (after_enter s p seat)
 guarded_enter s p seat allowed low h =
     let f = tcs_fields (s.words seat.tcs_frame) in
     let k = enters seat.enclave seat.tcs (enter_sight s p seat) (enter_saves f) (enter_saved f) allowed in
     guarded_inside s p seat (cssa_in s seat.tcs_frame) s.words h low (none_there (s.inside p) k.outside) k.tcs_open k.ssa_open
 
 -- .. or resumes
-pub guarded_resume : (s : State) (p : ℕ) (seat : Seat) → first_of_row (resume_row seat.enclave seat.tcs (enter_sight s p seat)) ≡ None → p < 16 → IsGuarded s → IsGuarded (after_resume s p seat)
+pub guarded_resume : (s : State) (p : ℕ) (seat : Seat) → first_of_row (resume_row seat.enclave seat.tcs (enter_sight s p seat)) ≡ None
+    → p < 16 → IsGuarded s → IsGuarded (after_resume s p seat)
 guarded_resume s p seat allowed low h =
     let f = tcs_fields (s.words seat.tcs_frame) in
     let k = enters seat.enclave seat.tcs (enter_sight s p seat) (resume_saves f) (resume_saved f) allowed in
-    guarded_inside s p seat (saved_word s seat.ssa_frame) (after_resume s p seat).words h low (none_there (s.inside p) k.outside) k.tcs_open k.ssa_open
+    guarded_inside s p seat (saved_word s seat.ssa_frame) (after_resume s p seat).words h low (none_there (s.inside p) k.outside) k.tcs_open
+    k.ssa_open
 
 -- a processor that leaves, while words may change
 pub guarded_left : (s : State) (p : ℕ) (words : ℕ → List ℕ) → IsGuarded s → IsGuarded (record (after_exit s p) { words = words })
@@ -104,13 +112,15 @@ guarded_left s p words h = record {
       (λ b k. record {
         tracked = k.tracked;
         left = λ q.
-            elim (p == q) as (λ v. IfSome (cond v None (s.inside q)) (λ seat. enclave_in (s.content n) ≡ Some seat.enclave → b < cond v 0 (s.noted q))) [
+            elim (p == q) as (λ v. IfSome (cond v None (s.inside q))
+            (λ seat. enclave_in (s.content n) ≡ Some seat.enclave → b < cond v 0 (s.noted q))) [
               | true ↦ tt
               | false ↦ k.left q
             ];
       });
   taken = λ g.
-      cond_both (is_seated_by (s.inside p) g) false (s.is_busy g) (λ b. b ≡ true → IsTakenIn (record (after_exit s p) { words = words }) g) (λ _ is. absurd (false≢true is))
+      cond_both (is_seated_by (s.inside p) g) false (s.is_busy g) (λ b. b ≡ true → IsTakenIn (record (after_exit s p) { words = words }) g)
+      (λ _ is. absurd (false≢true is))
       (λ other busy. let k = h.taken g busy in record { cpu = k.cpu; by = still g k.cpu other k.by });
   opened = h.opened;
   written = h.written;
@@ -121,10 +131,12 @@ guarded_left s p words h = record {
   where
     own : (g : Page) (o : Option Seat) → is_seated_by o g ≡ false → IsBy g o → ⊥
     own g None other by = by
-    own g (Some seat) other by = false≢true (sym other ∙ subst (λ q. same_page q (page_at seat.enclave seat.tcs) ≡ true) by (same_page-at seat.enclave seat.tcs))
+    own g (Some seat) other by =
+        false≢true (sym other ∙ subst (λ q. same_page q (page_at seat.enclave seat.tcs) ≡ true) by (same_page-at seat.enclave seat.tcs))
 
     still : (g : Page) (q : ℕ) → is_seated_by (s.inside p) g ≡ false → IsBy g (s.inside q) → IsBy g (cond (p == q) None (s.inside q))
-    still g q other by = cond_both (p == q) None (s.inside q) (IsBy g) (λ e. absurd (own g (s.inside p) other (subst (λ x. IsBy g (s.inside x)) (sym (eqb-true p q e)) by))) (λ _. by)
+    still g q other by = cond_both (p == q) None (s.inside q) (IsBy g)
+        (λ e. absurd (own g (s.inside p) other (subst (λ x. IsBy g (s.inside x)) (sym (eqb-true p q e)) by))) (λ _. by)
 
 -- a processor that exits
 pub guarded_exit : (s : State) (p : ℕ) → IsGuarded s → IsGuarded (after_exit s p)
@@ -145,11 +157,13 @@ fill_open number None v allowed = absurd (outside_refused number v allowed)
 fill_open number (Some enclave) v allowed = (none_holds (fill_row number (Some enclave) v) allowed).1.1.1.0
 
 -- what a processor inside has noted
-pub noted_at : (s : State) → IsGuarded s → (p : ℕ) (seat : Seat) → s.inside p ≡ Some seat → HasNoted s.epoch s.blocked (s.noted p) (s.cache p) seat
+pub noted_at : (s : State) → IsGuarded s → (p : ℕ) (seat : Seat) → s.inside p ≡ Some seat
+    → HasNoted s.epoch s.blocked (s.noted p) (s.cache p) seat
 noted_at s h p seat is = rw is at (h.noted p)
 
 -- a translation more, of a frame that is not blocked
-pub guarded_fill : (s : State) (p : ℕ) (t : Translation) → first_of_row (fill_row t.number (seat_enclave (s.inside p)) (sight s t.frame.0)) ≡ None → IsGuarded s → IsGuarded (after_fill s p t)
+pub guarded_fill : (s : State) (p : ℕ) (t : Translation)
+    → first_of_row (fill_row t.number (seat_enclave (s.inside p)) (sight s t.frame.0)) ≡ None → IsGuarded s → IsGuarded (after_fill s p t)
 guarded_fill s p t allowed h = record {
   few = h.few;
   noted = λ q.

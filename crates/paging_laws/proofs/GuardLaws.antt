@@ -23,8 +23,17 @@ use Rattle.paging_laws.proofs.TestLaws.{equal}
 -- ---- the columns on which no guard depends
 
 -- any change of the words, the ranges, the measurements, the accumulators, the slots and the next version
-pub guarded_beside : (s : State) (words : ℕ → List ℕ) (enclaves : ℕ → Option FlatEnclave) (measure : ℕ → Option Measure) (acc : ℕ → ℕ) (version_in : SlotAt → ℕ) (is_slot_busy : SlotAt → Bool) (next_version : ℕ) → IsGuarded s
-    → IsGuarded (record s { words = words; enclaves = enclaves; measure = measure; acc = acc; version_in = version_in; is_slot_busy = is_slot_busy; next_version = next_version })
+pub guarded_beside : (s : State) (words : ℕ → List ℕ) (enclaves : ℕ → Option FlatEnclave) (measure : ℕ → Option Measure) (acc : ℕ → ℕ)
+    (version_in : SlotAt → ℕ) (is_slot_busy : SlotAt → Bool) (next_version : ℕ) → IsGuarded s
+    → IsGuarded (record s {
+      words = words;
+      enclaves = enclaves;
+      measure = measure;
+      acc = acc;
+      version_in = version_in;
+      is_slot_busy = is_slot_busy;
+      next_version = next_version;
+    })
 guarded_beside s words enclaves measure acc version_in is_slot_busy next_version h = record {
   few = h.few;
   noted = h.noted;
@@ -48,11 +57,13 @@ guarded_acc s p acc h = guarded_beside s s.words s.enclaves s.measure (with_acc 
 
 -- .. and of a measurement
 pub guarded_extend : (s : State) (enclave : ℕ) (longer : Measure) → IsGuarded s → IsGuarded (after_extend s enclave longer)
-guarded_extend s enclave longer h = guarded_beside s s.words s.enclaves (after_extend s enclave longer).measure s.acc s.version_in s.is_slot_busy s.next_version h
+guarded_extend s enclave longer h =
+    guarded_beside s s.words s.enclaves (after_extend s enclave longer).measure s.acc s.version_in s.is_slot_busy s.next_version h
 
 -- .. and whether an enclave is initialised
 pub guarded_init : (s : State) (enclave : ℕ) → IsGuarded s → IsGuarded (after_init s enclave)
-guarded_init s enclave h = guarded_beside s s.words (after_init s enclave).enclaves s.measure s.acc s.version_in s.is_slot_busy s.next_version h
+guarded_init s enclave h =
+    guarded_beside s s.words (after_init s enclave).enclaves s.measure s.acc s.version_in s.is_slot_busy s.next_version h
 
 -- ---- one frame that is put, or whose start begins or ends
 
@@ -65,14 +76,16 @@ each_frame f P here elsewhere n = by_test (f == n) refl
     by_test false e = elsewhere n e
 
 -- a processor's frames are blocked no earlier, where blocks get no earlier
-pub noted_still : (epoch : ℕ → ℕ) (blocked blocked' : ℕ → Option ℕ) (noted : ℕ) (held : List Translation) (seat : Seat) → ((n : ℕ) → IsNoEarlier noted (blocked n) → IsNoEarlier noted (blocked' n))
+pub noted_still : (epoch : ℕ → ℕ) (blocked blocked' : ℕ → Option ℕ) (noted : ℕ) (held : List Translation) (seat : Seat)
+    → ((n : ℕ) → IsNoEarlier noted (blocked n) → IsNoEarlier noted (blocked' n))
     → HasNoted epoch blocked noted held seat → HasNoted epoch blocked' noted held seat
 noted_still epoch blocked blocked' noted held seat later h = record {
   not_ahead = h.not_ahead;
   not_behind = h.not_behind;
   tcs = later seat.tcs_frame h.tcs;
   ssa = later seat.ssa_frame h.ssa;
-  cache = All-weaker (λ (t : Translation). IsNoEarlier noted (blocked t.frame.0)) (λ t. IsNoEarlier noted (blocked' t.frame.0)) (λ t. later t.frame.0) held h.cache;
+  cache = All-weaker (λ (t : Translation). IsNoEarlier noted (blocked t.frame.0)) (λ t. IsNoEarlier noted (blocked' t.frame.0))
+      (λ t. later t.frame.0) held h.cache;
 }
 
 -- a page of no enclave is not on its way out
@@ -100,26 +113,33 @@ module _ (s : State) (f : ℕ) (content : ℕ → Content) (blocked : ℕ → Op
     pub opened : IfSome (start f) (IsOpen s.content s.added)
     pub loaded : content f ≡ IsLoading → IsSomeAnd (start f) Loads
 
-  pub guarded_frame : IsGuarded s → IsPut → IsGuarded (record s { content = content; blocked = blocked; is_sealing = is_sealing; start = start })
+  pub guarded_frame : IsGuarded s → IsPut → IsGuarded
+      (record s { content = content; blocked = blocked; is_sealing = is_sealing; start = start })
   guarded_frame h k = record {
     few = h.few;
     noted = λ p.
         IfSome_then (s.inside p) (h.noted p)
         (λ seat. noted_still s.epoch s.blocked blocked (s.noted p) (s.cache p) seat
-        (each_frame f (λ n. IsNoEarlier (s.noted p) (s.blocked n) → IsNoEarlier (s.noted p) (blocked n)) (λ _. rw k.unblocked tt) (λ n e. rw (k.same n e).blocked_at (λ x. x))));
-    blocks = each_frame f (λ n. IfSome (blocked n) (λ b. b ≤ epoch_of s.epoch (enclave_in (content n)))) (rw k.unblocked tt) (λ n e. let same = k.same n e in rw (same.blocked_at, same.held) (h.blocks n));
+        (each_frame f (λ n. IsNoEarlier (s.noted p) (s.blocked n) → IsNoEarlier (s.noted p) (blocked n)) (λ _. rw k.unblocked tt)
+        (λ n e. rw (k.same n e).blocked_at (λ x. x))));
+    blocks = each_frame f (λ n. IfSome (blocked n) (λ b. b ≤ epoch_of s.epoch (enclave_in (content n)))) (rw k.unblocked tt)
+        (λ n e. let same = k.same n e in rw (same.blocked_at, same.held) (h.blocks n));
     sealing =
-        each_frame f (λ n. is_sealing n ≡ true → IfSome (blocked n) (IsDrainedAt s.inside s.noted (enclave_in (content n)) (epoch_of s.epoch (enclave_in (content n))))) (λ _. rw k.unblocked tt)
+        each_frame f (λ n. is_sealing n ≡ true → IfSome (blocked n)
+        (IsDrainedAt s.inside s.noted (enclave_in (content n)) (epoch_of s.epoch (enclave_in (content n))))) (λ _. rw k.unblocked tt)
         (λ n e. let same = k.same n e in rw (same.sealing, same.blocked_at, same.held) (h.sealing n));
     taken = λ g busy. let k = h.taken g busy in record { cpu = k.cpu; by = k.by };
-    opened = λ n. IfSome_then (start n) (each_frame f (λ n. IfSome (start n) (IsOpen s.content s.added)) k.opened (λ n e. rw (k.same n e).start_of (h.opened n)) n) still_open;
+    opened = λ n. IfSome_then (start n) (each_frame f (λ n. IfSome (start n) (IsOpen s.content s.added)) k.opened
+        (λ n e. rw (k.same n e).start_of (h.opened n)) n) still_open;
     written =
         each_frame f (λ n. is_sealing n ≡ true → IsSomeAnd (start n) WritesOut) (λ leaves. absurd (false≢true (sym k.settled ∙ leaves)))
         (λ n e. let same = k.same n e in rw (same.sealing, same.start_of) (h.written n));
-    loaded = each_frame f (λ n. content n ≡ IsLoading → IsSomeAnd (start n) Loads) k.loaded (λ n e. let same = k.same n e in rw (same.held, same.start_of) (h.loaded n));
+    loaded = each_frame f (λ n. content n ≡ IsLoading → IsSomeAnd (start n) Loads) k.loaded
+        (λ n e. let same = k.same n e in rw (same.held, same.start_of) (h.loaded n));
     kinds = h.kinds;
     goes_out =
-        each_frame f (λ n. is_sealing n ≡ true → is_some (enclave_in (content n)) ≡ true) (λ leaves. absurd (false≢true (sym k.settled ∙ leaves)))
+        each_frame f (λ n. is_sealing n ≡ true → is_some (enclave_in (content n)) ≡ true)
+        (λ leaves. absurd (false≢true (sym k.settled ∙ leaves)))
         (λ n e. let same = k.same n e in rw (same.sealing, same.held) (h.goes_out n));
   }
     where
@@ -133,7 +153,8 @@ module _ (s : State) (f : ℕ) (content : ℕ → Content) (blocked : ℕ → Op
 -- ---- building
 
 -- a free frame that is put, and may get other words
-pub guarded_put : (s : State) (f : ℕ) (c : Content) (words : ℕ → List ℕ) → IsGuarded s → s.content f ≡ Free → (c ≡ IsLoading → ⊥) → IsGuarded (record (with_content s f c) { words = words })
+pub guarded_put : (s : State) (f : ℕ) (c : Content) (words : ℕ → List ℕ) → IsGuarded s → s.content f ≡ Free → (c ≡ IsLoading → ⊥)
+    → IsGuarded (record (with_content s f c) { words = words })
 guarded_put s f c words h free settled =
     let t = with_content s f c in
     guarded_words t words
@@ -147,20 +168,29 @@ guarded_put s f c words h free settled =
     }))
 
 -- a free frame that comes to hold an SECS page
-pub guarded_create : (s : State) (enclave f base size : ℕ) (begun : Measure) → IsGuarded s → s.content f ≡ Free → IsGuarded (after_create s enclave f base size begun)
+pub guarded_create : (s : State) (enclave f base size : ℕ) (begun : Measure) → IsGuarded s → s.content f ≡ Free
+    → IsGuarded (after_create s enclave f base size begun)
 guarded_create s enclave f base size begun h free =
     let t = after_create s enclave f base size begun in
-    guarded_beside (with_content s f (SecsOf enclave)) s.words t.enclaves t.measure s.acc s.version_in s.is_slot_busy s.next_version (guarded_put s f (SecsOf enclave) s.words h free (λ waits. cc waits))
+    guarded_beside (with_content s f (SecsOf enclave)) s.words t.enclaves t.measure s.acc s.version_in s.is_slot_busy s.next_version
+    (guarded_put s f (SecsOf enclave) s.words h free (λ waits. cc waits))
 
 -- a page more that was added, of a kind for pages
-guarded_added : (s : State) (g : Page) (kind : Kind) (perm : Perm) → IsGuarded s → IsPaged kind → IsGuarded (record s { added = λ q. cond (same_page q g) (Some (kind, perm)) (s.added q) })
+guarded_added : (s : State) (g : Page) (kind : Kind) (perm : Perm) → IsGuarded s → IsPaged kind
+    → IsGuarded (record s { added = λ q. cond (same_page q g) (Some (kind, perm)) (s.added q) })
 guarded_added s g kind perm h paged = record {
   few = h.few;
   noted = h.noted;
   blocks = h.blocks;
   sealing = h.sealing;
   taken = λ q busy. let k = h.taken q busy in record { cpu = k.cpu; by = k.by };
-  opened = λ n. IfSome_then (s.start n) (h.opened n) (λ x o. record { paged = o.paged; within = o.within; loads = IfSome_then x.loads o.loads (λ q there. cond_both (same_page q g) (Some (kind, perm)) (s.added q) (λ v. is_some v ≡ true) (λ _. refl) (λ _. there)) });
+  opened = λ n. IfSome_then (s.start n) (h.opened n)
+      (λ x o. record {
+        paged = o.paged;
+        within = o.within;
+        loads = IfSome_then x.loads o.loads (λ q there.
+            cond_both (same_page q g) (Some (kind, perm)) (s.added q) (λ v. is_some v ≡ true) (λ _. refl) (λ _. there));
+      });
   written = h.written;
   loaded = h.loaded;
   kinds = λ q. cond_both (same_page q g) (Some (kind, perm)) (s.added q) (λ v. IfSome v (λ x. IsPaged x.0)) (λ _. paged) (λ _. h.kinds q);
@@ -168,8 +198,11 @@ guarded_added s g kind perm h paged = record {
 }
 
 -- a free frame that comes to hold a new page
-pub guarded_add : (s : State) (g : Page) (f : ℕ) (kind : Kind) (perm : Perm) (init : PageInit) (longer : Measure) → IsGuarded s → s.content f ≡ Free → IsPaged kind → IsGuarded (after_add s g f kind perm init longer)
+pub guarded_add : (s : State) (g : Page) (f : ℕ) (kind : Kind) (perm : Perm) (init : PageInit) (longer : Measure) → IsGuarded s
+    → s.content f ≡ Free → IsPaged kind → IsGuarded (after_add s g f kind perm init longer)
 guarded_add s g f kind perm init longer h free paged =
     let t = after_add s g f kind perm init longer in
-    guarded_beside (record (with_content s f (Holds g kind perm)) { added = t.added }) t.words s.enclaves t.measure s.acc s.version_in s.is_slot_busy s.next_version
-    (guarded_added (with_content s f (Holds g kind perm)) g kind perm (guarded_put s f (Holds g kind perm) s.words h free (λ waits. cc waits)) paged)
+    guarded_beside (record (with_content s f (Holds g kind perm)) { added = t.added }) t.words s.enclaves t.measure s.acc s.version_in
+    s.is_slot_busy s.next_version
+    (guarded_added (with_content s f (Holds g kind perm)) g kind perm
+    (guarded_put s f (Holds g kind perm) s.words h free (λ waits. cc waits)) paged)

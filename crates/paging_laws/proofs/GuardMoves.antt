@@ -28,17 +28,22 @@ use Rattle.paging_laws.proofs.GuardLaws.{each_frame, stays_in, guarded_beside, g
 -- ---- block and track
 
 -- two facts of each translation give a third
-pub all_both : (P Q R : Translation → Type 0) → ((t : Translation) → P t → Q t → R t) → (xs : List Translation) → All P xs → All Q xs → All R xs
+pub all_both : (P Q R : Translation → Type 0) → ((t : Translation) → P t → Q t → R t) → (xs : List Translation) → All P xs → All Q xs
+    → All R xs
 all_both P Q R both xs h k i d low = both _ (h i d low) (k i d low)
 
 -- a block is at its enclave's epoch, and no processor inside has noted a later one
-pub guarded_block : (s : State) (f : ℕ) → first_of_row (block_row (sight s f)) ≡ None → IsSound s → IsGuarded s → IsGuarded (after_block s f)
+pub guarded_block : (s : State) (f : ℕ) → first_of_row (block_row (sight s f)) ≡ None → IsSound s → IsGuarded s
+    → IsGuarded (after_block s f)
 guarded_block s f allowed sound h = record {
   few = h.few;
-  noted = each_there s.inside (λ p. HasNoted s.epoch (after_block s f).blocked (s.noted p) (s.cache p)) (λ p seat is. noted p seat (seat_at s sound p seat is) (noted_at s h p seat is));
-  blocks = λ n. cond_both (f == n) (Some (epoch_in s n)) (s.blocked n) (λ o. IfSome o (λ b. b ≤ epoch_in s n)) (λ _. omega arith) (λ _. h.blocks n);
+  noted = each_there s.inside (λ p. HasNoted s.epoch (after_block s f).blocked (s.noted p) (s.cache p))
+      (λ p seat is. noted p seat (seat_at s sound p seat is) (noted_at s h p seat is));
+  blocks = λ n. cond_both (f == n) (Some (epoch_in s n)) (s.blocked n) (λ o. IfSome o (λ b. b ≤ epoch_in s n)) (λ _. omega arith)
+      (λ _. h.blocks n);
   sealing = λ n is.
-      cond_both (f == n) (Some (epoch_in s n)) (s.blocked n) (λ o. IfSome o (IsDrainedAt s.inside s.noted (enclave_in (s.content n)) (epoch_in s n)))
+      cond_both (f == n) (Some (epoch_in s n)) (s.blocked n)
+      (λ o. IfSome o (IsDrainedAt s.inside s.noted (enclave_in (s.content n)) (epoch_in s n)))
       (λ e. absurd (false≢true (sym idle ∙ ap s.is_sealing (eqb-true f n e) ∙ is))) (λ _. h.sealing n is);
   taken = λ g busy. let k = h.taken g busy in record { cpu = k.cpu; by = k.by };
   opened = h.opened;
@@ -51,17 +56,21 @@ guarded_block s f allowed sound h = record {
     idle : s.is_sealing f ≡ false
     idle = (neither (s.is_sealing f) (is_loading (s.content f)) (none_holds (block_row (sight s f)) allowed).1.0).0
 
-    later : (seat : Seat) (m : ℕ) → m ≤ s.epoch seat.enclave → (n : ℕ) → enclave_in (s.content n) ≡ Some seat.enclave → IsNoEarlier m (s.blocked n) → IsNoEarlier m ((after_block s f).blocked n)
-    later seat m ahead n ours before = cond_both (f == n) (Some (epoch_in s n)) (s.blocked n) (IsNoEarlier m) (λ _. rw ours ahead) (λ _. before)
+    later : (seat : Seat) (m : ℕ) → m ≤ s.epoch seat.enclave → (n : ℕ) → enclave_in (s.content n) ≡ Some seat.enclave
+        → IsNoEarlier m (s.blocked n) → IsNoEarlier m ((after_block s f).blocked n)
+    later seat m ahead n ours before =
+        cond_both (f == n) (Some (epoch_in s n)) (s.blocked n) (IsNoEarlier m) (λ _. rw ours ahead) (λ _. before)
 
-    noted : (p : ℕ) (seat : Seat) → IsSeated s.content s.is_sealing s.words (s.cache p) seat → HasNoted s.epoch s.blocked (s.noted p) (s.cache p) seat → HasNoted s.epoch (after_block s f).blocked (s.noted p) (s.cache p) seat
+    noted : (p : ℕ) (seat : Seat) → IsSeated s.content s.is_sealing s.words (s.cache p) seat
+        → HasNoted s.epoch s.blocked (s.noted p) (s.cache p) seat → HasNoted s.epoch (after_block s f).blocked (s.noted p) (s.cache p) seat
     noted p seat at k = record {
       not_ahead = k.not_ahead;
       not_behind = k.not_behind;
       tcs = later seat (s.noted p) k.not_ahead seat.tcs_frame at.tcs.ours k.tcs;
       ssa = later seat (s.noted p) k.not_ahead seat.ssa_frame at.ssa.ours k.ssa;
       cache =
-          all_both (λ t. IsTranslation seat.enclave t (s.content t.frame.0) (s.is_sealing t.frame.0)) (λ t. IsNoEarlier (s.noted p) (s.blocked t.frame.0)) (λ t. IsNoEarlier (s.noted p) ((after_block s f).blocked t.frame.0))
+          all_both (λ t. IsTranslation seat.enclave t (s.content t.frame.0) (s.is_sealing t.frame.0))
+          (λ t. IsNoEarlier (s.noted p) (s.blocked t.frame.0)) (λ t. IsNoEarlier (s.noted p) ((after_block s f).blocked t.frame.0))
           (λ t x. later seat (s.noted p) k.not_ahead t.frame.0 (ap enclave_in x.page)) (s.cache p) at.cache k.cache;
     }
 
@@ -71,28 +80,34 @@ unfolding count_below
 none_passes test zero h k low = absurd (omega arith)
 none_passes test (suc n) h k low = by_test (test n) refl h (none_passes test n)
   where
-    by_test : (b : Bool) → test n ≡ b → cond b 1 0 + count_below test n ≡ 0 → (count_below test n ≡ 0 → (i : ℕ) → i < n → test i ≡ false) → test k ≡ false
+    by_test : (b : Bool) → test n ≡ b → cond b 1 0 + count_below test n ≡ 0 → (count_below test n ≡ 0 → (i : ℕ) → i < n → test i ≡ false)
+        → test k ≡ false
     by_test true e none before = absurd (omega arith)
     by_test false e none before = below_more (λ i. test i ≡ false) n (before (omega arith)) e k (omega arith)
 
 -- .. where that is the count of the processors inside an enclave, none of them passes
-pub none_inside : (s : State) → IsGuarded s → (enclave : ℕ) (test : ℕ → Bool) → number_noting s enclave test ≡ 0 → (p : ℕ) (seat : Seat) → s.inside p ≡ Some seat → seat.enclave ≡ enclave → test (s.noted p) ≡ false
+pub none_inside : (s : State) → IsGuarded s → (enclave : ℕ) (test : ℕ → Bool) → number_noting s enclave test ≡ 0 → (p : ℕ) (seat : Seat)
+    → s.inside p ≡ Some seat → seat.enclave ≡ enclave → test (s.noted p) ≡ false
 none_inside s h enclave test none p seat is same = by_number (cases_lt p 16)
   where
     in_range : p < 16 → test (s.noted p) ≡ false
-    in_range low = rw (is, eq-eqb seat.enclave enclave same) at (none_passes (λ q. is_noting enclave test (s.inside q) (s.noted q)) 16 none p low)
+    in_range low =
+        rw (is, eq-eqb seat.enclave enclave same) at (none_passes (λ q. is_noting enclave test (s.inside q) (s.noted q)) 16 none p low)
 
     by_number : (p < 16) ⊎ (16 ≤ p) → test (s.noted p) ≡ false
     by_number (inl low) = in_range low
     by_number (inr high) = absurd (cc (h.few p high, is))
 
 -- a track, as nobody inside is older than the epoch that ends
-pub guarded_track : (s : State) (enclave : ℕ) → first_of_row (track_row (track_sight s enclave)) ≡ None → IsGuarded s → IsGuarded (after_track s enclave)
+pub guarded_track : (s : State) (enclave : ℕ) → first_of_row (track_row (track_sight s enclave)) ≡ None → IsGuarded s
+    → IsGuarded (after_track s enclave)
 guarded_track s enclave allowed h = record {
   few = h.few;
-  noted = each_there s.inside (λ p. HasNoted (after_track s enclave).epoch s.blocked (s.noted p) (s.cache p)) (λ p seat is. noted p seat is (noted_at s h p seat is));
+  noted = each_there s.inside (λ p. HasNoted (after_track s enclave).epoch s.blocked (s.noted p) (s.cache p))
+      (λ p seat is. noted p seat is (noted_at s h p seat is));
   blocks = λ n. IfSome_then (s.blocked n) (h.blocks n) (λ b k. omega (arith, k, more (enclave_in (s.content n))));
-  sealing = λ n is. IfSome_then (s.blocked n) (h.sealing n is) (λ b k. record { tracked = omega (arith, k.tracked, more (enclave_in (s.content n))); left = k.left });
+  sealing = λ n is. IfSome_then (s.blocked n) (h.sealing n is)
+      (λ b k. record { tracked = omega (arith, k.tracked, more (enclave_in (s.content n))); left = k.left });
   taken = λ g busy. let k = h.taken g busy in record { cpu = k.cpu; by = k.by };
   opened = h.opened;
   written = h.written;
@@ -108,7 +123,8 @@ guarded_track s enclave allowed h = record {
     none : number_noting s enclave (λ m. ltb m (s.epoch enclave)) ≡ 0
     none = eqb-true _ _ (not_false _ (none_holds (track_row (track_sight s enclave)) allowed).1.0)
 
-    noted : (p : ℕ) (seat : Seat) → s.inside p ≡ Some seat → HasNoted s.epoch s.blocked (s.noted p) (s.cache p) seat → HasNoted (after_track s enclave).epoch s.blocked (s.noted p) (s.cache p) seat
+    noted : (p : ℕ) (seat : Seat) → s.inside p ≡ Some seat → HasNoted s.epoch s.blocked (s.noted p) (s.cache p) seat
+        → HasNoted (after_track s enclave).epoch s.blocked (s.noted p) (s.cache p) seat
     noted p seat is k = record {
       not_ahead = omega (arith, k.not_ahead, more (Some seat.enclave));
       not_behind =
@@ -150,7 +166,8 @@ page_there IsVa waits free secs va = cc va
 page_there (SecsOf enclave) waits free secs va = cc secs
 page_there IsLoading waits free secs va = cc waits
 
-pub starts_out : (s : State) (f : ℕ) (slot : SlotAt) → first_of_row (ewbstart_row (sight s f) (slot_sight s slot) (drain_sight s f) (is_version_spent s)) ≡ None → StartsOut s f slot
+pub starts_out : (s : State) (f : ℕ) (slot : SlotAt)
+    → first_of_row (ewbstart_row (sight s f) (slot_sight s slot) (drain_sight s f) (is_version_spent s)) ≡ None → StartsOut s f slot
 starts_out s f slot allowed =
     let none = none_holds (ewbstart_row (sight s f) (slot_sight s slot) (drain_sight s f) (is_version_spent s)) allowed in
     let idle = neither (s.is_sealing f) (is_loading (s.content f)) (neither _ (s.is_slot_busy slot) none.1.0).0 in
@@ -172,7 +189,8 @@ pub record StartsIn (s : State) (f : ℕ) (page : Page) (slot : SlotAt) : Type 0
   pub paged : s.content slot.frame.0 ≡ IsVa
   pub within : slot.index < 512
 
-pub starts_in : (s : State) (f : ℕ) (page : Page) (slot : SlotAt) → first_of_row (eldstart_row (sight s f) (is_some (s.added page)) (slot_sight s slot)) ≡ None → StartsIn s f page slot
+pub starts_in : (s : State) (f : ℕ) (page : Page) (slot : SlotAt)
+    → first_of_row (eldstart_row (sight s f) (is_some (s.added page)) (slot_sight s slot)) ≡ None → StartsIn s f page slot
 starts_in s f page slot allowed =
     let none = none_holds (eldstart_row (sight s f) (is_some (s.added page)) (slot_sight s slot)) allowed in
     record {
@@ -183,7 +201,9 @@ starts_in s f page slot allowed =
     }
 
 -- a frame whose enclave was tracked behind its block, with nobody left from before, is drained
-pub tracked_drained : (s : State) (f b : ℕ) → IsGuarded s → s.blocked f ≡ Some b → has_passed s (enclave_in (s.content f)) (s.blocked f) ≡ true → IsDrainedAt s.inside s.noted (enclave_in (s.content f)) (epoch_in s f) b
+pub tracked_drained : (s : State) (f b : ℕ) → IsGuarded s → s.blocked f ≡ Some b
+    → has_passed s (enclave_in (s.content f)) (s.blocked f) ≡ true
+    → IsDrainedAt s.inside s.noted (enclave_in (s.content f)) (epoch_in s f) b
 tracked_drained s f b h is passed = by_enclave (enclave_in (s.content f)) (rw is at passed)
   where
     by_enclave : (c : Option ℕ) → has_passed s c (Some b) ≡ true → IsDrainedAt s.inside s.noted c (epoch_of s.epoch c) b
@@ -200,7 +220,9 @@ tracked_drained s f b h is passed = by_enclave (enclave_in (s.content f)) (rw is
         }
 
 -- a drained page starts to go out
-pub guarded_ewbstart : (s : State) (f : ℕ) (slot : SlotAt) → first_of_row (ewbstart_row (sight s f) (slot_sight s slot) (drain_sight s f) (is_version_spent s)) ≡ None → IsGuarded s → IsGuarded (after_ewbstart s f slot)
+pub guarded_ewbstart : (s : State) (f : ℕ) (slot : SlotAt)
+    → first_of_row (ewbstart_row (sight s f) (slot_sight s slot) (drain_sight s f) (is_version_spent s)) ≡ None → IsGuarded s
+    → IsGuarded (after_ewbstart s f slot)
 guarded_ewbstart s f slot allowed h =
     let t = after_ewbstart s f slot in
     let k = starts_out s f slot allowed in
@@ -210,23 +232,31 @@ guarded_ewbstart s f slot allowed h =
       noted = h.noted;
       blocks = h.blocks;
       sealing =
-          each_frame f (λ n. t.is_sealing n ≡ true → IfSome (s.blocked n) (IsDrainedAt s.inside s.noted (enclave_in (s.content n)) (epoch_in s n)))
-          (λ _. each_there_at (s.blocked f) (IsDrainedAt s.inside s.noted (enclave_in (s.content f)) (epoch_in s f)) (λ b is. tracked_drained s f b h is k.drained)) (λ n e. rw e (h.sealing n));
+          each_frame f (λ n. t.is_sealing n ≡ true
+          → IfSome (s.blocked n) (IsDrainedAt s.inside s.noted (enclave_in (s.content n)) (epoch_in s n)))
+          (λ _. each_there_at (s.blocked f) (IsDrainedAt s.inside s.noted (enclave_in (s.content f)) (epoch_in s f))
+          (λ b is. tracked_drained s f b h is k.drained)) (λ n e. rw e (h.sealing n));
       taken = λ g busy. let k = h.taken g busy in record { cpu = k.cpu; by = k.by };
-      opened = each_frame f (λ n. IfSome (t.start n) (IsOpen s.content s.added)) (rw here (record { paged = k.paged; within = k.within; loads = tt })) (λ n e. rw e (h.opened n));
+      opened = each_frame f (λ n. IfSome (t.start n) (IsOpen s.content s.added))
+          (rw here (record { paged = k.paged; within = k.within; loads = tt })) (λ n e. rw e (h.opened n));
       written = each_frame f (λ n. t.is_sealing n ≡ true → IsSomeAnd (t.start n) WritesOut) (λ _. rw here refl) (λ n e. rw e (h.written n));
-      loaded = each_frame f (λ n. s.content n ≡ IsLoading → IsSomeAnd (t.start n) Loads) (λ waits. absurd (false≢true (rw waits at k.ours))) (λ n e. rw e (h.loaded n));
+      loaded = each_frame f (λ n. s.content n ≡ IsLoading → IsSomeAnd (t.start n) Loads) (λ waits. absurd (false≢true (rw waits at k.ours)))
+          (λ n e. rw e (h.loaded n));
       kinds = h.kinds;
-      goes_out = each_frame f (λ n. t.is_sealing n ≡ true → is_some (enclave_in (s.content n)) ≡ true) (λ _. k.ours) (λ n e. rw e (h.goes_out n));
+      goes_out = each_frame f (λ n. t.is_sealing n ≡ true → is_some (enclave_in (s.content n)) ≡ true) (λ _. k.ours)
+          (λ n e. rw e (h.goes_out n));
     }
 
 -- a free frame starts to wait for a page
-pub guarded_eldstart : (s : State) (f : ℕ) (page : Page) (slot : SlotAt) → first_of_row (eldstart_row (sight s f) (is_some (s.added page)) (slot_sight s slot)) ≡ None → IsGuarded s → IsGuarded (after_eldstart s f page slot)
+pub guarded_eldstart : (s : State) (f : ℕ) (page : Page) (slot : SlotAt)
+    → first_of_row (eldstart_row (sight s f) (is_some (s.added page)) (slot_sight s slot)) ≡ None → IsGuarded s
+    → IsGuarded (after_eldstart s f page slot)
 guarded_eldstart s f page slot allowed h =
     let t = after_eldstart s f page slot in
     let k = starts_in s f page slot allowed in
     let here : (f == f) ≡ true = equal f f refl in
-    guarded_beside (record s { content = t.content; blocked = t.blocked; start = t.start }) s.words s.enclaves s.measure s.acc s.version_in t.is_slot_busy s.next_version
+    guarded_beside (record s { content = t.content; blocked = t.blocked; start = t.start }) s.words s.enclaves s.measure s.acc s.version_in
+    t.is_slot_busy s.next_version
     (guarded_frame s f t.content t.blocked s.is_sealing t.start h (record {
       same = λ n e. record { held = rw e refl; blocked_at = rw e refl; sealing = refl; start_of = rw e refl };
       unpaged = λ va. let free = k.free in cc (free, va);
@@ -237,7 +267,8 @@ guarded_eldstart s f page slot allowed h =
     }))
 
 -- a frame whose start has ended
-ended : (s : State) (f : ℕ) (content : ℕ → Content) (blocked : ℕ → Option ℕ) (is_sealing : ℕ → Bool) → IsGuarded s → ((n : ℕ) → (f == n) ≡ false → (content n ≡ s.content n) × (blocked n ≡ s.blocked n) × (is_sealing n ≡ s.is_sealing n))
+ended : (s : State) (f : ℕ) (content : ℕ → Content) (blocked : ℕ → Option ℕ) (is_sealing : ℕ → Bool) → IsGuarded s
+    → ((n : ℕ) → (f == n) ≡ false → (content n ≡ s.content n) × (blocked n ≡ s.blocked n) × (is_sealing n ≡ s.is_sealing n))
     → (s.content f ≡ IsVa → ⊥) → blocked f ≡ None → is_sealing f ≡ false → (content f ≡ IsLoading → ⊥)
     → IsGuarded (record s { content = content; blocked = blocked; is_sealing = is_sealing; start = λ n. cond (f == n) None (s.start n) })
 ended s f content blocked is_sealing h same unpaged unblocked settled done =
@@ -256,23 +287,30 @@ freed : (s : State) (f : ℕ) (start : Start) → (s.content f ≡ IsVa → ⊥)
 freed s f start unpaged h =
     let t = after_failed_eld s f start in
     let here : (f == f) ≡ true = equal f f refl in
-    guarded_beside (record s { content = t.content; blocked = t.blocked; is_sealing = t.is_sealing; start = t.start }) t.words s.enclaves s.measure s.acc s.version_in t.is_slot_busy s.next_version
-    (ended s f t.content t.blocked t.is_sealing h (λ n e. (rw e refl, rw e refl, rw e refl)) unpaged (rw here refl) (rw here refl) (λ waits. let free : Free ≡ IsLoading = rw here at waits in cc free))
+    guarded_beside (record s { content = t.content; blocked = t.blocked; is_sealing = t.is_sealing; start = t.start }) t.words s.enclaves
+    s.measure s.acc s.version_in t.is_slot_busy s.next_version
+    (ended s f t.content t.blocked t.is_sealing h (λ n e. (rw e refl, rw e refl, rw e refl)) unpaged (rw here refl) (rw here refl)
+    (λ waits. let free : Free ≡ IsLoading = rw here at waits in cc free))
 
 -- a page is out
 pub guarded_ewb : (s : State) (f : ℕ) (start : Start) → s.is_sealing f ≡ true → IsGuarded s → IsGuarded (after_ewb s f start)
 guarded_ewb s f start leaving h =
     let t = after_failed_eld s f start in
-    guarded_beside t t.words t.enclaves t.measure t.acc (after_ewb s f start).version_in t.is_slot_busy t.next_version (freed s f start (λ va. false≢true (rw va at (h.goes_out f leaving))) h)
+    guarded_beside t t.words t.enclaves t.measure t.acc (after_ewb s f start).version_in t.is_slot_busy t.next_version
+    (freed s f start (λ va. false≢true (rw va at (h.goes_out f leaving))) h)
 
 -- a load is refused
-pub guarded_failed_eld : (s : State) (f : ℕ) (start : Start) → s.content f ≡ IsLoading → IsGuarded s → IsGuarded (after_failed_eld s f start)
+pub guarded_failed_eld : (s : State) (f : ℕ) (start : Start) → s.content f ≡ IsLoading → IsGuarded s
+    → IsGuarded (after_failed_eld s f start)
 guarded_failed_eld s f start waits h = freed s f start (λ va. cc (waits, va)) h
 
 -- a page is back
-pub guarded_eld : (s : State) (f : ℕ) (start : Start) (page : Page) (kind : Kind) (perm : Perm) (words : List ℕ) → s.content f ≡ IsLoading → IsGuarded s → IsGuarded (after_eld s f start page kind perm words)
+pub guarded_eld : (s : State) (f : ℕ) (start : Start) (page : Page) (kind : Kind) (perm : Perm) (words : List ℕ) → s.content f ≡ IsLoading
+    → IsGuarded s → IsGuarded (after_eld s f start page kind perm words)
 guarded_eld s f start page kind perm words waits h =
     let t = after_eld s f start page kind perm words in
     let here : (f == f) ≡ true = equal f f refl in
-    guarded_beside (record s { content = t.content; blocked = t.blocked; start = t.start }) t.words s.enclaves s.measure s.acc t.version_in t.is_slot_busy s.next_version
-    (ended s f t.content t.blocked s.is_sealing h (λ n e. (rw e refl, rw e refl, refl)) (λ va. cc (waits, va)) (rw here refl) (stays_in s f h (rw waits refl)) (λ again. let page_is : Holds page kind perm ≡ IsLoading = rw here at again in cc page_is))
+    guarded_beside (record s { content = t.content; blocked = t.blocked; start = t.start }) t.words s.enclaves s.measure s.acc t.version_in
+    t.is_slot_busy s.next_version
+    (ended s f t.content t.blocked s.is_sealing h (λ n e. (rw e refl, rw e refl, refl)) (λ va. cc (waits, va)) (rw here refl)
+    (stays_in s f h (rw waits refl)) (λ again. let page_is : Holds page kind perm ≡ IsLoading = rw here at again in cc page_is))

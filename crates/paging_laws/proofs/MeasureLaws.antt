@@ -17,7 +17,8 @@ use Rattle.paging_laws.specs.Stands.{IsMeasuring}
 use Rattle.paging_laws.specs.Steps.{refused_by}
 
 -- a new enclave's measurement begins
-pub begins : (e enclave : ℕ) (o : Option FlatEnclave) (x : FlatEnclave) (m : Option Measure) (begun : Measure) (block l : List ℕ) → ((e ≡ enclave) → l ≡ []) → HoldsLog begun block → IsMeasuring o m l
+pub begins : (e enclave : ℕ) (o : Option FlatEnclave) (x : FlatEnclave) (m : Option Measure) (begun : Measure) (block l : List ℕ)
+    → ((e ≡ enclave) → l ≡ []) → HoldsLog begun block → IsMeasuring o m l
     → IsMeasuring (cond (e == enclave) (Some x) o) (cond (e == enclave) (Some begun) m) (cond (enclave == e) (l ++ block) l)
 begins e enclave o x m begun block l new holds before = rw (eqb-swap enclave e) (by_test (e == enclave) refl)
   where
@@ -26,12 +27,14 @@ begins e enclave o x m begun block l new holds before = rw (eqb-swap enclave e) 
     by_test false other = before
 
 -- an enclave's measurement takes in a block
-taken_in : (o : Option FlatEnclave) (m : Option Measure) (longer : Measure) (block l : List ℕ) → is_some o ≡ true → IsSomeAnd m (λ x. TakesIn x block longer) → IsMeasuring o m l → IsMeasuring o (Some longer) (l ++ block)
+taken_in : (o : Option FlatEnclave) (m : Option Measure) (longer : Measure) (block l : List ℕ) → is_some o ≡ true
+    → IsSomeAnd m (λ x. TakesIn x block longer) → IsMeasuring o m l → IsMeasuring o (Some longer) (l ++ block)
 taken_in None m longer block l made takes before = cc
 taken_in (Some x) None longer block l made takes before = absurd before
 taken_in (Some x) (Some y) longer block l made takes before = takes l before
 
-pub goes_on : (e enclave : ℕ) (o : ℕ → Option FlatEnclave) (m : ℕ → Option Measure) (longer : Measure) (block l : List ℕ) → is_some (o enclave) ≡ true → IsSomeAnd (m enclave) (λ x. TakesIn x block longer) → IsMeasuring (o e) (m e) l
+pub goes_on : (e enclave : ℕ) (o : ℕ → Option FlatEnclave) (m : ℕ → Option Measure) (longer : Measure) (block l : List ℕ)
+    → is_some (o enclave) ≡ true → IsSomeAnd (m enclave) (λ x. TakesIn x block longer) → IsMeasuring (o e) (m e) l
     → IsMeasuring (o e) (cond (e == enclave) (Some longer) (m e)) (cond (enclave == e) (l ++ block) l)
 goes_on e enclave o m longer block l made takes before = rw (eqb-swap enclave e) (by_test (e == enclave) refl)
   where
@@ -40,19 +43,22 @@ goes_on e enclave o m longer block l made takes before = rw (eqb-swap enclave e)
     by_test false other = before
 
 -- an enclave that is marked initialised has its measurement still
-pub stays : (b : Bool) (o : Option FlatEnclave) (m : Option Measure) (l : List ℕ) → IsMeasuring o m l → IsMeasuring (cond b (marked o) o) m l
+pub stays : (b : Bool) (o : Option FlatEnclave) (m : Option Measure) (l : List ℕ) → IsMeasuring o m l
+    → IsMeasuring (cond b (marked o) o) m l
 stays false o m l h = h
 stays true None m l h = h
 stays true (Some x) m l h = h
 
 -- a measurement finishes to that of its log
-pub finished_as : (o : Option FlatEnclave) (m : Option Measure) (digest l : List ℕ) → is_some o ≡ true → IsMeasuring o m l → IsSomeAnd m (λ x. FinishesTo x digest) → digest ≡ measurement_of l
+pub finished_as : (o : Option FlatEnclave) (m : Option Measure) (digest l : List ℕ) → is_some o ≡ true → IsMeasuring o m l
+    → IsSomeAnd m (λ x. FinishesTo x digest) → digest ≡ measurement_of l
 finished_as None m digest l made h finished = cc
 finished_as (Some x) None digest l made h finished = absurd h
 finished_as (Some x) (Some y) digest l made h finished = finished l h
 
 -- an `init` that its row refuses says nothing of the measurement
-pub quiet : (o : Option EnclaveSight) (past : List Entry) (a : Actor) (enclave : ℕ) (expect : Option (List ℕ)) (r : Refusal) → first_of_row (init_row o) ≡ Some r → MeasureRule past (refused_by a (Init enclave expect) r)
+pub quiet : (o : Option EnclaveSight) (past : List Entry) (a : Actor) (enclave : ℕ) (expect : Option (List ℕ)) (r : Refusal)
+    → first_of_row (init_row o) ≡ Some r → MeasureRule past (refused_by a (Init enclave expect) r)
 quiet None past a enclave expect r is = let e : why.Absent ≡ r = cc in rw (← e) tt
 quiet (Some x) past a enclave expect r is = by_test x.is_init is
   where

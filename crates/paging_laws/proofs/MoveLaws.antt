@@ -34,38 +34,57 @@ use Rattle.sgx_types.specs.declared.names.SlotAt.{SlotAt}
 -- ---- what flat memory does not see
 
 -- a page is blocked
-pub block_brings : (s : State) (past : List Entry) (a : Actor) (f : Frame) → first_of_row (row_of s a (Block f)) ≡ None → Stands s past → BringsDone s (after_block s f.0) past a (Block f) answers.Plain
+pub block_brings : (s : State) (past : List Entry) (a : Actor) (f : Frame) → first_of_row (row_of s a (Block f)) ≡ None → Stands s past
+    → BringsDone s (after_block s f.0) past a (Block f) answers.Plain
 block_brings s past a f allowed stands = record {
   form = tt;
   taken = refl;
   same = λ seen. cc seen;
   measure = tt;
-  memory = record { enclaves = stands.memory.enclaves; cpus = stands.memory.cpus; words = stands.memory.words; measure = stands.memory.measure };
+  memory = record {
+    enclaves = stands.memory.enclaves;
+    cpus = stands.memory.cpus;
+    words = stands.memory.words;
+    measure = stands.memory.measure;
+  };
 }
 
 -- an enclave is tracked
-pub track_brings : (s : State) (past : List Entry) (a : Actor) (enclave : ℕ) → Stands s past → BringsDone s (after_track s enclave) past a (Track enclave) answers.Plain
+pub track_brings : (s : State) (past : List Entry) (a : Actor) (enclave : ℕ) → Stands s past
+    → BringsDone s (after_track s enclave) past a (Track enclave) answers.Plain
 track_brings s past a enclave stands = record {
   form = tt;
   taken = refl;
   same = λ seen. cc seen;
   measure = tt;
-  memory = record { enclaves = stands.memory.enclaves; cpus = stands.memory.cpus; words = stands.memory.words; measure = stands.memory.measure };
+  memory = record {
+    enclaves = stands.memory.enclaves;
+    cpus = stands.memory.cpus;
+    words = stands.memory.words;
+    measure = stands.memory.measure;
+  };
 }
 
 -- a page starts to go out
-pub ewbstart_brings : (s : State) (past : List Entry) (a : Actor) (f : Frame) (slot : SlotAt) → first_of_row (row_of s a (EwbStart f slot)) ≡ None → Stands s past
+pub ewbstart_brings : (s : State) (past : List Entry) (a : Actor) (f : Frame) (slot : SlotAt)
+    → first_of_row (row_of s a (EwbStart f slot)) ≡ None → Stands s past
     → BringsDone s (after_ewbstart s f.0 slot) past a (EwbStart f slot) (answers.Version s.next_version)
 ewbstart_brings s past a f slot allowed stands = record {
   form = tt;
   taken = refl;
   same = λ seen. cc seen;
   measure = tt;
-  memory = record { enclaves = stands.memory.enclaves; cpus = stands.memory.cpus; words = stands.memory.words; measure = stands.memory.measure };
+  memory = record {
+    enclaves = stands.memory.enclaves;
+    cpus = stands.memory.cpus;
+    words = stands.memory.words;
+    measure = stands.memory.measure;
+  };
 }
 
 -- a page starts to come back: its frame holds none yet
-pub eldstart_brings : (s : State) (past : List Entry) (a : Actor) (f : Frame) (page : Page) (slot : SlotAt) → first_of_row (row_of s a (EldStart f page slot)) ≡ None → Stands s past
+pub eldstart_brings : (s : State) (past : List Entry) (a : Actor) (f : Frame) (page : Page) (slot : SlotAt)
+    → first_of_row (row_of s a (EldStart f page slot)) ≡ None → Stands s past
     → BringsDone s (after_eldstart s f.0 page slot) past a (EldStart f page slot) (answers.Version (s.version_in slot))
 eldstart_brings s past a f page slot allowed stands = record {
   form = tt;
@@ -87,17 +106,21 @@ put_words : (content : ℕ → Content) (words : ℕ → List ℕ) (m : FlatMemo
     → ((g : Page) (kind : Kind) (perm : Perm) → c ≡ Holds g kind perm → m.pages g ≡ Some (record { kind = kind; perm = perm; words = put }))
     → HasWords content words m → HasWords (λ n. cond (f == n) c (content n)) (λ n. cond (f == n) put (words n)) m
 put_words content words m f c put new h n g kind perm =
-    elim (f == n) as (λ b. cond b c (content n) ≡ Holds g kind perm → m.pages g ≡ Some (record { kind = kind; perm = perm; words = cond b put (words n) })) [
+    elim (f == n) as (λ b. cond b c (content n) ≡ Holds g kind perm
+    → m.pages g ≡ Some (record { kind = kind; perm = perm; words = cond b put (words n) })) [
       | true ↦ new g kind perm
       | false ↦ h n g kind perm
     ]
 
 -- a page that is back has the words with which flat memory has it
-back_words : (pages : Page → Option FlatPage) (page : Page) (kind : Kind) (perm : Perm) (words : List ℕ) → added_as (pages page) ≡ Some (kind, perm) → words ≡ page_words (pages page)
-    → (g : Page) (kind' : Kind) (perm' : Perm) → Holds page kind perm ≡ Holds g kind' perm' → pages g ≡ Some (record { kind = kind'; perm = perm'; words = words })
+back_words : (pages : Page → Option FlatPage) (page : Page) (kind : Kind) (perm : Perm) (words : List ℕ)
+    → added_as (pages page) ≡ Some (kind, perm) → words ≡ page_words (pages page)
+    → (g : Page) (kind' : Kind) (perm' : Perm) → Holds page kind perm ≡ Holds g kind' perm'
+    → pages g ≡ Some (record { kind = kind'; perm = perm'; words = words })
 back_words pages page kind perm words added same g kind' perm' e = as_held (by_page (pages page) added same) e
   where
-    by_page : (o : Option FlatPage) → added_as o ≡ Some (kind, perm) → words ≡ page_words o → o ≡ Some (record { kind = kind; perm = perm; words = words })
+    by_page : (o : Option FlatPage) → added_as o ≡ Some (kind, perm) → words ≡ page_words o
+        → o ≡ Some (record { kind = kind; perm = perm; words = words })
     by_page None is e = cc
     by_page (Some x) is e =
         let was : Kind × Perm = (x.kind, x.perm) in
@@ -105,7 +128,8 @@ back_words pages page kind perm words added same g kind' perm' e = as_held (by_p
         let alike = same_value was now is in
         λ i. Some (record { kind = (alike i).0; perm = (alike i).1; words = sym e i })
 
-    as_held : pages page ≡ Some (record { kind = kind; perm = perm; words = words }) → Holds page kind perm ≡ Holds g kind' perm' → pages g ≡ Some (record { kind = kind'; perm = perm'; words = words })
+    as_held : pages page ≡ Some (record { kind = kind; perm = perm; words = words }) → Holds page kind perm ≡ Holds g kind' perm'
+        → pages g ≡ Some (record { kind = kind'; perm = perm'; words = words })
     as_held is e =
         let one : page ≡ g = cc in
         let alike : kind ≡ kind' = cc in
@@ -113,13 +137,15 @@ back_words pages page kind perm words added same g kind' perm' e = as_held (by_p
         rw (← one, ← alike, ← allowed) is
 
 -- .. and a frame that is free has no page
-freed_words : (s : State) (past : List Entry) (f : ℕ) → Stands s past → HasWords (λ n. cond (f == n) Free (s.content n)) (λ n. cond (f == n) zero_words (s.words n)) (flat past)
+freed_words : (s : State) (past : List Entry) (f : ℕ) → Stands s past
+    → HasWords (λ n. cond (f == n) Free (s.content n)) (λ n. cond (f == n) zero_words (s.words n)) (flat past)
 freed_words s past f stands = put_words s.content s.words (flat past) f Free zero_words (λ g kind perm held. cc held) stands.memory.words
 
 -- ---- the commits
 
 -- the rule on refusals has no row of them
-end_row : (frames : ℕ) (past : List Entry) (a : Actor) (action : Action) → is_end action ≡ true → first_of_row (row_at frames past a action) ≡ None
+end_row : (frames : ℕ) (past : List Entry) (a : Actor) (action : Action) → is_end action ≡ true
+    → first_of_row (row_at frames past a action) ≡ None
 end_row frames past (actors.Cpu p) (Ewb f) is = refl
 end_row frames past (actors.Cpu p) (Eld f) is = refl
 end_row frames past a (Ewb f) is = refl
@@ -131,23 +157,31 @@ below : (s : State) (past : List Entry) (f : ℕ) (start : Start) → StandsWith
 below s past f start h opened = open_below s.frames past f h.rules.fits.entries (ap is_some (sym (start_is h.stands.columns f) ∙ opened))
 
 -- a page is out
-pub written_brings : (s t : State) (past : List Entry) (a : Actor) (f : Frame) (e : Entry) (rec : Sealed) → IsWrittenOut s a f e rec t → StandsWithRules s past → Brings s t past e
+pub written_brings : (s t : State) (past : List Entry) (a : Actor) (f : Frame) (e : Entry) (rec : Sealed) → IsWrittenOut s a f e rec t
+    → StandsWithRules s past → Brings s t past e
 written_brings s t past a f e rec out h =
     let stands = h.stands in
     brings_as s t _ past e _ out.entry out.state
-    (done_brings s (after_ewb s f.0 out.leaving.start) past a (Ewb f) (answers.Moved out.leaving.page.page out.leaving.start.version rec.tag) (end_row s.frames past a (Ewb f) refl)
+    (done_brings s (after_ewb s f.0 out.leaving.start) past a (Ewb f)
+    (answers.Moved out.leaving.page.page out.leaving.start.version rec.tag) (end_row s.frames past a (Ewb f) refl)
     (below s past f.0 out.leaving.start h out.leaving.opened, tt)
     (record {
       form = tt;
       taken = refl;
       same = λ seen. cc seen;
       measure = tt;
-      memory = record { enclaves = stands.memory.enclaves; cpus = stands.memory.cpus; words = freed_words s past f.0 stands; measure = stands.memory.measure };
+      memory = record {
+        enclaves = stands.memory.enclaves;
+        cpus = stands.memory.cpus;
+        words = freed_words s past f.0 stands;
+        measure = stands.memory.measure;
+      };
     }))
 
 -- a page is back, with its flat words, or its load is refused
 pub reloaded_brings : (s t : State) (past : List Entry) (a : Actor) (f : Frame) (rec : Sealed) (e : Entry) (back : IsReloaded s a f rec e t)
-    → (first_of_row (commit_row s f.0 back.coming rec) ≡ None → words_of (cipher s.key back.coming.start.version rec.cipher) ≡ flats.words_of (flat past) back.coming.page)
+    → (first_of_row (commit_row s f.0 back.coming rec) ≡ None
+    → words_of (cipher s.key back.coming.start.version rec.cipher) ≡ flats.words_of (flat past) back.coming.page)
     → StandsWithRules s past → Brings s t past e
 reloaded_brings s t past a f rec e back same h = by_row (first_of_row (commit_row s f.0 back.coming rec)) refl back.row
   where
@@ -157,7 +191,8 @@ reloaded_brings s t past a f rec e back same h = by_row (first_of_row (commit_ro
     stands : Stands s past
     stands = h.stands
 
-    by_row : (o : Option Refusal) → first_of_row (commit_row s f.0 coming rec) ≡ o → MatchOption o (IsDoneBack s a f rec e t coming) (IsRefusedBack s a f e t coming) → Brings s t past e
+    by_row : (o : Option Refusal) → first_of_row (commit_row s f.0 coming rec) ≡ o
+        → MatchOption o (IsDoneBack s a f rec e t coming) (IsRefusedBack s a f e t coming) → Brings s t past e
     by_row None allowed done =
         brings_as s t _ past e _ done.0 done.1
         (done_brings s _ past a (Eld f) (answers.Moved coming.page coming.start.version rec.tag) (end_row s.frames past a (Eld f) refl)
@@ -172,7 +207,8 @@ reloaded_brings s t past a f rec e back same h = by_row (first_of_row (commit_ro
             cpus = stands.memory.cpus;
             words =
                 put_words s.content s.words (flat past) f.0 (Holds coming.page coming.kind coming.perm) _
-                (back_words (flat past).pages coming.page coming.kind coming.perm _ (sym (added_flat stands coming.page) ∙ coming.added) (same allowed)) stands.memory.words;
+                (back_words (flat past).pages coming.page coming.kind coming.perm _ (sym (added_flat stands coming.page) ∙ coming.added)
+                (same allowed)) stands.memory.words;
             measure = stands.memory.measure;
           };
         }))
@@ -183,5 +219,10 @@ reloaded_brings s t past a f rec e back same h = by_row (first_of_row (commit_ro
           flat = tt;
           fits = tt;
           measure = tt;
-          memory = record { enclaves = stands.memory.enclaves; cpus = stands.memory.cpus; words = freed_words s past f.0 stands; measure = stands.memory.measure };
+          memory = record {
+            enclaves = stands.memory.enclaves;
+            cpus = stands.memory.cpus;
+            words = freed_words s past f.0 stands;
+            measure = stands.memory.measure;
+          };
         })

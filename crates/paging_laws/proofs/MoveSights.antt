@@ -44,17 +44,21 @@ use Rattle.paging_laws.proofs.ColumnLaws.{added_flat, blocked_is, content_is, en
 -- ---- what the rows see
 
 -- what the row of `track` sees
-track_sees : (s : State) (past : List Entry) → HasColumns s past → Stands s past → (enclave : ℕ) → track_sight s enclave ≡ track_sight_at s.first_epoch past enclave
+track_sees : (s : State) (past : List Entry) → HasColumns s past → Stands s past → (enclave : ℕ)
+    → track_sight s enclave ≡ track_sight_at s.first_epoch past enclave
 track_sees s past h stands enclave = rw (enclave_flat stands enclave, older_agrees s past h enclave, epoch_is h enclave) refl
 
 -- what a row sees of a slot
-slot_sees : (s : State) (past : List Entry) → HasColumns s past → Stands s past → (slot : SlotAt) → slot_sight s slot ≡ slot_sight_at s.frames past slot
+slot_sees : (s : State) (past : List Entry) → HasColumns s past → Stands s past → (slot : SlotAt)
+    → slot_sight s slot ≡ slot_sight_at s.frames past slot
 slot_sees s past h stands slot = rw (sight_is h slot.frame.0, slot_busy_is h slot, version_is h slot) refl
 
 -- how many processors keep a page back
-kept_back_by : (s : State) (past : List Entry) → HasColumns s past → (n : ℕ) → number_up_to s (enclave_in (s.content n)) (s.blocked n) ≡ kept_back past n
+kept_back_by : (s : State) (past : List Entry) → HasColumns s past → (n : ℕ)
+    → number_up_to s (enclave_in (s.content n)) (s.blocked n) ≡ kept_back past n
 kept_back_by s past h n =
-    rw (content_is h n, blocked_is h n) (by_block (enclave_in (content past n)) (block_epoch s.first_epoch past n) ∙ sym ((epochs_tell s.first_epoch past).kept_back n))
+    rw (content_is h n, blocked_is h n) (by_block (enclave_in (content past n)) (block_epoch s.first_epoch past n)
+    ∙ sym ((epochs_tell s.first_epoch past).kept_back n))
   where
     by_block : (c b : Option ℕ) → number_up_to s c b ≡ up_to_block s.first_epoch past c b
     by_block None b = refl
@@ -62,7 +66,8 @@ kept_back_by s past h n =
     by_block (Some enclave) (Some b) = noting_agrees s past h enclave (λ m. leb m b)
 
 -- the epoch of the enclave whose page a frame holds
-epoch_by : (s : State) (past : List Entry) → HasColumns s past → (n : ℕ) → epoch_of s.epoch (enclave_in (s.content n)) ≡ epoch_in s.first_epoch past n
+epoch_by : (s : State) (past : List Entry) → HasColumns s past → (n : ℕ)
+    → epoch_of s.epoch (enclave_in (s.content n)) ≡ epoch_in s.first_epoch past n
 epoch_by s past h n = rw (content_is h n) (by_enclave (enclave_in (content past n)))
   where
     by_enclave : (c : Option ℕ) → epoch_of s.epoch c ≡ epoch_of (epoch s.first_epoch past) c
@@ -71,14 +76,17 @@ epoch_by s past h n = rw (content_is h n) (by_enclave (enclave_in (content past 
 
 -- what the row of EWB's start sees of the tracking
 drain_sees : (s : State) (past : List Entry) → HasColumns s past → (n : ℕ) → drain_sight s n ≡ drain_sight_at s.first_epoch past n
-drain_sees s past h n i = record { epoch = epoch_by s past h n i; kept_back = kept_back_by s past h n i; is_drained = drained_by s past h n i }
+drain_sees s past h n i =
+    record { epoch = epoch_by s past h n i; kept_back = kept_back_by s past h n i; is_drained = drained_by s past h n i }
 
 -- the rows of starts, where they see the same
-ewbstart_same : (v v' : FrameSight) (slot slot' : SlotSight) (drain drain' : DrainSight) (b b' : Bool) → v ≡ v' → slot ≡ slot' → drain ≡ drain' → b ≡ b'
+ewbstart_same : (v v' : FrameSight) (slot slot' : SlotSight) (drain drain' : DrainSight) (b b' : Bool) → v ≡ v' → slot ≡ slot'
+    → drain ≡ drain' → b ≡ b'
     → first_of_row (ewbstart_row v slot drain b) ≡ first_of_row (ewbstart_row v' slot' drain' b')
 ewbstart_same v v' slot slot' drain drain' b b' e1 e2 e3 e4 i = first_of_row (ewbstart_row (e1 i) (e2 i) (e3 i) (e4 i))
 
-eldstart_same : (v v' : FrameSight) (b b' : Bool) (slot slot' : SlotSight) → v ≡ v' → b ≡ b' → slot ≡ slot' → first_of_row (eldstart_row v b slot) ≡ first_of_row (eldstart_row v' b' slot')
+eldstart_same : (v v' : FrameSight) (b b' : Bool) (slot slot' : SlotSight) → v ≡ v' → b ≡ b' → slot ≡ slot'
+    → first_of_row (eldstart_row v b slot) ≡ first_of_row (eldstart_row v' b' slot')
 eldstart_same v v' b b' slot slot' e1 e2 e3 i = first_of_row (eldstart_row (e1 i) (e2 i) (e3 i))
 
 -- the row of an instruction that moves pages, in the state and by the entries
@@ -87,9 +95,11 @@ pub move_row_same : (s : State) (past : List Entry) (a : Actor) (action : Action
 move_row_same s past a (Block f) m h stands = ap (λ v. first_of_row (block_row v)) (sight_is h f.0)
 move_row_same s past a (Track enclave) m h stands = ap (λ v. first_of_row (track_row v)) (track_sees s past h stands enclave)
 move_row_same s past a (EwbStart f slot) m h stands =
-    ewbstart_same _ _ _ _ _ _ _ _ (sight_is h f.0) (slot_sees s past h stands slot) (drain_sees s past h f.0) (ap (λ (n : ℕ). n == 2 ^ 64) (next_version_is h))
+    ewbstart_same _ _ _ _ _ _ _ _ (sight_is h f.0) (slot_sees s past h stands slot) (drain_sees s past h f.0)
+    (ap (λ (n : ℕ). n == 2 ^ 64) (next_version_is h))
 move_row_same s past a (EldStart f page slot) m h stands =
-    eldstart_same _ _ _ _ _ _ (sight_is h f.0) (ap is_some (added_flat stands page) ∙ is_some-added_as ((flat past).pages page)) (slot_sees s past h stands slot)
+    eldstart_same _ _ _ _ _ _ (sight_is h f.0) (ap is_some (added_flat stands page) ∙ is_some-added_as ((flat past).pages page))
+    (slot_sees s past h stands slot)
 move_row_same s past a _ m h stands = absurd m
 
 -- ---- the rule of the moves
@@ -110,7 +120,8 @@ no_end cpus a _ can = refl
 
 -- what the rule asks of an instruction that is done
 did_rule : (k : Making) (past : List Entry) (a : Actor) (action : Action) (answer : Answer) → is_end action ≡ false
-    → (IsMove action → (first_of_row (move_row_at k past action) ≡ None) × MoveForm past action answer) → MovesRule k past (did_by a action answer)
+    → (IsMove action → (first_of_row (move_row_at k past action) ≡ None) × MoveForm past action answer)
+    → MovesRule k past (did_by a action answer)
 did_rule k past a (Ewb f) answer h rule = absurd (false≢true (sym h))
 did_rule k past a (Eld f) answer h rule = absurd (false≢true (sym h))
 did_rule k past a _ answer h rule = rule
@@ -128,20 +139,24 @@ module _ (s t : State) (past : List Entry) (a : Actor) (h : HasColumns s past) (
   numbers = making_of s
 
   -- one that its row allows
-  done_keeps : (action : Action) (e : Entry) → is_end action ≡ false → first_of_row (row_of s a action) ≡ None → IsDone s a action e t → MovesRule numbers past e
+  done_keeps : (action : Action) (e : Entry) → is_end action ≡ false → first_of_row (row_of s a action) ≡ None → IsDone s a action e t
+      → MovesRule numbers past e
   done_keeps (Create enclave f base size) e other allowed done = rw done.0 (λ m. absurd m)
   done_keeps (Add enclave number f kind perm init) e other allowed done = rw done.0 (λ m. absurd m)
   done_keeps (Extend f chunk) e other allowed done = rw done.0 (λ m. absurd m)
   done_keeps (Init enclave expect) e other allowed done = by_judgement done.digest done.judged
     where
       by_judgement : (digest : List ℕ)
-          → (IsExpected expect digest × (e ≡ did_by a (Init enclave expect) (answers.Hash digest)) × (t ≡ after_init s enclave)) ⊎ (IsOther expect digest × (e ≡ refused_by a (Init enclave expect) (why.BadMeasure digest)) × (t ≡ s))
+          → (IsExpected expect digest × (e ≡ did_by a (Init enclave expect) (answers.Hash digest)) × (t ≡ after_init s enclave))
+          ⊎ (IsOther expect digest × (e ≡ refused_by a (Init enclave expect) (why.BadMeasure digest)) × (t ≡ s))
           → MovesRule numbers past e
       by_judgement digest (inl is) = rw is.1 (λ m. absurd m)
       by_judgement digest (inr is) = rw is.1 (λ m. absurd m)
   done_keeps (Block f) e other allowed done = rw done.0 (λ m. (sym (move_row_same s past a (Block f) tt h stands) ∙ allowed, refl))
-  done_keeps (Track enclave) e other allowed done = rw done.0 (λ m. (sym (move_row_same s past a (Track enclave) tt h stands) ∙ allowed, refl))
-  done_keeps (EwbStart f slot) e other allowed done = rw done.0 (λ m. (sym (move_row_same s past a (EwbStart f slot) tt h stands) ∙ allowed, (s.next_version, refl)))
+  done_keeps (Track enclave) e other allowed done =
+      rw done.0 (λ m. (sym (move_row_same s past a (Track enclave) tt h stands) ∙ allowed, refl))
+  done_keeps (EwbStart f slot) e other allowed done =
+      rw done.0 (λ m. (sym (move_row_same s past a (EwbStart f slot) tt h stands) ∙ allowed, (s.next_version, refl)))
   done_keeps (EldStart f page slot) e other allowed done =
       rw done.0 (λ m. (sym (move_row_same s past a (EldStart f page slot) tt h stands) ∙ allowed, ap answers.Version (version_is h slot)))
   done_keeps (Ewb f) e other allowed done = absurd (false≢true (sym other))
@@ -152,20 +167,25 @@ module _ (s t : State) (past : List Entry) (a : Actor) (h : HasColumns s past) (
   step_keeps : (cpus : ℕ) (action : Action) (e : Entry) → CanApply cpus a action → IsStep s a action e t → MovesRule numbers past e
   step_keeps cpus action e can k = by_row (first_of_row (row_of s a action)) refl k
     where
-      by_row : (o : Option Refusal) → first_of_row (row_of s a action) ≡ o → MatchOption o (IsDone s a action e t) (λ r. (e ≡ refused_by a action r) × (t ≡ s)) → MovesRule numbers past e
+      by_row : (o : Option Refusal) → first_of_row (row_of s a action) ≡ o
+          → MatchOption o (IsDone s a action e t) (λ r. (e ≡ refused_by a action r) × (t ≡ s)) → MovesRule numbers past e
       by_row None is done = done_keeps action e (no_end cpus a action can) is done
       by_row (Some r) is refused =
-          rw refused.0 (refused_rule numbers past a action r (no_end cpus a action can) (λ m. sym (move_row_same s past a action m h stands) ∙ is))
+          rw refused.0 (refused_rule numbers past a action r (no_end cpus a action can)
+          (λ m. sym (move_row_same s past a action m h stands) ∙ is))
 
 -- each instruction keeps the rule of the moves
-pub moves_rule : (s t : State) (made : Making) (past : List Entry) (cpus : ℕ) (a : Actor) (action : Action) (e : Entry) → CanApply cpus a action → HasColumns s past → Stands s past → making_of s ≡ made
+pub moves_rule : (s t : State) (made : Making) (past : List Entry) (cpus : ℕ) (a : Actor) (action : Action) (e : Entry)
+    → CanApply cpus a action → HasColumns s past → Stands s past → making_of s ≡ made
     → IsStep s a action e t → MovesRule made past e
-moves_rule s t made past cpus a action e can h stands is k = subst (λ (m : Making). MovesRule m past e) is (step_keeps s t past a h stands cpus action e can k)
+moves_rule s t made past cpus a action e can h stands is k =
+    subst (λ (m : Making). MovesRule m past e) is (step_keeps s t past a h stands cpus action e can k)
 
 -- ---- the ends of starts
 
 -- a page that went out ends the start of its write-out
-pub ends_out : (s t : State) (past : List Entry) (a : Actor) (f : Frame) (e : Entry) (rec : Sealed) → IsGuarded s → s.is_sealing f.0 ≡ true → HasColumns s past
+pub ends_out : (s t : State) (past : List Entry) (a : Actor) (f : Frame) (e : Entry) (rec : Sealed) → IsGuarded s → s.is_sealing f.0 ≡ true
+    → HasColumns s past
     → (out : IsWrittenOut s a f e rec t) → EndsOut past f.0 (answers.Moved out.leaving.page.page out.leaving.start.version rec.tag)
 ends_out s t past a f e rec guarded sealing h out =
     let writes : WritesOut out.leaving.start = rw out.leaving.opened at (guarded.written f.0 sealing) in
@@ -183,7 +203,8 @@ ends_out s t past a f e rec guarded sealing h out =
     }
 
 -- .. and keeps the rule of the moves
-pub moves_written : (s t : State) (made : Making) (past : List Entry) (a : Actor) (f : Frame) (e : Entry) (rec : Sealed) → IsGuarded s → s.is_sealing f.0 ≡ true → HasColumns s past
+pub moves_written : (s t : State) (made : Making) (past : List Entry) (a : Actor) (f : Frame) (e : Entry) (rec : Sealed) → IsGuarded s
+    → s.is_sealing f.0 ≡ true → HasColumns s past
     → IsWrittenOut s a f e rec t → MovesRule made past e
 moves_written s t made past a f e rec guarded sealing h out = rw out.entry (ends_out s t past a f e rec guarded sealing h out)
 
@@ -192,8 +213,10 @@ ends_in : (s : State) (past : List Entry) (f : ℕ) → HasColumns s past → (c
 ends_in s past f h coming = record { start = coming.start; opened = sym (start_is h f) ∙ coming.opened; loads = coming.loads }
 
 -- a page that is back ends the start of its load
-pub moves_reloaded_done : (s : State) (past : List Entry) (f : ℕ) (coming : IsComing s f) (version : ℕ) (tag : List ℕ) → HasColumns s past → IsBack past f (answers.Moved coming.page version tag)
-moves_reloaded_done s past f coming version tag h = record { page = coming.page; ends = ends_in s past f h coming; version = version; tag = tag; told = refl }
+pub moves_reloaded_done : (s : State) (past : List Entry) (f : ℕ) (coming : IsComing s f) (version : ℕ) (tag : List ℕ) → HasColumns s past
+    → IsBack past f (answers.Moved coming.page version tag)
+moves_reloaded_done s past f coming version tag h =
+    record { page = coming.page; ends = ends_in s past f h coming; version = version; tag = tag; told = refl }
 
 -- two headers with the same numbers are one
 one_header : (a b : Header) → a ≡ b → same_header a b ≡ true
@@ -207,7 +230,8 @@ pub same_value : {X : Type 0} (x y : X) → Some x ≡ Some y → x ≡ y
 same_value {X} x y e = cc
 
 -- a page has one header by flat memory
-header_is : (s : State) (past : List Entry) (f : ℕ) (header : Header) → Stands s past → (coming : IsComing s f) → IsHeader (flat past) coming.page header → coming.header ≡ header
+header_is : (s : State) (past : List Entry) (f : ℕ) (header : Header) → Stands s past → (coming : IsComing s f)
+    → IsHeader (flat past) coming.page header → coming.header ≡ header
 header_is s past f header stands coming is =
     let was : Kind × Perm = (coming.kind, coming.perm) in
     let now : Kind × Perm = (is.page.kind, is.page.perm) in
@@ -219,11 +243,13 @@ header_is s past f header stands coming is =
     kinds : ◌≡◌ {A = Option (Kind × Perm)} (Some (coming.kind, coming.perm)) (Some (is.page.kind, is.page.perm))
     kinds = sym coming.added ∙ added_flat stands coming.page ∙ ap added_as is.added
 
-    by_parts : (x y : FlatEnclave) → x ≡ y → (u v : Kind × Perm) → u ≡ v → header_of x.base coming.page u.0 u.1 ≡ header_of y.base coming.page v.0 v.1
+    by_parts : (x y : FlatEnclave) → x ≡ y → (u v : Kind × Perm) → u ≡ v
+        → header_of x.base coming.page u.0 u.1 ≡ header_of y.base coming.page v.0 v.1
     by_parts x y same u v alike i = header_of (same i).base coming.page (alike i).0 (alike i).1
 
 -- a load that is refused ends its start, and its record does not fit
-pub moves_reloaded_refused : (s : State) (past : List Entry) (f : ℕ) (coming : IsComing s f) (rec : Sealed) (r : Refusal) → HasColumns s past → Stands s past
+pub moves_reloaded_refused : (s : State) (past : List Entry) (f : ℕ) (coming : IsComing s f) (rec : Sealed) (r : Refusal)
+    → HasColumns s past → Stands s past
     → first_of_row (commit_row s f coming rec) ≡ Some r → IsNotBack past f r
 moves_reloaded_refused s past f coming rec r h stands refused = record {
   page = coming.page;
@@ -235,14 +261,18 @@ moves_reloaded_refused s past f coming rec r h stands refused = record {
     computed = tag s.key coming.start.version rec.header rec.cipher
 
     by_header : (b : Bool) → same_header rec.header coming.header ≡ b
-        → cond (not b) (Some (why.BadHeader rec.header.enclave rec.header.address rec.header.flags)) None ≡ Some r → DoesNotFit past coming.page r
+        → cond (not b) (Some (why.BadHeader rec.header.enclave rec.header.address rec.header.flags)) None ≡ Some r
+        → DoesNotFit past coming.page r
     by_header true is e = cc
     by_header false is e =
         let told : why.BadHeader rec.header.enclave rec.header.address rec.header.flags ≡ r = cc in
-        rw (← told) (λ (x : IsHeader (flat past) coming.page rec.header). false≢true (sym is ∙ one_header rec.header coming.header (sym (header_is s past f rec.header stands coming x))))
+        rw (← told) (λ (x : IsHeader (flat past) coming.page rec.header).
+        false≢true (sym is ∙ one_header rec.header coming.header (sym (header_is s past f rec.header stands coming x))))
 
     by_tag : (b : Bool) → bytes_eq rec.tag computed ≡ b
-        → cond (not b) (Some (why.MacFail rec.tag computed)) (cond (not (same_header rec.header coming.header)) (Some (why.BadHeader rec.header.enclave rec.header.address rec.header.flags)) None) ≡ Some r
+        → cond (not b) (Some (why.MacFail rec.tag computed))
+        (cond (not (same_header rec.header coming.header)) (Some (why.BadHeader rec.header.enclave rec.header.address rec.header.flags))
+        None) ≡ Some r
         → DoesNotFit past coming.page r
     by_tag true is e = by_header (same_header rec.header coming.header) refl e
     by_tag false is e =
@@ -260,7 +290,8 @@ abbrev pub IsRefusedBack : (s : State) (a : Actor) (f : Frame) (e : Entry) (t : 
 IsRefusedBack s a f e t coming r = (e ≡ refused_by a (Eld f) r) × (t ≡ after_failed_eld s f.0 coming.start)
 
 -- the commit of a load keeps the rule of the moves, whatever record was brought
-pub moves_reloaded : (s t : State) (made : Making) (past : List Entry) (a : Actor) (f : Frame) (rec : Sealed) (e : Entry) → HasColumns s past → Stands s past
+pub moves_reloaded : (s t : State) (made : Making) (past : List Entry) (a : Actor) (f : Frame) (rec : Sealed) (e : Entry)
+    → HasColumns s past → Stands s past
     → IsReloaded s a f rec e t → MovesRule made past e
 moves_reloaded s t made past a f rec e h stands back = by_row (first_of_row (commit_row s f.0 back.coming rec)) refl back.row
   where

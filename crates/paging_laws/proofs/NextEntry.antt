@@ -31,10 +31,12 @@ pub brings_as : (s t t' : State) (past : List Entry) (e e' : Entry) → e ≡ e'
 brings_as s t t' past e e' same alike k = rw (same, alike) k
 
 -- a state that has the shape of one entry more, and by whose entries no page stands in two frames
-pub stands_more : (s t : State) (made : Making) (past : List Entry) (e : Entry) → ShapeWithRules made s past → ShapeWithRules made t (e ∷ past) → NoPageTwice (e ∷ past) → StandsWithRules s past → Brings s t past e → StandsWithRules t (e ∷ past)
+pub stands_more : (s t : State) (made : Making) (past : List Entry) (e : Entry) → ShapeWithRules made s past
+    → ShapeWithRules made t (e ∷ past) → NoPageTwice (e ∷ past) → StandsWithRules s past → Brings s t past e → StandsWithRules t (e ∷ past)
 stands_more s t made past e before after once h k = record {
   stands = record { columns = after.shape.columns; memory = k.memory };
-  rules = subst (λ frames. KeepsRules frames (e ∷ past)) (ap (λ (m : Making). m.frames) (before.shape.making ∙ sym after.shape.making)) rules;
+  rules = subst (λ frames. KeepsRules frames (e ∷ past)) (ap (λ (m : Making). m.frames) (before.shape.making ∙ sym after.shape.making))
+      rules;
   measure = (k.measure, h.measure);
 }
   where
@@ -52,7 +54,8 @@ once_before s past h = last_place NoPageTwice past h.rules.fits.pages
 -- ---- a done instruction
 
 -- flat memory after one that it takes
-pub flat_done : (m : FlatMemory) (a : Actor) (action : Action) (answer : Answer) → accepts m a action ≡ true → event_after a (Did action answer) m ≡ memory_after a action m
+pub flat_done : (m : FlatMemory) (a : Actor) (action : Action) (answer : Answer) → accepts m a action ≡ true
+    → event_after a (Did action answer) m ≡ memory_after a action m
 flat_done m a action answer taken = rw taken refl
 
 -- what it brings beside its row and its frames
@@ -63,7 +66,8 @@ pub record BringsDone (s t : State) (past : List Entry) (a : Actor) (action : Ac
   pub measure : MeasureRule past (did_by a action answer)
   pub memory : Shows t (did_by a action answer ∷ past) (memory_after a action (flat past))
 
-pub done_brings : (s t : State) (past : List Entry) (a : Actor) (action : Action) (answer : Answer) → first_of_row (row_at s.frames past a action) ≡ None → NamesFrames s.frames action × TakesFree past action
+pub done_brings : (s t : State) (past : List Entry) (a : Actor) (action : Action) (answer : Answer)
+    → first_of_row (row_at s.frames past a action) ≡ None → NamesFrames s.frames action × TakesFree past action
     → BringsDone s t past a action answer
     → Brings s t past (did_by a action answer)
 done_brings s t past a action answer allowed fits k = record {
@@ -71,13 +75,21 @@ done_brings s t past a action answer allowed fits k = record {
   flat = λ seen. record { taken = k.taken; same = k.same seen };
   fits = fits;
   measure = k.measure;
-  memory = subst (λ (m : FlatMemory). Shows t (did_by a action answer ∷ past) m) (sym (flat_done (flat past) a action answer k.taken)) k.memory;
+  memory = subst (λ (m : FlatMemory). Shows t (did_by a action answer ∷ past) m) (sym (flat_done (flat past) a action answer k.taken))
+      k.memory;
 }
 
 -- ---- a refused one
 
 -- it leaves what flat memory has
-pub refused_brings : (s : State) (past : List Entry) (a : Actor) (action : Action) (r : Refusal) → RefusalRule s.frames past (refused_by a action r) → MeasureRule past (refused_by a action r) → Stands s past
+pub refused_brings : (s : State) (past : List Entry) (a : Actor) (action : Action) (r : Refusal)
+    → RefusalRule s.frames past (refused_by a action r) → MeasureRule past (refused_by a action r) → Stands s past
     → Brings s s past (refused_by a action r)
 refused_brings s past a action r refusal measure h =
-    record { refusal = refusal; flat = tt; fits = tt; measure = measure; memory = record { enclaves = h.memory.enclaves; cpus = h.memory.cpus; words = h.memory.words; measure = h.memory.measure } }
+    record {
+      refusal = refusal;
+      flat = tt;
+      fits = tt;
+      measure = measure;
+      memory = record { enclaves = h.memory.enclaves; cpus = h.memory.cpus; words = h.memory.words; measure = h.memory.measure };
+    }

@@ -55,10 +55,12 @@ is_ewb _ = false
 pub record KeepsOutside (past : List Entry) (e : Entry) : Type 0 where
   pub made : (key : List ℕ) → made_by key (e ∷ past) ≡ made_by key past
   pub stays : (g : Page) (slot : SlotAt) (v : ℕ) → copy (e ∷ past) g ≡ Some (InSlot slot v) → copy past g ≡ Some (InSlot slot v)
-  pub words : (g : Page) (slot : SlotAt) (v : ℕ) → copy (e ∷ past) g ≡ Some (InSlot slot v) → words_of (flat (e ∷ past)) g ≡ words_of (flat past) g
+  pub words : (g : Page) (slot : SlotAt) (v : ℕ) → copy (e ∷ past) g ≡ Some (InSlot slot v)
+      → words_of (flat (e ∷ past)) g ≡ words_of (flat past) g
 
 -- .. so that each record outside goes on to have its page's flat bytes
-pub outside_more : (key : List ℕ) (past : List Entry) (e : Entry) → KeepsOutside past e → OutsideBytes key past → OutsideBytes key (e ∷ past)
+pub outside_more : (key : List ℕ) (past : List Entry) (e : Entry) → KeepsOutside past e → OutsideBytes key past
+    → OutsideBytes key (e ∷ past)
 outside_more key past e keeps outside g slot v there = still (outside g slot v (keeps.stays g slot v there))
   where
     same : words_of (flat past) g ≡ words_of (flat (e ∷ past)) g
@@ -81,43 +83,52 @@ pub refused_keeps : (past : List Entry) (a : Actor) (action : Action) (r : Refus
 refused_keeps past a action r = record { made = λ key. refl; stays = λ g slot v there. there; words = λ g slot v there. refl }
 
 -- a page that was put into a frame is not outside
-not_framed : (b : Bool) (n : ℕ) (o : Option Copy) (slot : SlotAt) (v : ℕ) → cond b (Some (InFrame n)) o ≡ Some (InSlot slot v) → o ≡ Some (InSlot slot v)
+not_framed : (b : Bool) (n : ℕ) (o : Option Copy) (slot : SlotAt) (v : ℕ) → cond b (Some (InFrame n)) o ≡ Some (InSlot slot v)
+    → o ≡ Some (InSlot slot v)
 not_framed true n o slot v there = cc
 not_framed false n o slot v there = there
 
 -- a done instruction, but for an `ewb`, brings no page outside
 pub did_stays : (past : List Entry) (a : Actor) (action : Action) (answer : Answer) → is_ewb action ≡ false
-    → (g : Page) (slot : SlotAt) (v : ℕ) → copy (did_by a action answer ∷ past) g ≡ Some (InSlot slot v) → copy past g ≡ Some (InSlot slot v)
+    → (g : Page) (slot : SlotAt) (v : ℕ) → copy (did_by a action answer ∷ past) g ≡ Some (InSlot slot v)
+    → copy past g ≡ Some (InSlot slot v)
 did_stays past a (Ewb f) answer other g slot v there = cc
-did_stays past a (Add enclave number f kind perm init) answer other g slot v there = not_framed (same_page (page_at enclave number) g) f.0 (copy past g) slot v there
-did_stays past a (Eld f) (answers.Moved page version tag) other g slot v there = not_framed (same_page page g) f.0 (copy past g) slot v there
+did_stays past a (Add enclave number f kind perm init) answer other g slot v there =
+    not_framed (same_page (page_at enclave number) g) f.0 (copy past g) slot v there
+did_stays past a (Eld f) (answers.Moved page version tag) other g slot v there =
+    not_framed (same_page page g) f.0 (copy past g) slot v there
 did_stays past a action answer other g slot v there = there
 
 -- it makes no record
-pub did_made : (key : List ℕ) (past : List Entry) (a : Actor) (action : Action) (answer : Answer) → is_ewb action ≡ false → made_by key (did_by a action answer ∷ past) ≡ made_by key past
+pub did_made : (key : List ℕ) (past : List Entry) (a : Actor) (action : Action) (answer : Answer) → is_ewb action ≡ false
+    → made_by key (did_by a action answer ∷ past) ≡ made_by key past
 did_made key past a (Ewb f) answer other = cc
 did_made key past a action answer other = refl
 
 -- .. and the rule Sealed has nothing to say of it
-pub did_sealed : (key : List ℕ) (past : List Entry) (a : Actor) (action : Action) (answer : Answer) → is_ewb action ≡ false → SealedRule key past (did_by a action answer)
+pub did_sealed : (key : List ℕ) (past : List Entry) (a : Actor) (action : Action) (answer : Answer) → is_ewb action ≡ false
+    → SealedRule key past (did_by a action answer)
 did_sealed key past a (Ewb f) answer other = cc
 did_sealed key past a action answer other = tt
 
 -- a done instruction that leaves the words of the pages outside
 pub did_keeps : (past : List Entry) (a : Actor) (action : Action) (answer : Answer) → is_ewb action ≡ false
-    → ((g : Page) (slot : SlotAt) (v : ℕ) → copy (did_by a action answer ∷ past) g ≡ Some (InSlot slot v) → words_of (memory_after a action (flat past)) g ≡ words_of (flat past) g)
+    → ((g : Page) (slot : SlotAt) (v : ℕ) → copy (did_by a action answer ∷ past) g ≡ Some (InSlot slot v)
+    → words_of (memory_after a action (flat past)) g ≡ words_of (flat past) g)
     → KeepsOutside past (did_by a action answer)
 did_keeps past a action answer other words = record {
   made = λ key. did_made key past a action answer other;
   stays = λ g slot v there. did_stays past a action answer other g slot v there;
   words = λ g slot v there.
-      cond_both (accepts (flat past) a action) (memory_after a action (flat past)) (flat past) (λ m. words_of m g ≡ words_of (flat past) g) (λ taken. words g slot v there) (λ not_taken. refl);
+      cond_both (accepts (flat past) a action) (memory_after a action (flat past)) (flat past) (λ m. words_of m g ≡ words_of (flat past) g)
+      (λ taken. words g slot v there) (λ not_taken. refl);
 }
 
 -- ---- pages in frames
 
 -- a page in a frame is none that is outside
-pub framed_apart : (past : List Entry) → OneLiveCopy past → (n : ℕ) (q g : Page) (slot : SlotAt) (v : ℕ) → is_page (content past n) q ≡ true → copy past g ≡ Some (InSlot slot v) → same_page g q ≡ false
+pub framed_apart : (past : List Entry) → OneLiveCopy past → (n : ℕ) (q g : Page) (slot : SlotAt) (v : ℕ) → is_page (content past n) q ≡ true
+    → copy past g ≡ Some (InSlot slot v) → same_page g q ≡ false
 framed_apart past one n q g slot v framed there = by_test (same_page g q) refl
   where
     by_test : (b : Bool) → same_page g q ≡ b → b ≡ false
@@ -129,69 +140,86 @@ framed_apart past one n q g slot v framed there = by_test (same_page g q) refl
         absurd (cc (here, outside))
 
 -- the words of another page
-pub other_words : (m : FlatMemory) (q g : Page) (change : List ℕ → List ℕ) → same_page g q ≡ false → words_of (with_words m q change) g ≡ words_of m g
+pub other_words : (m : FlatMemory) (q g : Page) (change : List ℕ → List ℕ) → same_page g q ≡ false
+    → words_of (with_words m q change) g ≡ words_of m g
 other_words m q g change other = rw other refl
 
 -- ---- the rows that change words
 
 -- a page that is added is in its frame
-add_words : (past : List Entry) (a : Actor) (enclave number : ℕ) (f : Frame) (kind : Kind) (perm : Perm) (init : PageInit) (answer : Answer) (g : Page) (slot : SlotAt) (v : ℕ)
+add_words : (past : List Entry) (a : Actor) (enclave number : ℕ) (f : Frame) (kind : Kind) (perm : Perm) (init : PageInit) (answer : Answer)
+    (g : Page) (slot : SlotAt) (v : ℕ)
     → copy (did_by a (Add enclave number f kind perm init) answer ∷ past) g ≡ Some (InSlot slot v)
     → words_of (memory_after a (Add enclave number f kind perm init) (flat past)) g ≡ words_of (flat past) g
 add_words past a enclave number f kind perm init answer g slot v there = by_test (same_page g (page_at enclave number)) refl
   where
-    by_test : (b : Bool) → same_page g (page_at enclave number) ≡ b → words_of (memory_after a (Add enclave number f kind perm init) (flat past)) g ≡ words_of (flat past) g
+    by_test : (b : Bool) → same_page g (page_at enclave number) ≡ b
+        → words_of (memory_after a (Add enclave number f kind perm init) (flat past)) g ≡ words_of (flat past) g
     by_test false e = rw e refl
     by_test true e =
         let same : g ≡ page_at enclave number = same_pages g (page_at enclave number) e in
-        let outside : cond (same_page (page_at enclave number) (page_at enclave number)) (Some (InFrame f.0)) (copy past g) ≡ Some (InSlot slot v) =
+        let outside : cond (same_page (page_at enclave number) (page_at enclave number)) (Some (InFrame f.0)) (copy past g) ≡ Some
+        (InSlot slot v) =
         ap (λ q. cond (same_page (page_at enclave number) q) (Some (InFrame f.0)) (copy past g)) (sym same) ∙ there in
         let framed : Some (InFrame f.0) ≡ Some (InSlot slot v) = rw (same_page-at enclave number) at outside in
         absurd (cc framed)
 
 -- a word is written into the page of a translation, which is in a frame
-stored_words : (s : State) (past : List Entry) (p off value : ℕ) → Stands s past → Reads s past p off → OneLiveCopy past → (g : Page) (slot : SlotAt) (v : ℕ) → copy past g ≡ Some (InSlot slot v)
+stored_words : (s : State) (past : List Entry) (p off value : ℕ) → Stands s past → Reads s past p off → OneLiveCopy past
+    → (g : Page) (slot : SlotAt) (v : ℕ) → copy past g ≡ Some (InSlot slot v)
     → words_of (stored (flat past) ((flat past).cpus p).inside off value) g ≡ words_of (flat past) g
 stored_words s past p off value stands k one g slot v there =
     let m = flat past in
     let q = page_at k.seat.enclave (off / 4096) in
-    let holds : content past k.found.frame.0 ≡ Holds q kinds.Reg k.found.perm = sym (content_is stands.columns k.found.frame.0) ∙ k.holds ∙ ap (λ n. Holds (page_at k.seat.enclave n) kinds.Reg k.found.perm) k.number in
+    let holds : content past k.found.frame.0 ≡ Holds q kinds.Reg k.found.perm = sym (content_is stands.columns k.found.frame.0) ∙ k.holds
+    ∙ ap (λ n. Holds (page_at k.seat.enclave n) kinds.Reg k.found.perm) k.number in
     let framed : is_page (content past k.found.frame.0) q ≡ true = rw holds (same_page-at k.seat.enclave (off / 4096)) in
-    ap (λ o. words_of (stored m o off value) g) k.flat_inside ∙ other_words m q g _ (framed_apart past one k.found.frame.0 q g slot v framed there)
+    ap (λ o. words_of (stored m o off value) g) k.flat_inside
+    ∙ other_words m q g _ (framed_apart past one k.found.frame.0 q g slot v framed there)
 
 -- a resumption counts in the TCS page, which is in a frame
-resume_words : (s : State) (past : List Entry) (p : Cpu) (enclave tcs : ℕ) (tf sf : Frame) → Stands s past → first_of_row (row_of s (actors.Cpu p) (Resume enclave tcs tf sf)) ≡ None → OneLiveCopy past
-    → (g : Page) (slot : SlotAt) (v : ℕ) → copy past g ≡ Some (InSlot slot v) → words_of (memory_after (actors.Cpu p) (Resume enclave tcs tf sf) (flat past)) g ≡ words_of (flat past) g
+resume_words : (s : State) (past : List Entry) (p : Cpu) (enclave tcs : ℕ) (tf sf : Frame) → Stands s past
+    → first_of_row (row_of s (actors.Cpu p) (Resume enclave tcs tf sf)) ≡ None → OneLiveCopy past
+    → (g : Page) (slot : SlotAt) (v : ℕ) → copy past g ≡ Some (InSlot slot v)
+    → words_of (memory_after (actors.Cpu p) (Resume enclave tcs tf sf) (flat past)) g ≡ words_of (flat past) g
 resume_words s past p enclave tcs tf sf stands allowed one g slot v there =
     let f = tcs_fields (s.words tf.0) in
     let k = enters enclave tcs (enter_sight s p.0 (seat_of enclave tcs tf.0 sf.0)) (resume_saves f) (resume_saved f) allowed in
-    let framed : is_page (content past tf.0) (page_at enclave tcs) ≡ true = rw (← content_is stands.columns tf.0) (not_false _ k.tcs_page) in
-    other_words (flat past) (page_at enclave tcs) g (λ words. with_cssa words ((fields_in (flat past) enclave tcs).cssa - 1)) (framed_apart past one tf.0 (page_at enclave tcs) g slot v framed there)
+    let framed : is_page (content past tf.0) (page_at enclave tcs) ≡ true =
+    rw (← content_is stands.columns tf.0) (not_false _ k.tcs_page) in
+    other_words (flat past) (page_at enclave tcs) g (λ words. with_cssa words ((fields_in (flat past) enclave tcs).cssa - 1))
+    (framed_apart past one tf.0 (page_at enclave tcs) g slot v framed there)
 
 -- an asynchronous exit writes the state save page and the TCS page, which are in the processor's frames
-aex_words : (s : State) (past : List Entry) (p acc : ℕ) → IsSound s → Stands s past → OneLiveCopy past → (g : Page) (slot : SlotAt) (v : ℕ) → copy past g ≡ Some (InSlot slot v)
+aex_words : (s : State) (past : List Entry) (p acc : ℕ) → IsSound s → Stands s past → OneLiveCopy past → (g : Page) (slot : SlotAt) (v : ℕ)
+    → copy past g ≡ Some (InSlot slot v)
     → words_of (saved (flat past) acc ((flat past).cpus p).inside) g ≡ words_of (flat past) g
 aex_words s past p acc sound stands one g slot v there = by_stay (stay past p) refl
   where
     by_stay : (o : Option Stay) → stay past p ≡ o → words_of (saved (flat past) acc ((flat past).cpus p).inside) g ≡ words_of (flat past) g
-    by_stay None e = let inside : ((flat past).cpus p).inside ≡ None = inside_flat stands p ∙ ap inside_of_stay e in ap (λ o. words_of (saved (flat past) acc o) g) inside
+    by_stay None e = let inside : ((flat past).cpus p).inside ≡ None = inside_flat stands p ∙ ap inside_of_stay e in
+        ap (λ o. words_of (saved (flat past) acc o) g) inside
     by_stay (Some st) e =
         let m = flat past in
         let seat = st.seat in
         let is : s.inside p ≡ Some seat = inside_is stands.columns p ∙ ap seat_of_stay e in
         let k = seat_at s sound p seat is in
         let q = page_at seat.enclave seat.tcs in
-        let inside : (m.cpus p).inside ≡ Some (record { enclave = seat.enclave; tcs = seat.tcs }) = inside_flat stands p ∙ ap inside_of_stay e in
+        let inside : (m.cpus p).inside ≡ Some (record { enclave = seat.enclave; tcs = seat.tcs }) = inside_flat stands p
+        ∙ ap inside_of_stay e in
         let tcs_held = tcs_there (s.content seat.tcs_frame) q k.tcs_page k.tcs_kind in
         let tcs_flat = stands.memory.words seat.tcs_frame q kinds.Tcs tcs_held.perm tcs_held.holds in
-        let fields : tcs_fields (s.words seat.tcs_frame) ≡ fields_in m seat.enclave seat.tcs = ap (λ x. tcs_fields (page_words x)) (sym tcs_flat) in
+        let fields : tcs_fields (s.words seat.tcs_frame) ≡ fields_in m seat.enclave seat.tcs =
+        ap (λ x. tcs_fields (page_words x)) (sym tcs_flat) in
         let save = next_save seat.enclave (fields_in m seat.enclave seat.tcs) in
         let tcs_framed : is_page (content past seat.tcs_frame) q ≡ true = rw (← content_is stands.columns seat.tcs_frame) k.tcs_page in
         let ssa_framed : is_page (content past seat.ssa_frame) save ≡ true =
-        subst (λ (x : TcsSight). is_page (content past seat.ssa_frame) (next_save seat.enclave x) ≡ true) fields (rw (← content_is stands.columns seat.ssa_frame) k.ssa_page) in
+        subst (λ (x : TcsSight). is_page (content past seat.ssa_frame) (next_save seat.enclave x) ≡ true) fields
+        (rw (← content_is stands.columns seat.ssa_frame) k.ssa_page) in
         let first = with_words m save (λ words. set words 0 acc) in
         ap (λ o. words_of (saved m acc o) g) inside
-        ∙ other_words first q g (λ words. with_cssa words ((fields_in m seat.enclave seat.tcs).cssa + 1)) (framed_apart past one seat.tcs_frame q g slot v tcs_framed there)
+        ∙ other_words first q g (λ words. with_cssa words ((fields_in m seat.enclave seat.tcs).cssa + 1))
+        (framed_apart past one seat.tcs_frame q g slot v tcs_framed there)
         ∙ other_words m save g (λ words. set words 0 acc) (framed_apart past one seat.ssa_frame save g slot v ssa_framed there)
 
 -- ---- every step
@@ -207,19 +235,25 @@ keeps_cases None Done s t past e a action f k = f refl k
 keeps_cases (Some r) Done s t past e a action f k = keeps_as past e _ k.0 (refused_keeps past a action r)
 
 -- the measurement decides an `init`
-judged_keeps : (s t : State) (past : List Entry) (a : Actor) (enclave : ℕ) (expect : Option (List ℕ)) (e : Entry) → IsJudged s a enclave expect e t → KeepsOutside past e
+judged_keeps : (s t : State) (past : List Entry) (a : Actor) (enclave : ℕ) (expect : Option (List ℕ)) (e : Entry)
+    → IsJudged s a enclave expect e t → KeepsOutside past e
 judged_keeps s t past a enclave expect e done = by_judgement done.judged
   where
-    by_judgement : (IsExpected expect done.digest × (e ≡ did_by a (Init enclave expect) (answers.Hash done.digest)) × (t ≡ after_init s enclave)) ⊎ (IsOther expect done.digest × (e ≡ refused_by a (Init enclave expect) (why.BadMeasure done.digest)) × (t ≡ s))
+    by_judgement : (IsExpected expect done.digest × (e ≡ did_by a (Init enclave expect) (answers.Hash done.digest))
+        × (t ≡ after_init s enclave)) ⊎ (IsOther expect done.digest × (e ≡ refused_by a (Init enclave expect) (why.BadMeasure done.digest))
+        × (t ≡ s))
         → KeepsOutside past e
-    by_judgement (inl is) = keeps_as past e _ is.1 (did_keeps past a (Init enclave expect) (answers.Hash done.digest) refl (λ g slot v there. refl))
+    by_judgement (inl is) =
+        keeps_as past e _ is.1 (did_keeps past a (Init enclave expect) (answers.Hash done.digest) refl (λ g slot v there. refl))
     by_judgement (inr other) = keeps_as past e _ other.1 (refused_keeps past a (Init enclave expect) (why.BadMeasure done.digest))
 
 -- each instruction that can be applied
-pub step_keeps : (s t : State) (past : List Entry) (cpus : ℕ) (a : Actor) (action : Action) (e : Entry) → CanApply cpus a action → IsSound s → IsStep s a action e t → Stands s past → OneLiveCopy past
+pub step_keeps : (s t : State) (past : List Entry) (cpus : ℕ) (a : Actor) (action : Action) (e : Entry) → CanApply cpus a action → IsSound s
+    → IsStep s a action e t → Stands s past → OneLiveCopy past
     → KeepsOutside past e
 step_keeps s t past cpus a (Epa f) e can sound k stands one =
-    keeps_cases _ (IsDone s a (Epa f) e t) s t past e a (Epa f) (λ allowed done. keeps_as past e _ done.0 (did_keeps past a (Epa f) _ refl (λ g slot v there. refl))) k
+    keeps_cases _ (IsDone s a (Epa f) e t) s t past e a (Epa f)
+    (λ allowed done. keeps_as past e _ done.0 (did_keeps past a (Epa f) _ refl (λ g slot v there. refl))) k
 step_keeps s t past cpus a (Create enclave f base size) e can sound k stands one =
     keeps_cases _ (IsDone s a (Create enclave f base size) e t) s t past e a (Create enclave f base size)
     (λ allowed done. keeps_as past e _ done.0 (did_keeps past a (Create enclave f base size) _ refl (λ g slot v there. refl))) k
@@ -227,17 +261,23 @@ step_keeps s t past cpus a (Add enclave number f kind perm init) e can sound k s
     keeps_cases _ (IsDone s a (Add enclave number f kind perm init) e t) s t past e a (Add enclave number f kind perm init)
     (λ allowed done.
     keeps_as past e _ done.0
-    (did_keeps past a (Add enclave number f kind perm init) answers.Plain refl (λ g slot v there. add_words past a enclave number f kind perm init answers.Plain g slot v there))) k
+    (did_keeps past a (Add enclave number f kind perm init) answers.Plain refl
+    (λ g slot v there. add_words past a enclave number f kind perm init answers.Plain g slot v there))) k
 step_keeps s t past cpus a (Extend f chunk) e can sound k stands one =
-    keeps_cases _ (IsDone s a (Extend f chunk) e t) s t past e a (Extend f chunk) (λ allowed done. keeps_as past e _ done.0 (did_keeps past a (Extend f chunk) _ refl (λ g slot v there. refl))) k
+    keeps_cases _ (IsDone s a (Extend f chunk) e t) s t past e a (Extend f chunk)
+    (λ allowed done. keeps_as past e _ done.0 (did_keeps past a (Extend f chunk) _ refl (λ g slot v there. refl))) k
 step_keeps s t past cpus a (Init enclave expect) e can sound k stands one =
-    keeps_cases _ (IsDone s a (Init enclave expect) e t) s t past e a (Init enclave expect) (λ allowed done. judged_keeps s t past a enclave expect e done) k
+    keeps_cases _ (IsDone s a (Init enclave expect) e t) s t past e a (Init enclave expect)
+    (λ allowed done. judged_keeps s t past a enclave expect e done) k
 step_keeps s t past cpus a (Block f) e can sound k stands one =
-    keeps_cases _ (IsDone s a (Block f) e t) s t past e a (Block f) (λ allowed done. keeps_as past e _ done.0 (did_keeps past a (Block f) _ refl (λ g slot v there. refl))) k
+    keeps_cases _ (IsDone s a (Block f) e t) s t past e a (Block f)
+    (λ allowed done. keeps_as past e _ done.0 (did_keeps past a (Block f) _ refl (λ g slot v there. refl))) k
 step_keeps s t past cpus a (Track enclave) e can sound k stands one =
-    keeps_cases _ (IsDone s a (Track enclave) e t) s t past e a (Track enclave) (λ allowed done. keeps_as past e _ done.0 (did_keeps past a (Track enclave) _ refl (λ g slot v there. refl))) k
+    keeps_cases _ (IsDone s a (Track enclave) e t) s t past e a (Track enclave)
+    (λ allowed done. keeps_as past e _ done.0 (did_keeps past a (Track enclave) _ refl (λ g slot v there. refl))) k
 step_keeps s t past cpus a (EwbStart f slot) e can sound k stands one =
-    keeps_cases _ (IsDone s a (EwbStart f slot) e t) s t past e a (EwbStart f slot) (λ allowed done. keeps_as past e _ done.0 (did_keeps past a (EwbStart f slot) _ refl (λ g at v there. refl))) k
+    keeps_cases _ (IsDone s a (EwbStart f slot) e t) s t past e a (EwbStart f slot)
+    (λ allowed done. keeps_as past e _ done.0 (did_keeps past a (EwbStart f slot) _ refl (λ g at v there. refl))) k
 step_keeps s t past cpus a (EldStart f page slot) e can sound k stands one =
     keeps_cases _ (IsDone s a (EldStart f page slot) e t) s t past e a (EldStart f page slot)
     (λ allowed done. keeps_as past e _ done.0 (did_keeps past a (EldStart f page slot) _ refl (λ g at v there. refl))) k
@@ -248,14 +288,17 @@ step_keeps s t past cpus (actors.Cpu p) (Resume enclave tcs tf sf) e can sound k
     keeps_cases _ (IsDone s (actors.Cpu p) (Resume enclave tcs tf sf) e t) s t past e (actors.Cpu p) (Resume enclave tcs tf sf)
     (λ allowed done.
     keeps_as past e _ done.0
-    (did_keeps past (actors.Cpu p) (Resume enclave tcs tf sf) _ refl (λ g slot v there. resume_words s past p enclave tcs tf sf stands allowed one g slot v there))) k
+    (did_keeps past (actors.Cpu p) (Resume enclave tcs tf sf) _ refl
+    (λ g slot v there. resume_words s past p enclave tcs tf sf stands allowed one g slot v there))) k
 step_keeps s t past cpus (actors.Cpu p) Exit e can sound k stands one =
-    keeps_cases _ (IsDone s (actors.Cpu p) Exit e t) s t past e (actors.Cpu p) Exit (λ allowed done. keeps_as past e _ done.0 (did_keeps past (actors.Cpu p) Exit _ refl (λ g slot v there. refl))) k
+    keeps_cases _ (IsDone s (actors.Cpu p) Exit e t) s t past e (actors.Cpu p) Exit
+    (λ allowed done. keeps_as past e _ done.0 (did_keeps past (actors.Cpu p) Exit _ refl (λ g slot v there. refl))) k
 step_keeps s t past cpus (actors.Cpu p) (Aex cause) e can sound k stands one =
     keeps_cases _ (IsDone s (actors.Cpu p) (Aex cause) e t) s t past e (actors.Cpu p) (Aex cause)
     (λ allowed done.
     keeps_as past e _ done.0
-    (did_keeps past (actors.Cpu p) (Aex cause) _ refl (λ g slot v there. aex_words s past p.0 ((flat past).cpus p.0).acc sound stands one g slot v there))) k
+    (did_keeps past (actors.Cpu p) (Aex cause) _ refl
+    (λ g slot v there. aex_words s past p.0 ((flat past).cpus p.0).acc sound stands one g slot v there))) k
 step_keeps s t past cpus (actors.Cpu p) (Fill number f) e can sound k stands one =
     keeps_cases _ (IsDone s (actors.Cpu p) (Fill number f) e t) s t past e (actors.Cpu p) (Fill number f)
     (λ allowed done. keeps_as past e _ done.0 (did_keeps past (actors.Cpu p) (Fill number f) _ refl (λ g slot v there. refl))) k
@@ -267,14 +310,16 @@ step_keeps s t past cpus (actors.Cpu p) (Store off value) e can sound k stands o
     (λ allowed done.
     keeps_as past e _ done.0
     (did_keeps past (actors.Cpu p) (Store off value) _ refl
-    (λ g slot v there. stored_words s past p.0 off value stands (access_allowed s past p.0 off allows_write sound stands allowed).reads one g slot v there))) k
+    (λ g slot v there. stored_words s past p.0 off value stands (access_allowed s past p.0 off allows_write sound stands allowed).reads one
+    g slot v there))) k
 step_keeps s t past cpus (actors.Cpu p) (Xadd off value) e can sound k stands one =
     keeps_cases _ (IsDone s (actors.Cpu p) (Xadd off value) e t) s t past e (actors.Cpu p) (Xadd off value)
     (λ allowed done.
     keeps_as past e _ done.0
     (did_keeps past (actors.Cpu p) (Xadd off value) _ refl
     (λ g slot v there.
-    stored_words s past p.0 off (sum_of (word_seen (flat past) ((flat past).cpus p.0).inside off) value) stands (access_allowed s past p.0 off allows_update sound stands allowed).reads one g slot v there))) k
+    stored_words s past p.0 off (sum_of (word_seen (flat past) ((flat past).cpus p.0).inside off) value) stands
+    (access_allowed s past p.0 off allows_update sound stands allowed).reads one g slot v there))) k
 step_keeps s t past cpus (actors.Cpu p) (Set value) e can sound k stands one =
     keeps_cases _ (IsDone s (actors.Cpu p) (Set value) e t) s t past e (actors.Cpu p) (Set value)
     (λ allowed done. keeps_as past e _ done.0 (did_keeps past (actors.Cpu p) (Set value) _ refl (λ g slot v there. refl))) k
@@ -289,10 +334,13 @@ step_keeps s t past cpus (actors.Cpu p) (OutLoad enclave off) e can sound k stan
     (λ allowed done. keeps_as past e _ done.0 (did_keeps past (actors.Cpu p) (OutLoad enclave off) _ refl (λ g slot v there. refl))) k
 step_keeps s t past cpus (actors.Cpu p) (OutStore enclave off value) e can sound k stands one =
     keeps_cases _ (IsDone s (actors.Cpu p) (OutStore enclave off value) e t) s t past e (actors.Cpu p) (OutStore enclave off value)
-    (λ allowed done. keeps_as past e _ done.0 (did_keeps past (actors.Cpu p) (OutStore enclave off value) _ refl (λ g slot v there. refl))) k
+    (λ allowed done. keeps_as past e _ done.0 (did_keeps past (actors.Cpu p) (OutStore enclave off value) _ refl (λ g slot v there. refl)))
+    k
 step_keeps s t past cpus a action e can sound k stands one = absurd can
 
 -- a step leaves what is outside
-pub outside_step : (key : List ℕ) (s t : State) (past : List Entry) (cpus : ℕ) (a : Actor) (action : Action) (e : Entry) → CanApply cpus a action → IsSound s → IsStep s a action e t → Stands s past → OneLiveCopy past
+pub outside_step : (key : List ℕ) (s t : State) (past : List Entry) (cpus : ℕ) (a : Actor) (action : Action) (e : Entry)
+    → CanApply cpus a action → IsSound s → IsStep s a action e t → Stands s past → OneLiveCopy past
     → OutsideBytes key past → OutsideBytes key (e ∷ past)
-outside_step key s t past cpus a action e can sound k stands one outside = outside_more key past e (step_keeps s t past cpus a action e can sound k stands one) outside
+outside_step key s t past cpus a action e can sound k stands one outside =
+    outside_more key past e (step_keeps s t past cpus a action e can sound k stands one) outside

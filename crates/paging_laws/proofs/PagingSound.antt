@@ -27,9 +27,18 @@ use Rattle.paging_laws.proofs.GuardCpus.{noted_at}
 -- ---- the columns on which no seat depends
 
 -- any change of the blocks, the epochs, the starts, the slots and the next version
-sound_beside : (s : State) (blocked : ℕ → Option ℕ) (epoch : ℕ → ℕ) (start : ℕ → Option Start) (version_in : SlotAt → ℕ) (is_slot_busy : SlotAt → Bool) (next_version : ℕ) → IsSound s
-    → IsSound (record s { blocked = blocked; epoch = epoch; start = start; version_in = version_in; is_slot_busy = is_slot_busy; next_version = next_version })
-sound_beside s blocked epoch start version_in is_slot_busy next_version sound = record { seated = sound.seated; busy = sound.busy; apart = sound.apart; sized = sound.sized }
+sound_beside : (s : State) (blocked : ℕ → Option ℕ) (epoch : ℕ → ℕ) (start : ℕ → Option Start) (version_in : SlotAt → ℕ)
+    (is_slot_busy : SlotAt → Bool) (next_version : ℕ) → IsSound s
+    → IsSound (record s {
+      blocked = blocked;
+      epoch = epoch;
+      start = start;
+      version_in = version_in;
+      is_slot_busy = is_slot_busy;
+      next_version = next_version;
+    })
+sound_beside s blocked epoch start version_in is_slot_busy next_version sound =
+    record { seated = sound.seated; busy = sound.busy; apart = sound.apart; sized = sound.sized }
 
 -- a block
 pub sound_block : (s : State) (f : ℕ) → IsSound s → IsSound (after_block s f)
@@ -37,7 +46,8 @@ sound_block s f sound = sound_beside s (after_block s f).blocked s.epoch s.start
 
 -- .. and a track
 pub sound_track : (s : State) (enclave : ℕ) → IsSound s → IsSound (after_track s enclave)
-sound_track s enclave sound = sound_beside s s.blocked (after_track s enclave).epoch s.start s.version_in s.is_slot_busy s.next_version sound
+sound_track s enclave sound =
+    sound_beside s s.blocked (after_track s enclave).epoch s.start s.version_in s.is_slot_busy s.next_version sound
 
 -- ---- a frame that no processor uses
 
@@ -58,8 +68,10 @@ unusable s f sound none p seat is =
       tcs = apart f seat.tcs_frame (λ same. none seat.enclave (rw same h.tcs));
       ssa = apart f seat.ssa_frame (λ same. none seat.enclave (rw same h.ssa));
       cache =
-          All-weaker (λ t. IsTranslation seat.enclave t (s.content t.frame.0) (s.is_sealing t.frame.0)) (λ (t : Translation). (f == t.frame.0) ≡ false)
-          (λ t x. apart f t.frame.0 (λ same. none seat.enclave (rw same (record { ours = ap enclave_in x.page; settled = x.settled })))) (s.cache p) h.cache;
+          All-weaker (λ t. IsTranslation seat.enclave t (s.content t.frame.0) (s.is_sealing t.frame.0))
+          (λ (t : Translation). (f == t.frame.0) ≡ false)
+          (λ t x. apart f t.frame.0 (λ same. none seat.enclave (rw same (record { ours = ap enclave_in x.page; settled = x.settled }))))
+          (s.cache p) h.cache;
     }
 
 -- .. as it holds no page of an enclave
@@ -67,7 +79,8 @@ pub unusable_empty : (s : State) (f : ℕ) → IsSound s → enclave_in (s.conte
 unusable_empty s f sound empty = unusable s f sound (λ enclave u. let ours = u.ours in cc (ours, empty))
 
 -- a drained frame is used by nobody: who was inside when it was blocked has left
-pub drained_unused : (s : State) (f b : ℕ) → IsSound s → IsGuarded s → s.blocked f ≡ Some b → IsDrainedAt s.inside s.noted (enclave_in (s.content f)) (epoch_in s f) b → NobodyUses s f
+pub drained_unused : (s : State) (f b : ℕ) → IsSound s → IsGuarded s → s.blocked f ≡ Some b
+    → IsDrainedAt s.inside s.noted (enclave_in (s.content f)) (epoch_in s f) b → NobodyUses s f
 drained_unused s f b sound h blocked drained p seat is =
     let at = seat_at s sound p seat is in
     let k = noted_at s h p seat is in
@@ -75,7 +88,8 @@ drained_unused s f b sound h blocked drained p seat is =
       tcs = apart f seat.tcs_frame (λ same. used seat.tcs_frame same at.tcs.ours k.tcs);
       ssa = apart f seat.ssa_frame (λ same. used seat.ssa_frame same at.ssa.ours k.ssa);
       cache =
-          all_both (λ t. IsTranslation seat.enclave t (s.content t.frame.0) (s.is_sealing t.frame.0)) (λ t. IsNoEarlier (s.noted p) (s.blocked t.frame.0)) (λ t. (f == t.frame.0) ≡ false)
+          all_both (λ t. IsTranslation seat.enclave t (s.content t.frame.0) (s.is_sealing t.frame.0))
+          (λ t. IsNoEarlier (s.noted p) (s.blocked t.frame.0)) (λ t. (f == t.frame.0) ≡ false)
           (λ t x early. apart f t.frame.0 (λ same. used t.frame.0 same (ap enclave_in x.page) early)) (s.cache p) at.cache k.cache;
     }
   where
@@ -88,15 +102,18 @@ drained_unused s f b sound h blocked drained p seat is =
 
 -- a frame that nobody uses may change
 pub sound_apart : (s : State) (f : ℕ) (content : ℕ → Content) (is_sealing : ℕ → Bool) (words : ℕ → List ℕ) → IsSound s → NobodyUses s f
-    → ((n : ℕ) → (f == n) ≡ false → (content n ≡ s.content n) × (is_sealing n ≡ s.is_sealing n) × (words n ≡ s.words n)) → ((n : ℕ) → length (words n) ≡ 512) → IsSound (record s { content = content; is_sealing = is_sealing; words = words })
+    → ((n : ℕ) → (f == n) ≡ false → (content n ≡ s.content n) × (is_sealing n ≡ s.is_sealing n) × (words n ≡ s.words n))
+    → ((n : ℕ) → length (words n) ≡ 512) → IsSound (record s { content = content; is_sealing = is_sealing; words = words })
 sound_apart s f content is_sealing words sound unused same sized = record {
-  seated = each_there s.inside (λ p. IsSeated content is_sealing words (s.cache p)) (λ p seat is. seated p seat (seat_at s sound p seat is) (unused p seat is));
+  seated = each_there s.inside (λ p. IsSeated content is_sealing words (s.cache p))
+      (λ p seat is. seated p seat (seat_at s sound p seat is) (unused p seat is));
   busy = sound.busy;
   apart = sound.apart;
   sized = sized;
 }
   where
-    seated : (p : ℕ) (seat : Seat) → IsSeated s.content s.is_sealing s.words (s.cache p) seat → IsUnused f (s.cache p) seat → IsSeated content is_sealing words (s.cache p) seat
+    seated : (p : ℕ) (seat : Seat) → IsSeated s.content s.is_sealing s.words (s.cache p) seat → IsUnused f (s.cache p) seat
+        → IsSeated content is_sealing words (s.cache p) seat
     seated p seat h u =
         let tcs = same seat.tcs_frame u.tcs in
         let ssa = same seat.ssa_frame u.ssa in
@@ -108,14 +125,17 @@ sound_apart s f content is_sealing words sound unused same sized = record {
           ssa_page = rw (ssa.0, tcs.2) h.ssa_page;
           ssa_kind = rw ssa.0 h.ssa_kind;
           cache =
-              all_both (λ t. IsTranslation seat.enclave t (s.content t.frame.0) (s.is_sealing t.frame.0)) (λ t. (f == t.frame.0) ≡ false) (λ t. IsTranslation seat.enclave t (content t.frame.0) (is_sealing t.frame.0))
+              all_both (λ t. IsTranslation seat.enclave t (s.content t.frame.0) (s.is_sealing t.frame.0)) (λ t. (f == t.frame.0) ≡ false)
+              (λ t. IsTranslation seat.enclave t (content t.frame.0) (is_sealing t.frame.0))
               (λ t x e. let k = same t.frame.0 e in rw (k.0, k.1) x) (s.cache p) h.cache u.cache;
         }
 
 -- ---- write-out and reload
 
 -- a drained page starts to go out
-pub sound_ewbstart : (s : State) (f : ℕ) (slot : SlotAt) → first_of_row (ewbstart_row (sight s f) (slot_sight s slot) (drain_sight s f) (is_version_spent s)) ≡ None → IsGuarded s → IsSound s → IsSound (after_ewbstart s f slot)
+pub sound_ewbstart : (s : State) (f : ℕ) (slot : SlotAt)
+    → first_of_row (ewbstart_row (sight s f) (slot_sight s slot) (drain_sight s f) (is_version_spent s)) ≡ None → IsGuarded s → IsSound s
+    → IsSound (after_ewbstart s f slot)
 sound_ewbstart s f slot allowed h sound = by_block (s.blocked f) refl (starts_out s f slot allowed).blocked
   where
     by_block : (o : Option ℕ) → s.blocked f ≡ o → is_some o ≡ true → IsSound (after_ewbstart s f slot)
@@ -127,12 +147,15 @@ sound_ewbstart s f slot allowed h sound = by_block (s.blocked f) refl (starts_ou
         (sound_apart s f s.content t.is_sealing s.words sound unused (λ n e. (refl, rw e refl, refl)) sound.sized)
 
 -- a free frame starts to wait for a page
-pub sound_eldstart : (s : State) (f : ℕ) (page : Page) (slot : SlotAt) → first_of_row (eldstart_row (sight s f) (is_some (s.added page)) (slot_sight s slot)) ≡ None → IsSound s → IsSound (after_eldstart s f page slot)
+pub sound_eldstart : (s : State) (f : ℕ) (page : Page) (slot : SlotAt)
+    → first_of_row (eldstart_row (sight s f) (is_some (s.added page)) (slot_sight s slot)) ≡ None → IsSound s
+    → IsSound (after_eldstart s f page slot)
 sound_eldstart s f page slot allowed sound =
     let t = after_eldstart s f page slot in
     let k = starts_in s f page slot allowed in
     sound_beside (record s { content = t.content }) t.blocked s.epoch t.start s.version_in t.is_slot_busy s.next_version
-    (sound_apart s f t.content s.is_sealing s.words sound (unusable_empty s f sound (rw k.free refl)) (λ n e. (rw e refl, refl, refl)) sound.sized)
+    (sound_apart s f t.content s.is_sealing s.words sound (unusable_empty s f sound (rw k.free refl)) (λ n e. (rw e refl, refl, refl))
+    sound.sized)
 
 -- a frame of zeros has 512 words
 pub zero_sized : length zero_words ≡ 512
@@ -143,21 +166,25 @@ zero_sized = length-replicate {A = ℕ} 512 0
 freed : (s : State) (f : ℕ) (start : Start) → NobodyUses s f → IsSound s → IsSound (after_failed_eld s f start)
 freed s f start unused sound =
     let t = after_failed_eld s f start in
-    sound_beside (record s { content = t.content; is_sealing = t.is_sealing; words = t.words }) t.blocked s.epoch t.start s.version_in t.is_slot_busy s.next_version
-    (sound_apart s f t.content t.is_sealing t.words sound unused (λ n e. (rw e refl, rw e refl, rw e refl)) (λ n. cond_both (f == n) zero_words (s.words n) (λ ws. length ws ≡ 512) (λ _. zero_sized) (λ _. sound.sized n)))
+    sound_beside (record s { content = t.content; is_sealing = t.is_sealing; words = t.words }) t.blocked s.epoch t.start s.version_in
+    t.is_slot_busy s.next_version
+    (sound_apart s f t.content t.is_sealing t.words sound unused (λ n e. (rw e refl, rw e refl, rw e refl))
+    (λ n. cond_both (f == n) zero_words (s.words n) (λ ws. length ws ≡ 512) (λ _. zero_sized) (λ _. sound.sized n)))
 
 -- a page is out
 pub sound_ewb : (s : State) (f : ℕ) (start : Start) → s.is_sealing f ≡ true → IsSound s → IsSound (after_ewb s f start)
 sound_ewb s f start leaving sound =
     let t = after_failed_eld s f start in
-    sound_beside t t.blocked t.epoch t.start (after_ewb s f start).version_in t.is_slot_busy t.next_version (freed s f start (unusable s f sound (λ enclave u. false≢true (sym u.settled ∙ leaving))) sound)
+    sound_beside t t.blocked t.epoch t.start (after_ewb s f start).version_in t.is_slot_busy t.next_version
+    (freed s f start (unusable s f sound (λ enclave u. false≢true (sym u.settled ∙ leaving))) sound)
 
 -- a load is refused
 pub sound_failed_eld : (s : State) (f : ℕ) (start : Start) → s.content f ≡ IsLoading → IsSound s → IsSound (after_failed_eld s f start)
 sound_failed_eld s f start waits sound = freed s f start (unusable_empty s f sound (rw waits refl)) sound
 
 -- a page is back, with its words
-pub sound_eld : (s : State) (f : ℕ) (start : Start) (page : Page) (kind : Kind) (perm : Perm) (words : List ℕ) → s.content f ≡ IsLoading → length words ≡ 512 → IsSound s → IsSound (after_eld s f start page kind perm words)
+pub sound_eld : (s : State) (f : ℕ) (start : Start) (page : Page) (kind : Kind) (perm : Perm) (words : List ℕ) → s.content f ≡ IsLoading
+    → length words ≡ 512 → IsSound s → IsSound (after_eld s f start page kind perm words)
 sound_eld s f start page kind perm words waits long sound =
     let t = after_eld s f start page kind perm words in
     sound_beside (record s { content = t.content; words = t.words }) t.blocked s.epoch t.start t.version_in t.is_slot_busy s.next_version

@@ -32,5 +32,7 @@ seated_same : (o : Option Stay) (g : Page) → is_seated_by (seat_of_stay o) g �
 seated_same None g = refl
 seated_same (Some t) g = refl
 
-pub seated_in_flat : (s : State) (past : List Entry) → Stands s past → (p : ℕ) (g : Page) → is_seated_by (s.inside p) g ≡ is_inside_by ((flat past).cpus p).inside g
-seated_in_flat s past stands p g = ap (λ o. is_seated_by o g) (inside_is stands.columns p) ∙ seated_same (stay past p) g ∙ sym (ap (λ o. is_inside_by o g) (inside_flat stands p))
+pub seated_in_flat : (s : State) (past : List Entry) → Stands s past → (p : ℕ) (g : Page)
+    → is_seated_by (s.inside p) g ≡ is_inside_by ((flat past).cpus p).inside g
+seated_in_flat s past stands p g = ap (λ o. is_seated_by o g) (inside_is stands.columns p) ∙ seated_same (stay past p) g
+    ∙ sym (ap (λ o. is_inside_by o g) (inside_flat stands p))

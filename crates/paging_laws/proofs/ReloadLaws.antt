@@ -45,7 +45,8 @@ use Rattle.paging_laws.proofs.ColumnLaws.{enclave_flat, start_is}
 -- ---- the page of a header
 
 -- headers are one only where pages are
-header_page : (a b : ℕ) (g h : Page) (kind other : Kind) (perm its : Perm) → (g.enclave ≡ h.enclave → a ≡ b) → header_of a g kind perm ≡ header_of b h other its → g ≡ h
+header_page : (a b : ℕ) (g h : Page) (kind other : Kind) (perm its : Perm) → (g.enclave ≡ h.enclave → a ≡ b)
+    → header_of a g kind perm ≡ header_of b h other its → g ≡ h
 header_page a b g h kind other perm its bases same =
     let enclave : g.enclave ≡ h.enclave = ap (λ (x : Header). x.enclave) same in
     let base : a ≡ b = bases enclave in
@@ -76,7 +77,8 @@ pub record BringsBack (key : List ℕ) (past : List Entry) (n : ℕ) (g : Page) 
 abbrev given_with : ℕ → ℕ → Sealed → Given
 given_with count version rec = record { made = count; version = version; header = rec.header; cipher = rec.cipher; tag = rec.tag }
 
-module _ (k : Making) (key : List ℕ) (past : List Entry) (positive : 1 ≤ k.first_version) (rules : KeepsMoves k past) (sealed : Along (SealedRule key) past) (outside : OutsideBytes key past) where
+module _ (k : Making) (key : List ℕ) (past : List Entry) (positive : 1 ≤ k.first_version) (rules : KeepsMoves k past)
+    (sealed : Along (SealedRule key) past) (outside : OutsideBytes key past) where
   -- each record that was made carries its own tag
   own_tags : All (λ one. one.tag ≡ tag_of key (made_of one)) (made_by key past)
   own_tags i d low =
@@ -84,9 +86,11 @@ module _ (k : Making) (key : List ℕ) (past : List Entry) (positive : 1 ≤ k.f
       (once.own _ (i, _, low, get_or_default (made_by key past) i _ _ low, refl)).tagged
 
   -- a record that fits a page whose start found its version is the record of the page's last write-out
-  pub brought_back : (n : ℕ) (start : Start) (g : Page) (rec : Sealed) (given : List Given) → open_start past n ≡ Some start → start.loads ≡ Some g
+  pub brought_back : (n : ℕ) (start : Start) (g : Page) (rec : Sealed) (given : List Given) → open_start past n ≡ Some start
+      → start.loads ≡ Some g
       → HasHeader past g rec.header → rec.tag ≡ tag key start.version rec.header rec.cipher
-      → Unforged key (made_by key past) (given ++ given_with (length (made_by key past)) start.version rec ∷ []) → BringsBack key past n g start.version rec
+      → Unforged key (made_by key past) (given ++ given_with (length (made_by key past)) start.version rec ∷ [])
+      → BringsBack key past n g start.version rec
   brought_back n start g rec given opened loads headed fits unforged =
       by_made (fitting_made key (made_by key past) given last own_tags refl unforged fits)
     where
@@ -111,8 +115,10 @@ module _ (k : Making) (key : List ℕ) (past : List Entry) (positive : 1 ≤ k.f
           let its_cipher : one.cipher ≡ rec.cipher = ap (λ (x : Tagged). x.cipher) same in
           -- the record is the page's
           let its_page : own.page ≡ g =
-          header_page own.header.enclave.base headed.enclave.base own.page g own.header.page.kind headed.kind own.header.page.perm headed.perm
-          (λ in_one. one_base own.header.enclave headed.enclave (sym own.header.made ∙ ap (flat past).enclaves in_one ∙ headed.made)) (sym own.header.headed ∙ its_header ∙ headed.headed) in
+          header_page own.header.enclave.base headed.enclave.base own.page g own.header.page.kind headed.kind own.header.page.perm
+          headed.perm
+          (λ in_one. one_base own.header.enclave headed.enclave (sym own.header.made ∙ ap (flat past).enclaves in_one ∙ headed.made))
+          (sym own.header.headed ∙ its_header ∙ headed.headed) in
           -- .. and so is the slot's version
           let filled = (live_copies k past positive rules).filled start.slot (rw found.0 found.1) in
           let there : copy past filled.0 ≡ Some (InSlot start.slot version) = filled.1 ∙ ap (λ v. Some (InSlot start.slot v)) found.0 in
@@ -123,14 +129,17 @@ module _ (k : Making) (key : List ℕ) (past : List Entry) (positive : 1 ≤ k.f
           let under = copy_is_last past g start.slot version out in
           let last_made = once.last g _ under.1 in
           let last_same : last_made.0 ≡ one = once.once last_made.0 one last_made.1.made made (last_made.1.version ∙ sym its_version) in
-          let its_tag : under.0 ≡ rec.tag = sym last_made.1.tag ∙ ap (λ (x : Made). x.tag) last_same ∙ own.tagged ∙ ap (tag_of key) same ∙ sym fits in
+          let its_tag : under.0 ≡ rec.tag = sym last_made.1.tag ∙ ap (λ (x : Made). x.tag) last_same ∙ own.tagged ∙ ap (tag_of key) same
+          ∙ sym fits in
           -- the bytes are the page's
           let bytes = outside g start.slot version out in
           let bytes_same : bytes.0 ≡ one = once.once bytes.0 one bytes.1.made made (bytes.1.version ∙ sym its_version) in
-          let enciphered : rec.cipher ≡ cipher key version (bytes_of (memory.words_of (flat past) g)) = sym its_cipher ∙ ap (λ (x : Made). x.cipher) (sym bytes_same) ∙ bytes.1.cipher in
+          let enciphered : rec.cipher ≡ cipher key version (bytes_of (memory.words_of (flat past) g)) = sym its_cipher
+          ∙ ap (λ (x : Made). x.cipher) (sym bytes_same) ∙ bytes.1.cipher in
           record {
             last = record { last = under.1 ∙ ap (λ t. Some (record { version = version; tag = t })) its_tag; slot = rw opened found.0 };
-            words = ap (λ c. words_of (cipher key version c)) enciphered ∙ ap words_of (cipher_twice key version (bytes_of (memory.words_of (flat past) g)) bytes.1.size) ∙ bytes.1.back;
+            words = ap (λ c. words_of (cipher key version c)) enciphered
+                ∙ ap words_of (cipher_twice key version (bytes_of (memory.words_of (flat past) g)) bytes.1.size) ∙ bytes.1.back;
           }
 
 -- ---- the machine
@@ -144,7 +153,11 @@ one_header : (a b : Header) → same_header a b ≡ true → a ≡ b
 one_header a b is =
     let first = both_true ((a.enclave == b.enclave) && (a.address == b.address)) (a.flags == b.flags) is in
     let second = both_true (a.enclave == b.enclave) (a.address == b.address) first.0 in
-    λ i. record { enclave = eqb-true a.enclave b.enclave second.0 i; address = eqb-true a.address b.address second.1 i; flags = eqb-true a.flags b.flags first.1 i }
+    λ i. record {
+      enclave = eqb-true a.enclave b.enclave second.0 i;
+      address = eqb-true a.address b.address second.1 i;
+      flags = eqb-true a.flags b.flags first.1 i;
+    }
 
 pub row_allows : (s : State) (f : ℕ) (coming : IsComing s f) (rec : Sealed) → first_of_row (commit_row s f coming rec) ≡ None
     → Allows (tag s.key coming.start.version rec.header rec.cipher) coming.header rec
@@ -156,9 +169,11 @@ row_allows s f coming rec allowed =
     }
 
 -- a machine that stands in all for its entries keeps the rules on instructions and versions
-pub keeps_moves : (made : Making) (s : State) (past : List Entry) (records : List Made) → StandsWithAllRules made s past records → KeepsMoves made past
+pub keeps_moves : (made : Making) (s : State) (past : List Entry) (records : List Made) → StandsWithAllRules made s past records
+    → KeepsMoves made past
 keeps_moves made s past records h = record {
-  refusal = subst (λ frames. Along (RefusalRule frames) past) (ap (λ (m : Making). m.frames) h.shaped.shape.making) h.standing.rules.refusal;
+  refusal = subst (λ frames. Along (RefusalRule frames) past) (ap (λ (m : Making). m.frames) h.shaped.shape.making)
+      h.standing.rules.refusal;
   flat = h.standing.rules.flat;
   moves = h.moves;
   evict = h.shaped.evict;
@@ -166,8 +181,10 @@ keeps_moves made s past records h = record {
 }
 
 -- a record that the commit's row allows brings the page back that its frame waits for
-pub reload_back : (made : Making) (s : State) (past : List Entry) (records : List Made) (given : List Given) (f : ℕ) (coming : IsComing s f) (rec : Sealed)
-    → first_of_row (commit_row s f coming rec) ≡ None → StandsWithAllRules made s past records → Unforged made.key records (given ++ looked_at s f records rec)
+pub reload_back : (made : Making) (s : State) (past : List Entry) (records : List Made) (given : List Given) (f : ℕ) (coming : IsComing s f)
+    (rec : Sealed)
+    → first_of_row (commit_row s f coming rec) ≡ None → StandsWithAllRules made s past records
+    → Unforged made.key records (given ++ looked_at s f records rec)
     → BringsBack made.key past f coming.page coming.start.version rec
 reload_back made s past records given f coming rec allowed h unforged =
     let allows = row_allows s f coming rec allowed in
@@ -180,24 +197,36 @@ reload_back made s past records given f coming rec allowed h unforged =
       perm = coming.perm;
       headed = allows.header ∙ coming.headed;
     } in
-    let fits : rec.tag ≡ tag made.key coming.start.version rec.header rec.cipher = allows.tag ∙ ap (λ k. tag k coming.start.version rec.header rec.cipher) key in
-    let looked : looked_at s f records rec ≡ given_with (length records) coming.start.version rec ∷ [] = ap (λ o. looked_at_by o records rec) coming.opened in
-    let last : Unforged made.key records (given ++ given_with (length records) coming.start.version rec ∷ []) = subst (λ more. Unforged made.key records (given ++ more)) looked unforged in
-    let all : Unforged made.key (made_by made.key past) (given ++ given_with (length (made_by made.key past)) coming.start.version rec ∷ []) =
+    let fits : rec.tag ≡ tag made.key coming.start.version rec.header rec.cipher = allows.tag
+    ∙ ap (λ k. tag k coming.start.version rec.header rec.cipher) key in
+    let looked : looked_at s f records rec ≡ given_with (length records) coming.start.version rec ∷ [] =
+    ap (λ o. looked_at_by o records rec) coming.opened in
+    let last : Unforged made.key records (given ++ given_with (length records) coming.start.version rec ∷ []) =
+    subst (λ more. Unforged made.key records (given ++ more)) looked unforged in
+    let all : Unforged made.key (made_by made.key past)
+    (given ++ given_with (length (made_by made.key past)) coming.start.version rec ∷ []) =
     subst (λ (list : List Made). Unforged made.key list (given ++ given_with (length list) coming.start.version rec ∷ [])) h.records last in
-    brought_back made made.key past h.positive (keeps_moves made s past records h) h.sealed h.outside f coming.start coming.page rec given opened coming.loads headed fits all
+    brought_back made made.key past h.positive (keeps_moves made s past records h) h.sealed h.outside f coming.start coming.page rec given
+    opened coming.loads headed fits all
 
 -- its entry keeps the rule on reloads
-pub reload_fresh : (made : Making) (s t : State) (past : List Entry) (records : List Made) (given : List Given) (a : Actor) (f : Frame) (rec : Sealed) (e : Entry) (back : IsReloaded s a f rec e t)
-    → first_of_row (commit_row s f.0 back.coming rec) ≡ None → StandsWithAllRules made s past records → Unforged made.key records (given ++ looked_at s f.0 records rec) → ReloadRule past e
+pub reload_fresh : (made : Making) (s t : State) (past : List Entry) (records : List Made) (given : List Given) (a : Actor) (f : Frame)
+    (rec : Sealed) (e : Entry) (back : IsReloaded s a f rec e t)
+    → first_of_row (commit_row s f.0 back.coming rec) ≡ None → StandsWithAllRules made s past records
+    → Unforged made.key records (given ++ looked_at s f.0 records rec) → ReloadRule past e
 reload_fresh made s t past records given a f rec e back allowed h unforged =
-    let row : (e ≡ did_by a (Eld f) (answers.Moved back.coming.page back.coming.start.version rec.tag)) × (t ≡ after_eld s f.0 back.coming.start back.coming.page back.coming.kind back.coming.perm (words_of (cipher s.key back.coming.start.version rec.cipher)))
+    let row : (e ≡ did_by a (Eld f) (answers.Moved back.coming.page back.coming.start.version rec.tag))
+    × (t ≡ after_eld s f.0 back.coming.start back.coming.page back.coming.kind back.coming.perm
+    (words_of (cipher s.key back.coming.start.version rec.cipher)))
     = rw allowed at back.row in
     rw row.0 (reload_back made s past records given f.0 back.coming rec allowed h unforged).last
 
 -- and its words are the page's flat words
-pub reload_words : (made : Making) (s : State) (past : List Entry) (records : List Made) (given : List Given) (f : ℕ) (coming : IsComing s f) (rec : Sealed)
-    → first_of_row (commit_row s f coming rec) ≡ None → StandsWithAllRules made s past records → Unforged made.key records (given ++ looked_at s f records rec)
+pub reload_words : (made : Making) (s : State) (past : List Entry) (records : List Made) (given : List Given) (f : ℕ)
+    (coming : IsComing s f) (rec : Sealed)
+    → first_of_row (commit_row s f coming rec) ≡ None → StandsWithAllRules made s past records
+    → Unforged made.key records (given ++ looked_at s f records rec)
     → words_of (cipher s.key coming.start.version rec.cipher) ≡ memory.words_of (flat past) coming.page
 reload_words made s past records given f coming rec allowed h unforged =
-    ap (λ (m : Making). words_of (cipher m.key coming.start.version rec.cipher)) h.shaped.shape.making ∙ (reload_back made s past records given f coming rec allowed h unforged).words
+    ap (λ (m : Making). words_of (cipher m.key coming.start.version rec.cipher)) h.shaped.shape.making
+    ∙ (reload_back made s past records given f coming rec allowed h unforged).words

@@ -44,86 +44,111 @@ use Rattle.sgx_types.proofs.Truths.{neither, tested}
 
 -- ---- the rows by the state and by the entries
 
-epa_agrees : (s : State) (past : List Entry) (a : Actor) (f : Frame) → Stands s past → first_of_row (row_of s a (Epa f)) ≡ first_of_row (row_at s.frames past a (Epa f))
+epa_agrees : (s : State) (past : List Entry) (a : Actor) (f : Frame) → Stands s past
+    → first_of_row (row_of s a (Epa f)) ≡ first_of_row (row_at s.frames past a (Epa f))
 epa_agrees s past a f stands = ap (λ v. first_of_row (epa_row v)) (sight_is stands.columns f.0)
 
-create_row_same : (enclave base size : ℕ) (o o' : Option FlatEnclave) (v v' : FrameSight) → o ≡ o' → v ≡ v' → first_of_row (create_row enclave base size (is_some o) v) ≡ first_of_row (create_row enclave base size (is_some o') v')
+create_row_same : (enclave base size : ℕ) (o o' : Option FlatEnclave) (v v' : FrameSight) → o ≡ o' → v ≡ v'
+    → first_of_row (create_row enclave base size (is_some o) v) ≡ first_of_row (create_row enclave base size (is_some o') v')
 create_row_same enclave base size o o' v v' e e' = rw (e, e') refl
 
 create_agrees : (s : State) (past : List Entry) (a : Actor) (enclave : ℕ) (f : Frame) (base size : ℕ) → Stands s past
     → first_of_row (row_of s a (Create enclave f base size)) ≡ first_of_row (row_at s.frames past a (Create enclave f base size))
-create_agrees s past a enclave f base size stands = create_row_same enclave base size _ _ _ _ (enclave_flat stands enclave) (sight_is stands.columns f.0)
+create_agrees s past a enclave f base size stands =
+    create_row_same enclave base size _ _ _ _ (enclave_flat stands enclave) (sight_is stands.columns f.0)
 
-add_row_same : (number : ℕ) (kind : Kind) (perm : Perm) (init : PageInit) (o o' : Option FlatEnclave) (b b' : Bool) (v v' : FrameSight) → o ≡ o' → b ≡ b' → v ≡ v'
-    → first_of_row (add_row number kind perm init (enclave_sight_of o) b v) ≡ first_of_row (add_row number kind perm init (enclave_sight_of o') b' v')
+add_row_same : (number : ℕ) (kind : Kind) (perm : Perm) (init : PageInit) (o o' : Option FlatEnclave) (b b' : Bool) (v v' : FrameSight)
+    → o ≡ o' → b ≡ b' → v ≡ v'
+    → first_of_row (add_row number kind perm init (enclave_sight_of o) b v) ≡ first_of_row
+    (add_row number kind perm init (enclave_sight_of o') b' v')
 add_row_same number kind perm init o o' b b' v v' e1 e2 e3 = rw (e1, e2, e3) refl
 
-add_agrees : (s : State) (past : List Entry) (a : Actor) (enclave number : ℕ) (f : Frame) (kind : Kind) (perm : Perm) (init : PageInit) → Stands s past
-    → first_of_row (row_of s a (Add enclave number f kind perm init)) ≡ first_of_row (row_at s.frames past a (Add enclave number f kind perm init))
+add_agrees : (s : State) (past : List Entry) (a : Actor) (enclave number : ℕ) (f : Frame) (kind : Kind) (perm : Perm) (init : PageInit)
+    → Stands s past
+    → first_of_row (row_of s a (Add enclave number f kind perm init)) ≡ first_of_row
+    (row_at s.frames past a (Add enclave number f kind perm init))
 add_agrees s past a enclave number f kind perm init stands =
     add_row_same number kind perm init _ _ _ _ _ _ (enclave_flat stands enclave)
-    (ap is_some (added_flat stands (page_at enclave number)) ∙ is_some-added_as ((flat past).pages (page_at enclave number))) (sight_is stands.columns f.0)
+    (ap is_some (added_flat stands (page_at enclave number)) ∙ is_some-added_as ((flat past).pages (page_at enclave number)))
+    (sight_is stands.columns f.0)
 
 closed_agrees : (s : State) (past : List Entry) → Stands s past → (o : Option ℕ) → is_closed s o ≡ sights.is_closed (flat past) o
 closed_agrees s past stands None = refl
 closed_agrees s past stands (Some enclave) = ap (λ x. is_ready (enclave_sight_of x)) (enclave_flat stands enclave)
 
-extend_row_same : (chunk : ℕ) (b b' : Bool) (v v' : FrameSight) → b ≡ b' → v ≡ v' → first_of_row (extend_row chunk b v) ≡ first_of_row (extend_row chunk b' v')
+extend_row_same : (chunk : ℕ) (b b' : Bool) (v v' : FrameSight) → b ≡ b' → v ≡ v'
+    → first_of_row (extend_row chunk b v) ≡ first_of_row (extend_row chunk b' v')
 extend_row_same chunk b b' v v' e e' = rw (e, e') refl
 
 pub extend_agrees : (s : State) (past : List Entry) (a : Actor) (f : Frame) (chunk : ℕ) → Stands s past
     → first_of_row (row_of s a (Extend f chunk)) ≡ first_of_row (row_at s.frames past a (Extend f chunk))
 extend_agrees s past a f chunk stands =
-    extend_row_same chunk _ _ _ _ (closed_agrees s past stands (enclave_in (s.content f.0)) ∙ ap (λ c. sights.is_closed (flat past) (enclave_in c)) (content_is stands.columns f.0)) (sight_is stands.columns f.0)
+    extend_row_same chunk _ _ _ _ (closed_agrees s past stands (enclave_in (s.content f.0))
+    ∙ ap (λ c. sights.is_closed (flat past) (enclave_in c)) (content_is stands.columns f.0)) (sight_is stands.columns f.0)
 
 pub init_agrees : (s : State) (past : List Entry) (a : Actor) (enclave : ℕ) (expect : Option (List ℕ)) → Stands s past
     → first_of_row (row_of s a (Init enclave expect)) ≡ first_of_row (row_at s.frames past a (Init enclave expect))
 init_agrees s past a enclave expect stands = ap (λ o. first_of_row (init_row (enclave_sight_of o))) (enclave_flat stands enclave)
 
-fill_row_same : (number : ℕ) (o o' : Option ℕ) (v v' : FrameSight) → o ≡ o' → v ≡ v' → first_of_row (fill_row number o v) ≡ first_of_row (fill_row number o' v')
+fill_row_same : (number : ℕ) (o o' : Option ℕ) (v v' : FrameSight) → o ≡ o' → v ≡ v'
+    → first_of_row (fill_row number o v) ≡ first_of_row (fill_row number o' v')
 fill_row_same number o o' v v' e e' = rw (e, e') refl
 
 fill_agrees : (s : State) (past : List Entry) (p : Cpu) (number : ℕ) (f : Frame) → Stands s past
     → first_of_row (row_of s (actors.Cpu p) (Fill number f)) ≡ first_of_row (row_at s.frames past (actors.Cpu p) (Fill number f))
 fill_agrees s past p number f stands =
-    fill_row_same number _ _ _ _ (ap seat_enclave (inside_is stands.columns p.0) ∙ enclave_by_entries (stay past p.0)) (sight_is stands.columns f.0)
+    fill_row_same number _ _ _ _ (ap seat_enclave (inside_is stands.columns p.0) ∙ enclave_by_entries (stay past p.0))
+    (sight_is stands.columns f.0)
 
-access_row_same : (off : ℕ) (allows : Option Perm → Bool) (b b' : Bool) (o o' : Option Perm) → b ≡ b' → o ≡ o' → first_of_row (access_row off b o (allows o)) ≡ first_of_row (access_row off b' o' (allows o'))
+access_row_same : (off : ℕ) (allows : Option Perm → Bool) (b b' : Bool) (o o' : Option Perm) → b ≡ b' → o ≡ o'
+    → first_of_row (access_row off b o (allows o)) ≡ first_of_row (access_row off b' o' (allows o'))
 access_row_same off allows b b' o o' e e' = rw (e, e') refl
 
 access_agrees : (s : State) (past : List Entry) (p : Cpu) (off : ℕ) (allows : Option Perm → Bool) → IsSound s → Stands s past
-    → first_of_row (access_row off (is_some (s.inside p.0)) (translation s p.0 (s.inside p.0) (off / 4096)) (allows (translation s p.0 (s.inside p.0) (off / 4096))))
-    ≡ first_of_row (access_row off (is_some (stay past p.0)) (translation_at past p.0 (stay past p.0) (off / 4096)) (allows (translation_at past p.0 (stay past p.0) (off / 4096))))
-access_agrees s past p off allows sound stands = access_row_same off allows _ _ _ _ (mode_by_entries s past stands p.0) (found_translation s past p.0 off sound stands)
+    → first_of_row (access_row off (is_some (s.inside p.0)) (translation s p.0 (s.inside p.0) (off / 4096))
+    (allows (translation s p.0 (s.inside p.0) (off / 4096))))
+    ≡ first_of_row (access_row off (is_some (stay past p.0)) (translation_at past p.0 (stay past p.0) (off / 4096))
+    (allows (translation_at past p.0 (stay past p.0) (off / 4096))))
+access_agrees s past p off allows sound stands =
+    access_row_same off allows _ _ _ _ (mode_by_entries s past stands p.0) (found_translation s past p.0 off sound stands)
 
-pf_row_same : (op : AccessOp) (off : ℕ) (b b' : Bool) (o o' : Option (Kind × Perm)) → b ≡ b' → o ≡ o' → first_of_row (pf_row op off b o) ≡ first_of_row (pf_row op off b' o')
+pf_row_same : (op : AccessOp) (off : ℕ) (b b' : Bool) (o o' : Option (Kind × Perm)) → b ≡ b' → o ≡ o'
+    → first_of_row (pf_row op off b o) ≡ first_of_row (pf_row op off b' o')
 pf_row_same op off b b' o o' e e' = rw (e, e') refl
 
-pf_agrees : (s : State) (past : List Entry) (p : Cpu) (op : AccessOp) (off : ℕ) → Stands s past → first_of_row (row_of s (actors.Cpu p) (Pf op off)) ≡ first_of_row (row_at s.frames past (actors.Cpu p) (Pf op off))
-pf_agrees s past p op off stands = pf_row_same op off _ _ _ _ (mode_by_entries s past stands p.0) (added_by_entries s past p.0 (off / 4096) stands)
+pf_agrees : (s : State) (past : List Entry) (p : Cpu) (op : AccessOp) (off : ℕ) → Stands s past
+    → first_of_row (row_of s (actors.Cpu p) (Pf op off)) ≡ first_of_row (row_at s.frames past (actors.Cpu p) (Pf op off))
+pf_agrees s past p op off stands =
+    pf_row_same op off _ _ _ _ (mode_by_entries s past stands p.0) (added_by_entries s past p.0 (off / 4096) stands)
 
-inside_agrees : (s : State) (past : List Entry) (p : Cpu) → Stands s past → first_of_row (inside_row (is_some (s.inside p.0))) ≡ first_of_row (inside_row (is_some (stay past p.0)))
+inside_agrees : (s : State) (past : List Entry) (p : Cpu) → Stands s past
+    → first_of_row (inside_row (is_some (s.inside p.0))) ≡ first_of_row (inside_row (is_some (stay past p.0)))
 inside_agrees s past p stands = ap (λ b. first_of_row (inside_row b)) (mode_by_entries s past stands p.0)
 
-outside_agrees : (s : State) (past : List Entry) (p : Cpu) → Stands s past → first_of_row (outside_row (is_some (s.inside p.0))) ≡ first_of_row (outside_row (is_some (stay past p.0)))
+outside_agrees : (s : State) (past : List Entry) (p : Cpu) → Stands s past
+    → first_of_row (outside_row (is_some (s.inside p.0))) ≡ first_of_row (outside_row (is_some (stay past p.0)))
 outside_agrees s past p stands = ap (λ b. first_of_row (outside_row b)) (mode_by_entries s past stands p.0)
 
 -- where the TCS page is not in its frame, the row does not come to its fields
-entry_elsewhere : (saves : TcsSight → Case) (saved : TcsSight → ℕ) (enclave tcs : ℕ) (v : EnterSight) (fields : TcsSight) → is_page v.tcs.content (page_at enclave tcs) ≡ false
+entry_elsewhere : (saves : TcsSight → Case) (saved : TcsSight → ℕ) (enclave tcs : ℕ) (v : EnterSight) (fields : TcsSight)
+    → is_page v.tcs.content (page_at enclave tcs) ≡ false
     → first_of_row (by_fields saves saved enclave tcs v) ≡ first_of_row (by_fields saves saved enclave tcs (record v { fields = fields }))
 entry_elsewhere saves saved enclave tcs v fields other = rw other refl
 
-entry_otherwise : (saves : TcsSight → Case) (saved : TcsSight → ℕ) (enclave tcs : ℕ) (v : EnterSight) (fields : TcsSight) → is_tcs v.tcs.content ≡ false
+entry_otherwise : (saves : TcsSight → Case) (saved : TcsSight → ℕ) (enclave tcs : ℕ) (v : EnterSight) (fields : TcsSight)
+    → is_tcs v.tcs.content ≡ false
     → first_of_row (by_fields saves saved enclave tcs v) ≡ first_of_row (by_fields saves saved enclave tcs (record v { fields = fields }))
 entry_otherwise saves saved enclave tcs v fields other = rw other refl
 
 -- a row by a TCS page, in the state and by the entries
 entry_agrees : (saves : TcsSight → Case) (saved : TcsSight → ℕ) (s : State) (past : List Entry) (p enclave tcs tf sf : ℕ) → Stands s past
-    → first_of_row (by_fields saves saved enclave tcs (enter_sight s p (seat_of enclave tcs tf sf))) ≡ first_of_row (by_fields saves saved enclave tcs (enter_sight_at s.frames past p (seat_of enclave tcs tf sf)))
+    → first_of_row (by_fields saves saved enclave tcs (enter_sight s p (seat_of enclave tcs tf sf))) ≡ first_of_row
+    (by_fields saves saved enclave tcs (enter_sight_at s.frames past p (seat_of enclave tcs tf sf)))
 entry_agrees saves saved s past p enclave tcs tf sf stands =
     by_page (tested (is_page v.tcs.content g)) (tested (is_tcs v.tcs.content))
     ∙ ap (λ x. first_of_row (by_fields saves saved enclave tcs x))
-    (enter_sight_of _ _ _ _ _ _ _ _ _ _ _ _ (mode_by_entries s past stands p) (ap enclave_sight_of (enclave_flat stands enclave)) (sight_is stands.columns tf) (busy_flat stands g) refl (sight_is stands.columns sf))
+    (enter_sight_of _ _ _ _ _ _ _ _ _ _ _ _ (mode_by_entries s past stands p) (ap enclave_sight_of (enclave_flat stands enclave))
+    (sight_is stands.columns tf) (busy_flat stands g) refl (sight_is stands.columns sf))
   where
     g : Page
     g = page_at enclave tcs
@@ -134,8 +159,10 @@ entry_agrees saves saved s past p enclave tcs tf sf stands =
     fields : TcsSight
     fields = tcs_fields (words_of (flat past) g)
 
-    by_page : (is_page v.tcs.content g ≡ true) ⊎ (is_page v.tcs.content g ≡ false) → (is_tcs v.tcs.content ≡ true) ⊎ (is_tcs v.tcs.content ≡ false)
-        → first_of_row (by_fields saves saved enclave tcs v) ≡ first_of_row (by_fields saves saved enclave tcs (record v { fields = fields }))
+    by_page : (is_page v.tcs.content g ≡ true) ⊎ (is_page v.tcs.content g ≡ false)
+        → (is_tcs v.tcs.content ≡ true) ⊎ (is_tcs v.tcs.content ≡ false)
+        → first_of_row (by_fields saves saved enclave tcs v) ≡ first_of_row
+        (by_fields saves saved enclave tcs (record v { fields = fields }))
     by_page (inr other) is = entry_elsewhere saves saved enclave tcs v fields other
     by_page (inl here) (inr other) = entry_otherwise saves saved enclave tcs v fields other
     by_page (inl here) (inl is) =
@@ -154,15 +181,19 @@ MovesNoPage (EldStart f page slot) = ⊥
 MovesNoPage _ = Unit {0}
 
 -- the row of such an instruction, by the state and by the entries
-row_agrees : (s : State) (past : List Entry) (cpus : ℕ) (a : Actor) (action : Action) → CanApply cpus a action → MovesNoPage action → IsSound s → Stands s past
+row_agrees : (s : State) (past : List Entry) (cpus : ℕ) (a : Actor) (action : Action) → CanApply cpus a action → MovesNoPage action
+    → IsSound s → Stands s past
     → first_of_row (row_of s a action) ≡ first_of_row (row_at s.frames past a action)
 row_agrees s past cpus a (Epa f) can moves sound stands = epa_agrees s past a f stands
 row_agrees s past cpus a (Create enclave f base size) can moves sound stands = create_agrees s past a enclave f base size stands
-row_agrees s past cpus a (Add enclave number f kind perm init) can moves sound stands = add_agrees s past a enclave number f kind perm init stands
+row_agrees s past cpus a (Add enclave number f kind perm init) can moves sound stands =
+    add_agrees s past a enclave number f kind perm init stands
 row_agrees s past cpus a (Extend f chunk) can moves sound stands = extend_agrees s past a f chunk stands
 row_agrees s past cpus a (Init enclave expect) can moves sound stands = init_agrees s past a enclave expect stands
-row_agrees s past cpus (actors.Cpu p) (Enter enclave tcs tf sf) can moves sound stands = entry_agrees enter_saves enter_saved s past p.0 enclave tcs tf.0 sf.0 stands
-row_agrees s past cpus (actors.Cpu p) (Resume enclave tcs tf sf) can moves sound stands = entry_agrees resume_saves resume_saved s past p.0 enclave tcs tf.0 sf.0 stands
+row_agrees s past cpus (actors.Cpu p) (Enter enclave tcs tf sf) can moves sound stands =
+    entry_agrees enter_saves enter_saved s past p.0 enclave tcs tf.0 sf.0 stands
+row_agrees s past cpus (actors.Cpu p) (Resume enclave tcs tf sf) can moves sound stands =
+    entry_agrees resume_saves resume_saved s past p.0 enclave tcs tf.0 sf.0 stands
 row_agrees s past cpus (actors.Cpu p) Exit can moves sound stands = inside_agrees s past p stands
 row_agrees s past cpus (actors.Cpu p) (Aex cause) can moves sound stands = inside_agrees s past p stands
 row_agrees s past cpus (actors.Cpu p) (Fill number f) can moves sound stands = fill_agrees s past p number f stands
@@ -181,7 +212,8 @@ row_agrees s past cpus a (EldStart f page slot) can moves sound stands = absurd 
 row_agrees s past cpus a action can moves sound stands = absurd can
 
 -- the row of an instruction that the state allows, by the entries
-pub row_told : (s : State) (past : List Entry) (cpus : ℕ) (a : Actor) (action : Action) → CanApply cpus a action → IsSound s → Stands s past → first_of_row (row_of s a action) ≡ None → first_of_row (row_at s.frames past a action) ≡ None
+pub row_told : (s : State) (past : List Entry) (cpus : ℕ) (a : Actor) (action : Action) → CanApply cpus a action → IsSound s → Stands s past
+    → first_of_row (row_of s a action) ≡ None → first_of_row (row_at s.frames past a action) ≡ None
 row_told s past cpus (actors.Cpu p) (Block f) can sound stands allowed = refl
 row_told s past cpus (actors.Cpu p) (Track enclave) can sound stands allowed = refl
 row_told s past cpus (actors.Cpu p) (EwbStart f slot) can sound stands allowed = refl
@@ -193,7 +225,8 @@ row_told s past cpus a (EldStart f page slot) can sound stands allowed = refl
 row_told s past cpus a action can sound stands allowed = sym (row_agrees s past cpus a action can tt sound stands) ∙ allowed
 
 -- the row of `init` knows nothing of the measurement
-init_case : (o : Option EnclaveSight) (enclave : ℕ) (expect : Option (List ℕ)) (r : Refusal) → first_of_row (init_row o) ≡ Some r → case_of (Init enclave expect) r ≡ Some r
+init_case : (o : Option EnclaveSight) (enclave : ℕ) (expect : Option (List ℕ)) (r : Refusal) → first_of_row (init_row o) ≡ Some r
+    → case_of (Init enclave expect) r ≡ Some r
 init_case None enclave expect r is = cc
 init_case (Some x) enclave expect r is = by_test x.is_init is
   where
@@ -202,7 +235,8 @@ init_case (Some x) enclave expect r is = by_test x.is_init is
     by_test false k = cc
 
 -- .. and the case for which the state refuses one
-pub refusal_told : (s : State) (past : List Entry) (cpus : ℕ) (a : Actor) (action : Action) (r : Refusal) → CanApply cpus a action → IsSound s → Stands s past → first_of_row (row_of s a action) ≡ Some r
+pub refusal_told : (s : State) (past : List Entry) (cpus : ℕ) (a : Actor) (action : Action) (r : Refusal) → CanApply cpus a action
+    → IsSound s → Stands s past → first_of_row (row_of s a action) ≡ Some r
     → RefusalRule s.frames past (refused_by a action r)
 refusal_told s past cpus a (Block f) r can sound stands refused = tt
 refusal_told s past cpus a (Track enclave) r can sound stands refused = tt
@@ -211,17 +245,20 @@ refusal_told s past cpus a (Ewb f) r can sound stands refused = tt
 refusal_told s past cpus a (EldStart f page slot) r can sound stands refused = tt
 refusal_told s past cpus a (Eld f) r can sound stands refused = tt
 refusal_told s past cpus a (Init enclave expect) r can sound stands refused =
-    sym (init_agrees s past a enclave expect stands) ∙ refused ∙ sym (init_case (enclave_sight_of (s.enclaves enclave)) enclave expect r refused)
+    sym (init_agrees s past a enclave expect stands) ∙ refused
+    ∙ sym (init_case (enclave_sight_of (s.enclaves enclave)) enclave expect r refused)
 refusal_told s past cpus a action r can sound stands refused = sym (row_agrees s past cpus a action can tt sound stands) ∙ refused
 
 -- a refusal by the row says nothing of a measurement
-pub measure_told : (s : State) (past : List Entry) (a : Actor) (action : Action) (r : Refusal) → first_of_row (row_of s a action) ≡ Some r → MeasureRule past (refused_by a action r)
+pub measure_told : (s : State) (past : List Entry) (a : Actor) (action : Action) (r : Refusal) → first_of_row (row_of s a action) ≡ Some r
+    → MeasureRule past (refused_by a action r)
 measure_told s past a (Init enclave expect) r refused = quiet (enclave_sight_of (s.enclaves enclave)) past a enclave expect r refused
 measure_told s past a _ r refused = tt
 
 -- ---- the frames that rows name
 
-free_in : (s : State) (past : List Entry) → HasColumns s past → (f : ℕ) → (s.is_sealing f || is_loading (s.content f)) ≡ false → is_valid (s.content f) ≡ false → content past f ≡ Free
+free_in : (s : State) (past : List Entry) → HasColumns s past → (f : ℕ) → (s.is_sealing f || is_loading (s.content f)) ≡ false
+    → is_valid (s.content f) ≡ false → content past f ≡ Free
 free_in s past columns f idle empty = sym (content_is columns f) ∙ is_free_frame (s.content f) (s.is_sealing f) idle empty
 
 -- the two frames of a start
@@ -231,32 +268,42 @@ start_names frames f slot other within =
     (leb-false _ _ both.0, leb-false _ _ both.1)
 
 -- the two frames of a seat
-seat_names : (s : State) (p : ℕ) (seat : Seat) (saves : Case) (saved : ℕ) → first_of_row (entry_row seat.enclave seat.tcs (enter_sight s p seat) saves saved) ≡ None → (seat.tcs_frame < s.frames) × (seat.ssa_frame < s.frames)
+seat_names : (s : State) (p : ℕ) (seat : Seat) (saves : Case) (saved : ℕ)
+    → first_of_row (entry_row seat.enclave seat.tcs (enter_sight s p seat) saves saved) ≡ None
+    → (seat.tcs_frame < s.frames) × (seat.ssa_frame < s.frames)
 seat_names s p seat saves saved allowed =
     let k = enters seat.enclave seat.tcs (enter_sight s p seat) saves saved allowed in
     (leb-false _ _ k.tcs_within, leb-false _ _ k.ssa_within)
 
 -- the frames that an instruction names, which its row allows, are of the EPC, and the one that it takes is free
-pub row_fits : (s : State) (past : List Entry) (cpus : ℕ) (a : Actor) (action : Action) → CanApply cpus a action → HasColumns s past → first_of_row (row_of s a action) ≡ None → NamesFrames s.frames action × TakesFree past action
-row_fits s past cpus a (Epa f) can columns allowed = let none = none_holds (row_of s a (Epa f)) allowed in (leb-false _ _ none.0, free_in s past columns f.0 none.1.0 none.1.1.0)
+pub row_fits : (s : State) (past : List Entry) (cpus : ℕ) (a : Actor) (action : Action) → CanApply cpus a action → HasColumns s past
+    → first_of_row (row_of s a action) ≡ None → NamesFrames s.frames action × TakesFree past action
+row_fits s past cpus a (Epa f) can columns allowed =
+    let none = none_holds (row_of s a (Epa f)) allowed in (leb-false _ _ none.0, free_in s past columns f.0 none.1.0 none.1.1.0)
 row_fits s past cpus a (Create enclave f base size) can columns allowed =
     let none = none_holds (row_of s a (Create enclave f base size)) allowed in
-    let range = neither (leb s.frames f.0) (not (is_enclave enclave)) (neither (leb s.frames f.0 || not (is_enclave enclave)) (not (is_lawful base size)) none.0).0 in
+    let range = neither (leb s.frames f.0) (not (is_enclave enclave))
+    (neither (leb s.frames f.0 || not (is_enclave enclave)) (not (is_lawful base size)) none.0).0 in
     (leb-false _ _ range.0, free_in s past columns f.0 none.1.1.0 none.1.1.1.0)
 row_fits s past cpus a (Add enclave number f kind perm init) can columns allowed =
-    let k = adds number kind perm init (enclave_sight_of (s.enclaves enclave)) (is_some (s.added (page_at enclave number))) (sight s f.0) allowed in
+    let k = adds number kind perm init (enclave_sight_of (s.enclaves enclave)) (is_some (s.added (page_at enclave number))) (sight s f.0)
+    allowed in
     (leb-false _ _ k.within, free_in s past columns f.0 k.idle k.empty)
-row_fits s past cpus a (Extend f chunk) can columns allowed = (leb-false _ _ (neither (leb s.frames f.0) (ltb 15 chunk) (none_holds (row_of s a (Extend f chunk)) allowed).0).0, tt)
+row_fits s past cpus a (Extend f chunk) can columns allowed =
+    (leb-false _ _ (neither (leb s.frames f.0) (ltb 15 chunk) (none_holds (row_of s a (Extend f chunk)) allowed).0).0, tt)
 row_fits s past cpus a (Init enclave expect) can columns allowed = (tt, tt)
 row_fits s past cpus a (Block f) can columns allowed = (leb-false _ _ (none_holds (row_of s a (Block f)) allowed).0, tt)
 row_fits s past cpus a (Track enclave) can columns allowed = (tt, tt)
-row_fits s past cpus a (EwbStart f slot) can columns allowed = (start_names s.frames f.0 slot.frame.0 (ltb 511 slot.index) (none_holds (row_of s a (EwbStart f slot)) allowed).0, tt)
+row_fits s past cpus a (EwbStart f slot) can columns allowed =
+    (start_names s.frames f.0 slot.frame.0 (ltb 511 slot.index) (none_holds (row_of s a (EwbStart f slot)) allowed).0, tt)
 row_fits s past cpus a (EldStart f page slot) can columns allowed =
     let none = none_holds (row_of s a (EldStart f page slot)) allowed in
     let idle = neither (s.is_sealing f.0 || is_loading (s.content f.0)) (s.is_slot_busy slot) none.1.1.0 in
     (start_names s.frames f.0 slot.frame.0 (ltb 511 slot.index) none.0, free_in s past columns f.0 idle.0 none.1.1.1.0)
-row_fits s past cpus (actors.Cpu p) (Enter enclave tcs tf sf) can columns allowed = (seat_names s p.0 (seat_of enclave tcs tf.0 sf.0) _ _ allowed, tt)
-row_fits s past cpus (actors.Cpu p) (Resume enclave tcs tf sf) can columns allowed = (seat_names s p.0 (seat_of enclave tcs tf.0 sf.0) _ _ allowed, tt)
+row_fits s past cpus (actors.Cpu p) (Enter enclave tcs tf sf) can columns allowed =
+    (seat_names s p.0 (seat_of enclave tcs tf.0 sf.0) _ _ allowed, tt)
+row_fits s past cpus (actors.Cpu p) (Resume enclave tcs tf sf) can columns allowed =
+    (seat_names s p.0 (seat_of enclave tcs tf.0 sf.0) _ _ allowed, tt)
 row_fits s past cpus (actors.Cpu p) Exit can columns allowed = (tt, tt)
 row_fits s past cpus (actors.Cpu p) (Aex cause) can columns allowed = (tt, tt)
 row_fits s past cpus (actors.Cpu p) (Fill number f) can columns allowed = (fill_within s p.0 number f.0 allowed, tt)
@@ -277,7 +324,8 @@ abbrev pub IsEntryOf : Actor → Action → Entry → Type 0
 IsEntryOf a action e = ((answer : Answer) × (e ≡ did_by a action answer)) ⊎ ((r : Refusal) × (e ≡ refused_by a action r))
 
 -- a row allows an instruction, or refuses it, and the entry is of it in both
-entry_cases : (o : Option Refusal) (Done : Type 0) (s t : State) (e : Entry) (a : Actor) (action : Action) → (Done → IsEntryOf a action e) → MatchOption o Done (λ r. (e ≡ refused_by a action r) × (t ≡ s)) → IsEntryOf a action e
+entry_cases : (o : Option Refusal) (Done : Type 0) (s t : State) (e : Entry) (a : Actor) (action : Action) → (Done → IsEntryOf a action e)
+    → MatchOption o Done (λ r. (e ≡ refused_by a action r) × (t ≡ s)) → IsEntryOf a action e
 entry_cases None Done s t e a action f k = f k
 entry_cases (Some r) Done s t e a action f k = inr (r, k.0)
 
@@ -286,8 +334,10 @@ pub step_entry : (s t : State) (a : Actor) (action : Action) (e : Entry) → IsS
 step_entry s t a (Create enclave f base size) e k =
     entry_cases _ (IsDone s a (Create enclave f base size) e t) s t e a (Create enclave f base size) (λ done. inl (answers.Plain, done.0)) k
 step_entry s t a (Add enclave number f kind perm init) e k =
-    entry_cases _ (IsDone s a (Add enclave number f kind perm init) e t) s t e a (Add enclave number f kind perm init) (λ done. inl (answers.Plain, done.0)) k
-step_entry s t a (Extend f chunk) e k = entry_cases _ (IsDone s a (Extend f chunk) e t) s t e a (Extend f chunk) (λ done. inl (answers.Plain, done.0)) k
+    entry_cases _ (IsDone s a (Add enclave number f kind perm init) e t) s t e a (Add enclave number f kind perm init)
+    (λ done. inl (answers.Plain, done.0)) k
+step_entry s t a (Extend f chunk) e k =
+    entry_cases _ (IsDone s a (Extend f chunk) e t) s t e a (Extend f chunk) (λ done. inl (answers.Plain, done.0)) k
 step_entry s t a (Init enclave expect) e k =
     entry_cases _ (IsDone s a (Init enclave expect) e t) s t e a (Init enclave expect)
     (λ done.

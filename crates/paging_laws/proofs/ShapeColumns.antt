@@ -48,17 +48,25 @@ pub record IsQuiet (first_epoch first_version : ℕ) (past : List Entry) (e : En
   pub stays : (p : ℕ) → stay (e ∷ past) p ≡ stay past p
 
 -- .. leaves each as it was
-pub quiet_columns : (s : State) (past : List Entry) (e : Entry) → IsQuiet s.first_epoch s.first_version past e → HasColumns s past → HasColumns s (e ∷ past)
-quiet_columns s past e q h = record { frames = h.frames ∙ sym q.frames; cpus = h.cpus ∙ sym q.cpus; slots = h.slots ∙ sym q.slots; enclaves = h.enclaves ∙ sym q.enclaves }
+pub quiet_columns : (s : State) (past : List Entry) (e : Entry) → IsQuiet s.first_epoch s.first_version past e → HasColumns s past
+    → HasColumns s (e ∷ past)
+quiet_columns s past e q h = record {
+  frames = h.frames ∙ sym q.frames;
+  cpus = h.cpus ∙ sym q.cpus;
+  slots = h.slots ∙ sym q.slots;
+  enclaves = h.enclaves ∙ sym q.enclaves;
+}
 
 abbrev pub is_eld : Action → Bool
 is_eld (Eld f) = true
 is_eld _ = false
 
 -- a refusal changes no column, but for that of a load's commit
-pub refused_quiet : (first_epoch first_version : ℕ) (past : List Entry) (a : Actor) (action : Action) (why : Refusal) → is_eld action ≡ false → IsQuiet first_epoch first_version past (refused_by a action why)
+pub refused_quiet : (first_epoch first_version : ℕ) (past : List Entry) (a : Actor) (action : Action) (why : Refusal)
+    → is_eld action ≡ false → IsQuiet first_epoch first_version past (refused_by a action why)
 refused_quiet first_epoch first_version past a (Eld f) why h = cc
-refused_quiet first_epoch first_version past a _ why h = record { frames = refl; cpus = refl; slots = refl; enclaves = refl; stays = λ p. refl }
+refused_quiet first_epoch first_version past a _ why h =
+    record { frames = refl; cpus = refl; slots = refl; enclaves = refl; stays = λ p. refl }
 
 -- the instructions that change no column
 abbrev pub is_quiet : Action → Bool
@@ -74,16 +82,26 @@ is_quiet (OutStore enclave off value) = true
 is_quiet _ = false
 
 -- .. once they are done
-pub did_quiet : (first_epoch first_version : ℕ) (past : List Entry) (a : Actor) (action : Action) (answer : Answer) → is_quiet action ≡ true → IsQuiet first_epoch first_version past (did_by a action answer)
-did_quiet first_epoch first_version past a (Extend f chunk) answer h = record { frames = refl; cpus = refl; slots = refl; enclaves = refl; stays = λ p. refl }
-did_quiet first_epoch first_version past a (Load off) answer h = record { frames = refl; cpus = refl; slots = refl; enclaves = refl; stays = λ p. refl }
-did_quiet first_epoch first_version past a (Store off value) answer h = record { frames = refl; cpus = refl; slots = refl; enclaves = refl; stays = λ p. refl }
-did_quiet first_epoch first_version past a (Xadd off value) answer h = record { frames = refl; cpus = refl; slots = refl; enclaves = refl; stays = λ p. refl }
-did_quiet first_epoch first_version past a (Set value) answer h = record { frames = refl; cpus = refl; slots = refl; enclaves = refl; stays = λ p. refl }
-did_quiet first_epoch first_version past a (Plus value) answer h = record { frames = refl; cpus = refl; slots = refl; enclaves = refl; stays = λ p. refl }
-did_quiet first_epoch first_version past a (Pf op off) answer h = record { frames = refl; cpus = refl; slots = refl; enclaves = refl; stays = λ p. refl }
-did_quiet first_epoch first_version past a (OutLoad enclave off) answer h = record { frames = refl; cpus = refl; slots = refl; enclaves = refl; stays = λ p. refl }
-did_quiet first_epoch first_version past a (OutStore enclave off value) answer h = record { frames = refl; cpus = refl; slots = refl; enclaves = refl; stays = λ p. refl }
+pub did_quiet : (first_epoch first_version : ℕ) (past : List Entry) (a : Actor) (action : Action) (answer : Answer) → is_quiet action ≡ true
+    → IsQuiet first_epoch first_version past (did_by a action answer)
+did_quiet first_epoch first_version past a (Extend f chunk) answer h =
+    record { frames = refl; cpus = refl; slots = refl; enclaves = refl; stays = λ p. refl }
+did_quiet first_epoch first_version past a (Load off) answer h =
+    record { frames = refl; cpus = refl; slots = refl; enclaves = refl; stays = λ p. refl }
+did_quiet first_epoch first_version past a (Store off value) answer h =
+    record { frames = refl; cpus = refl; slots = refl; enclaves = refl; stays = λ p. refl }
+did_quiet first_epoch first_version past a (Xadd off value) answer h =
+    record { frames = refl; cpus = refl; slots = refl; enclaves = refl; stays = λ p. refl }
+did_quiet first_epoch first_version past a (Set value) answer h =
+    record { frames = refl; cpus = refl; slots = refl; enclaves = refl; stays = λ p. refl }
+did_quiet first_epoch first_version past a (Plus value) answer h =
+    record { frames = refl; cpus = refl; slots = refl; enclaves = refl; stays = λ p. refl }
+did_quiet first_epoch first_version past a (Pf op off) answer h =
+    record { frames = refl; cpus = refl; slots = refl; enclaves = refl; stays = λ p. refl }
+did_quiet first_epoch first_version past a (OutLoad enclave off) answer h =
+    record { frames = refl; cpus = refl; slots = refl; enclaves = refl; stays = λ p. refl }
+did_quiet first_epoch first_version past a (OutStore enclave off value) answer h =
+    record { frames = refl; cpus = refl; slots = refl; enclaves = refl; stays = λ p. refl }
 did_quiet first_epoch first_version past a _ answer h = cc
 
 -- ---- what the rows change
@@ -116,16 +134,19 @@ entered : (s : State) (past : List Entry) (p : ℕ) (seat : Seat) → HasColumns
     } in x)
     ≡ record {
       inside = λ q. seat_of_stay (cond (p == q) (Some (stay_from past seat)) (stay past q));
-      noted = λ q. noted_inside (cond (p == q) (Some (stay_from past seat)) (stay past q)) (cond (p == q) (epoch s.first_epoch past seat.enclave) (noted s.first_epoch past q));
+      noted = λ q. noted_inside (cond (p == q) (Some (stay_from past seat)) (stay past q))
+          (cond (p == q) (epoch s.first_epoch past seat.enclave) (noted s.first_epoch past q));
       translations = λ q. cond (p == q) [] (translations past q);
     }
-entered s past p seat h = λ i. record { inside = λ q. inside q (p == q) i; noted = λ q. notes q (p == q) i; translations = λ q. emptied q (p == q) i }
+entered s past p seat h =
+    λ i. record { inside = λ q. inside q (p == q) i; noted = λ q. notes q (p == q) i; translations = λ q. emptied q (p == q) i }
   where
     inside : (q : ℕ) (b : Bool) → cond b (Some seat) (s.inside q) ≡ seat_of_stay (cond b (Some (stay_from past seat)) (stay past q))
     inside q true = refl
     inside q false = inside_is h q
 
-    notes : (q : ℕ) (b : Bool) → cond b (s.epoch seat.enclave) (s.noted q) ≡ noted_inside (cond b (Some (stay_from past seat)) (stay past q)) (cond b (epoch s.first_epoch past seat.enclave) (noted s.first_epoch past q))
+    notes : (q : ℕ) (b : Bool) → cond b (s.epoch seat.enclave) (s.noted q) ≡ noted_inside
+        (cond b (Some (stay_from past seat)) (stay past q)) (cond b (epoch s.first_epoch past seat.enclave) (noted s.first_epoch past q))
     notes q true = epoch_is h seat.enclave
     notes q false = noted_is h q
 
@@ -135,13 +156,18 @@ entered s past p seat h = λ i. record { inside = λ q. inside q (p == q) i; not
 
 -- .. and one that leaves has noted none
 left : (s : State) (past : List Entry) (p : ℕ) → HasColumns s past
-    → (let x : CpuColumns = record { inside = λ q. cond (p == q) None (s.inside q); noted = λ q. cond (p == q) 0 (s.noted q); translations = λ q. map without_perm (cond (p == q) [] (s.cache q)) } in x)
+    → (let x : CpuColumns = record {
+      inside = λ q. cond (p == q) None (s.inside q);
+      noted = λ q. cond (p == q) 0 (s.noted q);
+      translations = λ q. map without_perm (cond (p == q) [] (s.cache q));
+    } in x)
     ≡ record {
       inside = λ q. seat_of_stay (cond (p == q) None (stay past q));
       noted = λ q. noted_inside (cond (p == q) None (stay past q)) (noted s.first_epoch past q);
       translations = λ q. cond (p == q) [] (translations past q);
     }
-left s past p h = λ i. record { inside = λ q. inside q (p == q) i; noted = λ q. notes q (p == q) i; translations = λ q. emptied q (p == q) i }
+left s past p h =
+    λ i. record { inside = λ q. inside q (p == q) i; noted = λ q. notes q (p == q) i; translations = λ q. emptied q (p == q) i }
   where
     inside : (q : ℕ) (b : Bool) → cond b None (s.inside q) ≡ seat_of_stay (cond b None (stay past q))
     inside q true = refl
@@ -169,67 +195,96 @@ module _ (s : State) (past : List Entry) (h : HasColumns s past) where
     frames = ap (put f.0 (SecsOf enclave)) h.frames;
     cpus = h.cpus;
     slots = h.slots;
-    enclaves = λ i. record (h.enclaves i) { enclaves = λ e. cond (e == enclave) (Some (record { base = base; size = size; is_init = false })) ((h.enclaves i).enclaves e) };
+    enclaves = λ i. record (h.enclaves i) {
+      enclaves =
+          λ e. cond (e == enclave) (Some (record { base = base; size = size; is_init = false })) ((h.enclaves i).enclaves e);
+    };
   }
 
   -- a page is added to an enclave, and put into a frame
-  pub add_columns : (a : Actor) (enclave number : ℕ) (f : Frame) (kind : Kind) (perm : Perm) (init : PageInit) (longer : Measure) (answer : Answer)
-      → HasColumns (after_add s (page_at enclave number) f.0 kind perm init longer) (did_by a (Add enclave number f kind perm init) answer ∷ past)
+  pub add_columns : (a : Actor) (enclave number : ℕ) (f : Frame) (kind : Kind) (perm : Perm) (init : PageInit) (longer : Measure)
+      (answer : Answer)
+      → HasColumns (after_add s (page_at enclave number) f.0 kind perm init longer)
+      (did_by a (Add enclave number f kind perm init) answer ∷ past)
   add_columns a enclave number f kind perm init longer answer = record {
     frames = ap (put f.0 (Holds (page_at enclave number) kind perm)) h.frames;
     cpus = h.cpus;
     slots = h.slots;
-    enclaves = λ i. record (h.enclaves i) { added = λ q. cond (same_page-swap q (page_at enclave number) i) (Some (kind, perm)) ((h.enclaves i).added q) };
+    enclaves = λ i. record (h.enclaves i) {
+      added =
+          λ q. cond (same_page-swap q (page_at enclave number) i) (Some (kind, perm)) ((h.enclaves i).added q);
+    };
   }
 
   -- an enclave is initialised
-  pub init_columns : (a : Actor) (enclave : ℕ) (expect : Option (List ℕ)) (answer : Answer) → HasColumns (after_init s enclave) (did_by a (Init enclave expect) answer ∷ past)
+  pub init_columns : (a : Actor) (enclave : ℕ) (expect : Option (List ℕ)) (answer : Answer)
+      → HasColumns (after_init s enclave) (did_by a (Init enclave expect) answer ∷ past)
   init_columns a enclave expect answer = record {
     frames = h.frames;
     cpus = h.cpus;
     slots = h.slots;
-    enclaves = λ i. record (h.enclaves i) { enclaves = λ e. cond (e == enclave) (marked ((h.enclaves i).enclaves e)) ((h.enclaves i).enclaves e) };
+    enclaves = λ i. record (h.enclaves i) {
+      enclaves =
+          λ e. cond (e == enclave) (marked ((h.enclaves i).enclaves e)) ((h.enclaves i).enclaves e);
+    };
   }
 
   -- a processor comes inside
-  pub enter_columns : (p : Cpu) (enclave tcs : ℕ) (tf sf : Frame) (answer : Answer) → HasColumns (after_enter s p.0 (seat_of enclave tcs tf.0 sf.0)) (did_by (actors.Cpu p) (Enter enclave tcs tf sf) answer ∷ past)
-  enter_columns p enclave tcs tf sf answer = record { frames = h.frames; cpus = entered s past p.0 (seat_of enclave tcs tf.0 sf.0) h; slots = h.slots; enclaves = h.enclaves }
+  pub enter_columns : (p : Cpu) (enclave tcs : ℕ) (tf sf : Frame) (answer : Answer)
+      → HasColumns (after_enter s p.0 (seat_of enclave tcs tf.0 sf.0)) (did_by (actors.Cpu p) (Enter enclave tcs tf sf) answer ∷ past)
+  enter_columns p enclave tcs tf sf answer =
+      record { frames = h.frames; cpus = entered s past p.0 (seat_of enclave tcs tf.0 sf.0) h; slots = h.slots; enclaves = h.enclaves }
 
   -- .. again
-  pub resume_columns : (p : Cpu) (enclave tcs : ℕ) (tf sf : Frame) (answer : Answer) → HasColumns (after_resume s p.0 (seat_of enclave tcs tf.0 sf.0)) (did_by (actors.Cpu p) (Resume enclave tcs tf sf) answer ∷ past)
-  resume_columns p enclave tcs tf sf answer = record { frames = h.frames; cpus = entered s past p.0 (seat_of enclave tcs tf.0 sf.0) h; slots = h.slots; enclaves = h.enclaves }
+  pub resume_columns : (p : Cpu) (enclave tcs : ℕ) (tf sf : Frame) (answer : Answer)
+      → HasColumns (after_resume s p.0 (seat_of enclave tcs tf.0 sf.0)) (did_by (actors.Cpu p) (Resume enclave tcs tf sf) answer ∷ past)
+  resume_columns p enclave tcs tf sf answer =
+      record { frames = h.frames; cpus = entered s past p.0 (seat_of enclave tcs tf.0 sf.0) h; slots = h.slots; enclaves = h.enclaves }
 
   -- a processor leaves
   pub exit_columns : (p : Cpu) (answer : Answer) → HasColumns (after_exit s p.0) (did_by (actors.Cpu p) Exit answer ∷ past)
   exit_columns p answer = record { frames = h.frames; cpus = left s past p.0 h; slots = h.slots; enclaves = h.enclaves }
 
   -- .. asynchronously: what it saves is in no column
-  pub aex_columns : (p : Cpu) (cause : Cause) (answer : Answer) → HasColumns (after_aex s p.0) (did_by (actors.Cpu p) (Aex cause) answer ∷ past)
+  pub aex_columns : (p : Cpu) (cause : Cause) (answer : Answer)
+      → HasColumns (after_aex s p.0) (did_by (actors.Cpu p) (Aex cause) answer ∷ past)
   aex_columns p cause answer = by_seat (s.inside p.0)
     where
-      by_seat : (o : Option Seat) → HasColumns (after_exit (with_saved s (s.acc p.0) o) p.0) (did_by (actors.Cpu p) (Aex cause) answer ∷ past)
+      by_seat : (o : Option Seat) → HasColumns (after_exit (with_saved s (s.acc p.0) o) p.0)
+          (did_by (actors.Cpu p) (Aex cause) answer ∷ past)
       by_seat None = record { frames = h.frames; cpus = left s past p.0 h; slots = h.slots; enclaves = h.enclaves }
       by_seat (Some seat) = record { frames = h.frames; cpus = left s past p.0 h; slots = h.slots; enclaves = h.enclaves }
 
   -- a processor gets one more translation
-  pub fill_columns : (p : Cpu) (t : Translation) (answer : Answer) → HasColumns (after_fill s p.0 t) (did_by (actors.Cpu p) (Fill t.number t.frame) answer ∷ past)
-  fill_columns p t answer = record { frames = h.frames; cpus = λ i. record (h.cpus i) { translations = λ q. filled q (p.0 == q) i }; slots = h.slots; enclaves = h.enclaves }
+  pub fill_columns : (p : Cpu) (t : Translation) (answer : Answer)
+      → HasColumns (after_fill s p.0 t) (did_by (actors.Cpu p) (Fill t.number t.frame) answer ∷ past)
+  fill_columns p t answer = record {
+    frames = h.frames;
+    cpus = λ i. record (h.cpus i) { translations = λ q. filled q (p.0 == q) i };
+    slots = h.slots;
+    enclaves = h.enclaves;
+  }
     where
-      filled : (q : ℕ) (b : Bool) → map without_perm (cond b (with_translation (s.cache q) t) (s.cache q)) ≡ cond b (with_filled (translations past q) (without_perm t)) (translations past q)
+      filled : (q : ℕ) (b : Bool) → map without_perm (cond b (with_translation (s.cache q) t) (s.cache q)) ≡ cond b
+          (with_filled (translations past q) (without_perm t)) (translations past q)
       filled q true = with_translation-map (s.cache q) t ∙ ap (λ xs. with_filled xs (without_perm t)) (translations_are h q)
       filled q false = translations_are h q
 
   -- the page in a frame is blocked at its enclave's epoch
   pub block_columns : (a : Actor) (f : Frame) (answer : Answer) → HasColumns (after_block s f.0) (did_by a (Block f) answer ∷ past)
   block_columns a f answer = record {
-    frames = λ i. record (h.frames i) { blocked = λ n. cond (f.0 == n) (Some (epoch_of (h.enclaves i).epoch (enclave_in ((h.frames i).content n)))) ((h.frames i).blocked n) };
+    frames = λ i. record (h.frames i) {
+      blocked =
+          λ n. cond (f.0 == n) (Some (epoch_of (h.enclaves i).epoch (enclave_in ((h.frames i).content n)))) ((h.frames i).blocked n);
+    };
     cpus = h.cpus;
     slots = h.slots;
     enclaves = h.enclaves;
   }
 
   -- an enclave is tracked
-  pub track_columns : (a : Actor) (enclave : ℕ) (answer : Answer) → HasColumns (after_track s enclave) (did_by a (Track enclave) answer ∷ past)
+  pub track_columns : (a : Actor) (enclave : ℕ) (answer : Answer)
+      → HasColumns (after_track s enclave) (did_by a (Track enclave) answer ∷ past)
   track_columns a enclave answer = record {
     frames = h.frames;
     cpus = h.cpus;
@@ -238,18 +293,22 @@ module _ (s : State) (past : List Entry) (h : HasColumns s past) where
   }
 
   -- a page starts to go out
-  pub ewbstart_columns : (a : Actor) (f : Frame) (slot : SlotAt) → HasColumns (after_ewbstart s f.0 slot) (did_by a (EwbStart f slot) (Version s.next_version) ∷ past)
+  pub ewbstart_columns : (a : Actor) (f : Frame) (slot : SlotAt)
+      → HasColumns (after_ewbstart s f.0 slot) (did_by a (EwbStart f slot) (Version s.next_version) ∷ past)
   ewbstart_columns a f slot = record {
-    frames = λ i. with_sealing f.0 true (with_start f.0 (Some (record { slot = slot; version = s.next_version; loads = None })) (h.frames i));
+    frames = λ i. with_sealing f.0 true (with_start f.0 (Some (record { slot = slot; version = s.next_version; loads = None }))
+        (h.frames i));
     cpus = h.cpus;
     slots = λ i. record (with_busy slot true (h.slots i)) { next_version = (h.slots i).next_version + 1 };
     enclaves = h.enclaves;
   }
 
   -- a page starts to come back
-  pub eldstart_columns : (a : Actor) (f : Frame) (page : Page) (slot : SlotAt) → HasColumns (after_eldstart s f.0 page slot) (did_by a (EldStart f page slot) (Version (s.version_in slot)) ∷ past)
+  pub eldstart_columns : (a : Actor) (f : Frame) (page : Page) (slot : SlotAt)
+      → HasColumns (after_eldstart s f.0 page slot) (did_by a (EldStart f page slot) (Version (s.version_in slot)) ∷ past)
   eldstart_columns a f page slot = record {
-    frames = ap (λ x. put f.0 IsLoading (with_start f.0 (Some (record { slot = slot; version = s.version_in slot; loads = Some page })) x)) h.frames;
+    frames = ap (λ x. put f.0 IsLoading (with_start f.0 (Some (record { slot = slot; version = s.version_in slot; loads = Some page })) x))
+        h.frames;
     cpus = h.cpus;
     slots = ap (with_busy slot true) h.slots;
     enclaves = h.enclaves;
@@ -258,48 +317,54 @@ module _ (s : State) (past : List Entry) (h : HasColumns s past) where
 -- ---- the commits
 
 -- the slot of an open start of the machine
-slot_of_start : (s : State) (past : List Entry) (f : ℕ) (start : Start) → HasColumns s past → s.start f ≡ Some start → open_slot past f ≡ Some start.slot
+slot_of_start : (s : State) (past : List Entry) (f : ℕ) (start : Start) → HasColumns s past → s.start f ≡ Some start
+    → open_slot past f ≡ Some start.slot
 slot_of_start s past f start h is = ap slot_of (sym (start_is h f) ∙ is)
 
-module _ (s : State) (past : List Entry) (a : Actor) (f : Frame) (start : Start) (is : s.start f.0 ≡ Some start) (h : HasColumns s past) where
-  -- the slot of the start, by the entries too
-  slot : Some start.slot ≡ open_slot past f.0
-  slot = sym (slot_of_start s past f.0 start h is)
+module _ (s : State) (past : List Entry) (a : Actor) (f : Frame) (start : Start) (is : s.start f.0 ≡ Some start) (h : HasColumns s past)
+  where
+    -- the slot of the start, by the entries too
+    slot : Some start.slot ≡ open_slot past f.0
+    slot = sym (slot_of_start s past f.0 start h is)
 
-  -- it is not busy any more
-  freed : slots_of (without_start s f.0 start) ≡ record (slots_by s.first_version past) { is_slot_busy = λ at. cond (names_slot (open_slot past f.0) at) false (is_slot_busy past at) }
-  freed = λ i. record (h.slots i) { is_slot_busy = λ at. cond (names_slot (slot i) at) false ((h.slots i).is_slot_busy at) }
+    -- it is not busy any more
+    freed : slots_of (without_start s f.0 start) ≡ record (slots_by s.first_version past)
+        { is_slot_busy = λ at. cond (names_slot (open_slot past f.0) at) false (is_slot_busy past at) }
+    freed = λ i. record (h.slots i) { is_slot_busy = λ at. cond (names_slot (slot i) at) false ((h.slots i).is_slot_busy at) }
 
-  -- a page is out, and its version in the slot
-  pub ewb_columns : (page : Page) (tag : List ℕ) → HasColumns (after_ewb s f.0 start) (did_by a (Ewb f) (Moved page start.version tag) ∷ past)
-  ewb_columns page tag = record {
-    frames = ap (λ x. put f.0 Free (with_sealing f.0 false (with_start f.0 None x))) h.frames;
-    cpus = h.cpus;
-    slots = λ i. record (freed i) { version_in = λ at. cond (names_slot (slot i) at) start.version ((h.slots i).version_in at) };
-    enclaves = h.enclaves;
-  }
+    -- a page is out, and its version in the slot
+    pub ewb_columns : (page : Page) (tag : List ℕ) → HasColumns (after_ewb s f.0 start)
+        (did_by a (Ewb f) (Moved page start.version tag) ∷ past)
+    ewb_columns page tag = record {
+      frames = ap (λ x. put f.0 Free (with_sealing f.0 false (with_start f.0 None x))) h.frames;
+      cpus = h.cpus;
+      slots = λ i. record (freed i) { version_in = λ at. cond (names_slot (slot i) at) start.version ((h.slots i).version_in at) };
+      enclaves = h.enclaves;
+    }
 
-  -- a page is back, as what it was added, and no version in the slot
-  pub eld_columns : (page : Page) (kind : Kind) (perm : Perm) (words tag : List ℕ) → s.added page ≡ Some (kind, perm)
-      → HasColumns (after_eld s f.0 start page kind perm words) (did_by a (Eld f) (Moved page start.version tag) ∷ past)
-  eld_columns page kind perm words tag told = record {
-    frames = λ i. put f.0 (held i) (with_start f.0 None (h.frames i));
-    cpus = h.cpus;
-    slots = λ i. record (freed i) { version_in = λ at. cond (names_slot (slot i) at) 0 ((h.slots i).version_in at) };
-    enclaves = h.enclaves;
-  }
-    where
-      held : Holds page kind perm ≡ reloaded page (added past page)
-      held = ap (reloaded page) (sym told ∙ added_is h page)
+    -- a page is back, as what it was added, and no version in the slot
+    pub eld_columns : (page : Page) (kind : Kind) (perm : Perm) (words tag : List ℕ) → s.added page ≡ Some (kind, perm)
+        → HasColumns (after_eld s f.0 start page kind perm words) (did_by a (Eld f) (Moved page start.version tag) ∷ past)
+    eld_columns page kind perm words tag told = record {
+      frames = λ i. put f.0 (held i) (with_start f.0 None (h.frames i));
+      cpus = h.cpus;
+      slots = λ i. record (freed i) { version_in = λ at. cond (names_slot (slot i) at) 0 ((h.slots i).version_in at) };
+      enclaves = h.enclaves;
+    }
+      where
+        held : Holds page kind perm ≡ reloaded page (added past page)
+        held = ap (reloaded page) (sym told ∙ added_is h page)
 
-  -- a load is refused; its frame held no page that was on its way out
-  pub failed_eld_columns : (why : Refusal) → s.is_sealing f.0 ≡ false → HasColumns (after_failed_eld s f.0 start) (refused_by a (Eld f) why ∷ past)
-  failed_eld_columns why idle = record {
-    frames = λ i. record (put f.0 Free (with_start f.0 None (h.frames i))) { is_sealing = λ n. settled n i };
-    cpus = h.cpus;
-    slots = freed;
-    enclaves = h.enclaves;
-  }
-    where
-      settled : (n : ℕ) → cond (f.0 == n) false (s.is_sealing n) ≡ is_sealing past n
-      settled n = cond_both (f.0 == n) false (s.is_sealing n) (λ v. v ≡ is_sealing past n) (λ same. sym idle ∙ ap s.is_sealing (eqb-true f.0 n same) ∙ sealing_is h n) (λ _. sealing_is h n)
+    -- a load is refused; its frame held no page that was on its way out
+    pub failed_eld_columns : (why : Refusal) → s.is_sealing f.0 ≡ false
+        → HasColumns (after_failed_eld s f.0 start) (refused_by a (Eld f) why ∷ past)
+    failed_eld_columns why idle = record {
+      frames = λ i. record (put f.0 Free (with_start f.0 None (h.frames i))) { is_sealing = λ n. settled n i };
+      cpus = h.cpus;
+      slots = freed;
+      enclaves = h.enclaves;
+    }
+      where
+        settled : (n : ℕ) → cond (f.0 == n) false (s.is_sealing n) ≡ is_sealing past n
+        settled n = cond_both (f.0 == n) false (s.is_sealing n) (λ v. v ≡ is_sealing past n)
+            (λ same. sym idle ∙ ap s.is_sealing (eqb-true f.0 n same) ∙ sealing_is h n) (λ _. sealing_is h n)

@@ -35,21 +35,25 @@ abbrev one_if : Bool → ℕ
 one_if b = cond b 1 0
 
 -- what passes one of two tests is counted by one of them
-count_below-splits : (p q r : ℕ → Bool) → ((k : ℕ) → one_if (p k) + one_if (q k) ≡ one_if (r k)) → (n : ℕ) → count_below p n + count_below q n ≡ count_below r n
+count_below-splits : (p q r : ℕ → Bool) → ((k : ℕ) → one_if (p k) + one_if (q k) ≡ one_if (r k)) → (n : ℕ)
+    → count_below p n + count_below q n ≡ count_below r n
 unfolding count_below
 count_below-splits p q r h zero = refl
 count_below-splits p q r h (suc n) = let now = h n in let rest = count_below-splits p q r h n in omega (arith, now, rest)
 
 -- the machine's processors have noted what the entries say
-pub noting_agrees : (s : State) (past : List Entry) → HasColumns s past → (enclave : ℕ) (test : ℕ → Bool) → number_noting s enclave test ≡ number_noting_by s.first_epoch past enclave test
-noting_agrees s past h enclave test = count_below-agrees _ _ (λ p. rw (inside_is h p, noted_is h p) (by_stay (noted s.first_epoch past p) (stay past p))) 16
+pub noting_agrees : (s : State) (past : List Entry) → HasColumns s past → (enclave : ℕ) (test : ℕ → Bool)
+    → number_noting s enclave test ≡ number_noting_by s.first_epoch past enclave test
+noting_agrees s past h enclave test =
+    count_below-agrees _ _ (λ p. rw (inside_is h p, noted_is h p) (by_stay (noted s.first_epoch past p) (stay past p))) 16
   where
     by_stay : (m : ℕ) (o : Option Stay) → is_noting enclave test (seat_of_stay o) (noted_inside o m) ≡ notes enclave test m o
     by_stay m None = refl
     by_stay m (Some t) = refl
 
 -- as many are older than the last track, by epochs and by places
-pub older_agrees : (s : State) (past : List Entry) → HasColumns s past → (e : ℕ) → number_noting s e (λ m. ltb m (s.epoch e)) ≡ older_at past e
+pub older_agrees : (s : State) (past : List Entry) → HasColumns s past → (e : ℕ)
+    → number_noting s e (λ m. ltb m (s.epoch e)) ≡ older_at past e
 older_agrees s past h e =
     rw (epoch_is h e) (noting_agrees s past h e (λ m. ltb m (epoch s.first_epoch past e)) ∙ sym ((epochs_tell s.first_epoch past).older e))
 
@@ -71,17 +75,21 @@ and_true true = refl
 and_true false = refl
 
 -- all that are inside are older or newer, by epochs and by places
-pub newer_agrees : (s : State) (past : List Entry) → HasColumns s past → (e : ℕ) → number_noting s e (λ m. not (ltb m (s.epoch e))) ≡ newer_at past e
+pub newer_agrees : (s : State) (past : List Entry) → HasColumns s past → (e : ℕ)
+    → number_noting s e (λ m. not (ltb m (s.epoch e))) ≡ newer_at past e
 newer_agrees s past h e = omega (arith, by_epochs, by_places, all_agree, older_agrees s past h e)
   where
-    by_seat : (o : Option Seat) (m : ℕ) → one_if (is_noting e (λ m. ltb m (s.epoch e)) o m) + one_if (is_noting e (λ m. not (ltb m (s.epoch e))) o m) ≡ one_if (is_noting e (λ m. true) o m)
+    by_seat : (o : Option Seat) (m : ℕ) → one_if (is_noting e (λ m. ltb m (s.epoch e)) o m) + one_if
+        (is_noting e (λ m. not (ltb m (s.epoch e))) o m) ≡ one_if (is_noting e (λ m. true) o m)
     by_seat None m = refl
     by_seat (Some seat) m = one_of_two (seat.enclave == e) (ltb m (s.epoch e))
 
-    by_epochs : number_noting s e (λ m. ltb m (s.epoch e)) + number_noting s e (λ m. not (ltb m (s.epoch e))) ≡ number_noting s e (λ m. true)
+    by_epochs : number_noting s e (λ m. ltb m (s.epoch e)) + number_noting s e (λ m. not (ltb m (s.epoch e))) ≡ number_noting s e
+        (λ m. true)
     by_epochs = count_below-splits _ _ _ (λ p. by_seat (s.inside p) (s.noted p)) 16
 
-    by_stay : (k : Option ℕ) (o : Option Stay) → one_if (is_in_before e k o) + one_if (is_in e o && not (is_in_before e k o)) ≡ one_if (is_in e o)
+    by_stay : (k : Option ℕ) (o : Option Stay) → one_if (is_in_before e k o) + one_if (is_in e o && not (is_in_before e k o)) ≡ one_if
+        (is_in e o)
     by_stay k None = refl
     by_stay k (Some t) = one_of_those (t.seat.enclave == e) (is_before k t.entered)
 
@@ -101,7 +109,8 @@ newer_agrees s past h e = omega (arith, by_epochs, by_places, all_agree, older_a
 taken_by : (s : State) (past : List Entry) (g : Page) → HasColumns s past → IsTakenIn s g → IsTaken past g
 taken_by s past g h k = record { cpu = k.cpu; by = by_stay (stay past k.cpu) (rw (inside_is h k.cpu) at k.by) }
   where
-    by_stay : (o : Option Stay) → IsSomeAnd (seat_of_stay o) (λ seat. page_at seat.enclave seat.tcs ≡ g) → IsSomeAnd o (λ t. page_at t.seat.enclave t.seat.tcs ≡ g)
+    by_stay : (o : Option Stay) → IsSomeAnd (seat_of_stay o) (λ seat. page_at seat.enclave seat.tcs ≡ g)
+        → IsSomeAnd o (λ t. page_at t.seat.enclave t.seat.tcs ≡ g)
     by_stay None by = by
     by_stay (Some t) by = by
 
@@ -109,7 +118,8 @@ taken_by s past g h k = record { cpu = k.cpu; by = by_stay (stay past k.cpu) (rw
 busy_by : (s : State) (past : List Entry) (g : Page) → HasColumns s past → IsSound s → IsTaken past g → s.is_busy g ≡ true
 busy_by s past g h sound k = by_stay (stay past k.cpu) k.by (rw (inside_is h k.cpu) at (sound.busy k.cpu))
   where
-    by_stay : (o : Option Stay) → IsSomeAnd o (λ t. page_at t.seat.enclave t.seat.tcs ≡ g) → IfSome (seat_of_stay o) (λ seat. s.is_busy (page_at seat.enclave seat.tcs) ≡ true) → s.is_busy g ≡ true
+    by_stay : (o : Option Stay) → IsSomeAnd o (λ t. page_at t.seat.enclave t.seat.tcs ≡ g)
+        → IfSome (seat_of_stay o) (λ seat. s.is_busy (page_at seat.enclave seat.tcs) ≡ true) → s.is_busy g ≡ true
     by_stay None by busy = absurd by
     by_stay (Some t) by busy = ap s.is_busy (sym by) ∙ busy
 
@@ -127,7 +137,8 @@ shaped_by s past h sound guarded = record {
 
 -- what a processor's two frames held at its entry they hold still
 abbrev pub IsHeld : List Entry → Type 0
-IsHeld past = (p : ℕ) → IfSome (stay past p) (λ t. (content past t.seat.tcs_frame ≡ t.tcs_held) × (content past t.seat.ssa_frame ≡ t.ssa_held))
+IsHeld past =
+    (p : ℕ) → IfSome (stay past p) (λ t. (content past t.seat.tcs_frame ≡ t.tcs_held) × (content past t.seat.ssa_frame ≡ t.ssa_held))
 
 -- a sound machine with the columns of its entries shows that no translation is stale
 pub none_stale_by : (s : State) (past : List Entry) → HasColumns s past → IsSound s → IsHeld past → NoneStale past
@@ -146,7 +157,9 @@ none_stale_by s past h sound held p = by_stay (stay past p) refl (held p)
         })
         xs k)
 
-    by_stay : (o : Option Stay) → stay past p ≡ o → IfSome o (λ t. (content past t.seat.tcs_frame ≡ t.tcs_held) × (content past t.seat.ssa_frame ≡ t.ssa_held)) → IfSome o (IsUndisturbed past p)
+    by_stay : (o : Option Stay) → stay past p ≡ o
+        → IfSome o (λ t. (content past t.seat.tcs_frame ≡ t.tcs_held) × (content past t.seat.ssa_frame ≡ t.ssa_held))
+        → IfSome o (IsUndisturbed past p)
     by_stay None e k = tt
     by_stay (Some t) e k =
         let is : s.inside p ≡ Some t.seat = rw (inside_is h p, e) refl in
@@ -160,8 +173,10 @@ none_stale_by s past h sound held p = by_stay (stay past p) refl (held p)
 -- ---- which pages are drained
 
 -- what the row of EWB's start sees is drained exactly where the entries say so
-pub drained_by : (s : State) (past : List Entry) → HasColumns s past → (n : ℕ) → has_passed s (enclave_in (s.content n)) (s.blocked n) ≡ is_drained past n
-drained_by s past h n = rw (content_is h n, blocked_is h n) (by_block (enclave_in (content past n)) (block_epoch s.first_epoch past n) ∙ sym ((epochs_tell s.first_epoch past).drained n))
+pub drained_by : (s : State) (past : List Entry) → HasColumns s past → (n : ℕ)
+    → has_passed s (enclave_in (s.content n)) (s.blocked n) ≡ is_drained past n
+drained_by s past h n = rw (content_is h n, blocked_is h n)
+    (by_block (enclave_in (content past n)) (block_epoch s.first_epoch past n) ∙ sym ((epochs_tell s.first_epoch past).drained n))
   where
     by_block : (c b : Option ℕ) → has_passed s c b ≡ passed_block s.first_epoch past c b
     by_block None b = refl
@@ -184,12 +199,22 @@ pub held_by : (made : Making) (s : State) (past : List Entry) → ShapeWithRules
 held_by made s past h p = IfSome_then (stay past p) (last_place NoneStale past h.stale.places p) (λ t k. (k.tcs.held, k.ssa.held))
 
 -- a machine that has the shape of its entries comes to that of one more
-pub shaped_more : (made : Making) (s t : State) (past : List Entry) (e : Entry) → IsSound t → IsGuarded t → ShapeWithRules made s past → IsNextTo s t past e → ShapeWithRules made t (e ∷ past)
+pub shaped_more : (made : Making) (s t : State) (past : List Entry) (e : Entry) → IsSound t → IsGuarded t → ShapeWithRules made s past
+    → IsNextTo s t past e → ShapeWithRules made t (e ∷ past)
 shaped_more made s t past e sound guarded h next =
     let shape = shaped_by t (e ∷ past) next.columns sound guarded in
     record {
-      shape = record { making = next.making ∙ h.shape.making; columns = shape.columns; older = shape.older; newer = shape.newer; busy = shape.busy };
-      stale = record { entries = (next.access, h.stale.entries); places = (none_stale_by t (e ∷ past) next.columns sound next.held, h.stale.places) };
+      shape = record {
+        making = next.making ∙ h.shape.making;
+        columns = shape.columns;
+        older = shape.older;
+        newer = shape.newer;
+        busy = shape.busy;
+      };
+      stale = record {
+        entries = (next.access, h.stale.entries);
+        places = (none_stale_by t (e ∷ past) next.columns sound next.held, h.stale.places);
+      };
       evict = (next.evict, h.evict);
       rising = (subst (λ (n : ℕ). RisingRule n past e) (ap (λ (m : Making). m.first_version) h.shape.making) next.rising, h.rising);
     }

@@ -63,14 +63,17 @@ unused_invalid s f none enclave u = by_content (s.content f) none u.ours
 module _ (s : State) (past : List Entry) (sound : IsSound s) (h : HasColumns s past) (held : IsHeld past) where
   -- where an unused frame is put, the frames that processors use hold what they held
   held_put : (f : ℕ) (c : Content) → IsUnused s f
-      → (p : ℕ) → IfSome (stay past p) (λ t. (cond (f == t.seat.tcs_frame) c (content past t.seat.tcs_frame) ≡ t.tcs_held) × (cond (f == t.seat.ssa_frame) c (content past t.seat.ssa_frame) ≡ t.ssa_held))
+      → (p : ℕ) → IfSome (stay past p) (λ t. (cond (f == t.seat.tcs_frame) c (content past t.seat.tcs_frame) ≡ t.tcs_held)
+      × (cond (f == t.seat.ssa_frame) c (content past t.seat.ssa_frame) ≡ t.ssa_held))
   held_put f c unused p = by_stay (stay past p) refl (held p)
     where
       other : (enclave n : ℕ) → IsUsable enclave (s.content n) (s.is_sealing n) → (f == n) ≡ false
       other enclave n u = apart f n (λ same. unused enclave (rw same u))
 
-      by_stay : (o : Option Stay) → stay past p ≡ o → IfSome o (λ t. (content past t.seat.tcs_frame ≡ t.tcs_held) × (content past t.seat.ssa_frame ≡ t.ssa_held))
-          → IfSome o (λ t. (cond (f == t.seat.tcs_frame) c (content past t.seat.tcs_frame) ≡ t.tcs_held) × (cond (f == t.seat.ssa_frame) c (content past t.seat.ssa_frame) ≡ t.ssa_held))
+      by_stay : (o : Option Stay) → stay past p ≡ o
+          → IfSome o (λ t. (content past t.seat.tcs_frame ≡ t.tcs_held) × (content past t.seat.ssa_frame ≡ t.ssa_held))
+          → IfSome o (λ t. (cond (f == t.seat.tcs_frame) c (content past t.seat.tcs_frame) ≡ t.tcs_held)
+          × (cond (f == t.seat.ssa_frame) c (content past t.seat.ssa_frame) ≡ t.ssa_held))
       by_stay None e k = tt
       by_stay (Some t) e k =
           let is : s.inside p ≡ Some t.seat = rw (inside_is h p, e) refl in
@@ -79,25 +82,31 @@ module _ (s : State) (past : List Entry) (sound : IsSound s) (h : HasColumns s p
 
 -- a processor that comes inside finds what it holds
 held_entered : (past : List Entry) → IsHeld past → (p : ℕ) (seat : Seat)
-    → (q : ℕ) → IfSome (cond (p == q) (Some (stay_from past seat)) (stay past q)) (λ t. (content past t.seat.tcs_frame ≡ t.tcs_held) × (content past t.seat.ssa_frame ≡ t.ssa_held))
+    → (q : ℕ) → IfSome (cond (p == q) (Some (stay_from past seat)) (stay past q))
+    (λ t. (content past t.seat.tcs_frame ≡ t.tcs_held) × (content past t.seat.ssa_frame ≡ t.ssa_held))
 held_entered past held p seat q =
-    elim (p == q) as (λ b. IfSome (cond b (Some (stay_from past seat)) (stay past q)) (λ t. (content past t.seat.tcs_frame ≡ t.tcs_held) × (content past t.seat.ssa_frame ≡ t.ssa_held))) [
+    elim (p == q) as (λ b. IfSome (cond b (Some (stay_from past seat)) (stay past q))
+    (λ t. (content past t.seat.tcs_frame ≡ t.tcs_held) × (content past t.seat.ssa_frame ≡ t.ssa_held))) [
       | true ↦ (refl, refl)
       | false ↦ held q
     ]
 
 -- .. and one that leaves uses nothing
 held_left : (past : List Entry) → IsHeld past → (p : ℕ)
-    → (q : ℕ) → IfSome (cond (p == q) None (stay past q)) (λ t. (content past t.seat.tcs_frame ≡ t.tcs_held) × (content past t.seat.ssa_frame ≡ t.ssa_held))
+    → (q : ℕ) → IfSome (cond (p == q) None (stay past q))
+    (λ t. (content past t.seat.tcs_frame ≡ t.tcs_held) × (content past t.seat.ssa_frame ≡ t.ssa_held))
 held_left past held p q =
-    elim (p == q) as (λ b. IfSome (cond b None (stay past q)) (λ t. (content past t.seat.tcs_frame ≡ t.tcs_held) × (content past t.seat.ssa_frame ≡ t.ssa_held))) [
+    elim (p == q) as (λ b. IfSome (cond b None (stay past q))
+    (λ t. (content past t.seat.tcs_frame ≡ t.tcs_held) × (content past t.seat.ssa_frame ≡ t.ssa_held))) [
       | true ↦ tt
       | false ↦ held q
     ]
 
 -- an entry that changes no column changes no frame
-held_quiet : (first_epoch first_version : ℕ) (past : List Entry) (e : Entry) → IsQuiet first_epoch first_version past e → IsHeld past → IsHeld (e ∷ past)
-held_quiet first_epoch first_version past e q held p = rw (q.stays p) (IfSome_then (stay past p) (held p) (λ t k. (same t.seat.tcs_frame ∙ k.0, same t.seat.ssa_frame ∙ k.1)))
+held_quiet : (first_epoch first_version : ℕ) (past : List Entry) (e : Entry) → IsQuiet first_epoch first_version past e → IsHeld past
+    → IsHeld (e ∷ past)
+held_quiet first_epoch first_version past e q held p =
+    rw (q.stays p) (IfSome_then (stay past p) (held p) (λ t k. (same t.seat.tcs_frame ∙ k.0, same t.seat.ssa_frame ∙ k.1)))
   where
     same : (n : ℕ) → content (e ∷ past) n ≡ content past n
     same n i = (q.frames i).content n
@@ -105,20 +114,31 @@ held_quiet first_epoch first_version past e q held p = rw (q.stays p) (IfSome_th
 -- ---- an entry that changes no column
 
 -- a machine that changed beside its columns
-pub quiet_next : (s t : State) (past : List Entry) (e : Entry) → IsQuiet t.first_epoch t.first_version past e → making_of t ≡ making_of s → HasColumns t past → IsHeld past → StaleRule past e → EvictRule past e
+pub quiet_next : (s t : State) (past : List Entry) (e : Entry) → IsQuiet t.first_epoch t.first_version past e → making_of t ≡ making_of s
+    → HasColumns t past → IsHeld past → StaleRule past e → EvictRule past e
     → RisingRule s.first_version past e → IsNextTo s t past e
 quiet_next s t past e q making h held access evict rising =
-    record { making = making; columns = quiet_columns t past e q h; held = held_quiet t.first_epoch t.first_version past e q held; access = access; evict = evict; rising = rising }
+    record {
+      making = making;
+      columns = quiet_columns t past e q h;
+      held = held_quiet t.first_epoch t.first_version past e q held;
+      access = access;
+      evict = evict;
+      rising = rising;
+    }
 
 -- a refusal, but for that of a load's commit
-pub refused_next : (s : State) (past : List Entry) (a : Actor) (action : Action) (r : Refusal) → is_eld action ≡ false → HasColumns s past → IsHeld past → IsNextTo s s past (refused_by a action r)
-refused_next s past a action r other h held = quiet_next s s past (refused_by a action r) (refused_quiet s.first_epoch s.first_version past a action r other) refl h held tt tt tt
+pub refused_next : (s : State) (past : List Entry) (a : Actor) (action : Action) (r : Refusal) → is_eld action ≡ false → HasColumns s past
+    → IsHeld past → IsNextTo s s past (refused_by a action r)
+refused_next s past a action r other h held =
+    quiet_next s s past (refused_by a action r) (refused_quiet s.first_epoch s.first_version past a action r other) refl h held tt tt tt
 
 -- ---- the translation of an access
 
 -- an access that its row allows is of a page that is held
 pub holds_page : (s : State) (past : List Entry) (p off : ℕ) (is_allowed : Bool) → HasColumns s past
-    → first_of_row (access_row off (is_some (s.inside p)) (translation s p (s.inside p) (off / 4096)) is_allowed) ≡ None → holds_number (translations past p) (off / 4096) ≡ true
+    → first_of_row (access_row off (is_some (s.inside p)) (translation s p (s.inside p) (off / 4096)) is_allowed) ≡ None
+    → holds_number (translations past p) (off / 4096) ≡ true
 holds_page s past p off is_allowed h allowed =
     let none = none_holds (access_row off (is_some (s.inside p)) (translation s p (s.inside p) (off / 4096)) is_allowed) allowed in
     rw (← translations_are h p, holds_number-map (s.cache p) (off / 4096)) (by_seat (s.inside p) none.1.1.0)
@@ -127,16 +147,20 @@ holds_page s past p off is_allowed h allowed =
     by_found None k = cc
     by_found (Some x) k = refl
 
-    by_seat : (o : Option Seat) → is_none (translation s p o (off / 4096)) ≡ false → is_some (translation_of (s.cache p) (off / 4096)) ≡ true
+    by_seat : (o : Option Seat) → is_none (translation s p o (off / 4096)) ≡ false
+        → is_some (translation_of (s.cache p) (off / 4096)) ≡ true
     by_seat None k = cc
     by_seat (Some seat) k = by_found (translation_of (s.cache p) (off / 4096)) k
 
 -- ---- the rows
 
 -- a page is added to a frame that holds nothing
-add_empty : (number : ℕ) (kind : Kind) (perm : Perm) (init : PageInit) (o : Option EnclaveSight) (is_added : Bool) (v : FrameSight) → first_of_row (add_row number kind perm init o is_added v) ≡ None → is_valid v.content ≡ false
-add_empty number kind perm init None is_added v allowed = absurd (false≢true (sym (none_holds (add_row number kind perm init None is_added v) allowed).1.0))
-add_empty number kind perm init (Some enclave) is_added v allowed = (none_holds (add_row number kind perm init (Some enclave) is_added v) allowed).1.1.1.1.1.1.1.0
+add_empty : (number : ℕ) (kind : Kind) (perm : Perm) (init : PageInit) (o : Option EnclaveSight) (is_added : Bool) (v : FrameSight)
+    → first_of_row (add_row number kind perm init o is_added v) ≡ None → is_valid v.content ≡ false
+add_empty number kind perm init None is_added v allowed =
+    absurd (false≢true (sym (none_holds (add_row number kind perm init None is_added v) allowed).1.0))
+add_empty number kind perm init (Some enclave) is_added v allowed =
+    (none_holds (add_row number kind perm init (Some enclave) is_added v) allowed).1.1.1.1.1.1.1.0
 
 -- what an asynchronous exit saves changes no number of the machine's making
 saved_making : (s : State) (acc : ℕ) (o : Option Seat) → making_of (with_saved s acc o) ≡ making_of s
@@ -145,7 +169,8 @@ saved_making s acc (Some seat) = refl
 
 -- each row that is done, from a sound machine with the columns of its entries
 module _ (s : State) (past : List Entry) (sound : IsSound s) (h : HasColumns s past) (held : IsHeld past) where
-  pub epa_next : (a : Actor) (f : Frame) → first_of_row (row_of s a (Epa f)) ≡ None → IsNextTo s (after_epa s f.0) past (did_by a (Epa f) answers.Plain)
+  pub epa_next : (a : Actor) (f : Frame) → first_of_row (row_of s a (Epa f)) ≡ None
+      → IsNextTo s (after_epa s f.0) past (did_by a (Epa f) answers.Plain)
   epa_next a f allowed =
       let none = none_holds (epa_row (sight s f.0)) allowed in
       record {
@@ -157,7 +182,8 @@ module _ (s : State) (past : List Entry) (sound : IsSound s) (h : HasColumns s p
         rising = tt;
       }
 
-  pub create_next : (a : Actor) (enclave : ℕ) (f : Frame) (base size : ℕ) (begun : Measure) → first_of_row (row_of s a (Create enclave f base size)) ≡ None
+  pub create_next : (a : Actor) (enclave : ℕ) (f : Frame) (base size : ℕ) (begun : Measure)
+      → first_of_row (row_of s a (Create enclave f base size)) ≡ None
       → IsNextTo s (after_create s enclave f.0 base size begun) past (did_by a (Create enclave f base size) answers.Plain)
   create_next a enclave f base size begun allowed =
       let none = none_holds (create_row enclave base size (is_some (s.enclaves enclave)) (sight s f.0)) allowed in
@@ -170,33 +196,51 @@ module _ (s : State) (past : List Entry) (sound : IsSound s) (h : HasColumns s p
         rising = tt;
       }
 
-  pub add_next : (a : Actor) (enclave number : ℕ) (f : Frame) (kind : Kind) (perm : Perm) (init : PageInit) (longer : Measure) → first_of_row (row_of s a (Add enclave number f kind perm init)) ≡ None
-      → IsNextTo s (after_add s (page_at enclave number) f.0 kind perm init longer) past (did_by a (Add enclave number f kind perm init) answers.Plain)
+  pub add_next : (a : Actor) (enclave number : ℕ) (f : Frame) (kind : Kind) (perm : Perm) (init : PageInit) (longer : Measure)
+      → first_of_row (row_of s a (Add enclave number f kind perm init)) ≡ None
+      → IsNextTo s (after_add s (page_at enclave number) f.0 kind perm init longer) past
+      (did_by a (Add enclave number f kind perm init) answers.Plain)
   add_next a enclave number f kind perm init longer allowed = record {
     making = refl;
     columns = add_columns s past h a enclave number f kind perm init longer answers.Plain;
     held =
         held_put s past sound h held f.0 (Holds (page_at enclave number) kind perm)
-        (unused_invalid s f.0 (add_empty number kind perm init (enclave_sight_of (s.enclaves enclave)) (is_some (s.added (page_at enclave number))) (sight s f.0) allowed));
+        (unused_invalid s f.0 (add_empty number kind perm init (enclave_sight_of (s.enclaves enclave))
+        (is_some (s.added (page_at enclave number))) (sight s f.0) allowed));
     access = tt;
     evict = tt;
     rising = tt;
   }
 
   -- a done instruction that changes no column, while words, accumulators and measurements may change
-  quiet_done : (t : State) (a : Actor) (action : Action) (answer : Answer) → is_quiet action ≡ true → making_of t ≡ making_of s → HasColumns t past → StaleRule past (did_by a action answer)
-      → EvictRule past (did_by a action answer) → RisingRule s.first_version past (did_by a action answer) → IsNextTo s t past (did_by a action answer)
+  quiet_done : (t : State) (a : Actor) (action : Action) (answer : Answer) → is_quiet action ≡ true → making_of t ≡ making_of s
+      → HasColumns t past → StaleRule past (did_by a action answer)
+      → EvictRule past (did_by a action answer) → RisingRule s.first_version past (did_by a action answer)
+      → IsNextTo s t past (did_by a action answer)
   quiet_done t a action answer quiet made columns access evict rising =
-      quiet_next s t past (did_by a action answer) (did_quiet t.first_epoch t.first_version past a action answer quiet) made columns held access evict rising
+      quiet_next s t past (did_by a action answer) (did_quiet t.first_epoch t.first_version past a action answer quiet) made columns held
+      access evict rising
 
-  pub extend_next : (a : Actor) (f : Frame) (chunk enclave : ℕ) (longer : Measure) → IsNextTo s (after_extend s enclave longer) past (did_by a (Extend f chunk) answers.Plain)
+  pub extend_next : (a : Actor) (f : Frame) (chunk enclave : ℕ) (longer : Measure)
+      → IsNextTo s (after_extend s enclave longer) past (did_by a (Extend f chunk) answers.Plain)
   extend_next a f chunk enclave longer =
-      quiet_done (after_extend s enclave longer) a (Extend f chunk) answers.Plain refl refl (record { frames = h.frames; cpus = h.cpus; slots = h.slots; enclaves = h.enclaves }) tt tt tt
+      quiet_done (after_extend s enclave longer) a (Extend f chunk) answers.Plain refl refl
+      (record { frames = h.frames; cpus = h.cpus; slots = h.slots; enclaves = h.enclaves }) tt tt tt
 
-  pub init_next : (a : Actor) (enclave : ℕ) (expect : Option (List ℕ)) (digest : List ℕ) → IsNextTo s (after_init s enclave) past (did_by a (Init enclave expect) (answers.Hash digest))
-  init_next a enclave expect digest = record { making = refl; columns = init_columns s past h a enclave expect (answers.Hash digest); held = held; access = tt; evict = tt; rising = tt }
+  pub init_next : (a : Actor) (enclave : ℕ) (expect : Option (List ℕ)) (digest : List ℕ)
+      → IsNextTo s (after_init s enclave) past (did_by a (Init enclave expect) (answers.Hash digest))
+  init_next a enclave expect digest = record {
+    making = refl;
+    columns = init_columns s past h a enclave expect (answers.Hash digest);
+    held = held;
+    access = tt;
+    evict = tt;
+    rising = tt;
+  }
 
-  pub enter_next : (p : Cpu) (enclave tcs : ℕ) (tf sf : Frame) → IsNextTo s (after_enter s p.0 (seat_of enclave tcs tf.0 sf.0)) past (did_by (actors.Cpu p) (Enter enclave tcs tf sf) (answers.Cssa (cssa_in s tf.0)))
+  pub enter_next : (p : Cpu) (enclave tcs : ℕ) (tf sf : Frame)
+      → IsNextTo s (after_enter s p.0 (seat_of enclave tcs tf.0 sf.0)) past
+      (did_by (actors.Cpu p) (Enter enclave tcs tf sf) (answers.Cssa (cssa_in s tf.0)))
   enter_next p enclave tcs tf sf = record {
     making = refl;
     columns = enter_columns s past h p enclave tcs tf sf (answers.Cssa (cssa_in s tf.0));
@@ -207,7 +251,8 @@ module _ (s : State) (past : List Entry) (sound : IsSound s) (h : HasColumns s p
   }
 
   pub resume_next : (p : Cpu) (enclave tcs : ℕ) (tf sf : Frame)
-      → IsNextTo s (after_resume s p.0 (seat_of enclave tcs tf.0 sf.0)) past (did_by (actors.Cpu p) (Resume enclave tcs tf sf) (answers.Value (saved_word s sf.0)))
+      → IsNextTo s (after_resume s p.0 (seat_of enclave tcs tf.0 sf.0)) past
+      (did_by (actors.Cpu p) (Resume enclave tcs tf sf) (answers.Value (saved_word s sf.0)))
   resume_next p enclave tcs tf sf = record {
     making = refl;
     columns = resume_columns s past h p enclave tcs tf sf (answers.Value (saved_word s sf.0));
@@ -218,7 +263,14 @@ module _ (s : State) (past : List Entry) (sound : IsSound s) (h : HasColumns s p
   }
 
   pub exit_next : (p : Cpu) → IsNextTo s (after_exit s p.0) past (did_by (actors.Cpu p) Exit answers.Plain)
-  exit_next p = record { making = refl; columns = exit_columns s past h p answers.Plain; held = held_left past held p.0; access = tt; evict = tt; rising = tt }
+  exit_next p = record {
+    making = refl;
+    columns = exit_columns s past h p answers.Plain;
+    held = held_left past held p.0;
+    access = tt;
+    evict = tt;
+    rising = tt;
+  }
 
   pub aex_next : (p : Cpu) (cause : Cause) → IsNextTo s (after_aex s p.0) past (did_by (actors.Cpu p) (Aex cause) answers.Plain)
   aex_next p cause = record {
@@ -230,29 +282,40 @@ module _ (s : State) (past : List Entry) (sound : IsSound s) (h : HasColumns s p
     rising = tt;
   }
 
-  pub fill_next : (p : Cpu) (t : Translation) → IsNextTo s (after_fill s p.0 t) past (did_by (actors.Cpu p) (Fill t.number t.frame) answers.Plain)
-  fill_next p t = record { making = refl; columns = fill_columns s past h p t answers.Plain; held = held; access = tt; evict = tt; rising = tt }
+  pub fill_next : (p : Cpu) (t : Translation) → IsNextTo s (after_fill s p.0 t) past
+      (did_by (actors.Cpu p) (Fill t.number t.frame) answers.Plain)
+  fill_next p t =
+      record { making = refl; columns = fill_columns s past h p t answers.Plain; held = held; access = tt; evict = tt; rising = tt }
 
-  pub load_next : (p : Cpu) (off : ℕ) → first_of_row (row_of s (actors.Cpu p) (Load off)) ≡ None → IsNextTo s s past (did_by (actors.Cpu p) (Load off) (answers.Value (word_at s p.0 off)))
+  pub load_next : (p : Cpu) (off : ℕ) → first_of_row (row_of s (actors.Cpu p) (Load off)) ≡ None
+      → IsNextTo s s past (did_by (actors.Cpu p) (Load off) (answers.Value (word_at s p.0 off)))
   load_next p off allowed =
-      quiet_done s (actors.Cpu p) (Load off) (answers.Value (word_at s p.0 off)) refl refl h (holds_page s past p.0 off (allows_read (translation s p.0 (s.inside p.0) (off / 4096))) h allowed) tt tt
+      quiet_done s (actors.Cpu p) (Load off) (answers.Value (word_at s p.0 off)) refl refl h
+      (holds_page s past p.0 off (allows_read (translation s p.0 (s.inside p.0) (off / 4096))) h allowed) tt tt
 
-  pub store_next : (p : Cpu) (off value : ℕ) → first_of_row (row_of s (actors.Cpu p) (Store off value)) ≡ None → IsNextTo s (after_store s p.0 off value) past (did_by (actors.Cpu p) (Store off value) answers.Plain)
+  pub store_next : (p : Cpu) (off value : ℕ) → first_of_row (row_of s (actors.Cpu p) (Store off value)) ≡ None
+      → IsNextTo s (after_store s p.0 off value) past (did_by (actors.Cpu p) (Store off value) answers.Plain)
   store_next p off value allowed =
-      quiet_done (after_store s p.0 off value) (actors.Cpu p) (Store off value) answers.Plain refl refl (record { frames = h.frames; cpus = h.cpus; slots = h.slots; enclaves = h.enclaves }) (holds_page s past p.0 off (allows_write (translation s p.0 (s.inside p.0) (off / 4096))) h allowed) tt tt
+      quiet_done (after_store s p.0 off value) (actors.Cpu p) (Store off value) answers.Plain refl refl
+      (record { frames = h.frames; cpus = h.cpus; slots = h.slots; enclaves = h.enclaves })
+      (holds_page s past p.0 off (allows_write (translation s p.0 (s.inside p.0) (off / 4096))) h allowed) tt tt
 
   pub xadd_next : (p : Cpu) (off value : ℕ) → first_of_row (row_of s (actors.Cpu p) (Xadd off value)) ≡ None
       → IsNextTo s (after_xadd s p.0 off value) past (did_by (actors.Cpu p) (Xadd off value) (answers.Value (word_at s p.0 off)))
   xadd_next p off value allowed =
-      quiet_done (after_xadd s p.0 off value) (actors.Cpu p) (Xadd off value) (answers.Value (word_at s p.0 off)) refl refl (record { frames = h.frames; cpus = h.cpus; slots = h.slots; enclaves = h.enclaves }) (holds_page s past p.0 off (allows_update (translation s p.0 (s.inside p.0) (off / 4096))) h allowed) tt tt
+      quiet_done (after_xadd s p.0 off value) (actors.Cpu p) (Xadd off value) (answers.Value (word_at s p.0 off)) refl refl
+      (record { frames = h.frames; cpus = h.cpus; slots = h.slots; enclaves = h.enclaves })
+      (holds_page s past p.0 off (allows_update (translation s p.0 (s.inside p.0) (off / 4096))) h allowed) tt tt
 
   pub set_next : (p : Cpu) (value : ℕ) → IsNextTo s (with_acc s p.0 value) past (did_by (actors.Cpu p) (Set value) answers.Plain)
   set_next p value =
-      quiet_done (with_acc s p.0 value) (actors.Cpu p) (Set value) answers.Plain refl refl (record { frames = h.frames; cpus = h.cpus; slots = h.slots; enclaves = h.enclaves }) tt tt tt
+      quiet_done (with_acc s p.0 value) (actors.Cpu p) (Set value) answers.Plain refl refl
+      (record { frames = h.frames; cpus = h.cpus; slots = h.slots; enclaves = h.enclaves }) tt tt tt
 
   pub plus_next : (p : Cpu) (value sum : ℕ) → IsNextTo s (with_acc s p.0 sum) past (did_by (actors.Cpu p) (Plus value) (answers.Value sum))
   plus_next p value sum =
-      quiet_done (with_acc s p.0 sum) (actors.Cpu p) (Plus value) (answers.Value sum) refl refl (record { frames = h.frames; cpus = h.cpus; slots = h.slots; enclaves = h.enclaves }) tt tt tt
+      quiet_done (with_acc s p.0 sum) (actors.Cpu p) (Plus value) (answers.Value sum) refl refl
+      (record { frames = h.frames; cpus = h.cpus; slots = h.slots; enclaves = h.enclaves }) tt tt tt
 
   pub pf_next : (p : Cpu) (op : AccessOp) (off : ℕ) (answer : Answer) → IsNextTo s s past (did_by (actors.Cpu p) (Pf op off) answer)
   pf_next p op off answer = quiet_done s (actors.Cpu p) (Pf op off) answer refl refl h tt tt tt
@@ -260,15 +323,18 @@ module _ (s : State) (past : List Entry) (sound : IsSound s) (h : HasColumns s p
   pub outload_next : (p : Cpu) (enclave off : ℕ) (answer : Answer) → IsNextTo s s past (did_by (actors.Cpu p) (OutLoad enclave off) answer)
   outload_next p enclave off answer = quiet_done s (actors.Cpu p) (OutLoad enclave off) answer refl refl h tt tt tt
 
-  pub outstore_next : (p : Cpu) (enclave off value : ℕ) (answer : Answer) → IsNextTo s s past (did_by (actors.Cpu p) (OutStore enclave off value) answer)
+  pub outstore_next : (p : Cpu) (enclave off value : ℕ) (answer : Answer)
+      → IsNextTo s s past (did_by (actors.Cpu p) (OutStore enclave off value) answer)
   outstore_next p enclave off value answer =
       quiet_done s (actors.Cpu p) (OutStore enclave off value) answer refl refl h tt tt tt
 
   pub block_next : (a : Actor) (f : Frame) → IsNextTo s (after_block s f.0) past (did_by a (Block f) answers.Plain)
-  block_next a f = record { making = refl; columns = block_columns s past h a f answers.Plain; held = held; access = tt; evict = tt; rising = tt }
+  block_next a f =
+      record { making = refl; columns = block_columns s past h a f answers.Plain; held = held; access = tt; evict = tt; rising = tt }
 
   pub track_next : (a : Actor) (enclave : ℕ) → IsNextTo s (after_track s enclave) past (did_by a (Track enclave) answers.Plain)
-  track_next a enclave = record { making = refl; columns = track_columns s past h a enclave answers.Plain; held = held; access = tt; evict = tt; rising = tt }
+  track_next a enclave =
+      record { making = refl; columns = track_columns s past h a enclave answers.Plain; held = held; access = tt; evict = tt; rising = tt }
 
   pub ewbstart_next : (a : Actor) (f : Frame) (slot : SlotAt) → first_of_row (row_of s a (EwbStart f slot)) ≡ None
       → IsNextTo s (after_ewbstart s f.0 slot) past (did_by a (EwbStart f slot) (answers.Version s.next_version))
@@ -299,19 +365,25 @@ module _ (s : State) (past : List Entry) (sound : IsSound s) (h : HasColumns s p
   -- ---- the commits
 
   -- a page is out
-  pub ewb_next : (a : Actor) (f : Frame) (start : Start) (page : Page) (tag : List ℕ) → s.start f.0 ≡ Some start → s.is_sealing f.0 ≡ true → start.loads ≡ None
+  pub ewb_next : (a : Actor) (f : Frame) (start : Start) (page : Page) (tag : List ℕ) → s.start f.0 ≡ Some start → s.is_sealing f.0 ≡ true
+      → start.loads ≡ None
       → IsNextTo s (after_ewb s f.0 start) past (did_by a (Ewb f) (answers.Moved page start.version tag))
   ewb_next a f start page tag is sealing writes = record {
     making = refl;
     columns = ewb_columns s past a f start is h page tag;
     held = held_put s past sound h held f.0 Free (λ enclave u. false≢true (sym u.settled ∙ sealing));
     access = tt;
-    evict = record { slot = start.slot; opened = sym (start_is h f.0) ∙ is ∙ (λ i. Some (record { slot = start.slot; version = start.version; loads = writes i })) };
+    evict = record {
+      slot = start.slot;
+      opened = sym (start_is h f.0) ∙ is
+          ∙ (λ i. Some (record { slot = start.slot; version = start.version; loads = writes i }));
+    };
     rising = tt;
   }
 
   -- a page is back
-  pub eld_next : (a : Actor) (f : Frame) (start : Start) (page : Page) (kind : Kind) (perm : Perm) (words tag : List ℕ) → s.start f.0 ≡ Some start → s.content f.0 ≡ IsLoading → s.added page ≡ Some (kind, perm)
+  pub eld_next : (a : Actor) (f : Frame) (start : Start) (page : Page) (kind : Kind) (perm : Perm) (words tag : List ℕ)
+      → s.start f.0 ≡ Some start → s.content f.0 ≡ IsLoading → s.added page ≡ Some (kind, perm)
       → IsNextTo s (after_eld s f.0 start page kind perm words) past (did_by a (Eld f) (answers.Moved page start.version tag))
   eld_next a f start page kind perm words tag is loading told = record {
     making = refl;
@@ -323,7 +395,8 @@ module _ (s : State) (past : List Entry) (sound : IsSound s) (h : HasColumns s p
   }
 
   -- a load is refused
-  pub failed_eld_next : (a : Actor) (f : Frame) (start : Start) (r : Refusal) → s.start f.0 ≡ Some start → s.content f.0 ≡ IsLoading → s.is_sealing f.0 ≡ false
+  pub failed_eld_next : (a : Actor) (f : Frame) (start : Start) (r : Refusal) → s.start f.0 ≡ Some start → s.content f.0 ≡ IsLoading
+      → s.is_sealing f.0 ≡ false
       → IsNextTo s (after_failed_eld s f.0 start) past (refused_by a (Eld f) r)
   failed_eld_next a f start r is loading idle = record {
     making = refl;

@@ -44,19 +44,23 @@ applies_no_ewb cpus a (Ewb f) can = absurd can
 applies_no_ewb cpus a action can = refl
 
 -- a step makes no record
-pub made_same : (key : List ℕ) (s t : State) (past : List Entry) (cpus : ℕ) (a : Actor) (action : Action) (e : Entry) → CanApply cpus a action → IsStep s a action e t → made_by key (e ∷ past) ≡ made_by key past
+pub made_same : (key : List ℕ) (s t : State) (past : List Entry) (cpus : ℕ) (a : Actor) (action : Action) (e : Entry)
+    → CanApply cpus a action → IsStep s a action e t → made_by key (e ∷ past) ≡ made_by key past
 made_same key s t past cpus a action e can k = by_entry (step_entry s t a action e k)
   where
     by_entry : IsEntryOf a action e → made_by key (e ∷ past) ≡ made_by key past
-    by_entry (inl (answer, is)) = subst (λ x. made_by key (x ∷ past) ≡ made_by key past) (sym is) (did_made key past a action answer (applies_no_ewb cpus a action can))
+    by_entry (inl (answer, is)) = subst (λ x. made_by key (x ∷ past) ≡ made_by key past) (sym is)
+        (did_made key past a action answer (applies_no_ewb cpus a action can))
     by_entry (inr (r, is)) = subst (λ x. made_by key (x ∷ past) ≡ made_by key past) (sym is) refl
 
 -- .. of which the rule Sealed has nothing to say
-pub sealed_quiet : (key : List ℕ) (s t : State) (past : List Entry) (cpus : ℕ) (a : Actor) (action : Action) (e : Entry) → CanApply cpus a action → IsStep s a action e t → SealedRule key past e
+pub sealed_quiet : (key : List ℕ) (s t : State) (past : List Entry) (cpus : ℕ) (a : Actor) (action : Action) (e : Entry)
+    → CanApply cpus a action → IsStep s a action e t → SealedRule key past e
 sealed_quiet key s t past cpus a action e can k = by_entry (step_entry s t a action e k)
   where
     by_entry : IsEntryOf a action e → SealedRule key past e
-    by_entry (inl (answer, is)) = subst (λ x. SealedRule key past x) (sym is) (did_sealed key past a action answer (applies_no_ewb cpus a action can))
+    by_entry (inl (answer, is)) =
+        subst (λ x. SealedRule key past x) (sym is) (did_sealed key past a action answer (applies_no_ewb cpus a action can))
     by_entry (inr (r, is)) = subst (λ x. SealedRule key past x) (sym is) tt
 
 -- ---- the commit of a reload
@@ -68,14 +72,16 @@ reloaded_entry s t a f rec e back = by_row (first_of_row (commit_row s f.0 back.
     by_row : (o : Option Refusal)
         → MatchOption o
         ((e ≡ did_by a (Eld f) (answers.Moved back.coming.page back.coming.start.version rec.tag))
-        × (t ≡ after_eld s f.0 back.coming.start back.coming.page back.coming.kind back.coming.perm (words_in (cipher s.key back.coming.start.version rec.cipher))))
+        × (t ≡ after_eld s f.0 back.coming.start back.coming.page back.coming.kind back.coming.perm
+        (words_in (cipher s.key back.coming.start.version rec.cipher))))
         (λ r. (e ≡ refused_by a (Eld f) r) × (t ≡ after_failed_eld s f.0 back.coming.start))
         → IsEntryOf a (Eld f) e
     by_row None k = inl (answers.Moved back.coming.page back.coming.start.version rec.tag, k.0)
     by_row (Some r) k = inr (r, k.0)
 
 -- a page that comes back is in a frame then, and the others stay
-pub reloaded_keeps : (s t : State) (past : List Entry) (a : Actor) (f : Frame) (rec : Sealed) (e : Entry) → IsReloaded s a f rec e t → KeepsOutside past e
+pub reloaded_keeps : (s t : State) (past : List Entry) (a : Actor) (f : Frame) (rec : Sealed) (e : Entry) → IsReloaded s a f rec e t
+    → KeepsOutside past e
 reloaded_keeps s t past a f rec e back = by_entry (reloaded_entry s t a f rec e back)
   where
     by_entry : IsEntryOf a (Eld f) e → KeepsOutside past e
@@ -83,15 +89,18 @@ reloaded_keeps s t past a f rec e back = by_entry (reloaded_entry s t a f rec e 
     by_entry (inr (r, is)) = keeps_as past e _ is (refused_keeps past a (Eld f) r)
 
 -- .. so that what is outside goes on to have its bytes
-pub outside_reloaded : (key : List ℕ) (s t : State) (past : List Entry) (a : Actor) (f : Frame) (rec : Sealed) (e : Entry) → IsReloaded s a f rec e t → OutsideBytes key past → OutsideBytes key (e ∷ past)
+pub outside_reloaded : (key : List ℕ) (s t : State) (past : List Entry) (a : Actor) (f : Frame) (rec : Sealed) (e : Entry)
+    → IsReloaded s a f rec e t → OutsideBytes key past → OutsideBytes key (e ∷ past)
 outside_reloaded key s t past a f rec e back outside = outside_more key past e (reloaded_keeps s t past a f rec e back) outside
 
 -- a reload makes no record
-pub made_same_eld : (key : List ℕ) (s t : State) (past : List Entry) (a : Actor) (f : Frame) (rec : Sealed) (e : Entry) → IsReloaded s a f rec e t → made_by key (e ∷ past) ≡ made_by key past
+pub made_same_eld : (key : List ℕ) (s t : State) (past : List Entry) (a : Actor) (f : Frame) (rec : Sealed) (e : Entry)
+    → IsReloaded s a f rec e t → made_by key (e ∷ past) ≡ made_by key past
 made_same_eld key s t past a f rec e back = (reloaded_keeps s t past a f rec e back).made key
 
 -- .. and the rule Sealed has nothing to say of it
-pub sealed_quiet_eld : (key : List ℕ) (s t : State) (past : List Entry) (a : Actor) (f : Frame) (rec : Sealed) (e : Entry) → IsReloaded s a f rec e t → SealedRule key past e
+pub sealed_quiet_eld : (key : List ℕ) (s t : State) (past : List Entry) (a : Actor) (f : Frame) (rec : Sealed) (e : Entry)
+    → IsReloaded s a f rec e t → SealedRule key past e
 sealed_quiet_eld key s t past a f rec e back = by_entry (reloaded_entry s t a f rec e back)
   where
     by_entry : IsEntryOf a (Eld f) e → SealedRule key past e
@@ -109,15 +118,18 @@ Any-front P xs ys (k, x, low, here, holds) =
 -- a word has 8 bytes
 bytes_length : (words : List ℕ) → length (bytes_of words) ≡ 8 * length words
 bytes_length [] = refl
-bytes_length (word ∷ words) = let eight : length (to_le_bytes w64 word) ≡ 8 = refl in length-append (to_le_bytes w64 word) (bytes_of words) ∙ omega (arith, eight, bytes_length words)
+bytes_length (word ∷ words) = let eight : length (to_le_bytes w64 word) ≡ 8 = refl in
+    length-append (to_le_bytes w64 word) (bytes_of words) ∙ omega (arith, eight, bytes_length words)
 
 -- .. and a page 4096
 page_size : (words : List ℕ) → length words ≡ 512 → length (bytes_of words) ≡ 4096
 page_size words sized = omega (arith, bytes_length words)
 
 -- the record that goes out is that of the page's flat bytes
-pub recorded : (s : State) (made : Making) (past : List Entry) (f : ℕ) (leaving : IsLeaving s f) → Stands s past → ShapeWithRules made s past
-    → record_in made.key leaving.start.version (flat past) leaving.page.page ≡ Some (sealed s.key leaving.start.version leaving.header (bytes_of (s.words f)))
+pub recorded : (s : State) (made : Making) (past : List Entry) (f : ℕ) (leaving : IsLeaving s f) → Stands s past
+    → ShapeWithRules made s past
+    → record_in made.key leaving.start.version (flat past) leaving.page.page ≡ Some
+    (sealed s.key leaving.start.version leaving.header (bytes_of (s.words f)))
 recorded s made past f leaving stands h =
     let m = flat past in
     let head = leaving.page in
@@ -146,7 +158,8 @@ record IsOfPage (key : List ℕ) (past : List Entry) (n : ℕ) (page : Page) (st
   back : words_in (bytes_of (words_of (flat past) page)) ≡ words_of (flat past) page
 
 -- a write-out that gives the record of its page's flat bytes
-gives : (key : List ℕ) (past : List Entry) (a : Actor) (f : Frame) (page : Page) (start : Start) (rec : Sealed) → IsOfPage key past f.0 page start rec
+gives : (key : List ℕ) (past : List Entry) (a : Actor) (f : Frame) (page : Page) (start : Start) (rec : Sealed)
+    → IsOfPage key past f.0 page start rec
     → GivesRecord key past (did_by a (Ewb f) (answers.Moved page start.version rec.tag)) rec
 gives key past a f page start rec k = record {
   made = more;
@@ -179,9 +192,16 @@ gives key past a f page start rec k = record {
     )
 
     goes : HasBytes key (e ∷ past) page start.version new
-    goes = record { made = made_now new (Any-push (λ other. other ≡ new) (made_by key past) new refl); version = refl; cipher = k.has; size = k.size; back = k.back }
+    goes = record {
+      made = made_now new (Any-push (λ other. other ≡ new) (made_by key past) new refl);
+      version = refl;
+      cipher = k.has;
+      size = k.size;
+      back = k.back;
+    }
 
-    by_page : OutsideBytes key past → (g : Page) (slot : SlotAt) (v : ℕ) (b : Bool) → same_page page g ≡ b → cond b (in_slot (open_start past f.0) start.version) (copy past g) ≡ Some (InSlot slot v)
+    by_page : OutsideBytes key past → (g : Page) (slot : SlotAt) (v : ℕ) (b : Bool) → same_page page g ≡ b
+        → cond b (in_slot (open_start past f.0) start.version) (copy past g) ≡ Some (InSlot slot v)
         → (one : Made) × HasBytes key (e ∷ past) g v one
     by_page outside g slot v true same there =
         let slotted : Some (InSlot start.slot start.version) ≡ Some (InSlot slot v) = rw k.opened at there in
@@ -191,7 +211,8 @@ gives key past a f page start rec k = record {
     by_page outside g slot v false other there = still g v (outside g slot v there)
 
 -- the commit of a write-out gives the record of the page's flat bytes
-pub outside_written : (s t : State) (made : Making) (past : List Entry) (a : Actor) (f : Frame) (e : Entry) (rec : Sealed) → IsWrittenOut s a f e rec t → IsSound s → Stands s past → ShapeWithRules made s past
+pub outside_written : (s t : State) (made : Making) (past : List Entry) (a : Actor) (f : Frame) (e : Entry) (rec : Sealed)
+    → IsWrittenOut s a f e rec t → IsSound s → Stands s past → ShapeWithRules made s past
     → GivesRecord made.key past e rec
 outside_written s t made past a f e rec out sound stands h =
     let leaving = out.leaving in
@@ -199,12 +220,14 @@ outside_written s t made past a f e rec out sound stands h =
     let v = leaving.start.version in
     let words = s.words f.0 in
     let keyed : s.key ≡ made.key = ap (λ (k : Making). k.key) h.shape.making in
-    let held : words ≡ words_of (flat past) head.page = sym (ap page_words (stands.memory.words f.0 head.page head.kind head.perm head.held)) in
+    let held : words ≡ words_of (flat past) head.page =
+    sym (ap page_words (stands.memory.words f.0 head.page head.kind head.perm head.held)) in
     subst (λ x. GivesRecord made.key past x rec) (sym out.entry)
     (gives made.key past a f head.page leaving.start rec (record {
       opened = sym (start_is h.shape.columns f.0) ∙ leaving.opened;
       in_flat = recorded s made past f.0 leaving stands h ∙ ap Some (sym out.sealed);
-      has = ap (λ (x : Sealed). x.cipher) out.sealed ∙ ap (λ key. cipher key v (bytes_of words)) keyed ∙ ap (λ xs. cipher made.key v (bytes_of xs)) held;
+      has = ap (λ (x : Sealed). x.cipher) out.sealed ∙ ap (λ key. cipher key v (bytes_of words)) keyed
+          ∙ ap (λ xs. cipher made.key v (bytes_of xs)) held;
       size = ap (λ xs. length (bytes_of xs)) (sym held) ∙ page_size words (sound.sized f.0);
       back = ap (λ xs. words_in (bytes_of xs)) (sym held) ∙ leaving.words ∙ held;
     }))

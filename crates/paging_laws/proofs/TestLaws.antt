@@ -12,7 +12,8 @@ last_place P [] h = h
 last_place P (e ∷ past) h = h.0
 
 -- what holds of each value that is there
-pub each_there : {X : Type 0} (o : ℕ → Option X) (P : ℕ → X → Type 0) → ((p : ℕ) (t : X) → o p ≡ Some t → P p t) → (p : ℕ) → IfSome (o p) (P p)
+pub each_there : {X : Type 0} (o : ℕ → Option X) (P : ℕ → X → Type 0) → ((p : ℕ) (t : X) → o p ≡ Some t → P p t) → (p : ℕ)
+    → IfSome (o p) (P p)
 each_there {X} o P h p = by_value (o p) (h p)
   where
     by_value : (v : Option X) → ((t : X) → v ≡ Some t → P p t) → IfSome v (P p)

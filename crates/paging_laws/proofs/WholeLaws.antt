@@ -40,57 +40,71 @@ use Rattle.paging_laws.proofs.RowLaws.{step_entry, IsEntryOf}
 -- ---- the rules of one entry more
 
 -- the rule on reloads has nothing to say of an instruction
-did_reload : (past : List Entry) (cpus : ℕ) (a : Actor) (action : Action) (answer : Answer) → CanApply cpus a action → ReloadRule past (did_by a action answer)
+did_reload : (past : List Entry) (cpus : ℕ) (a : Actor) (action : Action) (answer : Answer) → CanApply cpus a action
+    → ReloadRule past (did_by a action answer)
 did_reload past cpus a (Eld f) answer can = absurd can
 did_reload past cpus a action answer can = tt
 
-step_reload : (past : List Entry) (cpus : ℕ) (a : Actor) (action : Action) (e : Entry) → CanApply cpus a action → IsEntryOf a action e → ReloadRule past e
-step_reload past cpus a action e can (inl (answer, told)) = subst (λ x. ReloadRule past x) (sym told) (did_reload past cpus a action answer can)
+step_reload : (past : List Entry) (cpus : ℕ) (a : Actor) (action : Action) (e : Entry) → CanApply cpus a action → IsEntryOf a action e
+    → ReloadRule past e
+step_reload past cpus a action e can (inl (answer, told)) =
+    subst (λ x. ReloadRule past x) (sym told) (did_reload past cpus a action answer can)
 step_reload past cpus a action e can (inr (r, told)) = subst (λ x. ReloadRule past x) (sym told) tt
 
 same_frame : (m n : ℕ) → Some (InFrame m) ≡ Some (InFrame n) → m ≡ n
 same_frame m n e = cc
 
-module _ (s t : State) (made : Making) (past : List Entry) (records : List Made) (e : Entry) (h : StandsWithAllRules made s past records) (shaped : ShapeWithRules made t (e ∷ past)) (moved : MovesRule made past e) (reload : ReloadRule past e) (brings : Brings s t past e) where
-  -- the rules on instructions and versions are kept with one entry more
-  keeps_more : KeepsMoves made (e ∷ past)
-  keeps_more =
-      let k = keeps_moves made s past records h in
-      record {
-        refusal = (subst (λ frames. RefusalRule frames past e) (ap (λ (m : Making). m.frames) h.shaped.shape.making) brings.refusal, k.refusal);
-        flat = (brings.flat, k.flat);
-        moves = (moved, k.moves);
-        evict = shaped.evict;
-        fresh = (record { rising = shaped.rising.0; reload = reload }, k.fresh);
-      }
+module _ (s t : State) (made : Making) (past : List Entry) (records : List Made) (e : Entry) (h : StandsWithAllRules made s past records)
+    (shaped : ShapeWithRules made t (e ∷ past)) (moved : MovesRule made past e) (reload : ReloadRule past e) (brings : Brings s t past e)
+  where
+    -- the rules on instructions and versions are kept with one entry more
+    keeps_more : KeepsMoves made (e ∷ past)
+    keeps_more =
+        let k = keeps_moves made s past records h in
+        record {
+          refusal = (
+            subst (λ frames. RefusalRule frames past e) (ap (λ (m : Making). m.frames) h.shaped.shape.making) brings.refusal,
+            k.refusal,
+          );
+          flat = (brings.flat, k.flat);
+          moves = (moved, k.moves);
+          evict = shaped.evict;
+          fresh = (record { rising = shaped.rising.0; reload = reload }, k.fresh);
+        }
 
-  -- so that no page stands in two frames
-  once_more : NoPageTwice (e ∷ past)
-  once_more m n g here there =
-      let live = live_copies made (e ∷ past) h.positive keeps_more in
-      same_frame m n (sym (live.framed m g here) ∙ live.framed n g there)
+    -- so that no page stands in two frames
+    once_more : NoPageTwice (e ∷ past)
+    once_more m n g here there =
+        let live = live_copies made (e ∷ past) h.positive keeps_more in
+        same_frame m n (sym (live.framed m g here) ∙ live.framed n g there)
 
-  -- and the machine goes on to stand for all
-  all_more : (more : List Made) → SealedRule made.key past e → OutsideBytes made.key (e ∷ past) → more ≡ made_by made.key (e ∷ past) → StandsWithAllRules made t (e ∷ past) more
-  all_more more sealed outside is = record {
-    positive = h.positive;
-    shaped = shaped;
-    standing = stands_more s t made past e h.shaped shaped once_more h.standing brings;
-    moves = (moved, h.moves);
-    fresh = (record { rising = shaped.rising.0; reload = reload }, h.fresh);
-    sealed = (sealed, h.sealed);
-    records = is;
-    outside = outside;
-  }
+    -- and the machine goes on to stand for all
+    all_more : (more : List Made) → SealedRule made.key past e → OutsideBytes made.key (e ∷ past) → more ≡ made_by made.key (e ∷ past)
+        → StandsWithAllRules made t (e ∷ past) more
+    all_more more sealed outside is = record {
+      positive = h.positive;
+      shaped = shaped;
+      standing = stands_more s t made past e h.shaped shaped once_more h.standing brings;
+      moves = (moved, h.moves);
+      fresh = (record { rising = shaped.rising.0; reload = reload }, h.fresh);
+      sealed = (sealed, h.sealed);
+      records = is;
+      outside = outside;
+    }
 
 -- ---- the steps
 
 -- an instruction
-pub step_all : (s t : State) (made : Making) (past : List Entry) (records : List Made) (cpus : ℕ) (a : Actor) (action : Action) (e : Entry) → cpus ≤ 16 → CanApply cpus a action → IsSound s → IsGuarded s → IsMade s
-    → IsSound t → IsGuarded t → IsStep s a action e t → StandsWithAllRules made s past records → StandsWithAllRules made t (e ∷ past) records
+pub step_all : (s t : State) (made : Making) (past : List Entry) (records : List Made) (cpus : ℕ) (a : Actor) (action : Action) (e : Entry)
+    → cpus ≤ 16 → CanApply cpus a action → IsSound s → IsGuarded s → IsMade s
+    → IsSound t → IsGuarded t → IsStep s a action e t → StandsWithAllRules made s past records
+    → StandsWithAllRules made t (e ∷ past) records
 step_all s t made past records cpus a action e few can sound guarded framed sound' guarded' k h =
-    all_more s t made past records e h shaped moved reload (step_brings s t past cpus few sound framed h.standing.stands (once_before s past h.standing) a action e can k) records (sealed_quiet made.key s t past cpus a action e can k)
-    (outside_step made.key s t past cpus a action e can sound k h.standing.stands (live_copies made past h.positive (keeps_moves made s past records h)) h.outside)
+    all_more s t made past records e h shaped moved reload
+    (step_brings s t past cpus few sound framed h.standing.stands (once_before s past h.standing) a action e can k) records
+    (sealed_quiet made.key s t past cpus a action e can k)
+    (outside_step made.key s t past cpus a action e can sound k h.standing.stands
+    (live_copies made past h.positive (keeps_moves made s past records h)) h.outside)
     (h.records ∙ sym (made_same made.key s t past cpus a action e can k))
   where
     shaped : ShapeWithRules made t (e ∷ past)
@@ -103,10 +117,13 @@ step_all s t made past records cpus a action e few can sound guarded framed soun
     reload = step_reload past cpus a action e can (step_entry s t a action e k)
 
 -- the commit of a write-out
-pub written_all : (s t : State) (made : Making) (past : List Entry) (records : List Made) (a : Actor) (f : Frame) (e : Entry) (rec : Sealed) → IsSound s → IsGuarded s → IsSound t → IsGuarded t → s.is_sealing f.0 ≡ true
-    → IsWrittenOut s a f e rec t → StandsWithAllRules made s past records → StandsWithAllRules made t (e ∷ past) (records ++ given_out e.event rec)
+pub written_all : (s t : State) (made : Making) (past : List Entry) (records : List Made) (a : Actor) (f : Frame) (e : Entry) (rec : Sealed)
+    → IsSound s → IsGuarded s → IsSound t → IsGuarded t → s.is_sealing f.0 ≡ true
+    → IsWrittenOut s a f e rec t → StandsWithAllRules made s past records
+    → StandsWithAllRules made t (e ∷ past) (records ++ given_out e.event rec)
 written_all s t made past records a f e rec sound guarded sound' guarded' sealing out h =
-    all_more s t made past records e h shaped moved reload (written_brings s t past a f e rec out h.standing) (records ++ given_out e.event rec)
+    all_more s t made past records e h shaped moved reload (written_brings s t past a f e rec out h.standing)
+    (records ++ given_out e.event rec)
     gives.sealed (gives.outside h.outside) (ap (λ list. list ++ given_out e.event rec) h.records ∙ sym gives.made)
   where
     shaped : ShapeWithRules made t (e ∷ past)
@@ -122,11 +139,14 @@ written_all s t made past records a f e rec sound guarded sound' guarded' sealin
     gives = outside_written s t made past a f e rec out sound h.standing.stands h.shaped
 
 -- the commit of a load, where no record is forged
-pub reloaded_all : (s t : State) (made : Making) (past : List Entry) (records : List Made) (a : Actor) (f : Frame) (rec : Sealed) (e : Entry) → IsSound s → IsGuarded s → IsSound t → IsGuarded t → s.content f.0 ≡ IsLoading
-    → IsReloaded s a f rec e t → StandsWithAllRules made s past records → (given : List Given) → Unforged made.key records (given ++ looked_at s f.0 records rec) → StandsWithAllRules made t (e ∷ past) records
+pub reloaded_all : (s t : State) (made : Making) (past : List Entry) (records : List Made) (a : Actor) (f : Frame) (rec : Sealed)
+    (e : Entry) → IsSound s → IsGuarded s → IsSound t → IsGuarded t → s.content f.0 ≡ IsLoading
+    → IsReloaded s a f rec e t → StandsWithAllRules made s past records → (given : List Given)
+    → Unforged made.key records (given ++ looked_at s f.0 records rec) → StandsWithAllRules made t (e ∷ past) records
 reloaded_all s t made past records a f rec e sound guarded sound' guarded' loading back h given unforged =
     all_more s t made past records e h shaped moved reload
-    (reloaded_brings s t past a f rec e back (λ allowed. reload_words made s past records given f.0 back.coming rec allowed h unforged) h.standing) records
+    (reloaded_brings s t past a f rec e back (λ allowed. reload_words made s past records given f.0 back.coming rec allowed h unforged)
+    h.standing) records
     (sealed_quiet_eld made.key s t past a f rec e back) (outside_reloaded made.key s t past a f rec e back h.outside)
     (h.records ∙ sym (made_same_eld made.key s t past a f rec e back))
   where
@@ -162,7 +182,8 @@ fresh_stands frames cpus key epoch version = record {
 }
 
 pub fresh_all : (frames cpus : ℕ) (key : List ℕ) (first_epoch first_version : ℕ) → 1 ≤ first_version
-    → StandsWithAllRules (making_of (fresh frames cpus key first_epoch first_version)) (fresh frames cpus key first_epoch first_version) [] []
+    → StandsWithAllRules (making_of (fresh frames cpus key first_epoch first_version)) (fresh frames cpus key first_epoch first_version) []
+    []
 fresh_all frames cpus key first_epoch first_version low = record {
   positive = low;
   shaped = fresh_shaped frames cpus key first_epoch first_version;

@@ -21,10 +21,12 @@ abbrev pub IsOnce : (ℕ → Content) → Type 0
 IsOnce content = (m n : ℕ) (g : Page) → is_page (content m) g ≡ true → is_page (content n) g ≡ true → m ≡ n
 
 pub once_in_state : (s : State) (past : List Entry) → Stands s past → NoPageTwice past → IsOnce s.content
-once_in_state s past stands once m n g at_m at_n = once m n g (rw (← content_is stands.columns m) at_m) (rw (← content_is stands.columns n) at_n)
+once_in_state s past stands once m n g at_m at_n =
+    once m n g (rw (← content_is stands.columns m) at_m) (rw (← content_is stands.columns n) at_n)
 
 -- a page's words are changed, in its frame and in flat memory
-pub words_changed : (content : ℕ → Content) (words : ℕ → List ℕ) (m : FlatMemory) (f : ℕ) (g : Page) (change : List ℕ → List ℕ) → HasWords content words m → IsOnce content → is_page (content f) g ≡ true
+pub words_changed : (content : ℕ → Content) (words : ℕ → List ℕ) (m : FlatMemory) (f : ℕ) (g : Page) (change : List ℕ → List ℕ)
+    → HasWords content words m → IsOnce content → is_page (content f) g ≡ true
     → HasWords content (rewritten words f change) (with_words m g change)
 words_changed content words m f g change holds once there n q kind perm at = by_frame (f == n) refl
   where
@@ -42,12 +44,14 @@ words_changed content words m f g change holds once there n q kind perm at = by_
         absurd (false≢true (sym other ∙ equal f n (once f n g there found)))
 
     by_frame : (x : Bool) → (f == n) ≡ x
-        → cond (same_page q g) (rewritten_page change (m.pages q)) (m.pages q) ≡ Some (let p : FlatPage = record { kind = kind; perm = perm; words = cond x (change (words n)) (words n) } in p)
+        → cond (same_page q g) (rewritten_page change (m.pages q)) (m.pages q) ≡ Some
+        (let p : FlatPage = record { kind = kind; perm = perm; words = cond x (change (words n)) (words n) } in p)
     by_frame true e = rw (here (eqb-true f n e), holds n q kind perm at) refl
     by_frame false e = rw (elsewhere e (same_page q g) refl) (holds n q kind perm at)
 
 -- .. and each page is as it was added
-pub added-changed : (m : FlatMemory) (g : Page) (change : List ℕ → List ℕ) (q : Page) → added_as ((with_words m g change).pages q) ≡ added_as (m.pages q)
+pub added-changed : (m : FlatMemory) (g : Page) (change : List ℕ → List ℕ) (q : Page)
+    → added_as ((with_words m g change).pages q) ≡ added_as (m.pages q)
 added-changed m g change q = by_page (same_page q g) (m.pages q)
   where
     by_page : (x : Bool) (o : Option FlatPage) → added_as (cond x (rewritten_page change o) o) ≡ added_as o
@@ -59,7 +63,8 @@ enclaves-changed : (m : FlatMemory) (g : Page) (change : List ℕ → List ℕ) 
 enclaves-changed m g change = λ i. record { enclaves = m.enclaves; added = λ q. added-changed m g change q i; is_busy = m.is_busy }
 
 -- .. so that a state and flat memory in which they are changed show the same
-pub shows_changed : (s : State) (past : List Entry) (m : FlatMemory) (f : ℕ) (g : Page) (change : List ℕ → List ℕ) → Shows s past m → IsOnce s.content → is_page (s.content f) g ≡ true
+pub shows_changed : (s : State) (past : List Entry) (m : FlatMemory) (f : ℕ) (g : Page) (change : List ℕ → List ℕ) → Shows s past m
+    → IsOnce s.content → is_page (s.content f) g ≡ true
     → Shows (record s { words = rewritten s.words f change }) past (with_words m g change)
 shows_changed s past m f g change k once here = record {
   enclaves = k.enclaves ∙ sym (enclaves-changed m g change);

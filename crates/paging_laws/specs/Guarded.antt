@@ -66,7 +66,8 @@ pub record IsGuarded (s : State) : Type 0 where
   -- no block is of an epoch to come
   pub blocks : (n : ℕ) → IfSome (s.blocked n) (λ b. b ≤ epoch_in s n)
   -- a page on its way out is drained
-  pub sealing : (n : ℕ) → s.is_sealing n ≡ true → IfSome (s.blocked n) (IsDrainedAt s.inside s.noted (enclave_in (s.content n)) (epoch_in s n))
+  pub sealing : (n : ℕ) → s.is_sealing n ≡ true → IfSome (s.blocked n)
+      (IsDrainedAt s.inside s.noted (enclave_in (s.content n)) (epoch_in s n))
   -- a TCS page is busy only where a processor is inside by it
   pub taken : (g : Page) → s.is_busy g ≡ true → IsTakenIn s g
   pub opened : (n : ℕ) → IfSome (s.start n) (IsOpen s.content s.added)

@@ -57,7 +57,8 @@ given_out _ rec = []
 -- a record that the commit of a load looks at, under the version that its start found
 abbrev pub looked_at_by : Option Start → List Made → Sealed → List Given
 looked_at_by None records rec = []
-looked_at_by (Some start) records rec = record { made = length records; version = start.version; header = rec.header; cipher = rec.cipher; tag = rec.tag } ∷ []
+looked_at_by (Some start) records rec =
+    record { made = length records; version = start.version; header = rec.header; cipher = rec.cipher; tag = rec.tag } ∷ []
 
 abbrev pub looked_at : State → ℕ → List Made → Sealed → List Given
 looked_at s f records rec = looked_at_by (s.start f) records rec

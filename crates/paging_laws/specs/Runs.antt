@@ -19,9 +19,12 @@ pub record IsSafe (s : State) : Type 0 where
 -- a state that a fresh machine comes to, with its entries, newest first
 pub data Run : State → List Entry → Type 0 where
   nothing : (frames cpus : ℕ) (key : List ℕ) (first_epoch first_version : ℕ) → Run (fresh frames cpus key first_epoch first_version) []
-  step : (s t : State) (past : List Entry) (actor : Actor) (action : Action) (e : Entry) → Run s past → IsSafe s → IsSafe t → s.cpus ≤ 16 → CanApply s.cpus actor action
+  step : (s t : State) (past : List Entry) (actor : Actor) (action : Action) (e : Entry) → Run s past → IsSafe s → IsSafe t → s.cpus ≤ 16
+      → CanApply s.cpus actor action
       → IsStep s actor action e t → Run t (e ∷ past)
-  written : (s t : State) (past : List Entry) (actor : Actor) (f : Frame) (rec : Sealed) (e : Entry) → Run s past → IsSafe s → IsSafe t → s.is_sealing f.0 ≡ true
+  written : (s t : State) (past : List Entry) (actor : Actor) (f : Frame) (rec : Sealed) (e : Entry) → Run s past → IsSafe s → IsSafe t
+      → s.is_sealing f.0 ≡ true
       → IsWrittenOut s actor f e rec t → Run t (e ∷ past)
-  reloaded : (s t : State) (past : List Entry) (actor : Actor) (f : Frame) (rec : Sealed) (e : Entry) → Run s past → IsSafe s → IsSafe t → s.content f.0 ≡ IsLoading
+  reloaded : (s t : State) (past : List Entry) (actor : Actor) (f : Frame) (rec : Sealed) (e : Entry) → Run s past → IsSafe s → IsSafe t
+      → s.content f.0 ≡ IsLoading
       → IsReloaded s actor f rec e t → Run t (e ∷ past)

@@ -82,14 +82,15 @@ next_save enclave fields = page_at enclave (fields.ossa + fields.cssa)
 
 -- a stay inside, by what the frames hold, which are on their way out, and the words in the TCS frame: the one frame holds
 -- the TCS page, the other the state save page that CSSA names
-pub record IsSeated (content : ℕ → Content) (is_sealing : ℕ → Bool) (words : ℕ → List ℕ) (held : List Translation) (seat : Seat) : Type 0 where
-  pub tcs : IsUsable seat.enclave (content seat.tcs_frame) (is_sealing seat.tcs_frame)
-  pub tcs_page : is_page (content seat.tcs_frame) (page_at seat.enclave seat.tcs) ≡ true
-  pub tcs_kind : is_tcs (content seat.tcs_frame) ≡ true
-  pub ssa : IsUsable seat.enclave (content seat.ssa_frame) (is_sealing seat.ssa_frame)
-  pub ssa_page : is_page (content seat.ssa_frame) (next_save seat.enclave (tcs_fields (words seat.tcs_frame))) ≡ true
-  pub ssa_kind : is_reg (content seat.ssa_frame) ≡ true
-  pub cache : All (λ t. IsTranslation seat.enclave t (content t.frame.0) (is_sealing t.frame.0)) held
+pub record IsSeated (content : ℕ → Content) (is_sealing : ℕ → Bool) (words : ℕ → List ℕ) (held : List Translation) (seat : Seat) : Type 0
+  where
+    pub tcs : IsUsable seat.enclave (content seat.tcs_frame) (is_sealing seat.tcs_frame)
+    pub tcs_page : is_page (content seat.tcs_frame) (page_at seat.enclave seat.tcs) ≡ true
+    pub tcs_kind : is_tcs (content seat.tcs_frame) ≡ true
+    pub ssa : IsUsable seat.enclave (content seat.ssa_frame) (is_sealing seat.ssa_frame)
+    pub ssa_page : is_page (content seat.ssa_frame) (next_save seat.enclave (tcs_fields (words seat.tcs_frame))) ≡ true
+    pub ssa_kind : is_reg (content seat.ssa_frame) ≡ true
+    pub cache : All (λ t. IsTranslation seat.enclave t (content t.frame.0) (is_sealing t.frame.0)) held
 
 -- two seats by one TCS page
 abbrev pub AreByOneTcs : Seat → Seat → Type 0

@@ -276,7 +276,8 @@ after_exit s p = record s {
 abbrev pub with_saved : State → ℕ → Option Seat → State
 with_saved s acc None = s
 with_saved s acc (Some seat) = record s {
-  words = rewritten (rewritten s.words seat.ssa_frame (λ words. slice_set words 0 acc)) seat.tcs_frame (λ words. with_cssa words (cssa_in s seat.tcs_frame + 1));
+  words = rewritten (rewritten s.words seat.ssa_frame (λ words. slice_set words 0 acc)) seat.tcs_frame
+      (λ words. with_cssa words (cssa_in s seat.tcs_frame + 1));
 }
 
 abbrev pub after_aex : State → ℕ → State

@@ -91,7 +91,8 @@ after_of s (actors.Cpu p) (Enter enclave tcs tf sf) = after_enter s p.0 (seat_of
 after_of s (actors.Cpu p) (Resume enclave tcs tf sf) = after_resume s p.0 (seat_of enclave tcs tf.0 sf.0)
 after_of s (actors.Cpu p) Exit = after_exit s p.0
 after_of s (actors.Cpu p) (Aex cause) = after_aex s p.0
-after_of s (actors.Cpu p) (Fill number f) = after_fill s p.0 (record { number = number; frame = f; perm = unwrap_or (perm_in (s.content f.0)) no_perm })
+after_of s (actors.Cpu p) (Fill number f) =
+    after_fill s p.0 (record { number = number; frame = f; perm = unwrap_or (perm_in (s.content f.0)) no_perm })
 after_of s (actors.Cpu p) (Store off value) = after_store s p.0 off value
 after_of s (actors.Cpu p) (Xadd off value) = after_xadd s p.0 off value
 after_of s (actors.Cpu p) (Set value) = with_acc s p.0 value
@@ -119,7 +120,8 @@ pub record IsExtended (s : State) (f chunk : ℕ) (s' : State) : Type 0 where
   pub page : Page
   pub held : page_held (s.content f) ≡ Some page
   pub longer : Measure
-  pub log : IsSomeAnd (s.measure page.enclave) (λ measure. TakesIn measure (eextend_block (4096 * page.number + 256 * chunk) (chunk_of (bytes_of (s.words f)) chunk)) longer)
+  pub log : IsSomeAnd (s.measure page.enclave) (λ measure.
+      TakesIn measure (eextend_block (4096 * page.number + 256 * chunk) (chunk_of (bytes_of (s.words f)) chunk)) longer)
   pub state : s' ≡ after_extend s page.enclave longer
 
 -- the enclave's measurement finishes to a digest: where it is as expected the enclave is initialised, else nothing changes
@@ -131,7 +133,8 @@ pub record IsJudged (s : State) (actor : Actor) (enclave : ℕ) (expect : Option
 
 -- an instruction that its row allows is done, but for an `init` whose measurement is not as expected
 abbrev pub IsDone : State → Actor → Action → Entry → State → Type 0
-IsDone s actor (Create enclave f base size) e s' = (e ≡ did_by actor (Create enclave f base size) answers.Plain) × IsCreated s enclave f.0 base size s'
+IsDone s actor (Create enclave f base size) e s' =
+    (e ≡ did_by actor (Create enclave f base size) answers.Plain) × IsCreated s enclave f.0 base size s'
 IsDone s actor (Add enclave number f kind perm init) e s' =
     (e ≡ did_by actor (Add enclave number f kind perm init) answers.Plain) × IsAdded s (page_at enclave number) f.0 kind perm init s'
 IsDone s actor (Extend f chunk) e s' = (e ≡ did_by actor (Extend f chunk) answers.Plain) × IsExtended s f.0 chunk s'
@@ -140,7 +143,8 @@ IsDone s actor action e s' = (e ≡ did_by actor action (answer_of s actor actio
 
 -- .. and any other is refused by the first case that holds, and changes nothing
 abbrev pub IsStep : State → Actor → Action → Entry → State → Type 0
-IsStep s actor action e s' = MatchOption (first_of_row (row_of s actor action)) (IsDone s actor action e s') (λ refusal. (e ≡ refused_by actor action refusal) × (s' ≡ s))
+IsStep s actor action e s' = MatchOption (first_of_row (row_of s actor action)) (IsDone s actor action e s')
+    (λ refusal. (e ≡ refused_by actor action refusal) × (s' ≡ s))
 
 -- ---- the commits
 

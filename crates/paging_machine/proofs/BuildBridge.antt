@@ -59,7 +59,8 @@ pub record Takes (epc : List EpcFrame) (f : ℕ) : Type 0 where
   pub vacant : is_valid (entry_at epc f) ≡ false
   pub free : held (entry_at epc f) ≡ Free
 
-takes : (epc : List EpcFrame) (f : ℕ) → leb (length epc) f ≡ false → table.is_busy (sight_in epc f) ≡ false → table.is_valid (held (entry_at epc f)) ≡ false → Takes epc f
+takes : (epc : List EpcFrame) (f : ℕ) → leb (length epc) f ≡ false → table.is_busy (sight_in epc f) ≡ false
+    → table.is_valid (held (entry_at epc f)) ≡ false → Takes epc f
 takes epc f within idle empty = record {
   low = leb-false _ _ within;
   idle = (neither (goes_out (entry_at epc f)) (table.is_loading (held (entry_at epc f))) idle).0;
@@ -68,7 +69,8 @@ takes epc f within idle empty = record {
 }
 
 -- what the columns show of a taken frame
-module _ (epc epc' : List EpcFrame) (f : ℕ) (page : Page) (kind : Kind) (perm : Perm) (k : Takes epc f) (entries : (n : ℕ) → entry_at epc' n ≡ cond (f == n) (holding page kind perm) (entry_at epc n)) where
+module _ (epc epc' : List EpcFrame) (f : ℕ) (page : Page) (kind : Kind) (perm : Perm) (k : Takes epc f)
+    (entries : (n : ℕ) → entry_at epc' n ≡ cond (f == n) (holding page kind perm) (entry_at epc n)) where
   put_content : (n : ℕ) → held (entry_at epc' n) ≡ cond (f == n) (content_of page kind perm) (held (entry_at epc n))
   put_content n = ap held (entries n) ∙ through held (f == n) (holding page kind perm) (entry_at epc n)
 
@@ -93,13 +95,15 @@ no_slot : (va : List (Option (List VaSlot))) (slot : SlotAt) → page_at_va va s
 no_slot va slot none = ap (λ page. slice_index_or (page_slots page) slot.index empty_slot) none
 
 -- a new page has no version and no mark, as the frame had none before it
-version_kept : (va : List (Option (List VaSlot))) (f : ℕ) (slot : SlotAt) → page_at_va va f ≡ None → version_in (with_va_page va f) slot ≡ version_in va slot
+version_kept : (va : List (Option (List VaSlot))) (f : ℕ) (slot : SlotAt) → page_at_va va f ≡ None
+    → version_in (with_va_page va f) slot ≡ version_in va slot
 version_kept va f slot none =
     version_in-with_page va f slot
     ∙ cond_both (f == slot.frame.0) 0 (version_in va slot) (λ v. v ≡ version_in va slot)
     (λ e. sym (ap (λ (x : VaSlot). x.version) (no_slot va slot (ap (page_at_va va) (sym (eqb-true f slot.frame.0 e)) ∙ none)))) (λ _. refl)
 
-busy_kept : (va : List (Option (List VaSlot))) (f : ℕ) (slot : SlotAt) → page_at_va va f ≡ None → is_busy_at (with_va_page va f) slot ≡ is_busy_at va slot
+busy_kept : (va : List (Option (List VaSlot))) (f : ℕ) (slot : SlotAt) → page_at_va va f ≡ None
+    → is_busy_at (with_va_page va f) slot ≡ is_busy_at va slot
 busy_kept va f slot none =
     is_busy_at-with_page va f slot
     ∙ cond_both (f == slot.frame.0) false (is_busy_at va slot) (λ v. v ≡ is_busy_at va slot)
@@ -110,7 +114,8 @@ pub epa_state : (d : Parts) (f : ℕ) (page : Page) (perm : Perm) → AreVaPages
 epa_state d f page perm pages k =
     let v = holding page kinds.Va perm in
     let none = no_page d.epc d.va f pages k in
-    let entries : (n : ℕ) → entry_at (with_page d.epc f page kinds.Va perm) n ≡ cond (f == n) v (entry_at d.epc n) = λ n. entry_at-with_entry d.epc f n v k.low in
+    let entries : (n : ℕ) → entry_at (with_page d.epc f page kinds.Va perm) n ≡ cond (f == n) v (entry_at d.epc n) =
+    λ n. entry_at-with_entry d.epc f n v k.low in
     λ i. record (after_epa (state_of d) f) {
       frames = length-with_entry d.epc f v i;
       content = λ n. put_content d.epc (with_page d.epc f page kinds.Va perm) f page kinds.Va perm k entries n i;
@@ -130,7 +135,8 @@ pub record Creates (epc : List EpcFrame) (f e base size : ℕ) : Type 0 where
   pub last : e ≤ 8
   pub lawful : table.is_lawful base size ≡ true
 
-pub creates : (epc : List EpcFrame) (f e base size : ℕ) (b : Bool) → first_of_row (create_row e base size b (sight_in epc f)) ≡ None → Creates epc f e base size
+pub creates : (epc : List EpcFrame) (f e base size : ℕ) (b : Bool) → first_of_row (create_row e base size b (sight_in epc f)) ≡ None
+    → Creates epc f e base size
 creates epc f e base size b allowed =
     let none = none_holds (create_row e base size b (sight_in epc f)) allowed in
     let outer = neither (leb (length epc) f || not (table.is_enclave e)) (not (table.is_lawful base size)) none.0 in
@@ -144,13 +150,22 @@ creates epc f e base size b allowed =
     }
 
 pub created_own : (e base size : ℕ) → table.is_lawful base size ≡ true → IsSecsOf e (created e base size)
-created_own e base size h = record { number = refl; sound = record { lawful = h; pages = length-replicate (page_count size) None; busy = length-replicate (page_count size) false } }
+created_own e base size h = record {
+  number = refl;
+  sound = record { lawful = h; pages = length-replicate (page_count size) None; busy = length-replicate (page_count size) false };
+}
 
-pub create_state : (d : Parts) (e f base size : ℕ) (begun : Measure) → Creates d.epc f e base size → enclave_at d.secs e ≡ None → IsTable d.secs → e < length d.measures
-    → state_of (record d { epc = with_secs d.epc f e; secs = with_enclave d.secs e (created e base size); measures = set d.measures e (Some begun) }) ≡ after_create (state_of d) e f base size begun
+pub create_state : (d : Parts) (e f base size : ℕ) (begun : Measure) → Creates d.epc f e base size → enclave_at d.secs e ≡ None
+    → IsTable d.secs → e < length d.measures
+    → state_of (record d {
+      epc = with_secs d.epc f e;
+      secs = with_enclave d.secs e (created e base size);
+      measures = set d.measures e (Some begun);
+    }) ≡ after_create (state_of d) e f base size begun
 create_state d e f base size begun k new is there =
     let no_perm : Perm = record { r = false; w = false; x = false } in
-    let entries : (n : ℕ) → entry_at (with_secs d.epc f e) n ≡ cond (f == n) (holding (page_at e 0) kinds.Secs no_perm) (entry_at d.epc n) = λ n. entry_at-with_secs d.epc f e n k.takes.low in
+    let entries : (n : ℕ) → entry_at (with_secs d.epc f e) n ≡ cond (f == n) (holding (page_at e 0) kinds.Secs no_perm) (entry_at d.epc n) =
+    λ n. entry_at-with_secs d.epc f e n k.takes.low in
     λ i. record (after_create (state_of d) e f base size begun) {
       frames = length-with_secs d.epc f e i;
       content = λ n. put_content d.epc (with_secs d.epc f e) f (page_at e 0) kinds.Secs no_perm k.takes entries n i;
@@ -158,8 +173,10 @@ create_state d e f base size begun k new is there =
       is_sealing = λ n. put_sealing d.epc (with_secs d.epc f e) f (page_at e 0) kinds.Secs no_perm k.takes entries n i;
       words = λ n. words_at-with_secs d.epc f e n i;
       enclaves = λ n. enclave_column d.secs e (created e base size) is.places k.first k.last enclave_of n i;
-      added = λ q. enclave_kept d.secs e (created e base size) is.places k.first k.last (λ o. added_in o q.number) q.enclave (like (page_count size) q.number None ∙ ap (λ o. added_in o q.number) (sym new)) i;
-      is_busy = λ q. enclave_kept d.secs e (created e base size) is.places k.first k.last (λ o. is_busy_in o q.number) q.enclave (like (page_count size) q.number false ∙ ap (λ o. is_busy_in o q.number) (sym new)) i;
+      added = λ q. enclave_kept d.secs e (created e base size) is.places k.first k.last (λ o. added_in o q.number) q.enclave
+          (like (page_count size) q.number None ∙ ap (λ o. added_in o q.number) (sym new)) i;
+      is_busy = λ q. enclave_kept d.secs e (created e base size) is.places k.first k.last (λ o. is_busy_in o q.number) q.enclave
+          (like (page_count size) q.number false ∙ ap (λ o. is_busy_in o q.number) (sym new)) i;
       measure = λ n. measure_set d.measures e n begun there i;
     }
 
@@ -184,7 +201,8 @@ is_within_below : (size number : ℕ) (init : PageInit) → table.is_within size
 is_within_below size number (inits.Words v) h = ltb-true _ _ h
 is_within_below size number (inits.Tcs ossa nssa) h = ltb-true _ _ (both_true _ _ (both_true _ _ h).0).0
 
-pub adds : (epc : List EpcFrame) (f number : ℕ) (kind : Kind) (perm : Perm) (init : PageInit) (b : Bool) (x : SecsState) → first_of_row (add_row number kind perm init (Some (sight_of x)) b (sight_in epc f)) ≡ None → Adds epc f number kind init x
+pub adds : (epc : List EpcFrame) (f number : ℕ) (kind : Kind) (perm : Perm) (init : PageInit) (b : Bool) (x : SecsState)
+    → first_of_row (add_row number kind perm init (Some (sight_of x)) b (sight_in epc f)) ≡ None → Adds epc f number kind init x
 adds epc f number kind perm init b x allowed =
     let none = none_holds (add_row number kind perm init (Some (sight_of x)) b (sight_in epc f)) allowed in
     record {
@@ -194,7 +212,8 @@ adds epc f number kind perm init b x allowed =
     }
 
 -- a page that can be added is held as that page
-holds_added : (g : Page) (kind : Kind) (perm : Perm) (init : PageInit) → table.is_addable kind init ≡ true → content_of g kind perm ≡ Holds g kind perm
+holds_added : (g : Page) (kind : Kind) (perm : Perm) (init : PageInit) → table.is_addable kind init ≡ true
+    → content_of g kind perm ≡ Holds g kind perm
 holds_added g kinds.Tcs perm init h = refl
 holds_added g kinds.Reg perm init h = refl
 holds_added g kinds.Secs perm init h = cc
@@ -208,55 +227,78 @@ paged kinds.Secs init h = cc
 paged kinds.Va init h = cc
 
 -- the frame of a new page held no version array page, and holds none
-pub add_pages : (d : Parts) (g : Page) (f : ℕ) (kind : Kind) (perm : Perm) (init : PageInit) (x : SecsState) → AreVaPages d.epc d.va → Adds d.epc f g.number kind init x → AreVaPages (with_added d.epc f g kind perm init) d.va
+pub add_pages : (d : Parts) (g : Page) (f : ℕ) (kind : Kind) (perm : Perm) (init : PageInit) (x : SecsState) → AreVaPages d.epc d.va
+    → Adds d.epc f g.number kind init x → AreVaPages (with_added d.epc f g kind perm init) d.va
 add_pages d g f kind perm init x pages k =
     pages-with_words (with_page d.epc f g kind perm) d.va f (first_words init)
-    (pages-with_entry d.epc d.va f (holding g kind perm) pages k.takes.low (ap table.is_va (holds_added g kind perm init k.addable) ∙ sym (ap table.is_va k.takes.free)))
+    (pages-with_entry d.epc d.va f (holding g kind perm) pages k.takes.low
+    (ap table.is_va (holds_added g kind perm init k.addable) ∙ sym (ap table.is_va k.takes.free)))
 
 pub added_own : (e number : ℕ) (kind : Kind) (perm : Perm) (x : SecsState) → IsSecsOf e x → IsSecsOf e (with_resident x number kind perm)
-added_own e number kind perm x own = record { number = own.number; sound = record { lawful = own.sound.lawful; pages = rw length-set own.sound.pages; busy = own.sound.busy } }
+added_own e number kind perm x own = record {
+  number = own.number;
+  sound = record { lawful = own.sound.lawful; pages = rw length-set own.sound.pages; busy = own.sound.busy };
+}
 
-pub add_state : (d : Parts) (g : Page) (f : ℕ) (kind : Kind) (perm : Perm) (init : PageInit) (x : SecsState) (longer : Measure) → Adds d.epc f g.number kind init x → enclave_at d.secs g.enclave ≡ Some x → IsTable d.secs → g.enclave < length d.measures
-    → state_of (record d { epc = with_added d.epc f g kind perm init; secs = with_enclave d.secs g.enclave (with_resident x g.number kind perm); measures = set d.measures g.enclave (Some longer) }) ≡ after_add (state_of d) g f kind perm init longer
+pub add_state : (d : Parts) (g : Page) (f : ℕ) (kind : Kind) (perm : Perm) (init : PageInit) (x : SecsState) (longer : Measure)
+    → Adds d.epc f g.number kind init x → enclave_at d.secs g.enclave ≡ Some x → IsTable d.secs → g.enclave < length d.measures
+    → state_of (record d {
+      epc = with_added d.epc f g kind perm init;
+      secs = with_enclave d.secs g.enclave (with_resident x g.number kind perm);
+      measures = set d.measures g.enclave (Some longer);
+    })
+    ≡ after_add (state_of d) g f kind perm init longer
 add_state d g f kind perm init x longer k found is there =
-    let entries : (n : ℕ) → entry_at (with_added d.epc f g kind perm init) n ≡ cond (f == n) (holding g kind perm) (entry_at d.epc n) = λ n. entry_at-with_added d.epc f n g kind perm init k.takes.low in
+    let entries : (n : ℕ) → entry_at (with_added d.epc f g kind perm init) n ≡ cond (f == n) (holding g kind perm) (entry_at d.epc n) =
+    λ n. entry_at-with_added d.epc f n g kind perm init k.takes.low in
     let number = numbered d.secs g.enclave x is.places found in
     let y = with_resident x g.number kind perm in
     λ i. record (after_add (state_of d) g f kind perm init longer) {
       frames = length-with_added d.epc f g kind perm init i;
-      content = λ n. (put_content d.epc (with_added d.epc f g kind perm init) f g kind perm k.takes entries n ∙ ap (λ c. cond (f == n) c (held (entry_at d.epc n))) (holds_added g kind perm init k.addable)) i;
+      content = λ n. (put_content d.epc (with_added d.epc f g kind perm init) f g kind perm k.takes entries n
+          ∙ ap (λ c. cond (f == n) c (held (entry_at d.epc n))) (holds_added g kind perm init k.addable)) i;
       blocked = λ n. put_blocked d.epc (with_added d.epc f g kind perm init) f g kind perm k.takes entries n i;
       is_sealing = λ n. put_sealing d.epc (with_added d.epc f g kind perm init) f g kind perm k.takes entries n i;
       words = λ n. words_at-with_added d.epc f n g kind perm init k.takes.low i;
       enclaves = λ n. enclave_kept d.secs g.enclave y is.places number.0 number.1 enclave_of n (ap enclave_of (sym found)) i;
       added = λ q. page_column d.secs g.enclave y is.places number.0 number.1 added_in g.number (Some (kind, perm))
-          (λ m. added_at-with_page x g.number m kind perm (is.own g.enclave x found).sound k.within ∙ ap (λ o. cond (g.number == m) (Some (kind, perm)) (added_in o m)) (sym found)) q i;
-      is_busy = λ q. enclave_kept d.secs g.enclave y is.places number.0 number.1 (λ o. is_busy_in o q.number) q.enclave (ap (λ o. is_busy_in o q.number) (sym found)) i;
+          (λ m. added_at-with_page x g.number m kind perm (is.own g.enclave x found).sound k.within
+          ∙ ap (λ o. cond (g.number == m) (Some (kind, perm)) (added_in o m)) (sym found)) q i;
+      is_busy = λ q. enclave_kept d.secs g.enclave y is.places number.0 number.1 (λ o. is_busy_in o q.number) q.enclave
+          (ap (λ o. is_busy_in o q.number) (sym found)) i;
       measure = λ e. measure_set d.measures g.enclave e longer there i;
     }
 
 -- ---- extend
 
-pub extend_state : (d : Parts) (e : ℕ) (longer : Measure) → e < length d.measures → state_of (record d { measures = set d.measures e (Some longer) }) ≡ after_extend (state_of d) e longer
-extend_state d e longer there = λ i. record (after_extend (state_of d) e longer) { measure = λ n. measure_set d.measures e n longer there i }
+pub extend_state : (d : Parts) (e : ℕ) (longer : Measure) → e < length d.measures
+    → state_of (record d { measures = set d.measures e (Some longer) }) ≡ after_extend (state_of d) e longer
+extend_state d e longer there =
+    λ i. record (after_extend (state_of d) e longer) { measure = λ n. measure_set d.measures e n longer there i }
 
 -- ---- init
 
 pub initialised_own : (e : ℕ) (x : SecsState) → IsSecsOf e x → IsSecsOf e (with_init x)
-initialised_own e x own = record { number = own.number; sound = record { lawful = own.sound.lawful; pages = own.sound.pages; busy = own.sound.busy } }
+initialised_own e x own =
+    record { number = own.number; sound = record { lawful = own.sound.lawful; pages = own.sound.pages; busy = own.sound.busy } }
 
-pub init_state : (d : Parts) (e : ℕ) (x : SecsState) → enclave_at d.secs e ≡ Some x → IsTable d.secs → state_of (record d { secs = with_enclave d.secs e (with_init x) }) ≡ after_init (state_of d) e
+pub init_state : (d : Parts) (e : ℕ) (x : SecsState) → enclave_at d.secs e ≡ Some x → IsTable d.secs
+    → state_of (record d { secs = with_enclave d.secs e (with_init x) }) ≡ after_init (state_of d) e
 init_state d e x found is =
     let number = numbered d.secs e x is.places found in
     λ i. record (after_init (state_of d) e) {
       enclaves = λ n. (enclave_column d.secs e (with_init x) is.places number.0 number.1 enclave_of n ∙ each n) i;
-      added = λ q. enclave_kept d.secs e (with_init x) is.places number.0 number.1 (λ o. added_in o q.number) q.enclave (ap (λ o. added_in o q.number) (sym found)) i;
-      is_busy = λ q. enclave_kept d.secs e (with_init x) is.places number.0 number.1 (λ o. is_busy_in o q.number) q.enclave (ap (λ o. is_busy_in o q.number) (sym found)) i;
+      added = λ q. enclave_kept d.secs e (with_init x) is.places number.0 number.1 (λ o. added_in o q.number) q.enclave
+          (ap (λ o. added_in o q.number) (sym found)) i;
+      is_busy = λ q. enclave_kept d.secs e (with_init x) is.places number.0 number.1 (λ o. is_busy_in o q.number) q.enclave
+          (ap (λ o. is_busy_in o q.number) (sym found)) i;
     }
   where
-    each : (n : ℕ) → cond (n == e) (enclave_of (Some (with_init x))) (enclave_of (enclave_at d.secs n)) ≡ cond (n == e) (marked (enclave_of (enclave_at d.secs n))) (enclave_of (enclave_at d.secs n))
+    each : (n : ℕ) → cond (n == e) (enclave_of (Some (with_init x))) (enclave_of (enclave_at d.secs n)) ≡ cond (n == e)
+        (marked (enclave_of (enclave_at d.secs n))) (enclave_of (enclave_at d.secs n))
     each n = by_test (n == e) refl
       where
-        by_test : (b : Bool) → (n == e) ≡ b → cond b (enclave_of (Some (with_init x))) (enclave_of (enclave_at d.secs n)) ≡ cond b (marked (enclave_of (enclave_at d.secs n))) (enclave_of (enclave_at d.secs n))
+        by_test : (b : Bool) → (n == e) ≡ b → cond b (enclave_of (Some (with_init x))) (enclave_of (enclave_at d.secs n)) ≡ cond b
+            (marked (enclave_of (enclave_at d.secs n))) (enclave_of (enclave_at d.secs n))
         by_test true same = let at : enclave_at d.secs n ≡ Some x = ap (enclave_at d.secs) (eqb-true n e same) ∙ found in rw at refl
         by_test false other = refl

@@ -41,17 +41,20 @@ use Rattle.paging_machine.proofs.BuildBridge.{Takes, epa_state, adds, add_state,
 use Rattle.paging_machine.proofs.WholeMachines.{Leaves, kept_of, done_step, refused_step}
 
 -- an enclave that is there has a place for its measurement
-pub measure_place : (d : Parts) (e : ℕ) (x : SecsState) → IsTable d.secs → enclave_at d.secs e ≡ Some x → length d.measures ≡ 9 → e < length d.measures
+pub measure_place : (d : Parts) (e : ℕ) (x : SecsState) → IsTable d.secs → enclave_at d.secs e ≡ Some x → length d.measures ≡ 9
+    → e < length d.measures
 measure_place d e x table found nine = let number = numbered d.secs e x table.places found in omega (arith, number.1, nine)
 
 -- a measurement that was read from its place
-pub measure_there : (measures : List (Option Measure)) (e : ℕ) (read : Option Measure) (y : Measure) → e < length measures → read ≡ get_or measures e read → Some y ≡ read → get_or measures e None ≡ Some y
+pub measure_there : (measures : List (Option Measure)) (e : ℕ) (read : Option Measure) (y : Measure) → e < length measures
+    → read ≡ get_or measures e read → Some y ≡ read → get_or measures e None ≡ Some y
 measure_there measures e read y low at is = get_or-default measures e None read low ∙ sym at ∙ sym is
 
 -- ---- epa
 
 -- a version array page is put into a frame, and into the table
-pub epa_leaves : (m : Inside) → IsWhole m → (f : ℕ) (page : Page) (perm : Perm) (epc : List EpcFrame) (va : List (Option (List VaSlot))) → Takes m.epc f → epc ≡ with_page m.epc f page kinds.Va perm → va ≡ with_va_page m.va f
+pub epa_leaves : (m : Inside) → IsWhole m → (f : ℕ) (page : Page) (perm : Perm) (epc : List EpcFrame) (va : List (Option (List VaSlot)))
+    → Takes m.epc f → epc ≡ with_page m.epc f page kinds.Va perm → va ≡ with_va_page m.va f
     → Leaves (record (parts_of m) { epc = epc; va = va }) (after_epa (state_of (parts_of m)) f)
 epa_leaves m h f page perm epc va k put paged =
     rw (put, paged)
@@ -71,16 +74,25 @@ epa_leaves m h f page perm epc va k put paged =
 -- ---- add
 
 -- the row of `add`, of an enclave that is there
-pub add_row_at : (d : Parts) (a : Actor) (e number : ℕ) (f : Frame) (kind : Kind) (perm : Perm) (init : PageInit) (x : SecsState) → enclave_at d.secs e ≡ Some x
-    → first_of_row (row_of (state_of d) a (Add e number f kind perm init)) ≡ first_of_row (add_row number kind perm init (Some (sight_of x)) (is_some (added_at x number)) (sight_in d.epc f.0))
-add_row_at d a e number f kind perm init x found = ap (λ o. first_of_row (add_row number kind perm init (enclave_sight_of (enclave_of o)) (is_some (added_in o number)) (sight_in d.epc f.0))) found
+pub add_row_at : (d : Parts) (a : Actor) (e number : ℕ) (f : Frame) (kind : Kind) (perm : Perm) (init : PageInit) (x : SecsState)
+    → enclave_at d.secs e ≡ Some x
+    → first_of_row (row_of (state_of d) a (Add e number f kind perm init)) ≡ first_of_row
+    (add_row number kind perm init (Some (sight_of x)) (is_some (added_at x number)) (sight_in d.epc f.0))
+add_row_at d a e number f kind perm init x found =
+    ap (λ o. first_of_row (add_row number kind perm init (enclave_sight_of (enclave_of o)) (is_some (added_in o number))
+    (sight_in d.epc f.0))) found
 
-pub add_written : (d : Parts) (g : Page) (f : ℕ) (kind : Kind) (perm : Perm) (init : PageInit) (x x' : SecsState) (longer : Measure) (epc : List EpcFrame) → IsTable d.secs → enclave_at d.secs g.enclave ≡ Some x → length d.measures ≡ 9
-    → None ≡ first_of_row (add_row g.number kind perm init (Some (sight_of x)) (is_some (added_at x g.number)) (sight_in d.epc f)) → epc ≡ with_added d.epc f (page_at x.enclave g.number) kind perm init → x' ≡ with_resident x g.number kind perm
-    → state_of (record d { epc = epc; secs = with_enclave d.secs g.enclave x'; measures = set d.measures g.enclave (Some longer) }) ≡ after_add (state_of d) g f kind perm init longer
+pub add_written : (d : Parts) (g : Page) (f : ℕ) (kind : Kind) (perm : Perm) (init : PageInit) (x x' : SecsState) (longer : Measure)
+    (epc : List EpcFrame) → IsTable d.secs → enclave_at d.secs g.enclave ≡ Some x → length d.measures ≡ 9
+    → None ≡ first_of_row (add_row g.number kind perm init (Some (sight_of x)) (is_some (added_at x g.number)) (sight_in d.epc f))
+    → epc ≡ with_added d.epc f (page_at x.enclave g.number) kind perm init → x' ≡ with_resident x g.number kind perm
+    → state_of (record d { epc = epc; secs = with_enclave d.secs g.enclave x'; measures = set d.measures g.enclave (Some longer) })
+    ≡ after_add (state_of d) g f kind perm init longer
 add_written d g f kind perm init x x' longer epc table found nine allowed put resident =
-    let page : epc ≡ with_added d.epc f g kind perm init = put ∙ ap (λ e. with_added d.epc f (page_at e g.number) kind perm init) (table.own g.enclave x found).number in
-    rw (page, resident) (add_state d g f kind perm init x longer (adds d.epc f g.number kind perm init _ x (sym allowed)) found table (measure_place d g.enclave x table found nine))
+    let page : epc ≡ with_added d.epc f g kind perm init = put
+    ∙ ap (λ e. with_added d.epc f (page_at e g.number) kind perm init) (table.own g.enclave x found).number in
+    rw (page, resident) (add_state d g f kind perm init x longer (adds d.epc f g.number kind perm init _ x (sym allowed)) found table
+    (measure_place d g.enclave x table found nine))
 
 -- ---- extend
 
@@ -93,26 +105,34 @@ enclave_held (SecsOf enclave) g is = cc is
 enclave_held IsLoading g is = cc is
 
 -- .. and its block is that of its number
-block_held : (c : Content) (bytes : List ℕ) (chunk : ℕ) (g : Page) → page_held c ≡ Some g → block_in c bytes chunk ≡ eextend_block (4096 * g.number + 256 * chunk) (chunk_of bytes chunk)
-block_held (Holds page kind perm) bytes chunk g is = let same : page ≡ g = cc is in ap (λ (q : Page). eextend_block (4096 * q.number + 256 * chunk) (chunk_of bytes chunk)) same
+block_held : (c : Content) (bytes : List ℕ) (chunk : ℕ) (g : Page) → page_held c ≡ Some g
+    → block_in c bytes chunk ≡ eextend_block (4096 * g.number + 256 * chunk) (chunk_of bytes chunk)
+block_held (Holds page kind perm) bytes chunk g is =
+    let same : page ≡ g = cc is in ap (λ (q : Page). eextend_block (4096 * q.number + 256 * chunk) (chunk_of bytes chunk)) same
 block_held Free bytes chunk g is = cc is
 block_held IsVa bytes chunk g is = cc is
 block_held (SecsOf enclave) bytes chunk g is = cc is
 block_held IsLoading bytes chunk g is = cc is
 
 -- the state of the enclave of the page in a frame
-pub owner : (d : Parts) (f : ℕ) (g : Page) (x : SecsState) → IsTable d.secs → page_held (held (entry_at d.epc f)) ≡ Some g → enclave_at d.secs g.enclave ≡ Some x → IfSome (enclave_in (held (entry_at d.epc f))) (λ enclave. enclave ≡ x.enclave)
+pub owner : (d : Parts) (f : ℕ) (g : Page) (x : SecsState) → IsTable d.secs → page_held (held (entry_at d.epc f)) ≡ Some g
+    → enclave_at d.secs g.enclave ≡ Some x → IfSome (enclave_in (held (entry_at d.epc f))) (λ enclave. enclave ≡ x.enclave)
 owner d f g x table here found = rw (enclave_held (held (entry_at d.epc f)) g here) (sym (table.own g.enclave x found).number)
 
 -- the row of `extend`, of a page of an enclave that is there
-pub extend_row_at : (d : Parts) (a : Actor) (f : Frame) (chunk : ℕ) (g : Page) (x : SecsState) → page_held (held (entry_at d.epc f.0)) ≡ Some g → enclave_at d.secs g.enclave ≡ Some x
+pub extend_row_at : (d : Parts) (a : Actor) (f : Frame) (chunk : ℕ) (g : Page) (x : SecsState)
+    → page_held (held (entry_at d.epc f.0)) ≡ Some g → enclave_at d.secs g.enclave ≡ Some x
     → first_of_row (row_of (state_of d) a (Extend f chunk)) ≡ first_of_row (extend_row chunk x.is_init (sight_in d.epc f.0))
 extend_row_at d a f chunk g x here found =
-    ap (λ o. first_of_row (extend_row chunk (is_closed (state_of d) o) (sight_in d.epc f.0))) (enclave_held (held (entry_at d.epc f.0)) g here)
-    ∙ ap (λ o. first_of_row (extend_row chunk (is_closed (record (state_of d) { enclaves = λ e. enclave_of o }) (Some g.enclave)) (sight_in d.epc f.0))) found
+    ap (λ o. first_of_row (extend_row chunk (is_closed (state_of d) o) (sight_in d.epc f.0)))
+    (enclave_held (held (entry_at d.epc f.0)) g here)
+    ∙ ap (λ o. first_of_row (extend_row chunk (is_closed (record (state_of d) { enclaves = λ e. enclave_of o }) (Some g.enclave))
+    (sight_in d.epc f.0))) found
 
-pub extend_done : (d : Parts) (f chunk : ℕ) (g : Page) (x : SecsState) (y longer : Measure) → IsTable d.secs → page_held (held (entry_at d.epc f)) ≡ Some g → enclave_at d.secs g.enclave ≡ Some x → length d.measures ≡ 9
-    → get_or d.measures g.enclave None ≡ Some y → Appends y longer (chunk_block d.epc f chunk) → IsExtended (state_of d) f chunk (state_of (record d { measures = set d.measures g.enclave (Some longer) }))
+pub extend_done : (d : Parts) (f chunk : ℕ) (g : Page) (x : SecsState) (y longer : Measure) → IsTable d.secs
+    → page_held (held (entry_at d.epc f)) ≡ Some g → enclave_at d.secs g.enclave ≡ Some x → length d.measures ≡ 9
+    → get_or d.measures g.enclave None ≡ Some y → Appends y longer (chunk_block d.epc f chunk)
+    → IsExtended (state_of d) f chunk (state_of (record d { measures = set d.measures g.enclave (Some longer) }))
 extend_done d f chunk g x y longer table here found nine there appends = record {
   page = g;
   held = here;
@@ -124,7 +144,8 @@ extend_done d f chunk g x y longer table here found nine there appends = record 
 -- ---- init
 
 -- the row of `init`, of an enclave that is there
-pub init_row_at : (d : Parts) (a : Actor) (e : ℕ) (expect : Option (List ℕ)) (x : SecsState) → enclave_at d.secs e ≡ Some x → first_of_row (row_of (state_of d) a (Init e expect)) ≡ first_of_row (init_row (Some (sight_of x)))
+pub init_row_at : (d : Parts) (a : Actor) (e : ℕ) (expect : Option (List ℕ)) (x : SecsState) → enclave_at d.secs e ≡ Some x
+    → first_of_row (row_of (state_of d) a (Init e expect)) ≡ first_of_row (init_row (Some (sight_of x)))
 init_row_at d a e expect x found = ap (λ o. first_of_row (init_row (enclave_sight_of (enclave_of o)))) found
 
 -- a refusal tells a measurement, or is one of the row
@@ -133,15 +154,21 @@ told (why.BadMeasure made) = inl (made, refl)
 told r = inr refl
 
 -- a measurement that is told is that of the log
-told_measure : (o : EnclaveSight) (expect : Option (List ℕ)) (made digest : List ℕ) → first_of_row (init_row (Some o)) ≡ None → Some (why.BadMeasure made) ≡ first_of_row (measured_row o expect digest) → made ≡ digest
+told_measure : (o : EnclaveSight) (expect : Option (List ℕ)) (made digest : List ℕ) → first_of_row (init_row (Some o)) ≡ None
+    → Some (why.BadMeasure made) ≡ first_of_row (measured_row o expect digest) → made ≡ digest
 told_measure o expect made digest unjudged is = by_test o.is_init unjudged is
   where
-    by_test : (b : Bool) → cond b (Some why.IsInit) None ≡ None → Some (why.BadMeasure made) ≡ cond b (Some why.IsInit) (cond (not (is_expected expect digest)) (Some (why.BadMeasure digest)) None) → made ≡ digest
+    by_test : (b : Bool) → cond b (Some why.IsInit) None ≡ None
+        → Some (why.BadMeasure made) ≡ cond b (Some why.IsInit) (cond (not (is_expected expect digest)) (Some (why.BadMeasure digest)) None)
+        → made ≡ digest
     by_test true none k = cc none
     by_test false none k = let same : why.BadMeasure digest ≡ why.BadMeasure made = (cond_some _ _ _ (sym k)).1 in cc same
 
-pub init_refused : (s : State) (a : Actor) (enclave : ℕ) (expect : Option (List ℕ)) (o : EnclaveSight) (y : Measure) (r : Refusal) (e : Entry) (t : State) → first_of_row (row_of s a (Init enclave expect)) ≡ first_of_row (init_row (Some o)) → s.measure enclave ≡ Some y
-    → unless_measured (Some r) ≡ first_of_row (init_row (Some o)) → ((made : List ℕ) → r ≡ why.BadMeasure made → IsOther expect made) → ((log : List ℕ) → HoldsLog y log → Some r ≡ first_of_row (measured_row o expect (measurement_of log)))
+pub init_refused : (s : State) (a : Actor) (enclave : ℕ) (expect : Option (List ℕ)) (o : EnclaveSight) (y : Measure) (r : Refusal)
+    (e : Entry) (t : State) → first_of_row (row_of s a (Init enclave expect)) ≡ first_of_row (init_row (Some o))
+    → s.measure enclave ≡ Some y
+    → unless_measured (Some r) ≡ first_of_row (init_row (Some o)) → ((made : List ℕ) → r ≡ why.BadMeasure made → IsOther expect made)
+    → ((log : List ℕ) → HoldsLog y log → Some r ≡ first_of_row (measured_row o expect (measurement_of log)))
     → e ≡ refused_by a (Init enclave expect) r → t ≡ s → IsStep s a (Init enclave expect) e t
 init_refused s a enclave expect o y r e t row there refusal other measured entry same = ⊎_elim by_measure by_row (told r)
   where
@@ -153,7 +180,8 @@ init_refused s a enclave expect o y r e t row there refusal other measured entry
         let unjudged : first_of_row (init_row (Some o)) ≡ None = sym refusal ∙ ap (λ q. unless_measured (Some q)) k.1 in
         let judged : IsJudged s a enclave expect e t = record {
           digest = k.0;
-          finished = rw there (λ log holds. told_measure o expect k.0 (measurement_of log) unjudged (ap Some (sym k.1) ∙ measured log holds));
+          finished = rw there (λ log holds. told_measure o expect k.0 (measurement_of log) unjudged
+              (ap Some (sym k.1) ∙ measured log holds));
           judged = inr (other k.0 k.1, entry ∙ ap (refused_by a (Init enclave expect)) k.1, same);
         } in
         done_step _ _ _ (row ∙ unjudged) judged

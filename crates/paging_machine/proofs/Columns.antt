@@ -14,7 +14,8 @@ use Rattle.paging_machine.specs.Whole.{IsSecsOf, IsTable}
 -- ---- lists
 
 -- a write to a list, read at each place
-pub get_or-set_if : {A : Type 0} (xs : List A) (i n : ℕ) (a d : A) → i < length xs → get_or (set xs i a) n d ≡ cond (i == n) a (get_or xs n d)
+pub get_or-set_if : {A : Type 0} (xs : List A) (i n : ℕ) (a d : A) → i < length xs
+    → get_or (set xs i a) n d ≡ cond (i == n) a (get_or xs n d)
 get_or-set_if xs i n a d low =
     cond_both (i == n) a (get_or xs n d) (λ v. get_or (set xs i a) n d ≡ v)
     (λ e. rw (← eqb-true i n e) (get_or-set_same xs i a d low))
@@ -54,7 +55,8 @@ same_at g f n = cond_both (f == n) (g f) (g n) (λ v. v ≡ g n) (λ e. ap g (eq
 -- ---- the enclaves
 
 -- an enclave that is there has a number from 1 to 8
-pub numbered : (table : List (Option SecsState)) (e : ℕ) (x : SecsState) → length table ≡ 8 → enclave_at table e ≡ Some x → (1 ≤ e) × (e ≤ 8)
+pub numbered : (table : List (Option SecsState)) (e : ℕ) (x : SecsState) → length table ≡ 8 → enclave_at table e ≡ Some x
+    → (1 ≤ e) × (e ≤ 8)
 numbered table e x eight is = ⊎_elim zeroth later (cases_eq e 0)
   where
     zeroth : e ≡ 0 → (1 ≤ e) × (e ≤ 8)
@@ -67,7 +69,8 @@ numbered table e x eight is = ⊎_elim zeroth later (cases_eq e 0)
         (omega (arith, some), omega (arith, low, eight))
 
 -- an enclave's state that is written as it was
-pub enclave_same : (table : List (Option SecsState)) (e : ℕ) (x : SecsState) → length table ≡ 8 → enclave_at table e ≡ Some x → with_enclave table e x ≡ table
+pub enclave_same : (table : List (Option SecsState)) (e : ℕ) (x : SecsState) → length table ≡ 8 → enclave_at table e ≡ Some x
+    → with_enclave table e x ≡ table
 enclave_same table e x eight is =
     let some : e ≡ 0 → ⊥ = λ none. (let first = (numbered table e x eight is).0 in omega (arith, first, none)) in
     let at : get_or table (e - 1) None ≡ Some x = sym (cond-false (e == 0) None (get_or table (e - 1) None) (ne_eqb e 0 some)) ∙ is in
@@ -75,21 +78,30 @@ enclave_same table e x eight is =
 
 module _ (table : List (Option SecsState)) (e : ℕ) (x : SecsState) (eight : length table ≡ 8) (first : 1 ≤ e) (last : e ≤ 8) where
   -- what is read of each enclave
-  pub enclave_column : {A : Type 0} (col : Option SecsState → A) (n : ℕ) → col (enclave_at (with_enclave table e x) n) ≡ cond (n == e) (col (Some x)) (col (enclave_at table n))
-  enclave_column col n = ap col (enclave_at-with_enclave table e n x eight first last) ∙ through col (e == n) (Some x) (enclave_at table n) ∙ ap (λ b. cond b (col (Some x)) (col (enclave_at table n))) (eqb-swap e n)
+  pub enclave_column : {A : Type 0} (col : Option SecsState → A) (n : ℕ)
+      → col (enclave_at (with_enclave table e x) n) ≡ cond (n == e) (col (Some x)) (col (enclave_at table n))
+  enclave_column col n = ap col (enclave_at-with_enclave table e n x eight first last) ∙ through col (e == n) (Some x) (enclave_at table n)
+      ∙ ap (λ b. cond b (col (Some x)) (col (enclave_at table n))) (eqb-swap e n)
 
   -- .. where the write leaves it
-  pub enclave_kept : {A : Type 0} (col : Option SecsState → A) (n : ℕ) → col (Some x) ≡ col (enclave_at table e) → col (enclave_at (with_enclave table e x) n) ≡ col (enclave_at table n)
+  pub enclave_kept : {A : Type 0} (col : Option SecsState → A) (n : ℕ) → col (Some x) ≡ col (enclave_at table e)
+      → col (enclave_at (with_enclave table e x) n) ≡ col (enclave_at table n)
   enclave_kept col n same =
       ap col (enclave_at-with_enclave table e n x eight first last)
-      ∙ cond_both (e == n) (Some x) (enclave_at table n) (λ v. col v ≡ col (enclave_at table n)) (λ is. same ∙ ap (λ k. col (enclave_at table k)) (eqb-true e n is)) (λ _. refl)
+      ∙ cond_both (e == n) (Some x) (enclave_at table n) (λ v. col v ≡ col (enclave_at table n))
+      (λ is. same ∙ ap (λ k. col (enclave_at table k)) (eqb-true e n is)) (λ _. refl)
 
   -- what is read of each page, where the write changes one
-  pub page_column : {A : Type 0} (col : Option SecsState → ℕ → A) (number : ℕ) (v : A) → ((k : ℕ) → col (Some x) k ≡ cond (number == k) v (col (enclave_at table e) k)) → (q : Page)
-      → col (enclave_at (with_enclave table e x) q.enclave) q.number ≡ cond (same_page q (page_at e number)) v (col (enclave_at table q.enclave) q.number)
-  page_column {A} col number v here q = ap (λ o. col o q.number) (enclave_at-with_enclave table e q.enclave x eight first last) ∙ by_enclave (e == q.enclave) refl
+  pub page_column : {A : Type 0} (col : Option SecsState → ℕ → A) (number : ℕ) (v : A)
+      → ((k : ℕ) → col (Some x) k ≡ cond (number == k) v (col (enclave_at table e) k)) → (q : Page)
+      → col (enclave_at (with_enclave table e x) q.enclave) q.number ≡ cond (same_page q (page_at e number)) v
+      (col (enclave_at table q.enclave) q.number)
+  page_column {A} col number v here q =
+      ap (λ o. col o q.number) (enclave_at-with_enclave table e q.enclave x eight first last) ∙ by_enclave (e == q.enclave) refl
     where
-      by_enclave : (b : Bool) → (e == q.enclave) ≡ b → col (cond b (Some x) (enclave_at table q.enclave)) q.number ≡ cond ((q.enclave == e) && (q.number == number)) v (col (enclave_at table q.enclave) q.number)
+      by_enclave : (b : Bool) → (e == q.enclave) ≡ b
+          → col (cond b (Some x) (enclave_at table q.enclave)) q.number ≡ cond ((q.enclave == e) && (q.number == number)) v
+          (col (enclave_at table q.enclave) q.number)
       by_enclave true same =
           rw (sym (eqb-swap e q.enclave) ∙ same, eqb-swap q.number number)
           (here q.number ∙ ap (λ k. cond (number == q.number) v (col (enclave_at table k) q.number)) (eqb-true e q.enclave same))
@@ -108,5 +120,6 @@ module _ (table : List (Option SecsState)) (e : ℕ) (x : SecsState) (eight : le
 
 -- ---- the measurements
 
-pub measure_set : (measures : List (Option Measure)) (e n : ℕ) (m : Measure) → e < length measures → get_or (set measures e (Some m)) n None ≡ cond (n == e) (Some m) (get_or measures n None)
+pub measure_set : (measures : List (Option Measure)) (e n : ℕ) (m : Measure) → e < length measures
+    → get_or (set measures e (Some m)) n None ≡ cond (n == e) (Some m) (get_or measures n None)
 measure_set measures e n m low = rw (eqb-swap n e) (get_or-set_if measures e n (Some m) None low)

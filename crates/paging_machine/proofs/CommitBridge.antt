@@ -65,10 +65,15 @@ pub low_in : (d : Parts) (f : ℕ) → (state_of d).content f ≡ IsLoading → 
 low_in d f waits = below d f (λ free. let none : Free ≡ IsLoading = sym (ap held free) ∙ waits in cc none)
 
 -- an open start names a slot of the table
-pub writable : (m : Inside) → IsWhole m → (f : ℕ) (start : Start) → f < length m.epc → (state_of (parts_of m)).start f ≡ Some start → IsWritable (parts_of m) f start.slot
+pub writable : (m : Inside) → IsWhole m → (f : ℕ) (start : Start) → f < length m.epc → (state_of (parts_of m)).start f ≡ Some start
+    → IsWritable (parts_of m) f start.slot
 writable m h f start low at =
     let is : IsOpen (state_of (parts_of m)).content (state_of (parts_of m)).added start = rw at at (h.guarded.opened f) in
-    record { low = low; there = rw h.start_places low; is_slot = record { paged = h.pages start.slot.frame.0 ∙ ap table.is_va is.paged; within = is.within } }
+    record {
+      low = low;
+      there = rw h.start_places low;
+      is_slot = record { paged = h.pages start.slot.frame.0 ∙ ap table.is_va is.paged; within = is.within };
+    }
 
 -- the same start
 one_start : (o : Option Start) (a b : Start) → o ≡ Some a → o ≡ Some b → a ≡ b
@@ -84,7 +89,9 @@ no_va (SecsOf enclave) h = refl
 no_va (Holds page kind perm) h = refl
 no_va IsLoading h = refl
 
-pub ewb_leaves : (m : Inside) → IsWhole m → (f : ℕ) (start : Start) (d' : Parts) → (state_of (parts_of m)).is_sealing f ≡ true → (state_of (parts_of m)).start f ≡ Some start → d' ≡ written_parts (parts_of m) f start → Leaves d' (after_ewb (state_of (parts_of m)) f start)
+pub ewb_leaves : (m : Inside) → IsWhole m → (f : ℕ) (start : Start) (d' : Parts) → (state_of (parts_of m)).is_sealing f ≡ true
+    → (state_of (parts_of m)).start f ≡ Some start → d' ≡ written_parts (parts_of m) f start
+    → Leaves d' (after_ewb (state_of (parts_of m)) f start)
 ewb_leaves m h f start d' leaves at done =
     let d = parts_of m in
     let k = writable m h f start (low_out d f leaves) at in
@@ -97,7 +104,8 @@ ewb_leaves m h f start d' leaves at done =
       track_places = h.track_places;
       tracked = h.tracked;
       slots = table_ended d.va start.slot start.version h.slots k.is_slot;
-      pages = pages_ended d.va start.slot start.version h.slots k.is_slot (cleared d.epc f) (pages-cleared d.epc d.va f h.pages k.low (no_va (held (entry_at d.epc f)) (h.guarded.goes_out f leaves)));
+      pages = pages_ended d.va start.slot start.version h.slots k.is_slot (cleared d.epc f)
+          (pages-cleared d.epc d.va f h.pages k.low (no_va (held (entry_at d.epc f)) (h.guarded.goes_out f leaves)));
       start_places = length-set d.starts f _ ∙ h.start_places ∙ sym (length-cleared d.epc f);
     })
 
@@ -118,17 +126,24 @@ pub record Written (m : Inside) (a : Actor) (f : Frame) (e : Entry) (rec : Seale
   pub leaves : Leaves d' (after_ewb (state_of (parts_of m)) f.0 start)
   pub out : IsWrittenOut (state_of (parts_of m)) a f e rec (state_of d')
 
-pub written : (m : Inside) → IsWhole m → (a : Actor) (f : Frame) (e : Entry) (work : SealedWork) (start : opened.Start) (page : Page) (epc : List EpcFrame) (va : List (Option (List VaSlot)))
-    → (state_of (parts_of m)).is_sealing f.0 ≡ true → SealsPage (state_of (parts_of m)) f.0 work.key work.version work.rec.header work.plain.items → (state_of (parts_of m)).start f.0 ≡ start_of (Some start)
-    → page_of (entry_at m.epc f.0) ≡ Some page → epc ≡ cleared m.epc f.0 → va ≡ with_ended m.va start.slot work.version → e ≡ did_by a (Ewb f) (Moved page start.version work.rec.tag)
+pub written : (m : Inside) → IsWhole m → (a : Actor) (f : Frame) (e : Entry) (work : SealedWork) (start : opened.Start) (page : Page)
+    (epc : List EpcFrame) (va : List (Option (List VaSlot)))
+    → (state_of (parts_of m)).is_sealing f.0 ≡ true
+    → SealsPage (state_of (parts_of m)) f.0 work.key work.version work.rec.header work.plain.items
+    → (state_of (parts_of m)).start f.0 ≡ start_of (Some start)
+    → page_of (entry_at m.epc f.0) ≡ Some page → epc ≡ cleared m.epc f.0 → va ≡ with_ended m.va start.slot work.version
+    → e ≡ did_by a (Ewb f) (Moved page start.version work.rec.tag)
     → Written m a f e work.rec (record (parts_of m) { epc = epc; va = va; starts = set m.starts.items f.0 None })
 written m h a f e work start page epc va leaves seals at holds frees ends told =
     let d = parts_of m in
     let s = state_of d in
     let k = seals.leaving in
-    let same : k.start ≡ record { slot = start.slot; version = start.version; loads = start.loads } = one_start (s.start f.0) k.start _ k.opened at in
-    let slots : va ≡ with_ended d.va k.start.slot k.start.version = ends ∙ (λ i. with_ended d.va (let x : Start = sym same i in x.slot) (seals.version i)) in
-    let parts : record d { epc = epc; va = va; starts = set d.starts f.0 None } ≡ written_parts d f.0 k.start = λ i. record d { epc = frees i; va = slots i; starts = set d.starts f.0 None } in
+    let same : k.start ≡ record { slot = start.slot; version = start.version; loads = start.loads } =
+    one_start (s.start f.0) k.start _ k.opened at in
+    let slots : va ≡ with_ended d.va k.start.slot k.start.version = ends
+    ∙ (λ i. with_ended d.va (let x : Start = sym same i in x.slot) (seals.version i)) in
+    let parts : record d { epc = epc; va = va; starts = set d.starts f.0 None } ≡ written_parts d f.0 k.start =
+    λ i. record d { epc = frees i; va = slots i; starts = set d.starts f.0 None } in
     let left = ewb_leaves m h f.0 k.start _ leaves k.opened parts in
     let one : Some page ≡ Some k.page.page = sym holds ∙ page_held (entry_at d.epc f.0) k.page.page k.page.kind k.page.perm k.page.held in
     let page_is : page ≡ k.page.page = cc one in
@@ -155,16 +170,20 @@ pub record Waits (d : Parts) (page : Page) : Type 0 where
   pub paged : IsPaged kind
 
 -- the page that an open start loads was added
-pub waits : (m : Inside) → IsWhole m → (f : ℕ) (start : Start) (page : Page) → (state_of (parts_of m)).start f ≡ Some start → start.loads ≡ Some page → Waits (parts_of m) page
+pub waits : (m : Inside) → IsWhole m → (f : ℕ) (start : Start) (page : Page) → (state_of (parts_of m)).start f ≡ Some start
+    → start.loads ≡ Some page → Waits (parts_of m) page
 waits m h f start page at loads =
     let is : IsOpen (state_of (parts_of m)).content (state_of (parts_of m)).added start = rw at at (h.guarded.opened f) in
     by_state (enclave_at m.secs page.enclave) refl (rw loads at is.loads) (h.guarded.kinds page)
   where
-    by_added : (x : SecsState) → enclave_at m.secs page.enclave ≡ Some x → (o : Option (Kind × Perm)) → added_in (enclave_at m.secs page.enclave) page.number ≡ o → is_some o ≡ true → IfSome o (λ k. IsPaged k.0) → Waits (parts_of m) page
+    by_added : (x : SecsState) → enclave_at m.secs page.enclave ≡ Some x → (o : Option (Kind × Perm))
+        → added_in (enclave_at m.secs page.enclave) page.number ≡ o → is_some o ≡ true → IfSome o (λ k. IsPaged k.0)
+        → Waits (parts_of m) page
     by_added x there None added is kind = cc is
     by_added x there (Some k) added is kind = record { secs = x; there = there; kind = k.0; perm = k.1; added = added; paged = kind }
 
-    by_state : (o : Option SecsState) → enclave_at m.secs page.enclave ≡ o → is_some (added_in o page.number) ≡ true → IfSome (added_in o page.number) (λ k. IsPaged k.0) → Waits (parts_of m) page
+    by_state : (o : Option SecsState) → enclave_at m.secs page.enclave ≡ o → is_some (added_in o page.number) ≡ true
+        → IfSome (added_in o page.number) (λ k. IsPaged k.0) → Waits (parts_of m) page
     by_state None there is kind = cc is
     by_state (Some x) there is kind = by_added x there (added_at x page.number) (ap (λ o. added_in o page.number) there) is kind
 
@@ -182,8 +201,11 @@ paged_is_not_va page kinds.Reg perm h = refl
 paged_is_not_va page kinds.Secs perm h = absurd h
 paged_is_not_va page kinds.Va perm h = absurd h
 
-pub eld_leaves : (m : Inside) → IsWhole m → (f : ℕ) (start : Start) (page : Page) (kind : Kind) (perm : Perm) (words : List ℕ) (d' : Parts) → (state_of (parts_of m)).content f ≡ IsLoading → (state_of (parts_of m)).start f ≡ Some start
-    → (state_of (parts_of m)).added page ≡ Some (kind, perm) → IsPaged kind → length words ≡ 512 → d' ≡ loaded_parts (parts_of m) f start page kind perm words → Leaves d' (after_eld (state_of (parts_of m)) f start page kind perm words)
+pub eld_leaves : (m : Inside) → IsWhole m → (f : ℕ) (start : Start) (page : Page) (kind : Kind) (perm : Perm) (words : List ℕ) (d' : Parts)
+    → (state_of (parts_of m)).content f ≡ IsLoading → (state_of (parts_of m)).start f ≡ Some start
+    → (state_of (parts_of m)).added page ≡ Some (kind, perm) → IsPaged kind → length words ≡ 512
+    → d' ≡ loaded_parts (parts_of m) f start page kind perm words
+    → Leaves d' (after_eld (state_of (parts_of m)) f start page kind perm words)
 eld_leaves m h f start page kind perm words d' comes at added paged long done =
     let d = parts_of m in
     let k = writable m h f start (low_in d f comes) at in
@@ -198,11 +220,15 @@ eld_leaves m h f start page kind perm words d' comes at added paged long done =
       track_places = h.track_places;
       tracked = h.tracked;
       slots = table_ended d.va start.slot 0 h.slots k.is_slot;
-      pages = pages_ended d.va start.slot 0 h.slots k.is_slot (with_words epc f words) (pages-with_words epc d.va f words (pages-with_entry d.epc d.va f v h.pages k.low (paged_is_not_va page kind perm paged ∙ sym (ap table.is_va comes))));
+      pages = pages_ended d.va start.slot 0 h.slots k.is_slot (with_words epc f words)
+          (pages-with_words epc d.va f words (pages-with_entry d.epc d.va f v h.pages k.low
+          (paged_is_not_va page kind perm paged ∙ sym (ap table.is_va comes))));
       start_places = length-set d.starts f _ ∙ h.start_places ∙ sym (length-with_words epc f words ∙ length-with_entry d.epc f v);
     })
 
-pub failed_leaves : (m : Inside) → IsWhole m → (f : ℕ) (start : Start) (d' : Parts) → (state_of (parts_of m)).content f ≡ IsLoading → (state_of (parts_of m)).start f ≡ Some start → d' ≡ failed_parts (parts_of m) f start → Leaves d' (after_failed_eld (state_of (parts_of m)) f start)
+pub failed_leaves : (m : Inside) → IsWhole m → (f : ℕ) (start : Start) (d' : Parts) → (state_of (parts_of m)).content f ≡ IsLoading
+    → (state_of (parts_of m)).start f ≡ Some start → d' ≡ failed_parts (parts_of m) f start
+    → Leaves d' (after_failed_eld (state_of (parts_of m)) f start)
 failed_leaves m h f start d' comes at done =
     let d = parts_of m in
     let k = writable m h f start (low_in d f comes) at in
@@ -220,7 +246,8 @@ failed_leaves m h f start d' comes at done =
     })
 
 -- the start of a frame that waits, with its page
-abbrev pub coming : (m : Inside) (f : ℕ) (start : Start) (page : Page) → (state_of (parts_of m)).start f ≡ Some start → start.loads ≡ Some page → (w : Waits (parts_of m) page) → IsComing (state_of (parts_of m)) f
+abbrev pub coming : (m : Inside) (f : ℕ) (start : Start) (page : Page) → (state_of (parts_of m)).start f ≡ Some start
+    → start.loads ≡ Some page → (w : Waits (parts_of m) page) → IsComing (state_of (parts_of m)) f
 coming m f start page at loads w = record {
   start = start;
   opened = at;
@@ -247,8 +274,10 @@ pub record IsOpened (s : State) (f : ℕ) (work : UnsealedWork) (rec : Sealed) :
   pub version : IsSomeAnd (s.start f) (λ start. work.version ≡ start.version)
   pub rec_is : work.rec ≡ rec
 
-module _ (m : Inside) (h : IsWhole m) (a : Actor) (f : Frame) (work : UnsealedWork) (rec : Sealed) (start : opened.Start) (page : Page) (epc : List EpcFrame) (va : List (Option (List VaSlot)))
-    (comes : (state_of (parts_of m)).content f.0 ≡ IsLoading) (is : IsOpened (state_of (parts_of m)) f.0 work rec) (at : (state_of (parts_of m)).start f.0 ≡ start_of (Some start)) (loads : start.loads ≡ Some page)
+module _ (m : Inside) (h : IsWhole m) (a : Actor) (f : Frame) (work : UnsealedWork) (rec : Sealed) (start : opened.Start) (page : Page)
+    (epc : List EpcFrame) (va : List (Option (List VaSlot)))
+    (comes : (state_of (parts_of m)).content f.0 ≡ IsLoading) (is : IsOpened (state_of (parts_of m)) f.0 work rec)
+    (at : (state_of (parts_of m)).start f.0 ≡ start_of (Some start)) (loads : start.loads ≡ Some page)
   where
     abbrev d : Parts
     d = parts_of m
@@ -275,33 +304,42 @@ module _ (m : Inside) (h : IsWhole m) (a : Actor) (f : Frame) (work : UnsealedWo
         ∙ ap (λ o. header_by o page (Some (w.kind, w.perm))) w.there
 
     tag_is : work.computed ≡ tag s.key start.version rec.header rec.cipher
-    tag_is = work.is_computed ∙ (λ i. tag (is.key i) (version_is i) (let r : Sealed = is.rec_is i in r.header) (let r : Sealed = is.rec_is i in r.cipher))
+    tag_is = work.is_computed ∙ (λ i. tag (is.key i) (version_is i) (let r : Sealed = is.rec_is i in r.header)
+        (let r : Sealed = is.rec_is i in r.cipher))
 
     -- the row of the commit
-    row_is : first_of_row (eld_row work.rec work.computed (header_in d.secs page)) ≡ first_of_row (commit_row s f.0 (coming m f.0 own page at loads w) rec)
+    row_is : first_of_row (eld_row work.rec work.computed (header_in d.secs page)) ≡ first_of_row
+        (commit_row s f.0 (coming m f.0 own page at loads w) rec)
     row_is = λ i. first_of_row (eld_row (is.rec_is i) (tag_is i) (header_is i))
 
     words_is : words_of work.plain.items ≡ words_of (cipher s.key start.version rec.cipher)
     words_is = ap words_of (work.is_plain ∙ (λ i. cipher (is.key i) (version_is i) (let r : Sealed = is.rec_is i in r.cipher)))
 
-    pub ended_back : (e : Entry) → None ≡ first_of_row (eld_row work.rec work.computed (header_in d.secs page)) → epc ≡ with_reloaded d.epc d.secs f.0 page work.plain.items → va ≡ with_ended d.va start.slot 0
+    pub ended_back : (e : Entry) → None ≡ first_of_row (eld_row work.rec work.computed (header_in d.secs page))
+        → epc ≡ with_reloaded d.epc d.secs f.0 page work.plain.items → va ≡ with_ended d.va start.slot 0
         → e ≡ did_by a (Eld f) (Moved page start.version work.rec.tag) → Ended m a f e rec d'
     ended_back e row puts ends told =
         let words = words_of (cipher s.key start.version rec.cipher) in
         let long : length words ≡ 512 = ap length (sym words_is) ∙ length-words_of work.plain.items ∙ ap (λ n. n / 8) work.plain_size in
-        let put : epc ≡ with_words (with_page d.epc f.0 page w.kind w.perm) f.0 words = puts ∙ ap (λ o. with_plain d.epc f.0 page o work.plain.items) (added_same d.secs page ∙ w.added) ∙ ap (with_words (with_page d.epc f.0 page w.kind w.perm) f.0) words_is in
-        let parts : d' ≡ loaded_parts d f.0 own page w.kind w.perm words = λ i. record d { epc = put i; va = ends i; starts = set d.starts f.0 None } in
+        let put : epc ≡ with_words (with_page d.epc f.0 page w.kind w.perm) f.0 words = puts
+        ∙ ap (λ o. with_plain d.epc f.0 page o work.plain.items) (added_same d.secs page ∙ w.added)
+        ∙ ap (with_words (with_page d.epc f.0 page w.kind w.perm) f.0) words_is in
+        let parts : d' ≡ loaded_parts d f.0 own page w.kind w.perm words =
+        λ i. record d { epc = put i; va = ends i; starts = set d.starts f.0 None } in
         let left = eld_leaves m h f.0 own page w.kind w.perm words d' comes at w.added w.paged long parts in
         record {
           after = after_eld s f.0 own page w.kind w.perm words;
           leaves = left;
           back = record {
             coming = coming m f.0 own page at loads w;
-            row = done_step _ _ _ (sym row_is ∙ sym row) (told ∙ ap (λ (r : Sealed). did_by a (Eld f) (Moved page start.version r.tag)) is.rec_is, left.state);
+            row = done_step _ _ _ (sym row_is ∙ sym row)
+                (told ∙ ap (λ (r : Sealed). did_by a (Eld f) (Moved page start.version r.tag)) is.rec_is, left.state);
           };
         }
 
-    pub ended_refused : (e : Entry) (refusal : Refusal) → Some refusal ≡ first_of_row (eld_row work.rec work.computed (header_in d.secs page)) → epc ≡ cleared d.epc f.0 → va ≡ with_busy d.va start.slot false → e ≡ refused_by a (Eld f) refusal
+    pub ended_refused : (e : Entry) (refusal : Refusal)
+        → Some refusal ≡ first_of_row (eld_row work.rec work.computed (header_in d.secs page)) → epc ≡ cleared d.epc f.0
+        → va ≡ with_busy d.va start.slot false → e ≡ refused_by a (Eld f) refusal
         → Ended m a f e rec d'
     ended_refused e refusal row frees marks told =
         let parts : d' ≡ failed_parts d f.0 own = λ i. record d { epc = frees i; va = marks i; starts = set d.starts f.0 None } in
@@ -309,5 +347,8 @@ module _ (m : Inside) (h : IsWhole m) (a : Actor) (f : Frame) (work : UnsealedWo
         record {
           after = after_failed_eld s f.0 own;
           leaves = left;
-          back = record { coming = coming m f.0 own page at loads w; row = refused_step _ _ _ refusal (sym row_is ∙ sym row) (told, left.state) };
+          back = record {
+            coming = coming m f.0 own page at loads w;
+            row = refused_step _ _ _ refusal (sym row_is ∙ sym row) (told, left.state);
+          };
         }

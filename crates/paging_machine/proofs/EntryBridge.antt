@@ -47,18 +47,40 @@ use Rattle.paging_laws.proofs.GuardCpus.{guarded_enter, guarded_resume, guarded_
 -- ---- what the rows keep
 
 emptied : (s : State) (p : ℕ) → IsWithin s → (q : ℕ) → LeadsBelow (cond (p == q) [] (s.cache q)) s.frames
-emptied s p h q = cond_both (p == q) [] (s.cache q) (λ xs. LeadsBelow xs s.frames) (λ _. All-nil (λ (t : Translation). t.frame.0 < s.frames)) (λ _. h q)
+emptied s p h q =
+    cond_both (p == q) [] (s.cache q) (λ xs. LeadsBelow xs s.frames) (λ _. All-nil (λ (t : Translation). t.frame.0 < s.frames)) (λ _. h q)
 
-kept_enter : (s : State) (p : ℕ) (seat : Seat) → p < 16 → first_of_row (enter_row seat.enclave seat.tcs (enter_sight s p seat)) ≡ None → IsKept s → IsKept (after_enter s p seat)
-kept_enter s p seat few allowed h = record { measured = h.measured; framed = h.framed; within = emptied s p h.within; sound = sound-enter s p seat allowed h.sound; guarded = guarded_enter s p seat allowed few h.guarded }
+kept_enter : (s : State) (p : ℕ) (seat : Seat) → p < 16 → first_of_row (enter_row seat.enclave seat.tcs (enter_sight s p seat)) ≡ None
+    → IsKept s → IsKept (after_enter s p seat)
+kept_enter s p seat few allowed h = record {
+  measured = h.measured;
+  framed = h.framed;
+  within = emptied s p h.within;
+  sound = sound-enter s p seat allowed h.sound;
+  guarded = guarded_enter s p seat allowed few h.guarded;
+}
 
-kept_resume : (s : State) (p : ℕ) (seat : Seat) → p < 16 → first_of_row (resume_row seat.enclave seat.tcs (enter_sight s p seat)) ≡ None → IsKept s → IsKept (after_resume s p seat)
-kept_resume s p seat few allowed h = record { measured = h.measured; framed = h.framed; within = emptied s p h.within; sound = sound-resume s p seat allowed h.sound; guarded = guarded_resume s p seat allowed few h.guarded }
+kept_resume : (s : State) (p : ℕ) (seat : Seat) → p < 16 → first_of_row (resume_row seat.enclave seat.tcs (enter_sight s p seat)) ≡ None
+    → IsKept s → IsKept (after_resume s p seat)
+kept_resume s p seat few allowed h = record {
+  measured = h.measured;
+  framed = h.framed;
+  within = emptied s p h.within;
+  sound = sound-resume s p seat allowed h.sound;
+  guarded = guarded_resume s p seat allowed few h.guarded;
+}
 
 kept_exit : (s : State) (p : ℕ) → IsKept s → IsKept (after_exit s p)
-kept_exit s p h = record { measured = h.measured; framed = h.framed; within = emptied s p h.within; sound = sound-exit s p h.sound; guarded = guarded_exit s p h.guarded }
+kept_exit s p h = record {
+  measured = h.measured;
+  framed = h.framed;
+  within = emptied s p h.within;
+  sound = sound-exit s p h.sound;
+  guarded = guarded_exit s p h.guarded;
+}
 
-kept_aex : (s : State) (p : ℕ) (seat : Seat) → s.inside p ≡ Some seat → IsKept s → IsKept (after_exit (state_saved s (s.acc p) (Some seat)) p)
+kept_aex : (s : State) (p : ℕ) (seat : Seat) → s.inside p ≡ Some seat → IsKept s
+    → IsKept (after_exit (state_saved s (s.acc p) (Some seat)) p)
 kept_aex s p seat is h =
     let sound : IsSound (after_exit (state_saved s (s.acc p) (Some seat)) p) = rw is at (sound-aex s p seat is h.sound) in
     let guarded : IsGuarded (after_exit (state_saved s (s.acc p) (Some seat)) p) = rw is at (guarded_aex s p h.guarded) in
@@ -75,14 +97,16 @@ pub record IsInsideAt (mode : Mode) (e : ℕ) : Type 0 where
 
 pub inside_at : (mode : Mode) (e : ℕ) → Some e ≡ enclave_inside mode → IsInsideAt mode e
 inside_at modes.Outside e is = cc is
-inside_at (modes.Inside enclave tcs tf sf epoch) e is = let same : e ≡ enclave = cc is in record { tcs = tcs; tcs_frame = tf; ssa_frame = sf; epoch = epoch; is = rw same refl }
+inside_at (modes.Inside enclave tcs tf sf epoch) e is =
+    let same : e ≡ enclave = cc is in record { tcs = tcs; tcs_frame = tf; ssa_frame = sf; epoch = epoch; is = rw same refl }
 
 -- what a processor inside does is allowed
 pub inside_allowed : (mode : Mode) (e : ℕ) → IsInsideAt mode e → first_of_row (inside_row (is_some (seat_of_mode mode))) ≡ None
 inside_allowed mode e k = rw k.is refl
 
 -- the row of what a processor does inside alone
-pub inside_row_at : (d : Parts) (p : ℕ) (v : Processor) → v ≡ cpu_at d p → first_of_row (inside_row (is_some ((state_of d).inside p))) ≡ first_of_row (inside_row (is_inside v.mode))
+pub inside_row_at : (d : Parts) (p : ℕ) (v : Processor) → v ≡ cpu_at d p
+    → first_of_row (inside_row (is_some ((state_of d).inside p))) ≡ first_of_row (inside_row (is_inside v.mode))
 inside_row_at d p v there = rw there (ap (λ b. first_of_row (inside_row b)) (is_some-mode (cpu_at d p).mode))
 
 -- a frame that is in use is one of the EPC's
@@ -94,11 +118,14 @@ used_within d e n used = by_place (cases_lt n (length d.epc))
     by_place (inr past) = absurd (let free = free_past d n past in cc (used.ours, free))
 
 -- the TCS page by which a processor is inside is one of its enclave's
-pub seat_tcs : (m : Inside) → IsWhole m → (p e : ℕ) (x : SecsState) → (k : IsInsideAt (cpu_at (parts_of m) p).mode e) → enclave_at m.secs e ≡ Some x → is_some (added_at x k.tcs) ≡ true
-seat_tcs m h p e x k found = added_there m.secs e k.tcs x (seat_added (parts_of m) p e k.tcs k.tcs_frame k.ssa_frame k.epoch k.is h.sound h.framed) found
+pub seat_tcs : (m : Inside) → IsWhole m → (p e : ℕ) (x : SecsState) → (k : IsInsideAt (cpu_at (parts_of m) p).mode e)
+    → enclave_at m.secs e ≡ Some x → is_some (added_at x k.tcs) ≡ true
+seat_tcs m h p e x k found =
+    added_there m.secs e k.tcs x (seat_added (parts_of m) p e k.tcs k.tcs_frame k.ssa_frame k.epoch k.is h.sound h.framed) found
 
 -- what `eexit` and `aex` need of a processor inside
-module _ (m : Inside) (h : IsWhole m) (p e : ℕ) (x : SecsState) (t : Tracking) (v : Processor) (low : p < length m.cpus.items) (found : enclave_at m.secs e ≡ Some x) (track : track_of m.tracks e ≡ Some t) (there : v ≡ cpu_at (parts_of m) p)
+module _ (m : Inside) (h : IsWhole m) (p e : ℕ) (x : SecsState) (t : Tracking) (v : Processor) (low : p < length m.cpus.items)
+    (found : enclave_at m.secs e ≡ Some x) (track : track_of m.tracks e ≡ Some t) (there : v ≡ cpu_at (parts_of m) p)
     (k : IsInsideAt (cpu_at (parts_of m) p).mode e) where
   pub its_mode : v.mode ≡ modes.Inside e k.tcs k.tcs_frame k.ssa_frame k.epoch
   its_mode = ap (λ (c : Processor). c.mode) there ∙ k.is
@@ -119,12 +146,14 @@ module _ (m : Inside) (h : IsWhole m) (p e : ℕ) (x : SecsState) (t : Tracking)
 
 -- ---- the parts and the state
 
-module _ (m : Inside) (h : IsWhole m) (p e : ℕ) (x : SecsState) (t : Tracking) (low : p < length m.cpus.items) (found : enclave_at m.secs e ≡ Some x) (track : track_of m.tracks e ≡ Some t) where
+module _ (m : Inside) (h : IsWhole m) (p e : ℕ) (x : SecsState) (t : Tracking) (low : p < length m.cpus.items)
+    (found : enclave_at m.secs e ≡ Some x) (track : track_of m.tracks e ≡ Some t) where
   abbrev d : Parts
   d = parts_of m
 
   abbrev parts_written : List EpcFrame → SecsState → Tracking → Processor → Parts
-  parts_written epc x' t' v' = record d { epc = epc; secs = with_enclave d.secs e x'; tracks = with_track d.tracks e t'; cpus = set d.cpus p v' }
+  parts_written epc x' t' v' =
+      record d { epc = epc; secs = with_enclave d.secs e x'; tracks = with_track d.tracks e t'; cpus = set d.cpus p v' }
 
   number : (1 ≤ e) × (e ≤ 8)
   number = numbered d.secs e x h.table.places found
@@ -136,14 +165,18 @@ module _ (m : Inside) (h : IsWhole m) (p e : ℕ) (x : SecsState) (t : Tracking)
   ours = (h.table.own e x found).number
 
   -- a processor comes inside, and the words of frames may change with it
-  entered_leaves : (epc : List EpcFrame) (s : State) (tcs : ℕ) (tf sf : Frame) (acc : ℕ) (x' : SecsState) (t' : Tracking) (v' : Processor) → state_of (record d { epc = epc }) ≡ s → s.frames ≡ length d.epc → AreVaPages epc d.va → IsKept (with_inside s p (seat_of e tcs tf.0 sf.0) acc)
-      → is_inside (cpu_at d p).mode ≡ false → is_some (added_at x tcs) ≡ true → x' ≡ with_busy x tcs true → t' ≡ entered t → v' ≡ with_entered x.enclave tcs tf sf t.epoch acc
+  entered_leaves : (epc : List EpcFrame) (s : State) (tcs : ℕ) (tf sf : Frame) (acc : ℕ) (x' : SecsState) (t' : Tracking) (v' : Processor)
+      → state_of (record d { epc = epc }) ≡ s → s.frames ≡ length d.epc → AreVaPages epc d.va
+      → IsKept (with_inside s p (seat_of e tcs tf.0 sf.0) acc)
+      → is_inside (cpu_at d p).mode ≡ false → is_some (added_at x tcs) ≡ true → x' ≡ with_busy x tcs true → t' ≡ entered t
+      → v' ≡ with_entered x.enclave tcs tf sf t.epoch acc
       → Leaves (parts_written epc x' t' v') (with_inside s p (seat_of e tcs tf.0 sf.0) acc)
   entered_leaves epc s tcs tf sf acc x' t' v' words frames pages kept out added new_secs new_track new_cpu =
       let cpu : v' ≡ with_entered e tcs tf sf t.epoch acc = new_cpu ∙ ap (λ n. with_entered n tcs tf sf t.epoch acc) ours in
       rw (new_secs, new_track, cpu)
       (record {
-        state = inside_state (record d { epc = epc }) p e tcs tf sf acc x t low h.track_places track h.table found added ∙ ap (λ s. with_inside s p (seat_of e tcs tf.0 sf.0) acc) words;
+        state = inside_state (record d { epc = epc }) p e tcs tf sf acc x t low h.track_places track h.table found added
+            ∙ ap (λ s. with_inside s p (seat_of e tcs tf.0 sf.0) acc) words;
         kept = kept;
         processors = rw length-set h.processors;
         places = h.places;
@@ -156,18 +189,22 @@ module _ (m : Inside) (h : IsWhole m) (p e : ℕ) (x : SecsState) (t : Tracking)
       })
 
   -- a processor leaves, and the words of frames may change with it
-  left_leaves : (epc : List EpcFrame) (s : State) (tcs : ℕ) (tf sf : Frame) (epoch : ℕ) (x' : SecsState) (t' : Tracking) (v' : Processor) → state_of (record d { epc = epc }) ≡ s → s.frames ≡ length d.epc → AreVaPages epc d.va → IsKept (after_exit s p)
-      → (cpu_at d p).mode ≡ modes.Inside e tcs tf sf epoch → is_some (added_at x tcs) ≡ true → x' ≡ with_busy x tcs false → t' ≡ left t epoch → v' ≡ outside (cpu_at d p) → Leaves (parts_written epc x' t' v') (after_exit s p)
+  left_leaves : (epc : List EpcFrame) (s : State) (tcs : ℕ) (tf sf : Frame) (epoch : ℕ) (x' : SecsState) (t' : Tracking) (v' : Processor)
+      → state_of (record d { epc = epc }) ≡ s → s.frames ≡ length d.epc → AreVaPages epc d.va → IsKept (after_exit s p)
+      → (cpu_at d p).mode ≡ modes.Inside e tcs tf sf epoch → is_some (added_at x tcs) ≡ true → x' ≡ with_busy x tcs false
+      → t' ≡ left t epoch → v' ≡ outside (cpu_at d p) → Leaves (parts_written epc x' t' v') (after_exit s p)
   left_leaves epc s tcs tf sf epoch x' t' v' words frames pages kept was added new_secs new_track new_cpu =
       rw (new_secs, new_track, new_cpu)
       (record {
-        state = exit_state (record d { epc = epc }) p e tcs tf sf epoch x t was low h.track_places track h.table found added ∙ ap (λ s. after_exit s p) words;
+        state = exit_state (record d { epc = epc }) p e tcs tf sf epoch x t was low h.track_places track h.table found added
+            ∙ ap (λ s. after_exit s p) words;
         kept = kept;
         processors = rw length-set h.processors;
         places = h.places;
         table = table_written d.secs e _ h.table.places number.0 number.1 h.table (marked_own e tcs x false (h.table.own e x found));
         track_places = length-with_track d.tracks e _ ∙ h.track_places;
-        tracked = tracked_left d.tracks d.cpus p e t _ h.track_places number.0 number.1 low track h.tracked tcs tf sf epoch was refl (counted d.tracks d.cpus p e tcs tf sf epoch t low track was h.tracked);
+        tracked = tracked_left d.tracks d.cpus p e t _ h.track_places number.0 number.1 low track h.tracked tcs tf sf epoch was refl
+            (counted d.tracks d.cpus p e tcs tf sf epoch t low track was h.tracked);
         slots = h.slots;
         pages = pages;
         start_places = h.start_places ∙ sym (ap (λ (s : State). s.frames) words ∙ frames);
@@ -185,26 +222,35 @@ module _ (m : Inside) (h : IsWhole m) (p e : ℕ) (x : SecsState) (t : Tracking)
       ssa = (enter_sight (state_of d) p (seat_of e tcs tf.0 sf.0)).ssa;
     }
 
-    pub enter_row_at : first_of_row (enter_row e tcs (enter_sight (state_of d) p (seat_of e tcs tf.0 sf.0))) ≡ first_of_row (enter_row x.enclave tcs (seen_sight d.epc x v.mode tcs tf.0 sf.0))
+    pub enter_row_at : first_of_row (enter_row e tcs (enter_sight (state_of d) p (seat_of e tcs tf.0 sf.0))) ≡ first_of_row
+        (enter_row x.enclave tcs (seen_sight d.epc x v.mode tcs tf.0 sf.0))
     enter_row_at = λ i. first_of_row (enter_row (sym ours i) tcs (seen i))
 
-    pub resume_row_at : first_of_row (resume_row e tcs (enter_sight (state_of d) p (seat_of e tcs tf.0 sf.0))) ≡ first_of_row (resume_row x.enclave tcs (seen_sight d.epc x v.mode tcs tf.0 sf.0))
+    pub resume_row_at : first_of_row (resume_row e tcs (enter_sight (state_of d) p (seat_of e tcs tf.0 sf.0))) ≡ first_of_row
+        (resume_row x.enclave tcs (seen_sight d.epc x v.mode tcs tf.0 sf.0))
     resume_row_at = λ i. first_of_row (resume_row (sym ours i) tcs (seen i))
 
     -- what `enter` leaves
-    pub enter_leaves : (x' : SecsState) (t' : Tracking) (v' : Processor) → None ≡ first_of_row (enter_row x.enclave tcs (seen_sight d.epc x v.mode tcs tf.0 sf.0)) → x' ≡ with_busy x tcs true → t' ≡ entered t
-        → v' ≡ with_entered x.enclave tcs tf sf t.epoch (fields_at d.epc tf.0).cssa → Leaves (parts_written d.epc x' t' v') (after_enter (state_of d) p (seat_of e tcs tf.0 sf.0))
+    pub enter_leaves : (x' : SecsState) (t' : Tracking) (v' : Processor)
+        → None ≡ first_of_row (enter_row x.enclave tcs (seen_sight d.epc x v.mode tcs tf.0 sf.0)) → x' ≡ with_busy x tcs true
+        → t' ≡ entered t
+        → v' ≡ with_entered x.enclave tcs tf sf t.epoch (fields_at d.epc tf.0).cssa
+        → Leaves (parts_written d.epc x' t' v') (after_enter (state_of d) p (seat_of e tcs tf.0 sf.0))
     enter_leaves x' t' v' row =
         let seat = seat_of e tcs tf.0 sf.0 in
         let allowed = enter_row_at ∙ sym row in
         let f : TcsSight = fields_at d.epc tf.0 in
         let k = enters e tcs (enter_sight (state_of d) p seat) (enter_saves f) (enter_saved f) allowed in
         let added = added_there d.secs e tcs x (page_added (state_of d) h.framed tf.0 (page_at e tcs) (not_false _ k.tcs_page)) found in
-        entered_leaves d.epc (state_of d) tcs tf sf f.cssa x' t' v' refl refl h.pages (kept_enter (state_of d) p seat few allowed (kept_of m h)) (sym (is_some-mode (cpu_at d p).mode) ∙ k.outside) added
+        entered_leaves d.epc (state_of d) tcs tf sf f.cssa x' t' v' refl refl h.pages
+        (kept_enter (state_of d) p seat few allowed (kept_of m h)) (sym (is_some-mode (cpu_at d p).mode) ∙ k.outside) added
 
     -- what `resume` leaves
-    pub resume_leaves : (epc : List EpcFrame) (x' : SecsState) (t' : Tracking) (v' : Processor) → None ≡ first_of_row (resume_row x.enclave tcs (seen_sight d.epc x v.mode tcs tf.0 sf.0)) → epc ≡ with_resumed d.epc tf.0 → x' ≡ with_busy x tcs true
-        → t' ≡ entered t → v' ≡ with_entered x.enclave tcs tf sf t.epoch (word_at d.epc sf.0 0) → Leaves (parts_written epc x' t' v') (after_resume (state_of d) p (seat_of e tcs tf.0 sf.0))
+    pub resume_leaves : (epc : List EpcFrame) (x' : SecsState) (t' : Tracking) (v' : Processor)
+        → None ≡ first_of_row (resume_row x.enclave tcs (seen_sight d.epc x v.mode tcs tf.0 sf.0)) → epc ≡ with_resumed d.epc tf.0
+        → x' ≡ with_busy x tcs true
+        → t' ≡ entered t → v' ≡ with_entered x.enclave tcs tf sf t.epoch (word_at d.epc sf.0 0)
+        → Leaves (parts_written epc x' t' v') (after_resume (state_of d) p (seat_of e tcs tf.0 sf.0))
     resume_leaves epc x' t' v' row new_epc =
         let s = state_of d in
         let seat = seat_of e tcs tf.0 sf.0 in
@@ -213,8 +259,11 @@ module _ (m : Inside) (h : IsWhole m) (p e : ℕ) (x : SecsState) (t : Tracking)
         let k = enters e tcs (enter_sight s p seat) (resume_saves f) (resume_saved f) allowed in
         let added = added_there d.secs e tcs x (page_added s h.framed tf.0 (page_at e tcs) (not_false _ k.tcs_page)) found in
         let change : List ℕ → List ℕ = λ words. with_cssa words (cssa_in s tf.0 - 1) in
-        let words : state_of (record d { epc = epc }) ≡ record s { words = rewritten s.words tf.0 change } = ap (λ epc. state_of (record d { epc = epc })) new_epc ∙ words_state d tf.0 change (leb-false _ _ k.tcs_within) in
-        entered_leaves epc (record s { words = rewritten s.words tf.0 change }) tcs tf sf (word_at d.epc sf.0 0) x' t' v' words refl (rw new_epc (pages-with_words d.epc d.va tf.0 _ h.pages)) (kept_resume s p seat few allowed (kept_of m h)) (sym (is_some-mode (cpu_at d p).mode) ∙ k.outside) added
+        let words : state_of (record d { epc = epc }) ≡ record s { words = rewritten s.words tf.0 change } =
+        ap (λ epc. state_of (record d { epc = epc })) new_epc ∙ words_state d tf.0 change (leb-false _ _ k.tcs_within) in
+        entered_leaves epc (record s { words = rewritten s.words tf.0 change }) tcs tf sf (word_at d.epc sf.0 0) x' t' v' words refl
+        (rw new_epc (pages-with_words d.epc d.va tf.0 _ h.pages)) (kept_resume s p seat few allowed (kept_of m h))
+        (sym (is_some-mode (cpu_at d p).mode) ∙ k.outside) added
 
   module _ (v : Processor) (there : v ≡ cpu_at d p) (k : IsInsideAt (cpu_at d p).mode e) where
     abbrev mine : Seat
@@ -224,13 +273,17 @@ module _ (m : Inside) (h : IsWhole m) (p e : ℕ) (x : SecsState) (t : Tracking)
     mode = its_mode m h p e x t v low found track there k
 
     -- what `exit` leaves
-    pub exit_leaves : (x' : SecsState) (t' : Tracking) (v' : Processor) → x' ≡ with_tcs_left x v.mode → t' ≡ with_left t v.mode → v' ≡ outside v → Leaves (parts_written d.epc x' t' v') (after_exit (state_of d) p)
+    pub exit_leaves : (x' : SecsState) (t' : Tracking) (v' : Processor) → x' ≡ with_tcs_left x v.mode → t' ≡ with_left t v.mode
+        → v' ≡ outside v → Leaves (parts_written d.epc x' t' v') (after_exit (state_of d) p)
     exit_leaves x' t' v' new_secs new_track new_cpu =
-        left_leaves d.epc (state_of d) k.tcs k.tcs_frame k.ssa_frame k.epoch x' t' v' refl refl h.pages (kept_exit (state_of d) p (kept_of m h)) k.is (seat_tcs m h p e x k found) (new_secs ∙ ap (with_tcs_left x) mode) (new_track ∙ ap (with_left t) mode)
+        left_leaves d.epc (state_of d) k.tcs k.tcs_frame k.ssa_frame k.epoch x' t' v' refl refl h.pages
+        (kept_exit (state_of d) p (kept_of m h)) k.is (seat_tcs m h p e x k found) (new_secs ∙ ap (with_tcs_left x) mode)
+        (new_track ∙ ap (with_left t) mode)
         (new_cpu ∙ ap outside there)
 
     -- what `aex` leaves
-    pub aex_leaves : (epc : List EpcFrame) (x' : SecsState) (t' : Tracking) (v' : Processor) → epc ≡ with_its_saved d.epc v.mode v.acc → x' ≡ with_tcs_left x v.mode → t' ≡ with_left t v.mode → v' ≡ outside v
+    pub aex_leaves : (epc : List EpcFrame) (x' : SecsState) (t' : Tracking) (v' : Processor) → epc ≡ with_its_saved d.epc v.mode v.acc
+        → x' ≡ with_tcs_left x v.mode → t' ≡ with_left t v.mode → v' ≡ outside v
         → Leaves (parts_written epc x' t' v') (after_aex (state_of d) p)
     aex_leaves epc x' t' v' new_epc new_secs new_track new_cpu =
         let s = state_of d in
@@ -241,15 +294,20 @@ module _ (m : Inside) (h : IsWhole m) (p e : ℕ) (x : SecsState) (t : Tracking)
         let seat = seat_at s h.sound p mine is in
         let tf_in = used_within d e tf seat.tcs in
         let sf_in = used_within d e sf seat.ssa in
-        let epc_is : epc ≡ with_saved d.epc tf sf acc = new_epc ∙ ap (λ (c : Processor). with_its_saved d.epc c.mode c.acc) there ∙ ap (λ c. with_its_saved d.epc c acc) k.is in
+        let epc_is : epc ≡ with_saved d.epc tf sf acc = new_epc ∙ ap (λ (c : Processor). with_its_saved d.epc c.mode c.acc) there
+        ∙ ap (λ c. with_its_saved d.epc c acc) k.is in
         let first_word : List ℕ → List ℕ = λ words. slice_set words 0 acc in
         let change : List ℕ → List ℕ = λ words. with_cssa words (cssa_in s tf + 1) in
         let mid : Parts = record d { epc = with_word d.epc sf 0 acc } in
         let one : state_of mid ≡ record s { words = rewritten s.words sf first_word } = words_state d sf first_word sf_in in
-        let two : state_of (record d { epc = with_saved d.epc tf sf acc }) ≡ record (state_of mid) { words = rewritten (state_of mid).words tf change } = words_state mid tf change (rw length-with_words tf_in) in
+        let two : state_of (record d { epc = with_saved d.epc tf sf acc }) ≡ record (state_of mid)
+        { words = rewritten (state_of mid).words tf change } = words_state mid tf change (rw length-with_words tf_in) in
         let words : state_of (record d { epc = epc }) ≡ state_saved s acc (Some mine) =
-        ap (λ epc. state_of (record d { epc = epc })) epc_is ∙ two ∙ ap (λ (s' : State). record s' { words = rewritten s'.words tf change }) one in
+        ap (λ epc. state_of (record d { epc = epc })) epc_is ∙ two
+        ∙ ap (λ (s' : State). record s' { words = rewritten s'.words tf change }) one in
         let after : after_exit (state_saved s acc (Some mine)) p ≡ after_aex s p = ap (λ o. after_exit (state_saved s acc o) p) (sym is) in
         rw (← after)
-        (left_leaves epc (state_saved s acc (Some mine)) k.tcs k.tcs_frame k.ssa_frame k.epoch x' t' v' words refl (rw epc_is (pages-with_words mid.epc d.va tf _ (pages-with_words d.epc d.va sf _ h.pages))) (kept_aex s p mine is (kept_of m h)) k.is (seat_tcs m h p e x k found) (new_secs ∙ ap (with_tcs_left x) mode)
+        (left_leaves epc (state_saved s acc (Some mine)) k.tcs k.tcs_frame k.ssa_frame k.epoch x' t' v' words refl
+        (rw epc_is (pages-with_words mid.epc d.va tf _ (pages-with_words d.epc d.va sf _ h.pages))) (kept_aex s p mine is (kept_of m h))
+        k.is (seat_tcs m h p e x k found) (new_secs ∙ ap (with_tcs_left x) mode)
         (new_track ∙ ap (with_left t) mode) (new_cpu ∙ ap outside there))

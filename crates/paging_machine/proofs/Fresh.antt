@@ -39,7 +39,8 @@ pub replicate_more : {X : Type 0} (n : ℕ) (x : X) → replicate n x ++ x ∷ [
 replicate_more n x = replicate-append-replicate n 1 x
 
 no_enclave : (e : ℕ) → enclave_at empty_table e ≡ None
-no_enclave e = cond_both (e == 0) None (get_or empty_table (e - 1) None) (λ (v : Option SecsState). v ≡ None) (λ _. refl) (λ _. like {X = Option SecsState} 8 (e - 1) None)
+no_enclave e = cond_both (e == 0) None (get_or empty_table (e - 1) None) (λ (v : Option SecsState). v ≡ None) (λ _. refl)
+    (λ _. like {X = Option SecsState} 8 (e - 1) None)
 
 -- each enclave is at the first epoch
 epochs_from : (n k epoch : ℕ) → epoch_from epoch (slice_get (replicate n (starting_at epoch)) k) ≡ epoch
@@ -49,9 +50,11 @@ epochs_from (suc n) (suc k) epoch = epochs_from n k epoch
 
 first_epochs : (epoch e : ℕ) → epoch_from epoch (track_of (replicate 8 (starting_at epoch)) e) ≡ epoch
 first_epochs epoch e =
-    cond_both (e == 0) None (slice_get (replicate 8 (starting_at epoch)) (e - 1)) (λ (o : Option Tracking). epoch_from epoch o ≡ epoch) (λ _. refl) (λ _. epochs_from 8 (e - 1) epoch)
+    cond_both (e == 0) None (slice_get (replicate 8 (starting_at epoch)) (e - 1)) (λ (o : Option Tracking). epoch_from epoch o ≡ epoch)
+    (λ _. refl) (λ _. epochs_from 8 (e - 1) epoch)
 
-pub made_state : (frames cpus : ℕ) (key : List ℕ) (epoch version : ℕ) → state_of (made frames cpus key epoch version) ≡ fresh frames cpus key epoch version
+pub made_state : (frames cpus : ℕ) (key : List ℕ) (epoch version : ℕ)
+    → state_of (made frames cpus key epoch version) ≡ fresh frames cpus key epoch version
 made_state frames cpus key epoch version = λ i. record {
   frames = length-replicate frames free_frame i;
   content = λ n. ap (λ (x : EpcFrame). held x.entry) (like frames n free_frame) i;
@@ -78,18 +81,24 @@ made_state frames cpus key epoch version = λ i. record {
 }
 
 -- .. and so stands in all for no entry
-pub made_all : (d : Parts) (frames cpus : ℕ) (key : List ℕ) (epoch version : ℕ) → 1 ≤ version → d ≡ made frames cpus key epoch version → StandsWithAllRules (making_of (state_of d)) (state_of d) [] []
-made_all d frames cpus key epoch version low is = subst (λ s. StandsWithAllRules (making_of s) s [] []) (sym (ap state_of is ∙ made_state frames cpus key epoch version)) (fresh_all frames cpus key epoch version low)
+pub made_all : (d : Parts) (frames cpus : ℕ) (key : List ℕ) (epoch version : ℕ) → 1 ≤ version → d ≡ made frames cpus key epoch version
+    → StandsWithAllRules (making_of (state_of d)) (state_of d) [] []
+made_all d frames cpus key epoch version low is =
+    subst (λ s. StandsWithAllRules (making_of s) s [] []) (sym (ap state_of is ∙ made_state frames cpus key epoch version))
+    (fresh_all frames cpus key epoch version low)
 
-pub made_shaped : (d : Parts) (frames cpus : ℕ) (key : List ℕ) (epoch version : ℕ) → d ≡ made frames cpus key epoch version → ShapeWithRules (making_of (state_of d)) (state_of d) []
-made_shaped d frames cpus key epoch version is = subst (λ s. ShapeWithRules (making_of s) s []) (sym (ap state_of is ∙ made_state frames cpus key epoch version)) (fresh_shaped frames cpus key epoch version)
+pub made_shaped : (d : Parts) (frames cpus : ℕ) (key : List ℕ) (epoch version : ℕ) → d ≡ made frames cpus key epoch version
+    → ShapeWithRules (making_of (state_of d)) (state_of d) []
+made_shaped d frames cpus key epoch version is = subst (λ s. ShapeWithRules (making_of s) s [])
+    (sym (ap state_of is ∙ made_state frames cpus key epoch version)) (fresh_shaped frames cpus key epoch version)
 
 zero_sized : length zero_words ≡ 512
 unfolding zero_words
 zero_sized = length-replicate {A = ℕ} 512 0
 
 pub sound_made : (frames cpus : ℕ) (key : List ℕ) (epoch version : ℕ) → IsSound (state_of (made frames cpus key epoch version))
-sound_made frames cpus key epoch version = rw (made_state frames cpus key epoch version) (record { seated = λ p. tt; busy = λ p. tt; apart = λ p q one other is. cc is; sized = λ n. zero_sized })
+sound_made frames cpus key epoch version = rw (made_state frames cpus key epoch version)
+    (record { seated = λ p. tt; busy = λ p. tt; apart = λ p q one other is. cc is; sized = λ n. zero_sized })
 
 guarded_made : (frames cpus : ℕ) (key : List ℕ) (epoch version : ℕ) → IsGuarded (state_of (made frames cpus key epoch version))
 guarded_made frames cpus key epoch version =
@@ -118,7 +127,8 @@ framed_made : (frames cpus : ℕ) (key : List ℕ) (epoch version : ℕ) → IsF
 framed_made frames cpus key epoch version = subst IsFramed (sym (made_state frames cpus key epoch version)) (λ n g kind perm is. cc is)
 
 within_made : (frames cpus : ℕ) (key : List ℕ) (epoch version : ℕ) → IsWithin (state_of (made frames cpus key epoch version))
-within_made frames cpus key epoch version = subst IsWithin (sym (made_state frames cpus key epoch version)) (λ p. All-nil (λ (t : Translation). t.frame.0 < frames))
+within_made frames cpus key epoch version =
+    subst IsWithin (sym (made_state frames cpus key epoch version)) (λ p. All-nil (λ (t : Translation). t.frame.0 < frames))
 
 -- no processor is inside, by the tracks and by the processors
 idle_unnoted : (n e : ℕ) (test : ℕ → Bool) → count_by (λ (c : Processor). is_noted e test c.mode) (replicate n idle) ≡ 0
@@ -133,11 +143,13 @@ tracked_made : (cpus epoch : ℕ) → IsTracked (replicate 8 (starting_at epoch)
 tracked_made cpus epoch e t at test =
     by_number (e == 0) at
   where
-    by_number : (b : Bool) → cond b None (slice_get (replicate 8 (starting_at epoch)) (e - 1)) ≡ Some t → count_by test t.noted ≡ count_by (λ (c : Processor). is_noted e test c.mode) (replicate cpus idle)
+    by_number : (b : Bool) → cond b None (slice_get (replicate 8 (starting_at epoch)) (e - 1)) ≡ Some t
+        → count_by test t.noted ≡ count_by (λ (c : Processor). is_noted e test c.mode) (replicate cpus idle)
     by_number true is = cc is
     by_number false is = ap (count_by test) (starting 8 (e - 1) epoch t is) ∙ sym (idle_unnoted cpus e test)
 
-pub whole_made : (m : Inside) (frames cpus : ℕ) (key : List ℕ) (epoch version : ℕ) → parts_of m ≡ made frames cpus key epoch version → cpus ≤ 16 → IsWhole m
+pub whole_made : (m : Inside) (frames cpus : ℕ) (key : List ℕ) (epoch version : ℕ) → parts_of m ≡ made frames cpus key epoch version
+    → cpus ≤ 16 → IsWhole m
 whole_made m frames cpus key epoch version is few =
     let count : length m.cpus.items ≡ cpus = ap (λ (d : Parts). length d.cpus) is ∙ length-replicate cpus idle in
     record {
@@ -151,7 +163,8 @@ whole_made m frames cpus key epoch version is few =
       tracked = subst (λ (d : Parts). IsTracked d.tracks d.cpus) (sym is) (tracked_made cpus epoch);
       slots = subst (λ (d : Parts). IsVaTable d.va) (sym is) IsVaTable-none;
       pages = subst (λ (d : Parts). AreVaPages d.epc d.va) (sym is) (pages-none frames);
-      start_places = ap (λ (d : Parts). length d.starts) is ∙ length-replicate {A = Option starts.Start} frames None ∙ sym (ap (λ (d : Parts). length d.epc) is ∙ length-replicate frames free_frame);
+      start_places = ap (λ (d : Parts). length d.starts) is ∙ length-replicate {A = Option starts.Start} frames None
+          ∙ sym (ap (λ (d : Parts). length d.epc) is ∙ length-replicate frames free_frame);
       sound = subst (λ (d : Parts). IsSound (state_of d)) (sym is) (sound_made frames cpus key epoch version);
       guarded = subst (λ (d : Parts). IsGuarded (state_of d)) (sym is) (guarded_made frames cpus key epoch version);
     }

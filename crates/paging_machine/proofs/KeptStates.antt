@@ -34,10 +34,13 @@ pub kept_as : (s t : State) → s ≡ t → IsKept t → IsKept s
 kept_as s t e h = subst IsKept (sym e) h
 
 -- a frame that comes to hold no page
-framed_put : (s : State) (f : ℕ) (c : Content) → ((g : Page) (kind : Kind) (perm : Perm) → c ≡ Holds g kind perm → ⊥) → IsFramed s → IsFramed (with_content s f c)
-framed_put s f c none h n g kind perm = cond_both (f == n) c (s.content n) (λ v. v ≡ Holds g kind perm → is_some (s.added g) ≡ true) (λ _ at. absurd (none g kind perm at)) (λ _. h n g kind perm)
+framed_put : (s : State) (f : ℕ) (c : Content) → ((g : Page) (kind : Kind) (perm : Perm) → c ≡ Holds g kind perm → ⊥) → IsFramed s
+    → IsFramed (with_content s f c)
+framed_put s f c none h n g kind perm = cond_both (f == n) c (s.content n) (λ v. v ≡ Holds g kind perm → is_some (s.added g) ≡ true)
+    (λ _ at. absurd (none g kind perm at)) (λ _. h n g kind perm)
 
-pub kept_put : (s : State) (f : ℕ) (c : Content) → ((g : Page) (kind : Kind) (perm : Perm) → c ≡ Holds g kind perm → ⊥) → (c ≡ IsLoading → ⊥) → s.content f ≡ Free → IsKept s → IsKept (with_content s f c)
+pub kept_put : (s : State) (f : ℕ) (c : Content) → ((g : Page) (kind : Kind) (perm : Perm) → c ≡ Holds g kind perm → ⊥)
+    → (c ≡ IsLoading → ⊥) → s.content f ≡ Free → IsKept s → IsKept (with_content s f c)
 kept_put s f c none settled free h = record {
   measured = h.measured;
   framed = framed_put s f c none h.framed;
@@ -46,16 +49,20 @@ kept_put s f c none settled free h = record {
   guarded = guarded_put s f c s.words h.guarded free settled;
 }
 
-pub kept_create : (s : State) (e f base size : ℕ) (begun : Measure) → s.content f ≡ Free → IsKept s → IsKept (after_create s e f base size begun)
+pub kept_create : (s : State) (e f base size : ℕ) (begun : Measure) → s.content f ≡ Free → IsKept s
+    → IsKept (after_create s e f base size begun)
 kept_create s e f base size begun free h = record {
   measured = λ k. by_enclave k (k == e);
   framed = framed_put s f (SecsOf e) (λ g kind perm at. cc at) h.framed;
   within = h.within;
-  sound = let k = sound-put s f (SecsOf e) s.words h.sound free (λ n other. refl) h.sound.sized in record { seated = k.seated; busy = k.busy; apart = k.apart; sized = k.sized };
+  sound = let k = sound-put s f (SecsOf e) s.words h.sound free (λ n other. refl) h.sound.sized in
+      record { seated = k.seated; busy = k.busy; apart = k.apart; sized = k.sized };
   guarded = guarded_create s e f base size begun h.guarded free;
 }
   where
-    by_enclave : (k : ℕ) (b : Bool) → is_some (cond b (Some (let x : FlatEnclave = record { base = base; size = size; is_init = false } in x)) (s.enclaves k)) ≡ true → is_some (cond b (Some begun) (s.measure k)) ≡ true
+    by_enclave : (k : ℕ) (b : Bool) → is_some (cond b
+        (Some (let x : FlatEnclave = record { base = base; size = size; is_init = false } in x)) (s.enclaves k)) ≡ true
+        → is_some (cond b (Some begun) (s.measure k)) ≡ true
     by_enclave k true made = refl
     by_enclave k false made = h.measured k made
 
@@ -72,11 +79,13 @@ kept_extend s e longer h = record {
   guarded = guarded_extend s e longer h.guarded;
 }
 
-pub kept_add : (s : State) (g : Page) (f : ℕ) (kind : Kind) (perm : Perm) (init : PageInit) (longer : Measure) → s.content f ≡ Free → IsPaged kind → IsKept s → IsKept (after_add s g f kind perm init longer)
+pub kept_add : (s : State) (g : Page) (f : ℕ) (kind : Kind) (perm : Perm) (init : PageInit) (longer : Measure) → s.content f ≡ Free
+    → IsPaged kind → IsKept s → IsKept (after_add s g f kind perm init longer)
 kept_add s g f kind perm init longer free paged h = record {
   measured = measured_longer s g.enclave longer h.measured;
   framed = λ n q k p.
-      cond_both (f == n) (Holds g kind perm) (s.content n) (λ v. v ≡ Holds q k p → is_some (cond (same_page q g) (Some (kind, perm)) (s.added q)) ≡ true)
+      cond_both (f == n) (Holds g kind perm) (s.content n)
+      (λ v. v ≡ Holds q k p → is_some (cond (same_page q g) (Some (kind, perm)) (s.added q)) ≡ true)
       (λ _ at. let same : g ≡ q = cc at in rw (← same, same_page-at g.enclave g.number) refl)
       (λ _ at. cond_both (same_page q g) (Some (kind, perm)) (s.added q) (λ v. is_some v ≡ true) (λ _. refl) (λ _. h.framed n q k p at));
   within = h.within;
@@ -101,12 +110,27 @@ kept_init s e h = record {
 -- ---- block, track, write-out and reload
 
 pub kept_block : (s : State) (f : ℕ) → first_of_row (block_row (sight s f)) ≡ None → IsKept s → IsKept (after_block s f)
-kept_block s f allowed h = record { measured = h.measured; framed = h.framed; within = h.within; sound = sound_block s f h.sound; guarded = guarded_block s f allowed h.sound h.guarded }
+kept_block s f allowed h = record {
+  measured = h.measured;
+  framed = h.framed;
+  within = h.within;
+  sound = sound_block s f h.sound;
+  guarded = guarded_block s f allowed h.sound h.guarded;
+}
 
-pub kept_track : (s : State) (enclave : ℕ) → first_of_row (track_row (track_sight s enclave)) ≡ None → IsKept s → IsKept (after_track s enclave)
-kept_track s enclave allowed h = record { measured = h.measured; framed = h.framed; within = h.within; sound = sound_track s enclave h.sound; guarded = guarded_track s enclave allowed h.guarded }
+pub kept_track : (s : State) (enclave : ℕ) → first_of_row (track_row (track_sight s enclave)) ≡ None → IsKept s
+    → IsKept (after_track s enclave)
+kept_track s enclave allowed h = record {
+  measured = h.measured;
+  framed = h.framed;
+  within = h.within;
+  sound = sound_track s enclave h.sound;
+  guarded = guarded_track s enclave allowed h.guarded;
+}
 
-pub kept_ewbstart : (s : State) (f : ℕ) (slot : SlotAt) → first_of_row (ewbstart_row (sight s f) (slot_sight s slot) (drain_sight s f) (is_version_spent s)) ≡ None → IsKept s → IsKept (after_ewbstart s f slot)
+pub kept_ewbstart : (s : State) (f : ℕ) (slot : SlotAt)
+    → first_of_row (ewbstart_row (sight s f) (slot_sight s slot) (drain_sight s f) (is_version_spent s)) ≡ None → IsKept s
+    → IsKept (after_ewbstart s f slot)
 kept_ewbstart s f slot allowed h = record {
   measured = h.measured;
   framed = h.framed;
@@ -115,7 +139,9 @@ kept_ewbstart s f slot allowed h = record {
   guarded = guarded_ewbstart s f slot allowed h.guarded;
 }
 
-pub kept_eldstart : (s : State) (f : ℕ) (page : Page) (slot : SlotAt) → first_of_row (eldstart_row (sight s f) (is_some (s.added page)) (slot_sight s slot)) ≡ None → IsKept s → IsKept (after_eldstart s f page slot)
+pub kept_eldstart : (s : State) (f : ℕ) (page : Page) (slot : SlotAt)
+    → first_of_row (eldstart_row (sight s f) (is_some (s.added page)) (slot_sight s slot)) ≡ None → IsKept s
+    → IsKept (after_eldstart s f page slot)
 kept_eldstart s f page slot allowed h = record {
   measured = h.measured;
   framed = framed_put s f IsLoading (λ g kind perm at. cc at) h.framed;
@@ -133,7 +159,8 @@ kept_ewb s f start leaving h = record {
   guarded = guarded_ewb s f start leaving h.guarded;
 }
 
-pub kept_eld : (s : State) (f : ℕ) (start : Start) (page : Page) (kind : Kind) (perm : Perm) (words : List ℕ) → s.content f ≡ IsLoading → s.added page ≡ Some (kind, perm) → length words ≡ 512 → IsKept s
+pub kept_eld : (s : State) (f : ℕ) (start : Start) (page : Page) (kind : Kind) (perm : Perm) (words : List ℕ) → s.content f ≡ IsLoading
+    → s.added page ≡ Some (kind, perm) → length words ≡ 512 → IsKept s
     → IsKept (after_eld s f start page kind perm words)
 kept_eld s f start page kind perm words waits added long h = record {
   measured = h.measured;

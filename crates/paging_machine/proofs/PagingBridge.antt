@@ -54,10 +54,12 @@ module _ (epc epc' : List EpcFrame) (f : ℕ) (v : EntryView) (entries : (n : �
 
   -- .. where the change leaves it
   pub entry_kept : {A : Type 0} (col : EntryView → A) (n : ℕ) → col v ≡ col (entry_at epc f) → col (entry_at epc' n) ≡ col (entry_at epc n)
-  entry_kept col n same = entry_column col n ∙ ap (λ c. cond (f == n) c (col (entry_at epc n))) same ∙ same_at (λ m. col (entry_at epc m)) f n
+  entry_kept col n same =
+      entry_column col n ∙ ap (λ c. cond (f == n) c (col (entry_at epc n))) same ∙ same_at (λ m. col (entry_at epc m)) f n
 
 -- the entries of an EPC with another one
-pub entries_with : (epc : List EpcFrame) (f : ℕ) (v : EntryView) → f < length epc → (n : ℕ) → entry_at (with_entry epc f v) n ≡ cond (f == n) v (entry_at epc n)
+pub entries_with : (epc : List EpcFrame) (f : ℕ) (v : EntryView) → f < length epc → (n : ℕ)
+    → entry_at (with_entry epc f v) n ≡ cond (f == n) v (entry_at epc n)
 entries_with epc f v low n = entry_at-with_entry epc f n v low
 
 -- ---- blocks
@@ -83,7 +85,12 @@ pub record HoldsPage (epc : List EpcFrame) (f : ℕ) : Type 0 where
   pub valid : is_valid (entry_at epc f) ≡ true
 
 -- an entry that is not free and not loading holds a page
-taken : (v : EntryView) → table.is_busy (record { is_beyond = false; content = held v; is_sealing = goes_out v; is_blocked = is_some (block_of v) }) ≡ false → is_free (held v) ≡ false → is_valid v ≡ true
+taken : (v : EntryView) → table.is_busy (record {
+  is_beyond = false;
+  content = held v;
+  is_sealing = goes_out v;
+  is_blocked = is_some (block_of v);
+}) ≡ false → is_free (held v) ≡ false → is_valid v ≡ true
 taken views.Free idle used = cc used
 taken views.Loading idle used = cc idle
 taken (views.Valid page kind perm blocked sealing) idle used = refl
@@ -93,45 +100,58 @@ blocks d f allowed =
     let none = none_holds (block_row (sight_in d.epc f)) allowed in
     record { low = leb-false _ _ none.0; valid = taken (entry_at d.epc f) none.1.0 none.1.1.0 }
 
-pub block_state : (d : Parts) (f : ℕ) → HoldsPage d.epc f → length d.tracks ≡ 8 → IsNumbered ((state_of d).content f) → state_of (record d { epc = with_blocked d.epc d.tracks f }) ≡ after_block (state_of d) f
+pub block_state : (d : Parts) (f : ℕ) → HoldsPage d.epc f → length d.tracks ≡ 8 → IsNumbered ((state_of d).content f)
+    → state_of (record d { epc = with_blocked d.epc d.tracks f }) ≡ after_block (state_of d) f
 block_state d f k places numbered =
     let b = epoch_in (state_of d) f in
     let v = with_block (entry_at d.epc f) b in
-    let epc : with_blocked d.epc d.tracks f ≡ with_entry d.epc f v = ap (λ n. with_entry d.epc f (with_block (entry_at d.epc f) n)) (epoch_seen d f places numbered) in
+    let epc : with_blocked d.epc d.tracks f ≡ with_entry d.epc f v =
+    ap (λ n. with_entry d.epc f (with_block (entry_at d.epc f) n)) (epoch_seen d f places numbered) in
     let entries = entries_with d.epc f v k.low in
     ap (λ xs. state_of (record d { epc = xs })) epc
     ∙ (λ i. record (after_block (state_of d) f) {
       frames = length-with_entry d.epc f v i;
       content = λ n. entry_kept d.epc (with_entry d.epc f v) f v entries held n (held-with_block (entry_at d.epc f) b) i;
-      blocked = λ n. (entry_column d.epc (with_entry d.epc f v) f v entries block_of n ∙ ap (λ o. cond (f == n) o (block_of (entry_at d.epc n))) (block_of-with_block (entry_at d.epc f) b k.valid) ∙ moved n) i;
+      blocked = λ n. (entry_column d.epc (with_entry d.epc f v) f v entries block_of n
+          ∙ ap (λ o. cond (f == n) o (block_of (entry_at d.epc n))) (block_of-with_block (entry_at d.epc f) b k.valid) ∙ moved n) i;
       is_sealing = λ n. entry_kept d.epc (with_entry d.epc f v) f v entries goes_out n (goes_out-with_block (entry_at d.epc f) b) i;
       words = λ n. words_at-with_entry d.epc f n v i;
     })
   where
-    moved : (n : ℕ) → cond (f == n) (Some (epoch_in (state_of d) f)) (block_of (entry_at d.epc n)) ≡ cond (f == n) (Some (epoch_in (state_of d) n)) (block_of (entry_at d.epc n))
+    moved : (n : ℕ) → cond (f == n) (Some (epoch_in (state_of d) f)) (block_of (entry_at d.epc n)) ≡ cond (f == n)
+        (Some (epoch_in (state_of d) n)) (block_of (entry_at d.epc n))
     moved n = by_test (f == n) refl
       where
-        by_test : (t : Bool) → (f == n) ≡ t → cond t (Some (epoch_in (state_of d) f)) (block_of (entry_at d.epc n)) ≡ cond t (Some (epoch_in (state_of d) n)) (block_of (entry_at d.epc n))
+        by_test : (t : Bool) → (f == n) ≡ t → cond t (Some (epoch_in (state_of d) f)) (block_of (entry_at d.epc n)) ≡ cond t
+            (Some (epoch_in (state_of d) n)) (block_of (entry_at d.epc n))
         by_test true e = ap (λ m. Some (epoch_in (state_of d) m)) (eqb-true f n e)
         by_test false e = refl
 
 -- ---- tracks
 
-pub track_state : (d : Parts) (e : ℕ) (t : Tracking) → length d.tracks ≡ 8 → 1 ≤ e → e ≤ 8 → track_of d.tracks e ≡ Some t → state_of (record d { tracks = with_track d.tracks e (tracked t) }) ≡ after_track (state_of d) e
+pub track_state : (d : Parts) (e : ℕ) (t : Tracking) → length d.tracks ≡ 8 → 1 ≤ e → e ≤ 8 → track_of d.tracks e ≡ Some t
+    → state_of (record d { tracks = with_track d.tracks e (tracked t) }) ≡ after_track (state_of d) e
 track_state d e t places first last found =
-    λ i. record (after_track (state_of d) e) { epoch = λ k. (ap (epoch_from d.start_epoch) (track_of-with_track d.tracks e k (tracked t) first (rw places last)) ∙ raised k) i }
+    λ i. record (after_track (state_of d) e) {
+      epoch =
+          λ k. (ap (epoch_from d.start_epoch) (track_of-with_track d.tracks e k (tracked t) first (rw places last)) ∙ raised k) i;
+    }
   where
-    raised : (k : ℕ) → epoch_from d.start_epoch (cond (e == k) (Some (tracked t)) (track_of d.tracks k)) ≡ cond (e == k) (epoch_from d.start_epoch (track_of d.tracks k) + 1) (epoch_from d.start_epoch (track_of d.tracks k))
+    raised : (k : ℕ) → epoch_from d.start_epoch (cond (e == k) (Some (tracked t)) (track_of d.tracks k)) ≡ cond (e == k)
+        (epoch_from d.start_epoch (track_of d.tracks k) + 1) (epoch_from d.start_epoch (track_of d.tracks k))
     raised k = by_test (e == k) refl
       where
-        by_test : (b : Bool) → (e == k) ≡ b → epoch_from d.start_epoch (cond b (Some (tracked t)) (track_of d.tracks k)) ≡ cond b (epoch_from d.start_epoch (track_of d.tracks k) + 1) (epoch_from d.start_epoch (track_of d.tracks k))
-        by_test true same = let there : track_of d.tracks k ≡ Some t = ap (track_of d.tracks) (sym (eqb-true e k same)) ∙ found in rw there refl
+        by_test : (b : Bool) → (e == k) ≡ b → epoch_from d.start_epoch (cond b (Some (tracked t)) (track_of d.tracks k)) ≡ cond b
+            (epoch_from d.start_epoch (track_of d.tracks k) + 1) (epoch_from d.start_epoch (track_of d.tracks k))
+        by_test true same =
+            let there : track_of d.tracks k ≡ Some t = ap (track_of d.tracks) (sym (eqb-true e k same)) ∙ found in rw there refl
         by_test false other = refl
 
 -- ---- slots and starts
 
 -- the start of one frame is written
-pub start_column : (starts : List (Option opened.Start)) (f n : ℕ) (o : Option opened.Start) → f < length starts → start_of (get_or (set starts f o) n None) ≡ cond (f == n) (start_of o) (start_of (get_or starts n None))
+pub start_column : (starts : List (Option opened.Start)) (f n : ℕ) (o : Option opened.Start) → f < length starts
+    → start_of (get_or (set starts f o) n None) ≡ cond (f == n) (start_of o) (start_of (get_or starts n None))
 start_column starts f n o low = ap start_of (get_or-set_if starts f n o None low) ∙ through start_of (f == n) o (get_or starts n None)
 
 module _ (va : List (Option (List VaSlot))) (slot : SlotAt) (version : ℕ) (is : IsVaTable va) (at : IsSlot va slot) where
@@ -143,16 +163,23 @@ module _ (va : List (Option (List VaSlot))) (slot : SlotAt) (version : ℕ) (is 
   there = slot_kept va slot slot (record { version = version; busy = is_busy_at va slot }) at at
 
   pub table_ended : IsVaTable (with_ended va slot version)
-  table_ended = IsVaTable-with_slot (with_version va slot version) slot (record { version = version_in (with_version va slot version) slot; busy = false }) written there
+  table_ended = IsVaTable-with_slot (with_version va slot version) slot
+      (record { version = version_in (with_version va slot version) slot; busy = false }) written there
 
-  pub version_ended : (other : SlotAt) → version_in (with_ended va slot version) other ≡ cond (same_slot slot other) version (version_in va other)
-  version_ended other = version_in-with_busy (with_version va slot version) slot other false written there ∙ version_in-with_version va slot other version is at
+  pub version_ended : (other : SlotAt) → version_in (with_ended va slot version) other ≡ cond (same_slot slot other) version
+      (version_in va other)
+  version_ended other = version_in-with_busy (with_version va slot version) slot other false written there
+      ∙ version_in-with_version va slot other version is at
 
-  pub busy_ended : (other : SlotAt) → is_busy_at (with_ended va slot version) other ≡ cond (same_slot slot other) false (is_busy_at va other)
-  busy_ended other = is_busy_at-with_busy (with_version va slot version) slot other false written there ∙ ap (cond (same_slot slot other) false) (is_busy_at-with_version va slot other version is at)
+  pub busy_ended : (other : SlotAt) → is_busy_at (with_ended va slot version) other ≡ cond (same_slot slot other) false
+      (is_busy_at va other)
+  busy_ended other = is_busy_at-with_busy (with_version va slot version) slot other false written there
+      ∙ ap (cond (same_slot slot other) false) (is_busy_at-with_version va slot other version is at)
 
   pub pages_ended : (epc : List EpcFrame) → AreVaPages epc va → AreVaPages epc (with_ended va slot version)
-  pages_ended epc pages = pages-with_slot epc (with_version va slot version) slot (record { version = version_in (with_version va slot version) slot; busy = false }) (pages-with_slot epc va slot (record { version = version; busy = is_busy_at va slot }) pages at) there
+  pages_ended epc pages = pages-with_slot epc (with_version va slot version) slot
+      (record { version = version_in (with_version va slot version) slot; busy = false })
+      (pages-with_slot epc va slot (record { version = version; busy = is_busy_at va slot }) pages at) there
 
 -- what is there to be written where a start is made or ended: the frame, its start, and the slot
 pub record IsWritable (d : Parts) (f : ℕ) (slot : SlotAt) : Type 0 where
@@ -178,9 +205,15 @@ goes_out-outgoing views.Loading valid = cc valid
 goes_out-outgoing (views.Valid page kind perm blocked sealing) valid = refl
 
 abbrev pub out_parts : Parts → ℕ → SlotAt → Parts
-out_parts d f slot = record d { epc = with_sealing d.epc f; va = with_busy d.va slot true; versions = d.versions + 1; starts = set d.starts f (Some (record { slot = slot; version = d.versions; loads = None })) }
+out_parts d f slot = record d {
+  epc = with_sealing d.epc f;
+  va = with_busy d.va slot true;
+  versions = d.versions + 1;
+  starts = set d.starts f (Some (record { slot = slot; version = d.versions; loads = None }));
+}
 
-pub ewbstart_state : (d : Parts) (f : ℕ) (slot : SlotAt) → IsVaTable d.va → IsWritable d f slot → is_valid (entry_at d.epc f) ≡ true → state_of (out_parts d f slot) ≡ after_ewbstart (state_of d) f slot
+pub ewbstart_state : (d : Parts) (f : ℕ) (slot : SlotAt) → IsVaTable d.va → IsWritable d f slot → is_valid (entry_at d.epc f) ≡ true
+    → state_of (out_parts d f slot) ≡ after_ewbstart (state_of d) f slot
 ewbstart_state d f slot is k valid =
     let v = outgoing (entry_at d.epc f) in
     let entries = entries_with d.epc f v k.low in
@@ -188,7 +221,8 @@ ewbstart_state d f slot is k valid =
       frames = length-with_entry d.epc f v i;
       content = λ n. entry_kept d.epc (with_sealing d.epc f) f v entries held n (held-outgoing (entry_at d.epc f)) i;
       blocked = λ n. entry_kept d.epc (with_sealing d.epc f) f v entries block_of n (block_of-outgoing (entry_at d.epc f)) i;
-      is_sealing = λ n. (entry_column d.epc (with_sealing d.epc f) f v entries goes_out n ∙ ap (λ b. cond (f == n) b (goes_out (entry_at d.epc n))) (goes_out-outgoing (entry_at d.epc f) valid)) i;
+      is_sealing = λ n. (entry_column d.epc (with_sealing d.epc f) f v entries goes_out n
+          ∙ ap (λ b. cond (f == n) b (goes_out (entry_at d.epc n))) (goes_out-outgoing (entry_at d.epc f) valid)) i;
       words = λ n. words_at-with_entry d.epc f n v i;
       version_in = λ other. version_in-with_busy d.va slot other true is k.is_slot i;
       is_slot_busy = λ other. is_busy_at-with_busy d.va slot other true is k.is_slot i;
@@ -198,9 +232,14 @@ ewbstart_state d f slot is k valid =
 -- ---- the start of ELDU
 
 abbrev pub in_parts : Parts → ℕ → Page → SlotAt → Parts
-in_parts d f page slot = record d { epc = with_loading d.epc f; va = with_busy d.va slot true; starts = set d.starts f (Some (record { slot = slot; version = version_in d.va slot; loads = Some page })) }
+in_parts d f page slot = record d {
+  epc = with_loading d.epc f;
+  va = with_busy d.va slot true;
+  starts = set d.starts f (Some (record { slot = slot; version = version_in d.va slot; loads = Some page }));
+}
 
-pub eldstart_state : (d : Parts) (f : ℕ) (page : Page) (slot : SlotAt) → IsVaTable d.va → IsWritable d f slot → goes_out (entry_at d.epc f) ≡ false → state_of (in_parts d f page slot) ≡ after_eldstart (state_of d) f page slot
+pub eldstart_state : (d : Parts) (f : ℕ) (page : Page) (slot : SlotAt) → IsVaTable d.va → IsWritable d f slot
+    → goes_out (entry_at d.epc f) ≡ false → state_of (in_parts d f page slot) ≡ after_eldstart (state_of d) f page slot
 eldstart_state d f page slot is k idle =
     let entries = entries_with d.epc f views.Loading k.low in
     λ i. record (after_eldstart (state_of d) f page slot) {
@@ -219,9 +258,11 @@ eldstart_state d f page slot is k idle =
 abbrev pub written_parts : Parts → ℕ → Start → Parts
 written_parts d f start = record d { epc = cleared d.epc f; va = with_ended d.va start.slot start.version; starts = set d.starts f None }
 
-pub ewb_state : (d : Parts) (f : ℕ) (start : Start) → IsVaTable d.va → IsWritable d f start.slot → state_of (written_parts d f start) ≡ after_ewb (state_of d) f start
+pub ewb_state : (d : Parts) (f : ℕ) (start : Start) → IsVaTable d.va → IsWritable d f start.slot
+    → state_of (written_parts d f start) ≡ after_ewb (state_of d) f start
 ewb_state d f start is k =
-    let entries : (n : ℕ) → entry_at (cleared d.epc f) n ≡ cond (f == n) views.Free (entry_at d.epc n) = λ n. entry_at-cleared d.epc f n k.low in
+    let entries : (n : ℕ) → entry_at (cleared d.epc f) n ≡ cond (f == n) views.Free (entry_at d.epc n) =
+    λ n. entry_at-cleared d.epc f n k.low in
     λ i. record (after_ewb (state_of d) f start) {
       frames = length-cleared d.epc f i;
       content = λ n. entry_column d.epc (cleared d.epc f) f views.Free entries held n i;
@@ -236,9 +277,11 @@ ewb_state d f start is k =
 abbrev pub failed_parts : Parts → ℕ → Start → Parts
 failed_parts d f start = record d { epc = cleared d.epc f; va = with_busy d.va start.slot false; starts = set d.starts f None }
 
-pub failed_state : (d : Parts) (f : ℕ) (start : Start) → IsVaTable d.va → IsWritable d f start.slot → state_of (failed_parts d f start) ≡ after_failed_eld (state_of d) f start
+pub failed_state : (d : Parts) (f : ℕ) (start : Start) → IsVaTable d.va → IsWritable d f start.slot
+    → state_of (failed_parts d f start) ≡ after_failed_eld (state_of d) f start
 failed_state d f start is k =
-    let entries : (n : ℕ) → entry_at (cleared d.epc f) n ≡ cond (f == n) views.Free (entry_at d.epc n) = λ n. entry_at-cleared d.epc f n k.low in
+    let entries : (n : ℕ) → entry_at (cleared d.epc f) n ≡ cond (f == n) views.Free (entry_at d.epc n) =
+    λ n. entry_at-cleared d.epc f n k.low in
     λ i. record (after_failed_eld (state_of d) f start) {
       frames = length-cleared d.epc f i;
       content = λ n. entry_column d.epc (cleared d.epc f) f views.Free entries held n i;
@@ -258,20 +301,25 @@ holds_paged page kinds.Secs perm h = absurd h
 holds_paged page kinds.Va perm h = absurd h
 
 abbrev pub loaded_parts : Parts → ℕ → Start → Page → Kind → Perm → List ℕ → Parts
-loaded_parts d f start page kind perm words = record d { epc = with_words (with_page d.epc f page kind perm) f words; va = with_ended d.va start.slot 0; starts = set d.starts f None }
+loaded_parts d f start page kind perm words = record d
+    { epc = with_words (with_page d.epc f page kind perm) f words; va = with_ended d.va start.slot 0; starts = set d.starts f None }
 
-pub eld_state : (d : Parts) (f : ℕ) (start : Start) (page : Page) (kind : Kind) (perm : Perm) (words : List ℕ) → IsVaTable d.va → IsWritable d f start.slot → goes_out (entry_at d.epc f) ≡ false → IsPaged kind
+pub eld_state : (d : Parts) (f : ℕ) (start : Start) (page : Page) (kind : Kind) (perm : Perm) (words : List ℕ) → IsVaTable d.va
+    → IsWritable d f start.slot → goes_out (entry_at d.epc f) ≡ false → IsPaged kind
     → state_of (loaded_parts d f start page kind perm words) ≡ after_eld (state_of d) f start page kind perm words
 eld_state d f start page kind perm words is k idle paged =
     let v = holding page kind perm in
     let epc = with_page d.epc f page kind perm in
-    let entries : (n : ℕ) → entry_at (with_words epc f words) n ≡ cond (f == n) v (entry_at d.epc n) = λ n. entry_at-with_words epc f n words ∙ entry_at-with_entry d.epc f n v k.low in
+    let entries : (n : ℕ) → entry_at (with_words epc f words) n ≡ cond (f == n) v (entry_at d.epc n) =
+    λ n. entry_at-with_words epc f n words ∙ entry_at-with_entry d.epc f n v k.low in
     λ i. record (after_eld (state_of d) f start page kind perm words) {
       frames = (length-with_words epc f words ∙ length-with_entry d.epc f v) i;
-      content = λ n. (entry_column d.epc (with_words epc f words) f v entries held n ∙ ap (λ c. cond (f == n) c (held (entry_at d.epc n))) (holds_paged page kind perm paged)) i;
+      content = λ n. (entry_column d.epc (with_words epc f words) f v entries held n
+          ∙ ap (λ c. cond (f == n) c (held (entry_at d.epc n))) (holds_paged page kind perm paged)) i;
       blocked = λ n. entry_column d.epc (with_words epc f words) f v entries block_of n i;
       is_sealing = λ n. entry_kept d.epc (with_words epc f words) f v entries goes_out n (sym idle) i;
-      words = λ n. (words_at-with_words epc f n words (rw (length-with_entry d.epc f v) k.low) ∙ ap (cond (f == n) words) (words_at-with_entry d.epc f n v)) i;
+      words = λ n. (words_at-with_words epc f n words (rw (length-with_entry d.epc f v) k.low)
+          ∙ ap (cond (f == n) words) (words_at-with_entry d.epc f n v)) i;
       version_in = λ other. version_ended d.va start.slot 0 is k.is_slot other i;
       is_slot_busy = λ other. busy_ended d.va start.slot 0 is k.is_slot other i;
       start = λ n. start_column d.starts f n None k.there i;
@@ -279,7 +327,8 @@ eld_state d f start page kind perm words is k idle paged =
 
 -- ---- what the rows leave
 
-pub block_leaves : (m : Inside) → IsWhole m → (f : ℕ) (epc : List EpcFrame) → first_of_row (block_row (sight_in m.epc f)) ≡ None → epc ≡ with_blocked m.epc m.tracks f → Leaves (record (parts_of m) { epc = epc }) (after_block (state_of (parts_of m)) f)
+pub block_leaves : (m : Inside) → IsWhole m → (f : ℕ) (epc : List EpcFrame) → first_of_row (block_row (sight_in m.epc f)) ≡ None
+    → epc ≡ with_blocked m.epc m.tracks f → Leaves (record (parts_of m) { epc = epc }) (after_block (state_of (parts_of m)) f)
 block_leaves m h f epc allowed done =
     let d = parts_of m in
     let k = blocks d f allowed in
@@ -304,17 +353,24 @@ there_tracked None (Some t) allowed = cc allowed
 there_tracked (Some x) t allowed = refl
 
 -- the epochs that tracks note stay where one begins its next
-tracked_next : (tracks : List Tracking) (cpus : List Processor) (e : ℕ) (t : Tracking) → length tracks ≡ 8 → 1 ≤ e → e ≤ 8 → track_of tracks e ≡ Some t → IsTracked tracks cpus → IsTracked (with_track tracks e (tracked t)) cpus
-tracked_next tracks cpus e t places first last found h k u at test = by_enclave (e == k) refl (sym (track_of-with_track tracks e k (tracked t) first (rw places last)) ∙ at)
+tracked_next : (tracks : List Tracking) (cpus : List Processor) (e : ℕ) (t : Tracking) → length tracks ≡ 8 → 1 ≤ e → e ≤ 8
+    → track_of tracks e ≡ Some t → IsTracked tracks cpus → IsTracked (with_track tracks e (tracked t)) cpus
+tracked_next tracks cpus e t places first last found h k u at test =
+    by_enclave (e == k) refl (sym (track_of-with_track tracks e k (tracked t) first (rw places last)) ∙ at)
   where
-    by_enclave : (b : Bool) → (e == k) ≡ b → cond b (Some (tracked t)) (track_of tracks k) ≡ Some u → count_by test u.noted ≡ count_by (λ (c : Processor). is_noted k test c.mode) cpus
+    by_enclave : (b : Bool) → (e == k) ≡ b → cond b (Some (tracked t)) (track_of tracks k) ≡ Some u
+        → count_by test u.noted ≡ count_by (λ (c : Processor). is_noted k test c.mode) cpus
     by_enclave true same is = let new : tracked t ≡ u = cc is in rw (← new, ← eqb-true e k same) (h e t found test)
     by_enclave false other is = h k u is test
 
-pub track_leaves : (m : Inside) → IsWhole m → (e : ℕ) (tracks : List Tracking) → first_of_row (track_row (parts.track_sight m.secs m.tracks e)) ≡ None → tracks ≡ with_tracked m.tracks e → Leaves (record (parts_of m) { tracks = tracks }) (after_track (state_of (parts_of m)) e)
-track_leaves m h e tracks allowed done = by_state (enclave_at m.secs e) refl (there_tracked (enclave_at m.secs e) (track_of m.tracks e) allowed)
+pub track_leaves : (m : Inside) → IsWhole m → (e : ℕ) (tracks : List Tracking)
+    → first_of_row (track_row (parts.track_sight m.secs m.tracks e)) ≡ None → tracks ≡ with_tracked m.tracks e
+    → Leaves (record (parts_of m) { tracks = tracks }) (after_track (state_of (parts_of m)) e)
+track_leaves m h e tracks allowed done =
+    by_state (enclave_at m.secs e) refl (there_tracked (enclave_at m.secs e) (track_of m.tracks e) allowed)
   where
-    by_state : (o : Option SecsState) → enclave_at m.secs e ≡ o → is_some o ≡ true → Leaves (record (parts_of m) { tracks = tracks }) (after_track (state_of (parts_of m)) e)
+    by_state : (o : Option SecsState) → enclave_at m.secs e ≡ o → is_some o ≡ true
+        → Leaves (record (parts_of m) { tracks = tracks }) (after_track (state_of (parts_of m)) e)
     by_state None at made = cc made
     by_state (Some x) at made =
         let d = parts_of m in
@@ -323,7 +379,8 @@ track_leaves m h e tracks allowed done = by_state (enclave_at m.secs e) refl (th
         let new : tracks ≡ with_track d.tracks e (tracked t.0) = done ∙ ap (with_next d.tracks e) t.1 in
         rw new (record {
           state = track_state d e t.0 h.track_places number.0 number.1 t.1;
-          kept = kept_track (state_of d) e (sym (track_row_at d e h.table.places h.track_places h.processors h.tracked) ∙ allowed) (kept_of m h);
+          kept = kept_track (state_of d) e (sym (track_row_at d e h.table.places h.track_places h.processors h.tracked) ∙ allowed)
+              (kept_of m h);
           processors = h.processors;
           places = h.places;
           table = h.table;
@@ -339,23 +396,31 @@ pub record IsFound (d : Parts) (f : ℕ) (slot : SlotAt) : Type 0 where
   pub writable : IsWritable d f slot
   pub idle : goes_out (entry_at d.epc f) ≡ false
 
-found : (d : Parts) (f : ℕ) (slot : SlotAt) → AreVaPages d.epc d.va → length d.starts ≡ length d.epc → table.is_out_of_range (sight_in d.epc f) (parts.slot_sight d.epc d.va slot) ≡ false
-    → (table.is_busy (sight_in d.epc f) || is_busy_at d.va slot) ≡ false → table.is_va (held (entry_at d.epc slot.frame.0)) ≡ true → IsFound d f slot
+found : (d : Parts) (f : ℕ) (slot : SlotAt) → AreVaPages d.epc d.va → length d.starts ≡ length d.epc
+    → table.is_out_of_range (sight_in d.epc f) (parts.slot_sight d.epc d.va slot) ≡ false
+    → (table.is_busy (sight_in d.epc f) || is_busy_at d.va slot) ≡ false → table.is_va (held (entry_at d.epc slot.frame.0)) ≡ true
+    → IsFound d f slot
 found d f slot pages places within free va =
     let outer = neither (leb (length d.epc) f || leb (length d.epc) slot.frame.0) (nat_lt 511 slot.index) within in
     let inner = neither (leb (length d.epc) f) (leb (length d.epc) slot.frame.0) outer.0 in
     let idle = neither (table.is_busy (sight_in d.epc f)) (is_busy_at d.va slot) free in
     let low : f < length d.epc = leb-false _ _ inner.0 in
     record {
-      writable = record { low = low; there = rw places low; is_slot = record { paged = pages slot.frame.0 ∙ va; within = omega (arith, ltb-false 511 slot.index outer.1) } };
+      writable = record {
+        low = low;
+        there = rw places low;
+        is_slot = record { paged = pages slot.frame.0 ∙ va; within = omega (arith, ltb-false 511 slot.index outer.1) };
+      };
       idle = (neither (goes_out (entry_at d.epc f)) (table.is_loading (held (entry_at d.epc f))) idle.0).0;
     }
 
 -- the pages where a slot is marked
-pub pages_marked : (d : Parts) (epc : List EpcFrame) (f : ℕ) (slot : SlotAt) (on : Bool) → AreVaPages epc d.va → IsWritable d f slot → AreVaPages epc (with_busy d.va slot on)
+pub pages_marked : (d : Parts) (epc : List EpcFrame) (f : ℕ) (slot : SlotAt) (on : Bool) → AreVaPages epc d.va → IsWritable d f slot
+    → AreVaPages epc (with_busy d.va slot on)
 pages_marked d epc f slot on pages k = pages-with_slot epc d.va slot (record { version = version_in d.va slot; busy = on }) pages k.is_slot
 
-pub slots_marked : (d : Parts) (f : ℕ) (slot : SlotAt) (on : Bool) → IsVaTable d.va → IsWritable d f slot → IsVaTable (with_busy d.va slot on)
+pub slots_marked : (d : Parts) (f : ℕ) (slot : SlotAt) (on : Bool) → IsVaTable d.va → IsWritable d f slot
+    → IsVaTable (with_busy d.va slot on)
 slots_marked d f slot on is k = IsVaTable-with_slot d.va slot (record { version = version_in d.va slot; busy = on }) is k.is_slot
 
 -- the start of EWB
@@ -363,15 +428,22 @@ pub record GoesOut (d : Parts) (f : ℕ) (slot : SlotAt) : Type 0 where
   pub found : IsFound d f slot
   pub valid : is_valid (entry_at d.epc f) ≡ true
 
-pub goes : (d : Parts) (f : ℕ) (slot : SlotAt) (drain : DrainSight) (spent : Bool) → AreVaPages d.epc d.va → length d.starts ≡ length d.epc → first_of_row (ewbstart_row (sight_in d.epc f) (parts.slot_sight d.epc d.va slot) drain spent) ≡ None → GoesOut d f slot
+pub goes : (d : Parts) (f : ℕ) (slot : SlotAt) (drain : DrainSight) (spent : Bool) → AreVaPages d.epc d.va → length d.starts ≡ length d.epc
+    → first_of_row (ewbstart_row (sight_in d.epc f) (parts.slot_sight d.epc d.va slot) drain spent) ≡ None → GoesOut d f slot
 goes d f slot drain spent pages places allowed =
     let none = none_holds (ewbstart_row (sight_in d.epc f) (parts.slot_sight d.epc d.va slot) drain spent) allowed in
-    let va = neither (table.is_secs (held (entry_at d.epc f)) || table.is_va (held (entry_at d.epc f))) (not (table.is_va (held (entry_at d.epc slot.frame.0)))) none.1.1.1.0 in
+    let va = neither (table.is_secs (held (entry_at d.epc f)) || table.is_va (held (entry_at d.epc f)))
+    (not (table.is_va (held (entry_at d.epc slot.frame.0)))) none.1.1.1.0 in
     let k = found d f slot pages places none.0 none.1.0 (not-false _ va.1) in
-    record { found = k; valid = taken (entry_at d.epc f) (neither (table.is_busy (sight_in d.epc f)) (is_busy_at d.va slot) none.1.0).0 none.1.1.0 }
+    record {
+      found = k;
+      valid = taken (entry_at d.epc f) (neither (table.is_busy (sight_in d.epc f)) (is_busy_at d.va slot) none.1.0).0
+          none.1.1.0;
+    }
 
 pub ewbstart_leaves : (m : Inside) → IsWhole m → (f : ℕ) (slot : SlotAt) (d' : Parts)
-    → first_of_row (ewbstart_row (sight_in m.epc f) (parts.slot_sight m.epc m.va slot) (parts.drain_sight m.epc m.tracks f) (is_spent_at m.versions)) ≡ None → d' ≡ out_parts (parts_of m) f slot → Leaves d' (after_ewbstart (state_of (parts_of m)) f slot)
+    → first_of_row (ewbstart_row (sight_in m.epc f) (parts.slot_sight m.epc m.va slot) (parts.drain_sight m.epc m.tracks f)
+    (is_spent_at m.versions)) ≡ None → d' ≡ out_parts (parts_of m) f slot → Leaves d' (after_ewbstart (state_of (parts_of m)) f slot)
 ewbstart_leaves m h f slot d' allowed done =
     let d = parts_of m in
     let k = goes d f slot (parts.drain_sight d.epc d.tracks f) (is_spent_at d.versions) h.pages h.start_places allowed in
@@ -379,14 +451,17 @@ ewbstart_leaves m h f slot d' allowed done =
     let v = outgoing (entry_at d.epc f) in
     rw done (record {
       state = ewbstart_state d f slot h.slots w k.valid;
-      kept = kept_ewbstart (state_of d) f slot (sym (ewbstart_row_at d f slot h.track_places h.processors h.tracked (frame_numbered d f h.table.places h.framed)) ∙ allowed) (kept_of m h);
+      kept = kept_ewbstart (state_of d) f slot (sym
+          (ewbstart_row_at d f slot h.track_places h.processors h.tracked (frame_numbered d f h.table.places h.framed)) ∙ allowed)
+          (kept_of m h);
       processors = h.processors;
       places = h.places;
       table = h.table;
       track_places = h.track_places;
       tracked = h.tracked;
       slots = slots_marked d f slot true h.slots w;
-      pages = pages_marked d (with_sealing d.epc f) f slot true (pages-with_entry d.epc d.va f v h.pages w.low (is_va-outgoing (entry_at d.epc f))) w;
+      pages = pages_marked d (with_sealing d.epc f) f slot true
+          (pages-with_entry d.epc d.va f v h.pages w.low (is_va-outgoing (entry_at d.epc f))) w;
       start_places = length-set d.starts f _ ∙ h.start_places ∙ sym (length-with_entry d.epc f v);
     })
 
@@ -402,13 +477,18 @@ pub record ComesIn (d : Parts) (f : ℕ) (slot : SlotAt) : Type 0 where
   pub found : IsFound d f slot
   pub not_va : table.is_va (held (entry_at d.epc f)) ≡ false
 
-pub comes : (d : Parts) (f : ℕ) (slot : SlotAt) (added : Bool) → AreVaPages d.epc d.va → length d.starts ≡ length d.epc → first_of_row (eldstart_row (sight_in d.epc f) added (parts.slot_sight d.epc d.va slot)) ≡ None → ComesIn d f slot
+pub comes : (d : Parts) (f : ℕ) (slot : SlotAt) (added : Bool) → AreVaPages d.epc d.va → length d.starts ≡ length d.epc
+    → first_of_row (eldstart_row (sight_in d.epc f) added (parts.slot_sight d.epc d.va slot)) ≡ None → ComesIn d f slot
 comes d f slot added pages places allowed =
     let none = none_holds (eldstart_row (sight_in d.epc f) added (parts.slot_sight d.epc d.va slot)) allowed in
-    record { found = found d f slot pages places none.0 none.1.1.0 (not-false _ none.1.1.1.1.0); not_va = not_va (held (entry_at d.epc f)) none.1.1.1.0 }
+    record {
+      found = found d f slot pages places none.0 none.1.1.0 (not-false _ none.1.1.1.1.0);
+      not_va = not_va (held (entry_at d.epc f)) none.1.1.1.0;
+    }
 
 pub eldstart_leaves : (m : Inside) → IsWhole m → (f : ℕ) (page : Page) (slot : SlotAt) (d' : Parts)
-    → first_of_row (eldstart_row (sight_in m.epc f) (parts.is_added m.secs page) (parts.slot_sight m.epc m.va slot)) ≡ None → d' ≡ in_parts (parts_of m) f page slot → Leaves d' (after_eldstart (state_of (parts_of m)) f page slot)
+    → first_of_row (eldstart_row (sight_in m.epc f) (parts.is_added m.secs page) (parts.slot_sight m.epc m.va slot)) ≡ None
+    → d' ≡ in_parts (parts_of m) f page slot → Leaves d' (after_eldstart (state_of (parts_of m)) f page slot)
 eldstart_leaves m h f page slot d' allowed done =
     let d = parts_of m in
     let k = comes d f slot (parts.is_added d.secs page) h.pages h.start_places allowed in
@@ -422,19 +502,35 @@ eldstart_leaves m h f page slot d' allowed done =
       track_places = h.track_places;
       tracked = h.tracked;
       slots = slots_marked d f slot true h.slots w;
-      pages = pages_marked d (with_loading d.epc f) f slot true (pages-with_entry d.epc d.va f views.Loading h.pages w.low (sym k.not_va)) w;
+      pages = pages_marked d (with_loading d.epc f) f slot true (pages-with_entry d.epc d.va f views.Loading h.pages w.low (sym k.not_va))
+          w;
       start_places = length-set d.starts f _ ∙ h.start_places ∙ sym (length-with_entry d.epc f views.Loading);
     })
 
 -- ---- parts that are written as a row says
 
-pub out_as : (d : Parts) (f : ℕ) (slot : SlotAt) (epc : List EpcFrame) (va : List (Option (List VaSlot))) (versions version : ℕ) → epc ≡ with_sealing d.epc f → va ≡ with_busy d.va slot true → versions ≡ d.versions + 1 → version ≡ d.versions
-    → record d { epc = epc; va = va; versions = versions; starts = set d.starts f (Some (record { slot = slot; version = version; loads = None })) } ≡ out_parts d f slot
-out_as d f slot epc va versions version e v q a = λ i. record d { epc = e i; va = v i; versions = q i; starts = set d.starts f (Some (record { slot = slot; version = a i; loads = None })) }
+pub out_as : (d : Parts) (f : ℕ) (slot : SlotAt) (epc : List EpcFrame) (va : List (Option (List VaSlot))) (versions version : ℕ)
+    → epc ≡ with_sealing d.epc f → va ≡ with_busy d.va slot true → versions ≡ d.versions + 1 → version ≡ d.versions
+    → record d {
+      epc = epc;
+      va = va;
+      versions = versions;
+      starts = set d.starts f (Some (record { slot = slot; version = version; loads = None }));
+    } ≡ out_parts d f slot
+out_as d f slot epc va versions version e v q a =
+    λ i. record d {
+      epc = e i;
+      va = v i;
+      versions = q i;
+      starts = set d.starts f (Some (record { slot = slot; version = a i; loads = None }));
+    }
 
-pub in_as : (d : Parts) (f : ℕ) (page : Page) (slot : SlotAt) (epc : List EpcFrame) (va : List (Option (List VaSlot))) (version : ℕ) → epc ≡ with_loading d.epc f → va ≡ with_busy d.va slot true → version ≡ version_in d.va slot
-    → record d { epc = epc; va = va; starts = set d.starts f (Some (record { slot = slot; version = version; loads = Some page })) } ≡ in_parts d f page slot
-in_as d f page slot epc va version e v a = λ i. record d { epc = e i; va = v i; starts = set d.starts f (Some (record { slot = slot; version = a i; loads = Some page })) }
+pub in_as : (d : Parts) (f : ℕ) (page : Page) (slot : SlotAt) (epc : List EpcFrame) (va : List (Option (List VaSlot))) (version : ℕ)
+    → epc ≡ with_loading d.epc f → va ≡ with_busy d.va slot true → version ≡ version_in d.va slot
+    → record d { epc = epc; va = va; starts = set d.starts f (Some (record { slot = slot; version = version; loads = Some page })) }
+    ≡ in_parts d f page slot
+in_as d f page slot epc va version e v a =
+    λ i. record d { epc = e i; va = v i; starts = set d.starts f (Some (record { slot = slot; version = a i; loads = Some page })) }
 
 -- ---- parts that a refusal leaves as they were
 
@@ -444,8 +540,11 @@ epc_same d epc same = λ i. record d { epc = same i }
 pub tracks_same : (d : Parts) (tracks : List Tracking) → tracks ≡ d.tracks → record d { tracks = tracks } ≡ d
 tracks_same d tracks same = λ i. record d { tracks = same i }
 
-pub slots_same : (d : Parts) (epc : List EpcFrame) (va : List (Option (List VaSlot))) → epc ≡ d.epc → va ≡ d.va → record d { epc = epc; va = va } ≡ d
+pub slots_same : (d : Parts) (epc : List EpcFrame) (va : List (Option (List VaSlot))) → epc ≡ d.epc → va ≡ d.va
+    → record d { epc = epc; va = va } ≡ d
 slots_same d epc va same_epc same_va = λ i. record d { epc = same_epc i; va = same_va i }
 
-pub versions_same : (d : Parts) (epc : List EpcFrame) (va : List (Option (List VaSlot))) (versions : ℕ) → epc ≡ d.epc → va ≡ d.va → versions ≡ d.versions → record d { epc = epc; va = va; versions = versions } ≡ d
-versions_same d epc va versions same_epc same_va same_versions = λ i. record d { epc = same_epc i; va = same_va i; versions = same_versions i }
+pub versions_same : (d : Parts) (epc : List EpcFrame) (va : List (Option (List VaSlot))) (versions : ℕ) → epc ≡ d.epc → va ≡ d.va
+    → versions ≡ d.versions → record d { epc = epc; va = va; versions = versions } ≡ d
+versions_same d epc va versions same_epc same_va same_versions =
+    λ i. record d { epc = same_epc i; va = same_va i; versions = same_versions i }

@@ -56,12 +56,14 @@ count_none test h zero = refl
 count_none test h (suc n) = rw (h n) (omega (arith, count_none test h n))
 
 -- the items of a list that pass, counted by their places
-pub count_places : {X : Type 0} (test : X → Bool) (d : X) → test d ≡ false → (xs : List X) (n : ℕ) → length xs ≤ n → count_by test xs ≡ count_below (λ p. test (get_or xs p d)) n
+pub count_places : {X : Type 0} (test : X → Bool) (d : X) → test d ≡ false → (xs : List X) (n : ℕ) → length xs ≤ n
+    → count_by test xs ≡ count_below (λ p. test (get_or xs p d)) n
 count_places test d fails [] n few = sym (count_none (λ p. test (get_or [] p d)) (λ p. fails) n)
 count_places test d fails (x ∷ xs) zero few = absurd (omega arith)
 count_places {X} test d fails (x ∷ xs) (suc n) few =
     let rest : count_by test xs ≡ count_below (λ p. test (get_or xs p d)) n = count_places test d fails xs n (omega (arith, few)) in
-    let first : count_below (λ p. test (get_or (x ∷ xs) p d)) (suc n) ≡ cond (test x) 1 0 + count_below (λ p. test (get_or xs p d)) n = count_first (λ p. test (get_or (x ∷ xs) p d)) n in
+    let first : count_below (λ p. test (get_or (x ∷ xs) p d)) (suc n) ≡ cond (test x) 1 0 + count_below (λ p. test (get_or xs p d)) n =
+    count_first (λ p. test (get_or (x ∷ xs) p d)) n in
     sum_by-cons {X = X} (λ y. cond (test y) 1 0) x xs ∙ ap (λ k. cond (test x) 1 0 + k) rest ∙ sym first
 
 noting_same : (e : ℕ) (test : ℕ → Bool) (mode : Mode) → is_noted e test mode ≡ is_noting e test (seat_of_mode mode) (noted_by mode)
@@ -69,11 +71,13 @@ noting_same e test modes.Outside = refl
 noting_same e test (modes.Inside enclave tcs tf sf epoch) = refl
 
 -- the processors inside an enclave with an epoch that passes are those that its track notes
-pub number_seen : (d : Parts) (e : ℕ) (t : Tracking) (test : ℕ → Bool) → length d.cpus ≤ 16 → IsTracked d.tracks d.cpus → track_of d.tracks e ≡ Some t → count_by test t.noted ≡ number_noting (state_of d) e test
+pub number_seen : (d : Parts) (e : ℕ) (t : Tracking) (test : ℕ → Bool) → length d.cpus ≤ 16 → IsTracked d.tracks d.cpus
+    → track_of d.tracks e ≡ Some t → count_by test t.noted ≡ number_noting (state_of d) e test
 number_seen d e t test few tracked found =
     tracked e t found test
     ∙ count_places (λ (c : Processor). is_noted e test c.mode) idle refl d.cpus 16 few
-    ∙ count_below-agrees (λ p. is_noted e test (cpu_at d p).mode) (λ p. is_noting e test ((state_of d).inside p) ((state_of d).noted p)) (λ p. noting_same e test (cpu_at d p).mode) 16
+    ∙ count_below-agrees (λ p. is_noted e test (cpu_at d p).mode) (λ p. is_noting e test ((state_of d).inside p) ((state_of d).noted p))
+    (λ p. noting_same e test (cpu_at d p).mode) 16
 
 -- ---- tracks
 
@@ -94,10 +98,12 @@ track_there d e eight first last =
 -- ---- pages in frames
 
 -- an enclave to which a page was added has a number from 1 to 8
-pub added_numbered : (table : List (Option SecsState)) (g : Page) → length table ≡ 8 → is_some (added_in (enclave_at table g.enclave) g.number) ≡ true → (1 ≤ g.enclave) × (g.enclave ≤ 8)
+pub added_numbered : (table : List (Option SecsState)) (g : Page) → length table ≡ 8
+    → is_some (added_in (enclave_at table g.enclave) g.number) ≡ true → (1 ≤ g.enclave) × (g.enclave ≤ 8)
 added_numbered table g eight is = by_state (enclave_at table g.enclave) refl is
   where
-    by_state : (o : Option SecsState) → enclave_at table g.enclave ≡ o → is_some (added_in o g.number) ≡ true → (1 ≤ g.enclave) × (g.enclave ≤ 8)
+    by_state : (o : Option SecsState) → enclave_at table g.enclave ≡ o → is_some (added_in o g.number) ≡ true
+        → (1 ≤ g.enclave) × (g.enclave ≤ 8)
     by_state None at k = cc k
     by_state (Some x) at k = numbered table g.enclave x eight at
 
@@ -105,7 +111,8 @@ added_numbered table g eight is = by_state (enclave_at table g.enclave) refl is
 pub frame_numbered : (d : Parts) (f : ℕ) → length d.secs ≡ 8 → IsFramed (state_of d) → IsNumbered ((state_of d).content f)
 frame_numbered d f eight framed = by_content ((state_of d).content f) (framed f)
   where
-    by_content : (c : Content) → ((g : Page) (kind : Kind) (perm : Perm) → c ≡ Holds g kind perm → is_some ((state_of d).added g) ≡ true) → IsNumbered c
+    by_content : (c : Content) → ((g : Page) (kind : Kind) (perm : Perm) → c ≡ Holds g kind perm → is_some ((state_of d).added g) ≡ true)
+        → IsNumbered c
     by_content Free h = tt
     by_content IsVa h = tt
     by_content (SecsOf enclave) h = tt
@@ -121,7 +128,8 @@ added_same table g = by_state (enclave_at table g.enclave)
     by_state (Some x) = refl
 
 -- the epoch at which the page in a frame is blocked
-pub epoch_seen : (d : Parts) (f : ℕ) → length d.tracks ≡ 8 → IsNumbered ((state_of d).content f) → effects.epoch_of d.tracks (enclave_in ((state_of d).content f)) ≡ epoch_in (state_of d) f
+pub epoch_seen : (d : Parts) (f : ℕ) → length d.tracks ≡ 8 → IsNumbered ((state_of d).content f)
+    → effects.epoch_of d.tracks (enclave_in ((state_of d).content f)) ≡ epoch_in (state_of d) f
 epoch_seen d f eight numbered = by_enclave (enclave_in ((state_of d).content f)) numbered
   where
     by_enclave : (o : Option ℕ) → IfSome o (λ e. (1 ≤ e) × (e ≤ 8)) → effects.epoch_of d.tracks o ≡ epoch_of (state_of d).epoch o
@@ -131,14 +139,18 @@ epoch_seen d f eight numbered = by_enclave (enclave_in ((state_of d).content f))
 -- ---- the rows
 
 -- the row of a track
-pub track_row_at : (d : Parts) (e : ℕ) → length d.secs ≡ 8 → length d.tracks ≡ 8 → length d.cpus ≤ 16 → IsTracked d.tracks d.cpus → first_of_row (track_row (parts.track_sight d.secs d.tracks e)) ≡ first_of_row (track_row (track_sight (state_of d) e))
+pub track_row_at : (d : Parts) (e : ℕ) → length d.secs ≡ 8 → length d.tracks ≡ 8 → length d.cpus ≤ 16 → IsTracked d.tracks d.cpus
+    → first_of_row (track_row (parts.track_sight d.secs d.tracks e)) ≡ first_of_row (track_row (track_sight (state_of d) e))
 track_row_at d e eight places few tracked = by_state (enclave_at d.secs e) refl
   where
-    absent : (o : Option Tracking) → first_of_row (track_row (parts.track_seen false o)) ≡ first_of_row (track_row (record (track_sight (state_of d) e) { is_created = false }))
+    absent : (o : Option Tracking) → first_of_row (track_row (parts.track_seen false o)) ≡ first_of_row
+        (track_row (record (track_sight (state_of d) e) { is_created = false }))
     absent None = refl
     absent (Some t) = refl
 
-    by_state : (o : Option SecsState) → enclave_at d.secs e ≡ o → first_of_row (track_row (parts.track_seen (is_some o) (track_of d.tracks e))) ≡ first_of_row (track_row (record (track_sight (state_of d) e) { is_created = is_some (enclave_of o) }))
+    by_state : (o : Option SecsState) → enclave_at d.secs e ≡ o
+        → first_of_row (track_row (parts.track_seen (is_some o) (track_of d.tracks e))) ≡ first_of_row
+        (track_row (record (track_sight (state_of d) e) { is_created = is_some (enclave_of o) }))
     by_state None at = absent (track_of d.tracks e)
     by_state (Some x) at =
         let number = numbered d.secs e x eight at in
@@ -147,42 +159,67 @@ track_row_at d e eight places few tracked = by_state (enclave_at d.secs e) refl
         rw (t.1, older) refl
 
 -- the tracking of a blocked page, by its enclave's track
-drain_at : (d : Parts) (page : Page) (b : ℕ) → length d.tracks ≡ 8 → length d.cpus ≤ 16 → IsTracked d.tracks d.cpus → (1 ≤ page.enclave) × (page.enclave ≤ 8)
-    → parts.drain_from b (track_of d.tracks page.enclave) ≡ record { epoch = (state_of d).epoch page.enclave; kept_back = number_up_to (state_of d) (Some page.enclave) (Some b); is_drained = has_passed (state_of d) (Some page.enclave) (Some b) }
+drain_at : (d : Parts) (page : Page) (b : ℕ) → length d.tracks ≡ 8 → length d.cpus ≤ 16 → IsTracked d.tracks d.cpus
+    → (1 ≤ page.enclave) × (page.enclave ≤ 8)
+    → parts.drain_from b (track_of d.tracks page.enclave) ≡ record {
+      epoch = (state_of d).epoch page.enclave;
+      kept_back = number_up_to (state_of d) (Some page.enclave) (Some b);
+      is_drained = has_passed (state_of d) (Some page.enclave) (Some b);
+    }
 drain_at d page b places few tracked number =
     let t = track_there d page.enclave places number.0 number.1 in
     rw (t.1, number_seen d page.enclave t.0 (λ m. nat_le m b) few tracked t.1) refl
 
 -- what the start of EWB sees of a frame, by its entry
 abbrev ewbstart_by : Bool → EntryView → SlotSight → DrainSight → Bool → Option Refusal
-ewbstart_by beyond v slot drain spent = first_of_row (ewbstart_row (record { is_beyond = beyond; content = held v; is_sealing = goes_out v; is_blocked = is_some (block_of v) }) slot drain spent)
+ewbstart_by beyond v slot drain spent = first_of_row
+    (ewbstart_row (record { is_beyond = beyond; content = held v; is_sealing = goes_out v; is_blocked = is_some (block_of v) }) slot drain
+    spent)
 
 abbrev drain_by : State → EntryView → DrainSight
-drain_by s v = record { epoch = epoch_of s.epoch (enclave_in (held v)); kept_back = number_up_to s (enclave_in (held v)) (block_of v); is_drained = has_passed s (enclave_in (held v)) (block_of v) }
+drain_by s v = record {
+  epoch = epoch_of s.epoch (enclave_in (held v));
+  kept_back = number_up_to s (enclave_in (held v)) (block_of v);
+  is_drained = has_passed s (enclave_in (held v)) (block_of v);
+}
 
 -- the row of the start of EWB: of a frame that holds no blocked page it does not see the tracking
-pub ewbstart_row_at : (d : Parts) (f : ℕ) (slot : SlotAt) → length d.tracks ≡ 8 → length d.cpus ≤ 16 → IsTracked d.tracks d.cpus → IsNumbered ((state_of d).content f)
-    → first_of_row (ewbstart_row (sight_in d.epc f) (parts.slot_sight d.epc d.va slot) (parts.drain_sight d.epc d.tracks f) (is_spent_at d.versions)) ≡ first_of_row (ewbstart_row (sight (state_of d) f) (slot_sight (state_of d) slot) (drain_sight (state_of d) f) (is_version_spent (state_of d)))
+pub ewbstart_row_at : (d : Parts) (f : ℕ) (slot : SlotAt) → length d.tracks ≡ 8 → length d.cpus ≤ 16 → IsTracked d.tracks d.cpus
+    → IsNumbered ((state_of d).content f)
+    → first_of_row (ewbstart_row (sight_in d.epc f) (parts.slot_sight d.epc d.va slot) (parts.drain_sight d.epc d.tracks f)
+    (is_spent_at d.versions)) ≡ first_of_row (ewbstart_row (sight (state_of d) f) (slot_sight (state_of d) slot)
+    (drain_sight (state_of d) f) (is_version_spent (state_of d)))
 ewbstart_row_at d f slot places few tracked numbered = by_entry (entry_at d.epc f) numbered
   where
-    by_kind : (page : Page) (kind : Kind) (perm : Perm) (b : ℕ) (sealing : Bool) → IsNumbered (held (views.Valid page kind perm (Some b) sealing))
-        → ewbstart_by (nat_le (length d.epc) f) (views.Valid page kind perm (Some b) sealing) (slot_sight (state_of d) slot) (parts.drain_from b (track_of d.tracks page.enclave)) (is_spent_at d.versions)
-        ≡ ewbstart_by (nat_le (length d.epc) f) (views.Valid page kind perm (Some b) sealing) (slot_sight (state_of d) slot) (drain_by (state_of d) (views.Valid page kind perm (Some b) sealing)) (is_spent_at d.versions)
+    by_kind : (page : Page) (kind : Kind) (perm : Perm) (b : ℕ) (sealing : Bool)
+        → IsNumbered (held (views.Valid page kind perm (Some b) sealing))
+        → ewbstart_by (nat_le (length d.epc) f) (views.Valid page kind perm (Some b) sealing) (slot_sight (state_of d) slot)
+        (parts.drain_from b (track_of d.tracks page.enclave)) (is_spent_at d.versions)
+        ≡ ewbstart_by (nat_le (length d.epc) f) (views.Valid page kind perm (Some b) sealing) (slot_sight (state_of d) slot)
+        (drain_by (state_of d) (views.Valid page kind perm (Some b) sealing)) (is_spent_at d.versions)
     by_kind page kinds.Secs perm b sealing h = refl
     by_kind page kinds.Va perm b sealing h = refl
-    by_kind page kinds.Tcs perm b sealing h = ap (λ drain. ewbstart_by (nat_le (length d.epc) f) (views.Valid page kinds.Tcs perm (Some b) sealing) (slot_sight (state_of d) slot) drain (is_spent_at d.versions)) (drain_at d page b places few tracked h)
-    by_kind page kinds.Reg perm b sealing h = ap (λ drain. ewbstart_by (nat_le (length d.epc) f) (views.Valid page kinds.Reg perm (Some b) sealing) (slot_sight (state_of d) slot) drain (is_spent_at d.versions)) (drain_at d page b places few tracked h)
+    by_kind page kinds.Tcs perm b sealing h = ap (λ drain.
+        ewbstart_by (nat_le (length d.epc) f) (views.Valid page kinds.Tcs perm (Some b) sealing) (slot_sight (state_of d) slot) drain
+        (is_spent_at d.versions)) (drain_at d page b places few tracked h)
+    by_kind page kinds.Reg perm b sealing h = ap (λ drain.
+        ewbstart_by (nat_le (length d.epc) f) (views.Valid page kinds.Reg perm (Some b) sealing) (slot_sight (state_of d) slot) drain
+        (is_spent_at d.versions)) (drain_at d page b places few tracked h)
 
     by_free : (page : Page) (kind : Kind) (perm : Perm) (sealing : Bool)
-        → ewbstart_by (nat_le (length d.epc) f) (views.Valid page kind perm None sealing) (slot_sight (state_of d) slot) (drain_of d.tracks (views.Valid page kind perm None sealing)) (is_spent_at d.versions)
-        ≡ ewbstart_by (nat_le (length d.epc) f) (views.Valid page kind perm None sealing) (slot_sight (state_of d) slot) (drain_by (state_of d) (views.Valid page kind perm None sealing)) (is_spent_at d.versions)
+        → ewbstart_by (nat_le (length d.epc) f) (views.Valid page kind perm None sealing) (slot_sight (state_of d) slot)
+        (drain_of d.tracks (views.Valid page kind perm None sealing)) (is_spent_at d.versions)
+        ≡ ewbstart_by (nat_le (length d.epc) f) (views.Valid page kind perm None sealing) (slot_sight (state_of d) slot)
+        (drain_by (state_of d) (views.Valid page kind perm None sealing)) (is_spent_at d.versions)
     by_free page kinds.Secs perm sealing = refl
     by_free page kinds.Va perm sealing = refl
     by_free page kinds.Tcs perm sealing = refl
     by_free page kinds.Reg perm sealing = refl
 
     by_entry : (v : EntryView) → IsNumbered (held v)
-        → ewbstart_by (nat_le (length d.epc) f) v (slot_sight (state_of d) slot) (drain_of d.tracks v) (is_spent_at d.versions) ≡ ewbstart_by (nat_le (length d.epc) f) v (slot_sight (state_of d) slot) (drain_by (state_of d) v) (is_spent_at d.versions)
+        → ewbstart_by (nat_le (length d.epc) f) v (slot_sight (state_of d) slot) (drain_of d.tracks v)
+        (is_spent_at d.versions) ≡ ewbstart_by (nat_le (length d.epc) f) v (slot_sight (state_of d) slot) (drain_by (state_of d) v)
+        (is_spent_at d.versions)
     by_entry views.Free h = refl
     by_entry views.Loading h = refl
     by_entry (views.Valid page kind perm None sealing) h = by_free page kind perm sealing
@@ -190,26 +227,31 @@ ewbstart_row_at d f slot places few tracked numbered = by_entry (entry_at d.epc 
 
 -- the row of the start of ELDU
 pub eldstart_row_at : (d : Parts) (f : ℕ) (page : Page) (slot : SlotAt)
-    → first_of_row (eldstart_row (sight_in d.epc f) (parts.is_added d.secs page) (parts.slot_sight d.epc d.va slot)) ≡ first_of_row (eldstart_row (sight (state_of d) f) (is_some ((state_of d).added page)) (slot_sight (state_of d) slot))
-eldstart_row_at d f page slot = ap (λ o. first_of_row (eldstart_row (sight_in d.epc f) (is_some o) (parts.slot_sight d.epc d.va slot))) (added_same d.secs page)
+    → first_of_row (eldstart_row (sight_in d.epc f) (parts.is_added d.secs page) (parts.slot_sight d.epc d.va slot)) ≡ first_of_row
+    (eldstart_row (sight (state_of d) f) (is_some ((state_of d).added page)) (slot_sight (state_of d) slot))
+eldstart_row_at d f page slot =
+    ap (λ o. first_of_row (eldstart_row (sight_in d.epc f) (is_some o) (parts.slot_sight d.epc d.va slot))) (added_same d.secs page)
 
 -- ---- the page that goes out of a frame
 
-holds_page : (page : Page) (kind : Kind) (perm : Perm) → is_some (enclave_in (content_of page kind perm)) ≡ true → content_of page kind perm ≡ Holds page kind perm
+holds_page : (page : Page) (kind : Kind) (perm : Perm) → is_some (enclave_in (content_of page kind perm)) ≡ true
+    → content_of page kind perm ≡ Holds page kind perm
 holds_page page kinds.Secs perm is = cc is
 holds_page page kinds.Tcs perm is = refl
 holds_page page kinds.Reg perm is = refl
 holds_page page kinds.Va perm is = cc is
 
 -- a frame whose page goes out holds that page
-pub leaving_held : (d : Parts) (f : ℕ) (page : Page) (kind : Kind) (perm : Perm) (blocked : Option ℕ) (sealing : Bool) → IsGuarded (state_of d) → entry_at d.epc f ≡ views.Valid page kind perm blocked sealing → (state_of d).is_sealing f ≡ true
+pub leaving_held : (d : Parts) (f : ℕ) (page : Page) (kind : Kind) (perm : Perm) (blocked : Option ℕ) (sealing : Bool)
+    → IsGuarded (state_of d) → entry_at d.epc f ≡ views.Valid page kind perm blocked sealing → (state_of d).is_sealing f ≡ true
     → (state_of d).content f ≡ Holds page kind perm
 leaving_held d f page kind perm blocked sealing guarded at leaves =
     let here : (state_of d).content f ≡ content_of page kind perm = ap held at in
     here ∙ holds_page page kind perm (ap (λ c. is_some (enclave_in c)) (sym here) ∙ guarded.goes_out f leaves)
 
 -- a page that was added has a number of its enclave
-pub page_below : (d : Parts) (g : Page) (x : SecsState) → IsTable d.secs → enclave_at d.secs g.enclave ≡ Some x → is_some ((state_of d).added g) ≡ true → g.number < page_count x.size
+pub page_below : (d : Parts) (g : Page) (x : SecsState) → IsTable d.secs → enclave_at d.secs g.enclave ≡ Some x
+    → is_some ((state_of d).added g) ≡ true → g.number < page_count x.size
 page_below d g x table found added =
     let there : is_some (added_at x g.number) ≡ true = ap (λ o. is_some (added_in o g.number)) (sym found) ∙ added in
     added_below x g.number (table.own g.enclave x found).sound (λ none. false≢true (ap is_some (sym none) ∙ there))
@@ -230,4 +272,8 @@ pub same_headers : (a b : Header) → ((a.enclave == b.enclave) && ((a.address =
 same_headers a b h =
     let first = both_true (a.enclave == b.enclave) ((a.address == b.address) && (a.flags == b.flags)) h in
     let rest = both_true (a.address == b.address) (a.flags == b.flags) first.1 in
-    λ i. record { enclave = eqb-true a.enclave b.enclave first.0 i; address = eqb-true a.address b.address rest.0 i; flags = eqb-true a.flags b.flags rest.1 i }
+    λ i. record {
+      enclave = eqb-true a.enclave b.enclave first.0 i;
+      address = eqb-true a.address b.address rest.0 i;
+      flags = eqb-true a.flags b.flags rest.1 i;
+    }

@@ -74,22 +74,27 @@ pages_made d framed n g is = by_content ((state_of d).content n) refl is
     by_enclave None number k = cc k
     by_enclave (Some x) number k = refl
 
-    by_content : (c : Content) → (state_of d).content n ≡ c → page_held c ≡ Some g → is_some (enclave_of (enclave_at d.secs g.enclave)) ≡ true
-    by_content (Holds page kind perm) e k = let same : page ≡ g = cc in by_enclave (enclave_at d.secs g.enclave) g.number (rw same at (framed n page kind perm e))
+    by_content : (c : Content) → (state_of d).content n ≡ c → page_held c ≡ Some g
+        → is_some (enclave_of (enclave_at d.secs g.enclave)) ≡ true
+    by_content (Holds page kind perm) e k =
+        let same : page ≡ g = cc in by_enclave (enclave_at d.secs g.enclave) g.number (rw same at (framed n page kind perm e))
     by_content Free e k = cc
     by_content IsVa e k = cc
     by_content (SecsOf enclave) e k = cc
     by_content IsLoading e k = cc
 
 -- a page that was added, by its enclave's state
-pub added_there : (table : List (Option SecsState)) (e number : ℕ) (x : SecsState) → is_some (added_in (enclave_at table e) number) ≡ true → enclave_at table e ≡ Some x → is_some (added_at x number) ≡ true
+pub added_there : (table : List (Option SecsState)) (e number : ℕ) (x : SecsState) → is_some (added_in (enclave_at table e) number) ≡ true
+    → enclave_at table e ≡ Some x → is_some (added_at x number) ≡ true
 added_there table e number x is found = rw found at is
 
 -- a page of an enclave that a frame holds is one of its added pages
-pub frame_added : (d : Parts) (e n : ℕ) (x : SecsState) → IsTable d.secs → enclave_at d.secs e ≡ Some x → IsFramed (state_of d) → IsAdded (held (entry_at d.epc n)) x
+pub frame_added : (d : Parts) (e n : ℕ) (x : SecsState) → IsTable d.secs → enclave_at d.secs e ≡ Some x → IsFramed (state_of d)
+    → IsAdded (held (entry_at d.epc n)) x
 frame_added d e n x table found framed = by_content (held (entry_at d.epc n)) (framed n)
   where
-    by_content : (c : Content) → ((g : Page) (kind : Kind) (perm : Perm) → c ≡ Holds g kind perm → is_some (added_in (enclave_at d.secs g.enclave) g.number) ≡ true) → IsAdded c x
+    by_content : (c : Content) → ((g : Page) (kind : Kind) (perm : Perm) → c ≡ Holds g kind perm
+        → is_some (added_in (enclave_at d.secs g.enclave) g.number) ≡ true) → IsAdded c x
     by_content (Holds page kind perm) h = λ same.
         (let ours : page.enclave ≡ e = same ∙ (table.own e x found).number in
         added_there d.secs page.enclave page.number x (h page kind perm refl) (ap (enclave_at d.secs) ours ∙ found))
@@ -99,7 +104,8 @@ frame_added d e n x table found framed = by_content (held (entry_at d.epc n)) (f
     by_content IsLoading h = tt
 
 -- the TCS page by which a processor is inside was added
-pub seat_added : (d : Parts) (p enclave tcs : ℕ) (tf sf : Frame) (epoch : ℕ) → (cpu_at d p).mode ≡ modes.Inside enclave tcs tf sf epoch → IsSound (state_of d) → IsFramed (state_of d) → is_some ((state_of d).added (page_at enclave tcs)) ≡ true
+pub seat_added : (d : Parts) (p enclave tcs : ℕ) (tf sf : Frame) (epoch : ℕ) → (cpu_at d p).mode ≡ modes.Inside enclave tcs tf sf epoch
+    → IsSound (state_of d) → IsFramed (state_of d) → is_some ((state_of d).added (page_at enclave tcs)) ≡ true
 seat_added d p enclave tcs tf sf epoch is sound framed =
     let seated = seat_at (state_of d) sound p (seat_of enclave tcs tf.0 sf.0) (ap seat_of_mode is) in
     page_added (state_of d) framed tf.0 (page_at enclave tcs) seated.tcs_page
@@ -107,37 +113,48 @@ seat_added d p enclave tcs tf sf epoch is sound framed =
 -- ---- the parts and the state
 
 -- a processor that is written, by what a column shows of it
-cpu_column : {X : Type 0} (col : Processor → X) (d : Parts) (p q : ℕ) (v : Processor) → p < length d.cpus → col (get_or (set d.cpus p v) q idle) ≡ cond (p == q) (col v) (col (cpu_at d q))
+cpu_column : {X : Type 0} (col : Processor → X) (d : Parts) (p q : ℕ) (v : Processor) → p < length d.cpus
+    → col (get_or (set d.cpus p v) q idle) ≡ cond (p == q) (col v) (col (cpu_at d q))
 cpu_column col d p q v low =
-    rw (get_or-set_if d.cpus p q v idle low) (elim (p == q) as (λ b. col (cond b v (cpu_at d q)) ≡ cond b (col v) (col (cpu_at d q))) [ true ↦ refl | false ↦ refl ])
+    rw (get_or-set_if d.cpus p q v idle low) (elim (p == q) as (λ b. col (cond b v (cpu_at d q)) ≡ cond b (col v) (col (cpu_at d q)))
+    [ true ↦ refl | false ↦ refl ])
 
 some_not_none : {A : Type 0} (o : Option A) → is_some o ≡ true → o ≡ None → ⊥
 some_not_none None is e = cc is
 some_not_none (Some x) is e = cc e
 
 -- a TCS page that is marked busy or free
-module _ (d : Parts) (e n : ℕ) (x : SecsState) (mark : Bool) (table : IsTable d.secs) (found : enclave_at d.secs e ≡ Some x) (is : is_some (added_at x n) ≡ true) where
+module _ (d : Parts) (e n : ℕ) (x : SecsState) (mark : Bool) (table : IsTable d.secs) (found : enclave_at d.secs e ≡ Some x)
+    (is : is_some (added_at x n) ≡ true) where
   first : (1 ≤ e) × (e ≤ 8)
   first = numbered d.secs e x table.places found
 
   marked_enclaves : (k : ℕ) → enclave_of (enclave_at (with_enclave d.secs e (with_busy x n mark)) k) ≡ enclave_of (enclave_at d.secs k)
   marked_enclaves k = enclave_kept d.secs e (with_busy x n mark) table.places first.0 first.1 enclave_of k (ap enclave_of (sym found))
 
-  marked_added : (q : Page) → added_in (enclave_at (with_enclave d.secs e (with_busy x n mark)) q.enclave) q.number ≡ added_in (enclave_at d.secs q.enclave) q.number
-  marked_added q = enclave_kept d.secs e (with_busy x n mark) table.places first.0 first.1 (λ o. added_in o q.number) q.enclave (ap (λ o. added_in o q.number) (sym found))
+  marked_added : (q : Page) → added_in (enclave_at (with_enclave d.secs e (with_busy x n mark)) q.enclave) q.number ≡ added_in
+      (enclave_at d.secs q.enclave) q.number
+  marked_added q = enclave_kept d.secs e (with_busy x n mark) table.places first.0 first.1 (λ o. added_in o q.number) q.enclave
+      (ap (λ o. added_in o q.number) (sym found))
 
-  marked_busy : (q : Page) → is_busy_in (enclave_at (with_enclave d.secs e (with_busy x n mark)) q.enclave) q.number ≡ cond (same_page q (page_at e n)) mark (is_busy_in (enclave_at d.secs q.enclave) q.number)
+  marked_busy : (q : Page) → is_busy_in (enclave_at (with_enclave d.secs e (with_busy x n mark)) q.enclave) q.number ≡ cond
+      (same_page q (page_at e n)) mark (is_busy_in (enclave_at d.secs q.enclave) q.number)
   marked_busy q =
       let own = table.own e x found in
       page_column d.secs e (with_busy x n mark) table.places first.0 first.1 is_busy_in n mark
-      (λ k. is_busy_at-with_busy x n k mark own.sound (added_below x n own.sound (some_not_none (added_at x n) is)) ∙ ap (λ o. cond (n == k) mark (is_busy_in o k)) (sym found)) q
+      (λ k. is_busy_at-with_busy x n k mark own.sound (added_below x n own.sound (some_not_none (added_at x n) is))
+      ∙ ap (λ o. cond (n == k) mark (is_busy_in o k)) (sym found)) q
 
 pub marked_own : (e n : ℕ) (x : SecsState) (mark : Bool) → IsSecsOf e x → IsSecsOf e (with_busy x n mark)
-marked_own e n x mark own = record { number = own.number; sound = record { lawful = own.sound.lawful; pages = own.sound.pages; busy = rw length-set own.sound.busy } }
+marked_own e n x mark own = record {
+  number = own.number;
+  sound = record { lawful = own.sound.lawful; pages = own.sound.pages; busy = rw length-set own.sound.busy };
+}
 
 -- a frame whose words are changed
 pub words_state : (d : Parts) (f : ℕ) (change : List ℕ → List ℕ) → f < length d.epc
-    → state_of (record d { epc = with_words d.epc f (change (words_at d.epc f)) }) ≡ record (state_of d) { words = rewritten (state_of d).words f change }
+    → state_of (record d { epc = with_words d.epc f (change (words_at d.epc f)) }) ≡ record (state_of d)
+    { words = rewritten (state_of d).words f change }
 words_state d f change low =
     let ws = change (words_at d.epc f) in
     λ i. record (state_of d) {
@@ -149,19 +166,27 @@ words_state d f change low =
     }
   where
     by_frame : (n : ℕ) → cond (f == n) (change (words_at d.epc f)) (words_at d.epc n) ≡ rewritten (state_of d).words f change n
-    by_frame n = cond_both (f == n) (change (words_at d.epc f)) (words_at d.epc n) (λ ws. ws ≡ cond (f == n) (change (words_at d.epc n)) (words_at d.epc n)) (λ e. rw e (ap (λ m. change (words_at d.epc m)) (eqb-true f n e))) (λ e. rw e refl)
+    by_frame n = cond_both (f == n) (change (words_at d.epc f)) (words_at d.epc n)
+        (λ ws. ws ≡ cond (f == n) (change (words_at d.epc n)) (words_at d.epc n))
+        (λ e. rw e (ap (λ m. change (words_at d.epc m)) (eqb-true f n e))) (λ e. rw e refl)
 
 -- an enclave's track that is written, where its epoch stays: each enclave's epoch stays
-pub epoch_kept : (d : Parts) (e k : ℕ) (t t' : Tracking) → length d.tracks ≡ 8 → 1 ≤ e → e ≤ 8 → track_of d.tracks e ≡ Some t → t'.epoch ≡ t.epoch → epoch_from d.start_epoch (track_of (with_track d.tracks e t') k) ≡ (state_of d).epoch k
+pub epoch_kept : (d : Parts) (e k : ℕ) (t t' : Tracking) → length d.tracks ≡ 8 → 1 ≤ e → e ≤ 8 → track_of d.tracks e ≡ Some t
+    → t'.epoch ≡ t.epoch → epoch_from d.start_epoch (track_of (with_track d.tracks e t') k) ≡ (state_of d).epoch k
 epoch_kept d e k t t' eight first last track same =
     ap (epoch_from d.start_epoch) (track_of-with_track d.tracks e k t' first (rw eight last))
     ∙ cond_both (e == k) (Some t') (track_of d.tracks k) (λ o. epoch_from d.start_epoch o ≡ (state_of d).epoch k)
     (λ is. same ∙ sym (ap (epoch_from d.start_epoch) (ap (track_of d.tracks) (sym (eqb-true e k is)) ∙ track))) (λ _. refl)
 
 -- a processor that comes inside
-pub inside_state : (d : Parts) (p enclave tcs : ℕ) (tf sf : Frame) (acc : ℕ) (x : SecsState) (t : Tracking) → p < length d.cpus → length d.tracks ≡ 8 → track_of d.tracks enclave ≡ Some t → IsTable d.secs → enclave_at d.secs enclave ≡ Some x
+pub inside_state : (d : Parts) (p enclave tcs : ℕ) (tf sf : Frame) (acc : ℕ) (x : SecsState) (t : Tracking) → p < length d.cpus
+    → length d.tracks ≡ 8 → track_of d.tracks enclave ≡ Some t → IsTable d.secs → enclave_at d.secs enclave ≡ Some x
     → is_some (added_at x tcs) ≡ true
-    → state_of (record d { secs = with_enclave d.secs enclave (with_busy x tcs true); tracks = with_track d.tracks enclave (entered t); cpus = set d.cpus p (record { mode = modes.Inside enclave tcs tf sf t.epoch; acc = acc; cache = [] }) })
+    → state_of (record d {
+      secs = with_enclave d.secs enclave (with_busy x tcs true);
+      tracks = with_track d.tracks enclave (entered t);
+      cpus = set d.cpus p (record { mode = modes.Inside enclave tcs tf sf t.epoch; acc = acc; cache = [] });
+    })
     ≡ with_inside (state_of d) p (seat_of enclave tcs tf.0 sf.0) acc
 inside_state d p enclave tcs tf sf acc x t cpu_in eight track table found added =
     let v : Processor = record { mode = modes.Inside enclave tcs tf sf t.epoch; acc = acc; cache = [] } in
@@ -173,15 +198,22 @@ inside_state d p enclave tcs tf sf acc x t cpu_in eight track table found added 
       inside = λ q. cpu_column (λ v. seat_of_mode v.mode) d p q v cpu_in i;
       acc = λ q. cpu_column (λ v. v.acc) d p q v cpu_in i;
       cache = λ q. cpu_column (λ v. v.cache) d p q v cpu_in i;
-      noted = λ q. (cpu_column (λ v. noted_by v.mode) d p q v cpu_in ∙ ap (λ n. cond (p == q) n ((state_of d).noted q)) (sym (ap (epoch_from d.start_epoch) track))) i;
+      noted = λ q. (cpu_column (λ v. noted_by v.mode) d p q v cpu_in
+          ∙ ap (λ n. cond (p == q) n ((state_of d).noted q)) (sym (ap (epoch_from d.start_epoch) track))) i;
       epoch = λ k. epoch_kept d enclave k t (entered t) eight number.0 number.1 track refl i;
       cpus = length-set d.cpus p v i;
     }
 
 -- a processor that leaves
-pub exit_state : (d : Parts) (p enclave tcs : ℕ) (tf sf : Frame) (epoch : ℕ) (x : SecsState) (t : Tracking) → (cpu_at d p).mode ≡ modes.Inside enclave tcs tf sf epoch → p < length d.cpus → length d.tracks ≡ 8 → track_of d.tracks enclave ≡ Some t
+pub exit_state : (d : Parts) (p enclave tcs : ℕ) (tf sf : Frame) (epoch : ℕ) (x : SecsState) (t : Tracking)
+    → (cpu_at d p).mode ≡ modes.Inside enclave tcs tf sf epoch → p < length d.cpus → length d.tracks ≡ 8
+    → track_of d.tracks enclave ≡ Some t
     → IsTable d.secs → enclave_at d.secs enclave ≡ Some x → is_some (added_at x tcs) ≡ true
-    → state_of (record d { secs = with_enclave d.secs enclave (with_busy x tcs false); tracks = with_track d.tracks enclave (left t epoch); cpus = set d.cpus p (record { mode = modes.Outside; acc = (cpu_at d p).acc; cache = [] }) })
+    → state_of (record d {
+      secs = with_enclave d.secs enclave (with_busy x tcs false);
+      tracks = with_track d.tracks enclave (left t epoch);
+      cpus = set d.cpus p (record { mode = modes.Outside; acc = (cpu_at d p).acc; cache = [] });
+    })
     ≡ after_exit (state_of d) p
 exit_state d p enclave tcs tf sf epoch x t is cpu_in eight track table found added =
     let v : Processor = record { mode = modes.Outside; acc = (cpu_at d p).acc; cache = [] } in
@@ -189,7 +221,8 @@ exit_state d p enclave tcs tf sf epoch x t is cpu_in eight track table found add
     λ i. record (after_exit (state_of d) p) {
       enclaves = λ k. marked_enclaves d enclave tcs x false table found added k i;
       added = λ q. marked_added d enclave tcs x false table found added q i;
-      is_busy = λ q. (marked_busy d enclave tcs x false table found added q ∙ ap (λ m. cond (is_seated_by (seat_of_mode m) q) false (is_busy_in (enclave_at d.secs q.enclave) q.number)) (sym is)) i;
+      is_busy = λ q. (marked_busy d enclave tcs x false table found added q
+          ∙ ap (λ m. cond (is_seated_by (seat_of_mode m) q) false (is_busy_in (enclave_at d.secs q.enclave) q.number)) (sym is)) i;
       inside = λ q. cpu_column (λ v. seat_of_mode v.mode) d p q v cpu_in i;
       acc = λ q. (cpu_column (λ v. v.acc) d p q v cpu_in ∙ same_at (λ k. (cpu_at d k).acc) p q) i;
       cache = λ q. cpu_column (λ v. v.cache) d p q v cpu_in i;
@@ -199,20 +232,23 @@ exit_state d p enclave tcs tf sf epoch x t is cpu_in eight track table found add
     }
 
 pub fill_state : (d : Parts) (p : ℕ) (t : Translation) → p < length d.cpus
-    → state_of (record d { cpus = set d.cpus p (record (cpu_at d p) { cache = with_translation (cpu_at d p).cache t }) }) ≡ after_fill (state_of d) p t
+    → state_of (record d { cpus = set d.cpus p (record (cpu_at d p) { cache = with_translation (cpu_at d p).cache t }) }) ≡ after_fill
+    (state_of d) p t
 fill_state d p t cpu_in =
     let v : Processor = record (cpu_at d p) { cache = with_translation (cpu_at d p).cache t } in
     λ i. record (after_fill (state_of d) p t) {
       inside = λ q. (cpu_column (λ x. seat_of_mode x.mode) d p q v cpu_in ∙ same_at (λ k. seat_of_mode (cpu_at d k).mode) p q) i;
       acc = λ q. (cpu_column (λ x. x.acc) d p q v cpu_in ∙ same_at (λ k. (cpu_at d k).acc) p q) i;
       cache = λ q. (cpu_column (λ x. x.cache) d p q v cpu_in
-          ∙ cond_both (p == q) (with_translation (cpu_at d p).cache t) (cpu_at d q).cache (λ xs. xs ≡ cond (p == q) (with_translation (cpu_at d q).cache t) (cpu_at d q).cache)
+          ∙ cond_both (p == q) (with_translation (cpu_at d p).cache t) (cpu_at d q).cache
+          (λ xs. xs ≡ cond (p == q) (with_translation (cpu_at d q).cache t) (cpu_at d q).cache)
           (λ e. rw e (ap (λ k. with_translation (cpu_at d k).cache t) (eqb-true p q e))) (λ e. rw e refl)) i;
       noted = λ q. (cpu_column (λ x. noted_by x.mode) d p q v cpu_in ∙ same_at (λ k. noted_by (cpu_at d k).mode) p q) i;
       cpus = length-set d.cpus p v i;
     }
 
-pub acc_state : (d : Parts) (p acc : ℕ) → p < length d.cpus → state_of (record d { cpus = set d.cpus p (record (cpu_at d p) { acc = acc }) }) ≡ with_acc (state_of d) p acc
+pub acc_state : (d : Parts) (p acc : ℕ) → p < length d.cpus
+    → state_of (record d { cpus = set d.cpus p (record (cpu_at d p) { acc = acc }) }) ≡ with_acc (state_of d) p acc
 acc_state d p acc cpu_in =
     let v : Processor = record (cpu_at d p) { acc = acc } in
     λ i. record (with_acc (state_of d) p acc) {

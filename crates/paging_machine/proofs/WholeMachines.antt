@@ -61,8 +61,10 @@ whole m s h =
     }
 
 -- a row that builds changes no track, no slot and no processor
-pub builds : (m : Inside) → IsWhole m → (epc : List EpcFrame) (secs : List (Option SecsState)) (measures : List (Option Measure)) (s : State) → state_of (record (parts_of m) { epc = epc; secs = secs; measures = measures }) ≡ s → IsKept s
-    → length measures ≡ 9 → IsTable secs → AreVaPages epc m.va → length epc ≡ length m.epc → Leaves (record (parts_of m) { epc = epc; secs = secs; measures = measures }) s
+pub builds : (m : Inside) → IsWhole m → (epc : List EpcFrame) (secs : List (Option SecsState)) (measures : List (Option Measure))
+    (s : State) → state_of (record (parts_of m) { epc = epc; secs = secs; measures = measures }) ≡ s → IsKept s
+    → length measures ≡ 9 → IsTable secs → AreVaPages epc m.va → length epc ≡ length m.epc
+    → Leaves (record (parts_of m) { epc = epc; secs = secs; measures = measures }) s
 builds m h epc secs measures s state kept places table pages frames = record {
   state = state;
   kept = kept;
@@ -77,28 +79,35 @@ builds m h epc secs measures s state kept places table pages frames = record {
 }
 
 -- parts that are written as they were
-pub measures_same : (d : Parts) (e : ℕ) (y y' : Measure) → get_or d.measures e None ≡ Some y → y' ≡ y → record d { measures = set d.measures e (Some y') } ≡ d
+pub measures_same : (d : Parts) (e : ℕ) (y y' : Measure) → get_or d.measures e None ≡ Some y → y' ≡ y
+    → record d { measures = set d.measures e (Some y') } ≡ d
 measures_same d e y y' there same =
-    let measures : set d.measures e (Some y') ≡ d.measures = ap (λ m. set d.measures e (Some m)) same ∙ ap (set d.measures e) (sym there) ∙ set-get_or d.measures e None in
+    let measures : set d.measures e (Some y') ≡ d.measures = ap (λ m. set d.measures e (Some m)) same ∙ ap (set d.measures e) (sym there)
+    ∙ set-get_or d.measures e None in
     λ i. record d { measures = measures i }
 
-pub secs_same : (d : Parts) (e : ℕ) (x x' : SecsState) → IsTable d.secs → enclave_at d.secs e ≡ Some x → x' ≡ x → record d { secs = with_enclave d.secs e x' } ≡ d
+pub secs_same : (d : Parts) (e : ℕ) (x x' : SecsState) → IsTable d.secs → enclave_at d.secs e ≡ Some x → x' ≡ x
+    → record d { secs = with_enclave d.secs e x' } ≡ d
 secs_same d e x x' table found same =
     let secs : with_enclave d.secs e x' ≡ d.secs = ap (with_enclave d.secs e) same ∙ enclave_same d.secs e x table.places found in
     λ i. record d { secs = secs i }
 
-pub parts_same : (d : Parts) (epc : List EpcFrame) (e : ℕ) (x x' : SecsState) (y y' : Measure) → IsTable d.secs → enclave_at d.secs e ≡ Some x → get_or d.measures e None ≡ Some y → epc ≡ d.epc → x' ≡ x → y' ≡ y
+pub parts_same : (d : Parts) (epc : List EpcFrame) (e : ℕ) (x x' : SecsState) (y y' : Measure) → IsTable d.secs
+    → enclave_at d.secs e ≡ Some x → get_or d.measures e None ≡ Some y → epc ≡ d.epc → x' ≡ x → y' ≡ y
     → record d { epc = epc; secs = with_enclave d.secs e x'; measures = set d.measures e (Some y') } ≡ d
 parts_same d epc e x x' y y' table found there same_epc same_secs same_measure =
     let secs : with_enclave d.secs e x' ≡ d.secs = ap (with_enclave d.secs e) same_secs ∙ enclave_same d.secs e x table.places found in
     λ i. record (measures_same d e y y' there same_measure i) { epc = same_epc i; secs = secs i }
 
 -- .. with an enclave's track and a processor
-pub seats_same : (d : Parts) (epc : List EpcFrame) (e p : ℕ) (x x' : SecsState) (t t' : Tracking) (v v' : Processor) → IsTable d.secs → enclave_at d.secs e ≡ Some x → track_of d.tracks e ≡ Some t → v ≡ cpu_at d p
-    → epc ≡ d.epc → x' ≡ x → t' ≡ t → v' ≡ v → record d { epc = epc; secs = with_enclave d.secs e x'; tracks = with_track d.tracks e t'; cpus = set d.cpus p v' } ≡ d
+pub seats_same : (d : Parts) (epc : List EpcFrame) (e p : ℕ) (x x' : SecsState) (t t' : Tracking) (v v' : Processor) → IsTable d.secs
+    → enclave_at d.secs e ≡ Some x → track_of d.tracks e ≡ Some t → v ≡ cpu_at d p
+    → epc ≡ d.epc → x' ≡ x → t' ≡ t → v' ≡ v → record d
+    { epc = epc; secs = with_enclave d.secs e x'; tracks = with_track d.tracks e t'; cpus = set d.cpus p v' } ≡ d
 seats_same d epc e p x x' t t' v v' table found track there same_epc same_secs same_track same_cpu =
     let secs : with_enclave d.secs e x' ≡ d.secs = ap (with_enclave d.secs e) same_secs ∙ enclave_same d.secs e x table.places found in
-    let tracks : with_track d.tracks e t' ≡ d.tracks = ap (with_track d.tracks e) same_track ∙ with_track-track_of d.tracks e t (numbered d.secs e x table.places found).0 track in
+    let tracks : with_track d.tracks e t' ≡ d.tracks = ap (with_track d.tracks e) same_track
+    ∙ with_track-track_of d.tracks e t (numbered d.secs e x table.places found).0 track in
     let cpus : set d.cpus p v' ≡ d.cpus = ap (set d.cpus p) (same_cpu ∙ there) ∙ set-get_or d.cpus p idle in
     λ i. record d { epc = same_epc i; secs = secs i; tracks = tracks i; cpus = cpus i }
 
@@ -131,10 +140,12 @@ pub done_step : (o : Option Refusal) (Done : Type 0) (Refused : Refusal → Type
 done_step None Done Refused e h = h
 done_step (Some r) Done Refused e h = cc e
 
-pub refused_step : (o : Option Refusal) (Done : Type 0) (Refused : Refusal → Type 0) (r : Refusal) → o ≡ Some r → Refused r → MatchOption o Done Refused
+pub refused_step : (o : Option Refusal) (Done : Type 0) (Refused : Refusal → Type 0) (r : Refusal) → o ≡ Some r → Refused r
+    → MatchOption o Done Refused
 refused_step None Done Refused r e h = cc e
 refused_step (Some q) Done Refused r e h = let same : q ≡ r = cc e in rw same h
 
 -- a step of the machine's parts is one of what its contracts show
-pub by_view : (m : Inside) (now : Parts) (a : Actor) (action : Action) (e : Entry) (t : State) → parts_of m ≡ now → IsStep (state_of (parts_of m)) a action e t → IsStep (state_of now) a action e t
+pub by_view : (m : Inside) (now : Parts) (a : Actor) (action : Action) (e : Entry) (t : State) → parts_of m ≡ now
+    → IsStep (state_of (parts_of m)) a action e t → IsStep (state_of now) a action e t
 by_view m now a action e t is h = subst (λ (d : Parts). IsStep (state_of d) a action e t) is h

@@ -138,5 +138,6 @@ state_of d = record {
 -- ---- what readers answer
 
 abbrev pub tcs_of : Content → List ℕ → Option TcsFields
-tcs_of (Holds page kinds.Tcs perm) words = Some (record { ossa = slice_index words 2; cssa = (tcs_fields words).cssa; nssa = (tcs_fields words).nssa })
+tcs_of (Holds page kinds.Tcs perm) words =
+    Some (record { ossa = slice_index words 2; cssa = (tcs_fields words).cssa; nssa = (tcs_fields words).nssa })
 tcs_of _ words = None

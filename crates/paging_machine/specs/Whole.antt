@@ -45,7 +45,8 @@ IsWithin s = (p : ℕ) → LeadsBelow (s.cache p) s.frames
 
 -- the track of an enclave notes the epochs of the processors inside it: whatever the test, as many pass on either side
 abbrev pub IsTracked : List Tracking → List Processor → Type 0
-IsTracked tracks cpus = (e : ℕ) (t : Tracking) → track_of tracks e ≡ Some t → (test : ℕ → Bool) → count_by test t.noted ≡ count_by (λ (c : Processor). is_noted e test c.mode) cpus
+IsTracked tracks cpus = (e : ℕ) (t : Tracking) → track_of tracks e ≡ Some t → (test : ℕ → Bool)
+    → count_by test t.noted ≡ count_by (λ (c : Processor). is_noted e test c.mode) cpus
 
 pub record IsWhole (m : Inside) : Type 0 where
   pub processors : length m.cpus.items ≤ 16

@@ -23,8 +23,10 @@ impl Machine {
     pub fn apply(&mut self, alloc: Global, actor: Actor, action: Action) -> Result<Entry, Memory>
         requires { CanApply (length self.old.cpus) actor action }
         ensures step { IfOk result (λ e. IsStep (state_of self.old) actor action e (state_of self.new)) }
-        ensures shape { IfOk result (λ e. (making : Making) (past : List Entry) → ShapeWithRules making (state_of self.old) past → ShapeWithRules making (state_of self.new) (e ∷ past)) }
-        ensures fits { IfOk result (λ e. (making : Making) (past : List Entry) → ShapeWithRules making (state_of self.old) past → LoadsAwayRule past e →
+        ensures shape { IfOk result (λ e. (making : Making) (past : List Entry) → ShapeWithRules making (state_of self.old) past
+            → ShapeWithRules making (state_of self.new) (e ∷ past)) }
+        ensures fits { IfOk result (λ e. (making : Making) (past : List Entry) → ShapeWithRules making (state_of self.old) past
+            → LoadsAwayRule past e →
             FitsApart making.frames past → FitsApart making.frames (e ∷ past)) }
         ensures history { IfOk result (λ e. (making : Making) (past : List Entry) (records : List Made) →
             StandsWithAllRules making (state_of self.old) past records → StandsWithAllRules making (state_of self.new) (e ∷ past) records) }

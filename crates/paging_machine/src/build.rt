@@ -115,7 +115,8 @@ impl Machine {
         perm: Perm,
         init: PageInit,
     ) -> Entry
-        ensures step { IsStep (state_of self.old) actor (actions.Add page.enclave page.number frame kind perm init) result (state_of self.new) }
+        ensures step { IsStep (state_of self.old) actor (actions.Add page.enclave page.number frame kind perm init) result
+            (state_of self.new) }
         ensures cpus { length self.new.cpus ≡ length self.old.cpus }
     {
         let action = Action::Add {
@@ -164,7 +165,8 @@ impl Machine {
 
 // The first case of the row of `add` that holds where the enclave was not created.
 fn absent(epc: &Epc, frame: Frame) -> Refusal
-    ensures { Some result ≡ first_of_row (when (sight_in epc.now frame.0).is_beyond why.BadRange otherwise when true why.Absent otherwise allowed) }
+    ensures { Some result ≡ first_of_row (when (sight_in epc.now frame.0).is_beyond why.BadRange otherwise when true why.Absent otherwise
+        allowed) }
 {
     if frame.0 < epc.frames() {
         Refusal::Absent

@@ -74,10 +74,12 @@ impl Machine {
     pub fn ewb_commit(&mut self, actor: Actor, frame: Frame, work: SealedWork) -> (Entry, Record)
         requires { (state_of self.old).is_sealing frame.0 ≡ true }
         ensures step { IsWrittenOut (state_of self.old) actor frame result.0 result.1 (state_of self.new) }
-        ensures shape { (making : Making) (past : List Entry) → ShapeWithRules making (state_of self.old) past → ShapeWithRules making (state_of self.new) (result.0 ∷ past) }
+        ensures shape { (making : Making) (past : List Entry) → ShapeWithRules making (state_of self.old) past
+            → ShapeWithRules making (state_of self.new) (result.0 ∷ past) }
         ensures fits { (making : Making) (past : List Entry) → ShapeWithRules making (state_of self.old) past →
             FitsApart making.frames past → FitsApart making.frames (result.0 ∷ past) }
-        ensures history { (making : Making) (past : List Entry) (records : List Made) → StandsWithAllRules making (state_of self.old) past records →
+        ensures history { (making : Making) (past : List Entry) (records : List Made)
+            → StandsWithAllRules making (state_of self.old) past records →
             StandsWithAllRules making (state_of self.new) (result.0 ∷ past) (records ++ given_out result.0.event result.1) }
         ensures cpus { length self.new.cpus ≡ length self.old.cpus }
     {
@@ -101,7 +103,8 @@ impl Machine {
     pub fn eld_commit(&mut self, actor: Actor, frame: Frame, work: UnsealedWork) -> Entry
         requires { (state_of self.old).content frame.0 ≡ IsLoading }
         ensures step { IsReloaded (state_of self.old) actor frame work.rec result (state_of self.new) }
-        ensures shape { (making : Making) (past : List Entry) → ShapeWithRules making (state_of self.old) past → ShapeWithRules making (state_of self.new) (result ∷ past) }
+        ensures shape { (making : Making) (past : List Entry) → ShapeWithRules making (state_of self.old) past
+            → ShapeWithRules making (state_of self.new) (result ∷ past) }
         ensures fits { (making : Making) (past : List Entry) → ShapeWithRules making (state_of self.old) past →
             FitsApart making.frames past → FitsApart making.frames (result ∷ past) }
         ensures history { (making : Making) (past : List Entry) (records : List Made) (given : List Given) →
@@ -188,7 +191,8 @@ impl Machine {
     // Whether a work is that of the started EWB of a frame.
     fn is_sealed(&self, frame: Frame, work: &SealedWork) -> bool
         requires { (state_of self.now).is_sealing frame.0 ≡ true }
-        ensures { result ≡ true → SealsPage (state_of self.now) frame.0 work.now.key work.now.version work.now.rec.header work.now.plain.items }
+        ensures { result ≡ true → SealsPage (state_of self.now) frame.0 work.now.key work.now.version work.now.rec.header
+            work.now.plain.items }
     {
         let key = self.key;
         let start = self.start(frame);

@@ -31,7 +31,8 @@ impl Machine {
         ssa_frame: Frame,
     ) -> Entry
         requires { cpu.0 < length self.old.cpus }
-        ensures step { IsStep (state_of self.old) (actors.Cpu cpu) (actions.Enter enclave tcs tcs_frame ssa_frame) result (state_of self.new) }
+        ensures step { IsStep (state_of self.old) (actors.Cpu cpu) (actions.Enter enclave tcs tcs_frame ssa_frame) result
+            (state_of self.new) }
         ensures cpus { length self.new.cpus ≡ length self.old.cpus }
     {
         let actor = Actor::Cpu(cpu);
@@ -63,7 +64,8 @@ impl Machine {
         ssa_frame: Frame,
     ) -> Entry
         requires { cpu.0 < length self.old.cpus }
-        ensures step { IsStep (state_of self.old) (actors.Cpu cpu) (actions.Resume enclave tcs tcs_frame ssa_frame) result (state_of self.new) }
+        ensures step { IsStep (state_of self.old) (actors.Cpu cpu) (actions.Resume enclave tcs tcs_frame ssa_frame) result
+            (state_of self.new) }
         ensures cpus { length self.new.cpus ≡ length self.old.cpus }
     {
         let actor = Actor::Cpu(cpu);

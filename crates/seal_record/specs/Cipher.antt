@@ -30,4 +30,5 @@ tag key version header bytes = sha256 (key ++ to_le_bytes w64 version ++ header_
 
 -- the sealed record of a page's bytes
 abbrev pub sealed : List ℕ → ℕ → Header → List ℕ → Sealed
-sealed key version header plain = record { header = header; cipher = cipher key version plain; tag = tag key version header (cipher key version plain) }
+sealed key version header plain =
+    record { header = header; cipher = cipher key version plain; tag = tag key version header (cipher key version plain) }

@@ -54,4 +54,5 @@ pub record Unforged (key : List ℕ) (made : List Made) (given : List Given) : T
   -- each given record that fits carries the tag of a record that had been made before
   pub carried : All (λ one. IsFitting key one → CarriesTag (take one.made made) one.tag) given
   -- two versions, headers and ciphers that have one tag are the same
-  pub apart : (one other : Tagged) → IsAmong key made given one → IsAmong key made given other → tag_of key one ≡ tag_of key other → one ≡ other
+  pub apart : (one other : Tagged) → IsAmong key made given one → IsAmong key made given other → tag_of key one ≡ tag_of key other
+      → one ≡ other

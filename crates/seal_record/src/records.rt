@@ -14,5 +14,6 @@ pub fn unforged_before()
 /// the version, header and cipher of a made one.
 pub fn fitting_is_made()
     ensures { (key : List ℕ) (made : List Made) (given : List Given) (last : Given) → All (λ one. one.tag ≡ tag_of key (made_of one)) made
-        → last.made ≡ length made → Unforged key made (given ++ last ∷ []) → IsFitting key last → Any (λ one. made_of one ≡ given_of last) made }
+        → last.made ≡ length made → Unforged key made (given ++ last ∷ []) → IsFitting key last
+        → Any (λ one. made_of one ≡ given_of last) made }
 {}

@@ -35,13 +35,16 @@ room_above base j few multiple low =
     let split : 2 ^ (64 - j) * 2 ^ j ≡ 2 ^ 64 = sym (pow-add 2 (64 - j) j) ∙ ap (λ (k : ℕ). 2 ^ k) whole_width in
     let some : 0 < 2 ^ j = pow_pos j in
     let whole : base / 2 ^ j * 2 ^ j + base % 2 ^ j ≡ base = div-add-mod' base (2 ^ j) in
-    let fits : base / 2 ^ j * 2 ^ j + 2 ^ j ≤ 2 ^ (64 - j) * 2 ^ j = row_fits (base / 2 ^ j) (2 ^ j) (2 ^ (64 - j)) (2 ^ j) (div_below base (2 ^ j) (2 ^ (64 - j)) some (omega arith)) (omega arith) in
+    let fits : base / 2 ^ j * 2 ^ j + 2 ^ j ≤ 2 ^ (64 - j) * 2 ^ j =
+    row_fits (base / 2 ^ j) (2 ^ j) (2 ^ (64 - j)) (2 ^ j) (div_below base (2 ^ j) (2 ^ (64 - j)) some (omega arith)) (omega arith) in
     omega (arith, whole, multiple, fits, split)
 
 -- the last byte of a page of the range has an address of 64 bits
-pub address_fits : (secs : SecsState) (number : ℕ) → IsSecs secs → secs.base < 2 ^ 64 → number < page_count secs.size → secs.base + 4096 * number < 2 ^ 64
+pub address_fits : (secs : SecsState) (number : ℕ) → IsSecs secs → secs.base < 2 ^ 64 → number < page_count secs.size
+    → secs.base + 4096 * number < 2 ^ 64
 address_fits secs number is low within =
-    let parts = and_parts (is_power_of_two secs.size && nat_le 8192 secs.size && nat_le secs.size (2 ^ 24)) (secs.base % secs.size == 0) is.lawful in
+    let parts = and_parts (is_power_of_two secs.size && nat_le 8192 secs.size && nat_le secs.size (2 ^ 24)) (secs.base % secs.size == 0)
+    is.lawful in
     let sizes = and_parts (is_power_of_two secs.size && nat_le 8192 secs.size) (nat_le secs.size (2 ^ 24)) parts.0 in
     let first = and_parts (is_power_of_two secs.size) (nat_le 8192 secs.size) sizes.0 in
     let least : 8192 ≤ secs.size = leb-true 8192 secs.size first.1 in

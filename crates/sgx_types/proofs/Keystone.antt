@@ -26,7 +26,8 @@ none_behind [] enclave from h = refl
 none_behind (e ∷ past) enclave from h =
     by_test (is_track e.event enclave) (ltb from (length past)) refl (none_behind past enclave from (omega arith))
   where
-    by_test : (b c : Bool) → ltb from (length past) ≡ c → tracks_behind past enclave from ≡ 0 → cond (b && c) 1 0 + tracks_behind past enclave from ≡ 0
+    by_test : (b c : Bool) → ltb from (length past) ≡ c → tracks_behind past enclave from ≡ 0
+        → cond (b && c) 1 0 + tracks_behind past enclave from ≡ 0
     by_test true true e z = absurd (omega (arith, ltb-true _ _ e))
     by_test true false e z = omega arith
     by_test false c e z = omega arith
@@ -49,13 +50,15 @@ IsNoted-more first e past m t h = by_test (is_track e.event t.seat.enclave) refl
 
 pub all_noted : (first : ℕ) (past : List Entry) (p : ℕ) → IfSome (stay past p) (IsNoted first past (noted first past p))
 all_noted first [] p = tt
-all_noted first (e ∷ past) p = by_move (is_by p e.actor) (move_by e.event) (track_keeps e.event) (stay past p) (noted first past p) (all_noted first past p)
+all_noted first (e ∷ past) p =
+    by_move (is_by p e.actor) (move_by e.event) (track_keeps e.event) (stay past p) (noted first past p) (all_noted first past p)
   where
     more : (o : Option Stay) (m : ℕ) → IfSome o (IsNoted first past m) → IfSome o (IsNoted first (e ∷ past) m)
     more None m h = tt
     more (Some t) m h = IsNoted-more first e past m t h
 
-    by_move : (b : Bool) (mv : Move) → (mv ≡ Keeps) ⊎ ((n : ℕ) → is_track e.event n ≡ false) → (o : Option Stay) (m : ℕ) → IfSome o (IsNoted first past m)
+    by_move : (b : Bool) (mv : Move) → (mv ≡ Keeps) ⊎ ((n : ℕ) → is_track e.event n ≡ false) → (o : Option Stay) (m : ℕ)
+        → IfSome o (IsNoted first past m)
         → IfSome (stay_after mv b past o) (IsNoted first (e ∷ past) (noted_after mv b (epoch first past) m))
     by_move b Keeps k o m h = more o m h
     by_move false Leaves k o m h = more o m h
@@ -63,7 +66,11 @@ all_noted first (e ∷ past) p = by_move (is_by p e.actor) (move_by e.event) (tr
     by_move false (Enters seat) k o m h = more o m h
     by_move true (Enters seat) (inl k) o m h = cc
     by_move true (Enters seat) (inr k) o m h =
-        record { below = omega arith; counted = rw (k seat.enclave, none_behind past seat.enclave (length past) (omega arith)) (omega arith) }
+        record {
+          below = omega arith;
+          counted = rw (k seat.enclave, none_behind past seat.enclave (length past) (omega arith))
+              (omega arith);
+        }
 
 at_most_one : (b : Bool) → cond b 1 0 ≤ 1
 at_most_one true = omega arith
@@ -140,7 +147,8 @@ held_same : (put : Option Put) (n : ℕ) (c : Content) → is_put put n ≡ fals
 held_same None n c h = refl
 held_same (Some put) n c h = rw h
 
-BlockedAt-more : (first : ℕ) (e : Entry) (past : List Entry) (n enclave : ℕ) (j b : Option ℕ) → BlockedAt first past n enclave j b → BlockedAt first (e ∷ past) n enclave j b
+BlockedAt-more : (first : ℕ) (e : Entry) (past : List Entry) (n enclave : ℕ) (j b : Option ℕ) → BlockedAt first past n enclave j b
+    → BlockedAt first (e ∷ past) n enclave j b
 BlockedAt-more first e past n enclave None None h = tt
 BlockedAt-more first e past n enclave None (Some b) h = h
 BlockedAt-more first e past n enclave (Some j) None h = h
@@ -154,12 +162,15 @@ pub blocked_at : (first : ℕ) (past : List Entry) (n enclave : ℕ) → enclave
     → BlockedAt first past n enclave (block_place past n) (block_epoch first past n)
 blocked_at first [] n enclave h = tt
 blocked_at first (e ∷ past) n enclave h =
-    by_cases (is_block e.event n) refl (block_only e.event) (is_put (put_by e.event (added past)) n) refl (block_place past n) (block_epoch first past n)
+    by_cases (is_block e.event n) refl (block_only e.event) (is_put (put_by e.event (added past)) n) refl (block_place past n)
+    (block_epoch first past n)
     (blocked_at first past n enclave)
   where
-    by_cases : (b : Bool) → is_block e.event n ≡ b → IsBlockOnly e.event ⊎ ((m : ℕ) → is_block e.event m ≡ false) → (c : Bool) → is_put (put_by e.event (added past)) n ≡ c
+    by_cases : (b : Bool) → is_block e.event n ≡ b → IsBlockOnly e.event ⊎ ((m : ℕ) → is_block e.event m ≡ false) → (c : Bool)
+        → is_put (put_by e.event (added past)) n ≡ c
         → (j b' : Option ℕ) → (enclave_in (content past n) ≡ Some enclave → BlockedAt first past n enclave j b')
-        → BlockedAt first (e ∷ past) n enclave (cond b (Some (length past)) (cond c None j)) (cond b (Some (epoch_in first past n)) (cond c None b'))
+        → BlockedAt first (e ∷ past) n enclave (cond b (Some (length past)) (cond c None j))
+        (cond b (Some (epoch_in first past n)) (cond c None b'))
     by_cases true is (inl only) c put j b before = record {
       below = omega arith;
       counted =
@@ -172,7 +183,8 @@ blocked_at first (e ∷ past) n enclave h =
         BlockedAt-more first e past n enclave j b (before (rw (held_same (put_by e.event (added past)) n (content past n) put) at h))
 
 -- a stay keeps a blocked page back exactly where its noted epoch is at most the block's
-pub keeps_back-noted : (first : ℕ) (past : List Entry) (n enclave j b : ℕ) → IsBlockedAt first past n enclave j b → (o : Option ℕ) → FirstTrack past enclave j o
+pub keeps_back-noted : (first : ℕ) (past : List Entry) (n enclave j b : ℕ) → IsBlockedAt first past n enclave j b → (o : Option ℕ)
+    → FirstTrack past enclave j o
     → (m : ℕ) (s : Option Stay) → IfSome s (IsNoted first past m) → keeps_back enclave o s ≡ notes enclave (λ i. leb i b) m s
 keeps_back-noted first past n enclave j b at None f m None h = refl
 keeps_back-noted first past n enclave j b at (Some k) f m None h = refl
@@ -194,7 +206,8 @@ keeps_back-noted first past n enclave j b at (Some k) f m (Some t) h = by_enclav
     by_enclave true e = by_place (ltb t.entered k) refl (eqb-true _ _ e)
 
 -- the enclave was tracked behind the block exactly where its epoch is above the block's
-pub tracked_since : (first : ℕ) (past : List Entry) (n enclave j b : ℕ) → IsBlockedAt first past n enclave j b → (o : Option ℕ) → FirstTrack past enclave j o
+pub tracked_since : (first : ℕ) (past : List Entry) (n enclave j b : ℕ) → IsBlockedAt first past n enclave j b → (o : Option ℕ)
+    → FirstTrack past enclave j o
     → ltb b (epoch first past enclave) ≡ is_some o
 tracked_since first past n enclave j b at None f = le-ltb b _ (omega (arith, f, at.counted))
 tracked_since first past n enclave j b at (Some k) f = lt-ltb b _ (omega (arith, at.counted, f.missed k (omega arith)))
@@ -212,7 +225,8 @@ pub last_track_is : (past : List Entry) (enclave : ℕ) → LastTrack past encla
 last_track_is [] enclave = λ m. refl
 last_track_is (e ∷ past) enclave = by_cases (is_track e.event enclave) refl (last_track past enclave) (last_track_is past enclave)
   where
-    by_cases : (b : Bool) → is_track e.event enclave ≡ b → (o : Option ℕ) → LastTrack past enclave o → LastTrack (e ∷ past) enclave (cond b (Some (length past)) o)
+    by_cases : (b : Bool) → is_track e.event enclave ≡ b → (o : Option ℕ) → LastTrack past enclave o
+        → LastTrack (e ∷ past) enclave (cond b (Some (length past)) o)
     by_cases true is o h = record {
       below = omega arith;
       reached = λ m lt. rw (is, lt-ltb m (length past) lt) (omega arith);
@@ -226,10 +240,12 @@ last_track_is (e ∷ past) enclave = by_cases (is_track e.event enclave) refl (l
     }
 
 -- the older ones are inside since before the last track
-pub older_by_places : (first : ℕ) (past : List Entry) (enclave : ℕ) → older_at past enclave ≡ number_noting first past enclave (λ m. ltb m (epoch first past enclave))
+pub older_by_places : (first : ℕ) (past : List Entry) (enclave : ℕ)
+    → older_at past enclave ≡ number_noting first past enclave (λ m. ltb m (epoch first past enclave))
 older_by_places first past enclave = by_track (last_track past enclave) (last_track_is past enclave)
   where
-    agree : (o : Option ℕ) → LastTrack past enclave o → (m : ℕ) (t : Stay) → IsNoted first past m t → t.seat.enclave ≡ enclave → is_before o t.entered ≡ ltb m (epoch first past enclave)
+    agree : (o : Option ℕ) → LastTrack past enclave o → (m : ℕ) (t : Stay) → IsNoted first past m t → t.seat.enclave ≡ enclave
+        → is_before o t.entered ≡ ltb m (epoch first past enclave)
     agree None h m t n same = sym (le-ltb m _ (omega (arith, rw same at n.counted, h t.entered)))
     agree (Some k) h m t n same = by_place (cases_lt t.entered k)
       where
@@ -237,7 +253,8 @@ older_by_places first past enclave = by_track (last_track past enclave) (last_tr
         by_place (inl lt) = lt-ltb _ _ lt ∙ sym (lt-ltb m _ (omega (arith, rw same at n.counted, h.reached t.entered lt)))
         by_place (inr le) = le-ltb _ _ le ∙ sym (le-ltb m _ (omega (arith, rw same at n.counted, h.passed t.entered le)))
 
-    by_enclave : (o : Option ℕ) → LastTrack past enclave o → (m : ℕ) (t : Stay) → IsNoted first past m t → (is : Bool) → (t.seat.enclave == enclave) ≡ is
+    by_enclave : (o : Option ℕ) → LastTrack past enclave o → (m : ℕ) (t : Stay) → IsNoted first past m t → (is : Bool)
+        → (t.seat.enclave == enclave) ≡ is
         → (is && is_before o t.entered) ≡ (is && ltb m (epoch first past enclave))
     by_enclave o h m t n false e = refl
     by_enclave o h m t n true e = agree o h m t n (eqb-true _ _ e)
@@ -247,26 +264,32 @@ older_by_places first past enclave = by_track (last_track past enclave) (last_tr
     by_stay o h m None n = refl
     by_stay o h m (Some t) n = by_enclave o h m t n (t.seat.enclave == enclave) refl
 
-    by_track : (o : Option ℕ) → LastTrack past enclave o → count_below (λ p. is_in_before enclave o (stay past p)) 16 ≡ number_noting first past enclave (λ m. ltb m (epoch first past enclave))
+    by_track : (o : Option ℕ) → LastTrack past enclave o
+        → count_below (λ p. is_in_before enclave o (stay past p)) 16 ≡ number_noting first past enclave
+        (λ m. ltb m (epoch first past enclave))
     by_track o h = count_below-agrees _ _ (λ p. by_stay o h (noted first past p) (stay past p) (all_noted first past p)) 16
 
 -- as many keep a blocked page back as epochs say
-pub kept_back_count : (first : ℕ) (past : List Entry) (n enclave j b : ℕ) → IsBlockedAt first past n enclave j b → number_kept_back past enclave j ≡ number_up_to first past enclave b
+pub kept_back_count : (first : ℕ) (past : List Entry) (n enclave j b : ℕ) → IsBlockedAt first past n enclave j b
+    → number_kept_back past enclave j ≡ number_up_to first past enclave b
 kept_back_count first past n enclave j b at =
     count_below-agrees _ _
-    (λ p. keeps_back-noted first past n enclave j b at (track_behind past enclave j) (first_track past enclave j) _ (stay past p) (all_noted first past p))
+    (λ p. keeps_back-noted first past n enclave j b at (track_behind past enclave j) (first_track past enclave j) _ (stay past p)
+    (all_noted first past p))
     16
 
 pub kept_back_is : (first : ℕ) (past : List Entry) (n : ℕ) → kept_back past n ≡ kept_back_by_epochs first past n
 kept_back_is first past n = by_enclave (enclave_in (content past n)) refl
   where
-    by_block : (enclave : ℕ) (j b : Option ℕ) → BlockedAt first past n enclave j b → kept_back_from past (Some enclave) j ≡ up_to_block first past (Some enclave) b
+    by_block : (enclave : ℕ) (j b : Option ℕ) → BlockedAt first past n enclave j b
+        → kept_back_from past (Some enclave) j ≡ up_to_block first past (Some enclave) b
     by_block enclave None None at = refl
     by_block enclave None (Some b) at = absurd at
     by_block enclave (Some j) None at = absurd at
     by_block enclave (Some j) (Some b) at = kept_back_count first past n enclave j b at
 
-    by_enclave : (c : Option ℕ) → enclave_in (content past n) ≡ c → kept_back_from past c (block_place past n) ≡ up_to_block first past c (block_epoch first past n)
+    by_enclave : (c : Option ℕ) → enclave_in (content past n) ≡ c
+        → kept_back_from past c (block_place past n) ≡ up_to_block first past c (block_epoch first past n)
     by_enclave None h = refl
     by_enclave (Some enclave) h = by_block enclave (block_place past n) (block_epoch first past n) (blocked_at first past n enclave h)
 
@@ -274,19 +297,22 @@ kept_back_is first past n = by_enclave (enclave_in (content past n)) refl
 pub drained_is : (first : ℕ) (past : List Entry) (n : ℕ) → is_drained past n ≡ is_drained_by_epochs first past n
 drained_is first past n = by_enclave (enclave_in (content past n)) refl
   where
-    by_block : (enclave : ℕ) (j b : Option ℕ) → BlockedAt first past n enclave j b → is_drained_from past (Some enclave) j ≡ passed_block first past (Some enclave) b
+    by_block : (enclave : ℕ) (j b : Option ℕ) → BlockedAt first past n enclave j b
+        → is_drained_from past (Some enclave) j ≡ passed_block first past (Some enclave) b
     by_block enclave None None at = refl
     by_block enclave None (Some b) at = absurd at
     by_block enclave (Some j) None at = absurd at
     by_block enclave (Some j) (Some b) at =
         rw (tracked_since first past n enclave j b at _ (first_track past enclave j), kept_back_count first past n enclave j b at)
 
-    by_enclave : (c : Option ℕ) → enclave_in (content past n) ≡ c → is_drained_from past c (block_place past n) ≡ passed_block first past c (block_epoch first past n)
+    by_enclave : (c : Option ℕ) → enclave_in (content past n) ≡ c
+        → is_drained_from past c (block_place past n) ≡ passed_block first past c (block_epoch first past n)
     by_enclave None h = refl
     by_enclave (Some enclave) h = by_block enclave (block_place past n) (block_epoch first past n) (blocked_at first past n enclave h)
 
 -- who entered before the first track behind a block
-pub entered_is : (first : ℕ) (past : List Entry) (n enclave b k p : ℕ) (s : Stay) → IsTrackedBlock first past n enclave b k → stay past p ≡ Some s → s.seat.enclave ≡ enclave
+pub entered_is : (first : ℕ) (past : List Entry) (n enclave b k p : ℕ) (s : Stay) → IsTrackedBlock first past n enclave b k
+    → stay past p ≡ Some s → s.seat.enclave ≡ enclave
     → ltb s.entered k ≡ leb (noted first past p) b
 entered_is first past n enclave b k p s at is same =
     let blocked : IsBlockedAt first past n enclave at.place b = rw (at.blocked, at.epoch) at (blocked_at first past n enclave at.page) in
@@ -294,10 +320,13 @@ entered_is first past n enclave b k p s at is same =
     let noted_one : IsNoted first past (noted first past p) s = rw is at (all_noted first past p) in
     by_place blocked first_one noted_one (ltb s.entered k) refl
   where
-    by_place : IsBlockedAt first past n enclave at.place b → IsFirstTrack past enclave at.place k → IsNoted first past (noted first past p) s
+    by_place : IsBlockedAt first past n enclave at.place b → IsFirstTrack past enclave at.place k
+        → IsNoted first past (noted first past p) s
         → (before : Bool) → ltb s.entered k ≡ before → before ≡ leb (noted first past p) b
-    by_place blocked f h true e = sym (le-leb _ b (omega (arith, blocked.counted, rw same at h.counted, f.reached s.entered (ltb-true _ _ e))))
-    by_place blocked f h false e = sym (lt-leb _ b (omega (arith, blocked.counted, rw same at h.counted, f.missed s.entered (ltb-false _ _ e))))
+    by_place blocked f h true e =
+        sym (le-leb _ b (omega (arith, blocked.counted, rw same at h.counted, f.reached s.entered (ltb-true _ _ e))))
+    by_place blocked f h false e =
+        sym (lt-leb _ b (omega (arith, blocked.counted, rw same at h.counted, f.missed s.entered (ltb-false _ _ e))))
 
 pub epochs_tell : (first : ℕ) (past : List Entry) → EpochsTellPlaces first past
 epochs_tell first past = record {

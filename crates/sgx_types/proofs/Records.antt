@@ -10,7 +10,8 @@ use Rattle.sgx_types.specs.Sealed.{Sealed, IsRecord, record_bytes}
 
 -- a record by its parts
 abbrev pub sealed_of : ℕ → ℕ → ℕ → List ℕ → List ℕ → Sealed
-sealed_of enclave address flags cipher tag = record { header = record { enclave = enclave; address = address; flags = flags }; cipher = cipher; tag = tag }
+sealed_of enclave address flags cipher tag =
+    record { header = record { enclave = enclave; address = address; flags = flags }; cipher = cipher; tag = tag }
 
 -- the record that stands in so many bytes
 abbrev pub record_in : List ℕ → Sealed
@@ -20,11 +21,13 @@ record_in bytes = sealed_of (long_at bytes 0) (long_at bytes 8) (long_at bytes 1
 piece_below : (n i : ℕ) (xs : List ℕ) → ((k : ℕ) → get_or xs k 0 < 256) → (k : ℕ) → get_or (take n (drop i xs)) k 0 < 256
 piece_below n i xs small k =
     ⊎_elim (λ (low : k < n). rw (get_or-take n (drop i xs) k 0 low, get_or-drop i xs k 0) (small (i + k)))
-    (λ (past : n ≤ k). let short : length (take n (drop i xs)) ≤ k = simp length-take (omega arith) in let none : get_or (take n (drop i xs)) k 0 ≡ 0 = get_or_past (take n (drop i xs)) k 0 short in omega arith)
+    (λ (past : n ≤ k). let short : length (take n (drop i xs)) ≤ k = simp length-take (omega arith) in
+    let none : get_or (take n (drop i xs)) k 0 ≡ 0 = get_or_past (take n (drop i xs)) k 0 short in omega arith)
     (cases_lt k n)
 
 -- the number in 8 bytes has these bytes
-long_bytes : (i : ℕ) (bytes : List ℕ) → i + 8 ≤ length bytes → ((k : ℕ) → get_or bytes k 0 < 256) → to_le_bytes w64 (long_at bytes i) ≡ take 8 (drop i bytes)
+long_bytes : (i : ℕ) (bytes : List ℕ) → i + 8 ≤ length bytes → ((k : ℕ) → get_or bytes k 0 < 256)
+    → to_le_bytes w64 (long_at bytes i) ≡ take 8 (drop i bytes)
 long_bytes i bytes fits small =
     le_bytes_8 (take 8 (drop i bytes)) (long_at bytes i) (simp (length-take, length-drop) (omega arith)) (piece_below 8 i bytes small) refl
 
@@ -39,9 +42,11 @@ five_pieces a b c bytes is_a is_b is_c =
     cc
 
 -- the record in 4152 bytes has these bytes
-pub record_bytes-record_in : (bytes : List ℕ) → length bytes ≡ 4152 → ((k : ℕ) → get_or bytes k 0 < 256) → record_bytes (record_in bytes) ≡ bytes
+pub record_bytes-record_in : (bytes : List ℕ) → length bytes ≡ 4152 → ((k : ℕ) → get_or bytes k 0 < 256)
+    → record_bytes (record_in bytes) ≡ bytes
 record_bytes-record_in bytes size small =
-    five_pieces (to_le_bytes w64 (long_at bytes 0)) (to_le_bytes w64 (long_at bytes 8)) (to_le_bytes w64 (long_at bytes 16)) bytes (long_bytes 0 bytes (omega arith) small)
+    five_pieces (to_le_bytes w64 (long_at bytes 0)) (to_le_bytes w64 (long_at bytes 8)) (to_le_bytes w64 (long_at bytes 16)) bytes
+    (long_bytes 0 bytes (omega arith) small)
     (long_bytes 8 bytes (omega arith) small) (long_bytes 16 bytes (omega arith) small)
 
 -- the five pieces of bytes that were made of them
@@ -52,7 +57,8 @@ record ArePieces (a b c d e bytes : List ℕ) : Type 0 where
   fourth : take 4096 (drop 24 bytes) ≡ d
   fifth : drop 4120 bytes ≡ e
 
-pieces : (a b c d e bytes : List ℕ) → length a ≡ 8 → length b ≡ 8 → length c ≡ 8 → length d ≡ 4096 → bytes ≡ a ++ b ++ c ++ d ++ e → ArePieces a b c d e bytes
+pieces : (a b c d e bytes : List ℕ) → length a ≡ 8 → length b ≡ 8 → length c ≡ 8 → length d ≡ 4096 → bytes ≡ a ++ b ++ c ++ d ++ e
+    → ArePieces a b c d e bytes
 pieces a b c d e bytes size_a size_b size_c size_d is =
     let behind_a : bytes ≡ a ++ (b ++ (c ++ (d ++ e))) = is ∙ simp append_assoc in
     let from_8 : drop 8 bytes ≡ b ++ (c ++ (d ++ e)) = ap (drop 8) behind_a ∙ drop_at a (b ++ (c ++ (d ++ e))) 8 size_a in
@@ -74,15 +80,20 @@ same_parts : (a b c x y z : ℕ) (cipher tag cipher' tag' : List ℕ) → a ≡ 
 same_parts a b c x y z cipher tag cipher' tag' is_a is_b is_c is_cipher is_tag = rw (is_a, is_b, is_c, is_cipher, is_tag) refl
 
 -- a record that was read part by part
-pub read_parts : (a b c : ℕ) (cipher tag bytes : List ℕ) → a ≡ long_at bytes 0 → b ≡ long_at bytes 8 → c ≡ long_at bytes 16 → cipher ≡ take 4096 (drop 24 bytes)
+pub read_parts : (a b c : ℕ) (cipher tag bytes : List ℕ) → a ≡ long_at bytes 0 → b ≡ long_at bytes 8 → c ≡ long_at bytes 16
+    → cipher ≡ take 4096 (drop 24 bytes)
     → tag ≡ take (length bytes - 4120) (drop 4120 bytes) → sealed_of a b c cipher tag ≡ record_in bytes
 read_parts a b c cipher tag bytes is_a is_b is_c is_cipher is_tag =
-    same_parts a b c (long_at bytes 0) (long_at bytes 8) (long_at bytes 16) cipher tag (take 4096 (drop 24 bytes)) (drop 4120 bytes) is_a is_b is_c is_cipher (is_tag ∙ take_rest bytes 4120)
+    same_parts a b c (long_at bytes 0) (long_at bytes 8) (long_at bytes 16) cipher tag (take 4096 (drop 24 bytes)) (drop 4120 bytes) is_a
+    is_b is_c is_cipher (is_tag ∙ take_rest bytes 4120)
 
 -- the record in the bytes of a record is that record
 pub record_in-record_bytes : (rec : Sealed) (bytes : List ℕ) → IsRecord rec → bytes ≡ record_bytes rec → record_in bytes ≡ rec
 record_in-record_bytes rec bytes sizes is =
-    let parts = pieces (to_le_bytes w64 rec.header.enclave) (to_le_bytes w64 rec.header.address) (to_le_bytes w64 rec.header.flags) rec.cipher rec.tag bytes refl refl refl sizes.cipher is in
-    same_parts (long_at bytes 0) (long_at bytes 8) (long_at bytes 16) rec.header.enclave rec.header.address rec.header.flags _ _ rec.cipher rec.tag
-    (number_back rec.header.enclave (take 8 (drop 0 bytes)) sizes.enclave parts.first) (number_back rec.header.address (take 8 (drop 8 bytes)) sizes.address parts.second)
+    let parts = pieces (to_le_bytes w64 rec.header.enclave) (to_le_bytes w64 rec.header.address) (to_le_bytes w64 rec.header.flags)
+    rec.cipher rec.tag bytes refl refl refl sizes.cipher is in
+    same_parts (long_at bytes 0) (long_at bytes 8) (long_at bytes 16) rec.header.enclave rec.header.address rec.header.flags _ _ rec.cipher
+    rec.tag
+    (number_back rec.header.enclave (take 8 (drop 0 bytes)) sizes.enclave parts.first)
+    (number_back rec.header.address (take 8 (drop 8 bytes)) sizes.address parts.second)
     (number_back rec.header.flags (take 8 (drop 16 bytes)) sizes.flags parts.third) parts.fourth parts.fifth

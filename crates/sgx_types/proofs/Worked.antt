@@ -110,10 +110,12 @@ neighbour : answer (actions.Load 0x1000) (after (actions.Store 0x1008 9 ∷ []) 
 neighbour = refl
 
 -- an exchange answers the old word, and counts mod 2^64
-xadd_answers : answer (actions.Xadd 0x1000 1) (after (actions.Xadd 0x1000 0xffffffffffffffff ∷ []) inside) ≡ answers.Value 0xffffffffffffffff
+xadd_answers : answer (actions.Xadd 0x1000 1) (after (actions.Xadd 0x1000 0xffffffffffffffff ∷ []) inside) ≡ answers.Value
+    0xffffffffffffffff
 xadd_answers = refl
 
-xadd_wraps : answer (actions.Load 0x1000) (after (actions.Xadd 0x1000 0xffffffffffffffff ∷ actions.Xadd 0x1000 1 ∷ []) inside) ≡ answers.Value 0
+xadd_wraps : answer (actions.Load 0x1000) (after (actions.Xadd 0x1000 0xffffffffffffffff ∷ actions.Xadd 0x1000 1 ∷ []) inside)
+    ≡ answers.Value 0
 xadd_wraps = refl
 
 no_store : refusal (actions.Store 0x3000 1) inside ≡ Some why.NoPerm

@@ -12,7 +12,8 @@ use Rattle.sgx_types.specs.Frames.{page_at}
 use Rattle.sgx_types.specs.Processors.{stay}
 
 abbrev pub created_by : Event → ℕ → Option FlatEnclave → Option FlatEnclave
-created_by (Did (Create enclave f base size) answer) n before = if n == enclave then Some (record { base = base; size = size; is_init = false }) else before
+created_by (Did (Create enclave f base size) answer) n before =
+    if n == enclave then Some (record { base = base; size = size; is_init = false }) else before
 created_by (Did (Init enclave expect) answer) n before = if n == enclave then marked before else before
 created_by _ n before = before
 

@@ -70,4 +70,5 @@ older_at past enclave = count_below (λ p. is_in_before enclave (last_track past
 
 -- how many others are inside
 abbrev pub newer_at : List Entry → ℕ → ℕ
-newer_at past enclave = count_below (λ p. is_in enclave (stay past p) && not (is_in_before enclave (last_track past enclave) (stay past p))) 16
+newer_at past enclave =
+    count_below (λ p. is_in enclave (stay past p) && not (is_in_before enclave (last_track past enclave) (stay past p))) 16

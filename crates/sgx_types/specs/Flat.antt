@@ -233,7 +233,8 @@ flat_cpu_row m p _ = allowed
 -- the row of another instruction
 abbrev pub flat_build_row : FlatMemory → Action → List Case
 flat_build_row m (Create enclave f base size) = create_row enclave base size (is_some (m.enclaves enclave)) open_frame
-flat_build_row m (Add enclave number f kind perm init) = add_row number kind perm init (enclave_sight m enclave) (is_some (m.pages (page_at enclave number))) open_frame
+flat_build_row m (Add enclave number f kind perm init) =
+    add_row number kind perm init (enclave_sight m enclave) (is_some (m.pages (page_at enclave number))) open_frame
 flat_build_row m (Extend f chunk) = extend_row chunk false some_page
 flat_build_row m (Init enclave expect) = init_row (enclave_sight m enclave)
 flat_build_row m _ = allowed
@@ -289,7 +290,8 @@ flat_answer m actor action = if is_processors action then by_cpu actor else answ
 
 -- enters by a TCS page
 abbrev pub entered : FlatMemory → ℕ → ℕ → ℕ → ℕ → FlatMemory
-entered m p enclave tcs acc = with_busy (with_cpu m p (record { inside = Some (record { enclave = enclave; tcs = tcs }); acc = acc })) (page_at enclave tcs) true
+entered m p enclave tcs acc =
+    with_busy (with_cpu m p (record { inside = Some (record { enclave = enclave; tcs = tcs }); acc = acc })) (page_at enclave tcs) true
 
 -- inside by this TCS page
 abbrev pub is_inside_by : Option Inside → Page → Bool
@@ -314,7 +316,8 @@ abbrev pub saved : FlatMemory → ℕ → Option Inside → FlatMemory
 saved m acc None = m
 saved m acc (Some i) =
     let fields = fields_in m i.enclave i.tcs in
-    with_words (with_words m (page_at i.enclave (fields.ossa + fields.cssa)) (λ words. slice_set words 0 acc)) (page_at i.enclave i.tcs) (λ words. with_cssa words (fields.cssa + 1))
+    with_words (with_words m (page_at i.enclave (fields.ossa + fields.cssa)) (λ words. slice_set words 0 acc)) (page_at i.enclave i.tcs)
+    (λ words. with_cssa words (fields.cssa + 1))
 
 -- the word at an offset in the enclave that a processor is inside becomes this one
 abbrev pub stored : FlatMemory → Option Inside → ℕ → ℕ → FlatMemory
@@ -344,7 +347,8 @@ initialised m enclave = record m { enclaves = λ n. if n == enclave then marked 
 
 abbrev pub build_after : Action → FlatMemory → FlatMemory
 build_after (Create enclave frame base size) m = with_enclave m enclave (record { base = base; size = size; is_init = false })
-build_after (Add enclave number frame kind perm init) m = with_page m (page_at enclave number) (record { kind = kind; perm = perm; words = first_words init })
+build_after (Add enclave number frame kind perm init) m =
+    with_page m (page_at enclave number) (record { kind = kind; perm = perm; words = first_words init })
 build_after (Init enclave expect) m = initialised m enclave
 build_after _ m = m
 

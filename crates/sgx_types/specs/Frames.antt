@@ -28,7 +28,8 @@ abbrev pub page_at : ℕ → ℕ → Page
 page_at enclave number = record { enclave = enclave; number = number }
 
 abbrev pub added_by : Event → Page → Option (Kind × Perm) → Option (Kind × Perm)
-added_by (Did (Add enclave number frame kind perm init) answer) g before = if same_page (page_at enclave number) g then Some (kind, perm) else before
+added_by (Did (Add enclave number frame kind perm init) answer) g before =
+    if same_page (page_at enclave number) g then Some (kind, perm) else before
 added_by _ g before = before
 
 -- the kind and permissions with which a page was added
@@ -49,7 +50,8 @@ reloaded page (Some k) = Holds page k.0 k.1
 abbrev pub put_by : Event → (Page → Option (Kind × Perm)) → Option Put
 put_by (Did (Epa f) answer) kinds = Some (record { frame = f.0; content = IsVa })
 put_by (Did (Create enclave f base size) answer) kinds = Some (record { frame = f.0; content = SecsOf enclave })
-put_by (Did (Add enclave number f kind perm init) answer) kinds = Some (record { frame = f.0; content = Holds (page_at enclave number) kind perm })
+put_by (Did (Add enclave number f kind perm init) answer) kinds =
+    Some (record { frame = f.0; content = Holds (page_at enclave number) kind perm })
 put_by (Did (EldStart f page slot) answer) kinds = Some (record { frame = f.0; content = IsLoading })
 put_by (Did (Ewb f) answer) kinds = Some (record { frame = f.0; content = Free })
 put_by (Did (Eld f) (Moved page version tag)) kinds = Some (record { frame = f.0; content = reloaded page (kinds page) })

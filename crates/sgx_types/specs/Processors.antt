@@ -79,7 +79,8 @@ translations_after (Did (Enter enclave tcs tf sf) answer) is_its_own before = if
 translations_after (Did (Resume enclave tcs tf sf) answer) is_its_own before = if is_its_own then [] else before
 translations_after (Did Exit answer) is_its_own before = if is_its_own then [] else before
 translations_after (Did (Aex cause) answer) is_its_own before = if is_its_own then [] else before
-translations_after (Did (Fill number f) answer) is_its_own before = if is_its_own then with_filled before (record { number = number; frame = f.0 }) else before
+translations_after (Did (Fill number f) answer) is_its_own before =
+    if is_its_own then with_filled before (record { number = number; frame = f.0 }) else before
 translations_after _ is_its_own before = before
 
 -- the translations that a processor holds since it entered, oldest first

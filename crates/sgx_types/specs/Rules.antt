@@ -215,7 +215,8 @@ abbrev pub LoadsAwayRule : List Entry → Entry → Type 0
 LoadsAwayRule past e = by_event e.event
   where
     by_event : Event → Type 0
-    by_event (Did (EldStart f page slot) answer) = (n : ℕ) → (is_page (content past n) page ≡ false) × (is_load_of (open_start past n) page ≡ false)
+    by_event (Did (EldStart f page slot) answer) =
+        (n : ℕ) → (is_page (content past n) page ≡ false) × (is_load_of (open_start past n) page ≡ false)
     by_event _ = Unit {0}
 
 -- ---- the rules of the machine together

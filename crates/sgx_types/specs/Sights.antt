@@ -86,10 +86,13 @@ no_processor = when true why.WrongMode otherwise allowed
 -- the row of an instruction, by its actor
 abbrev pub row_at : ℕ → List Entry → Actor → Action → List Case
 row_at frames past actor (Epa f) = epa_row (sight_at frames past f.0)
-row_at frames past actor (Create enclave f base size) = create_row enclave base size (is_some ((flat past).enclaves enclave)) (sight_at frames past f.0)
+row_at frames past actor (Create enclave f base size) =
+    create_row enclave base size (is_some ((flat past).enclaves enclave)) (sight_at frames past f.0)
 row_at frames past actor (Add enclave number f kind perm init) =
-    add_row number kind perm init (enclave_sight (flat past) enclave) (is_some ((flat past).pages (page_at enclave number))) (sight_at frames past f.0)
-row_at frames past actor (Extend f chunk) = extend_row chunk (is_closed (flat past) (enclave_in (content past f.0))) (sight_at frames past f.0)
+    add_row number kind perm init (enclave_sight (flat past) enclave) (is_some ((flat past).pages (page_at enclave number)))
+    (sight_at frames past f.0)
+row_at frames past actor (Extend f chunk) =
+    extend_row chunk (is_closed (flat past) (enclave_in (content past f.0))) (sight_at frames past f.0)
 row_at frames past actor (Init enclave expect) = init_row (enclave_sight (flat past) enclave)
 row_at frames past (actors.Cpu p) action = cpu_row_at frames past p.0 action
 row_at frames past actor (Enter enclave tcs tf sf) = no_processor

@@ -23,8 +23,10 @@ version_told (Version version) = version
 version_told _ = 0
 
 abbrev pub opened_by : Event → ℕ → Option Start → Option Start
-opened_by (Did (EwbStart f slot) answer) n before = if f.0 == n then Some (record { slot = slot; version = version_told answer; loads = None }) else before
-opened_by (Did (EldStart f page slot) answer) n before = if f.0 == n then Some (record { slot = slot; version = version_told answer; loads = Some page }) else before
+opened_by (Did (EwbStart f slot) answer) n before =
+    if f.0 == n then Some (record { slot = slot; version = version_told answer; loads = None }) else before
+opened_by (Did (EldStart f page slot) answer) n before =
+    if f.0 == n then Some (record { slot = slot; version = version_told answer; loads = Some page }) else before
 opened_by (Did (Ewb f) answer) n before = if f.0 == n then None else before
 opened_by (Did (Eld f) answer) n before = if f.0 == n then None else before
 opened_by (Refused (Eld f) why) n before = if f.0 == n then None else before

@@ -17,7 +17,8 @@ use Rattle.sgxpage.specs.Runs.{HasJob, IsFaultAnd, IsFaultOf, IsNoJob, OfRead, k
 -- ---- the bytes read
 
 -- a source that was read to its end gave no more than it had
-pub takes-all : (left now : Option (List ℕ)) (bytes : List ℕ) (limit : ℕ) → IfSome left (λ all. bytes ≡ all) → length bytes ≤ limit → now ≡ emptied left → TakesAtMost (limit + 1) left now
+pub takes-all : (left now : Option (List ℕ)) (bytes : List ℕ) (limit : ℕ) → IfSome left (λ all. bytes ≡ all) → length bytes ≤ limit
+    → now ≡ emptied left → TakesAtMost (limit + 1) left now
 takes-all None now bytes limit same short ended = (0, omega arith, ended)
 takes-all (Some all) now bytes limit same short ended =
     (length all, omega (arith, ap length same), ended ∙ ap Some (sym (drop-length all)))
@@ -46,8 +47,10 @@ kind_of-short : (bytes : List ℕ) → length bytes ≤ 2 ^ 24 → NotYetBuilt �
 kind_of-short bytes short = grind arith
 
 -- no more bytes, and they are refused
-pub fault-early : (left : Option (List ℕ)) (bytes : List ℕ) (line : ℕ) (kind : JobKind) → IfSome left (λ all. bytes ≡ all) → length bytes ≤ 2 ^ 24
-    → (line ≡ 0) × ((kind ≡ TooLong) ⊎ (kind ≡ NotYetBuilt)) → (line ≡ 0 → kind ≡ TooLong → 2 ^ 24 < length bytes) → (line ≡ 0 → kind ≡ NotYetBuilt → IsNoJob bytes) → IsFaultOf left (unread.Fault line kind)
+pub fault-early : (left : Option (List ℕ)) (bytes : List ℕ) (line : ℕ) (kind : JobKind) → IfSome left (λ all. bytes ≡ all)
+    → length bytes ≤ 2 ^ 24
+    → (line ≡ 0) × ((kind ≡ TooLong) ⊎ (kind ≡ NotYetBuilt)) → (line ≡ 0 → kind ≡ TooLong → 2 ^ 24 < length bytes)
+    → (line ≡ 0 → kind ≡ NotYetBuilt → IsNoJob bytes) → IsFaultOf left (unread.Fault line kind)
 fault-early left bytes line kind same short early too_long not_yet = by_kind early.1
   where
     by_kind : (kind ≡ TooLong) ⊎ (kind ≡ NotYetBuilt) → IsFaultOf left (unread.Fault line kind)
@@ -66,7 +69,8 @@ job-no_fault : (left : Option (List ℕ)) (line : ℕ) (kind : JobKind) → IsSo
 job-no_fault None line kind some fault = some
 job-no_fault (Some all) line kind some fault = fault.2.0 some.0 (rw (sym fault.1) at some.1)
 
-module _ (left : Option (List ℕ)) (given : ℕ → JobKind → Type 0) (ReadRisen WriteRisen : Type 0) (some : IsSomeAnd left HasJob) (read : ReadRisen → ⊥) (write : WriteRisen → ⊥) where
+module _ (left : Option (List ℕ)) (given : ℕ → JobKind → Type 0) (ReadRisen WriteRisen : Type 0) (some : IsSomeAnd left HasJob)
+    (read : ReadRisen → ⊥) (write : WriteRisen → ⊥) where
   untold : (end : Unread) → IsFaultOf left end → IsFaultAnd end given → ⊥
   untold (unread.Fault line kind) fault told = job-no_fault left line kind some fault
   untold unread.Failed fault told = told
@@ -74,7 +78,8 @@ module _ (left : Option (List ℕ)) (given : ℕ → JobKind → Type 0) (ReadRi
 
   -- where some job has the bytes and no fault was counted, what kept the job from being read is want of memory
   pub unread-memory : (end : Unread) (status : Status) → IsFaultOf left end → (end ≡ unread.Failed → ReadRisen)
-      → status ≢ statuses.BadWords → (status ≡ statuses.BadJob → IsFaultAnd end given) → (status ≡ statuses.ReadFault → end ≡ unread.Failed) → (status ≡ statuses.WriteFault → WriteRisen)
+      → status ≢ statuses.BadWords → (status ≡ statuses.BadJob → IsFaultAnd end given) → (status ≡ statuses.ReadFault → end ≡ unread.Failed)
+      → (status ≡ statuses.WriteFault → WriteRisen)
       → (status ≡ statuses.Done) ⊎ (status ≡ statuses.Memory)
   unread-memory end statuses.Done fault failed words told at_read at_write = inl refl
   unread-memory end statuses.BadJob fault failed words told at_read at_write = absurd (untold end fault (told refl))

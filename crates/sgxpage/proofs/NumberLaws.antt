@@ -19,7 +19,8 @@ numbers_more first count = rw add-one (by_count first count)
 
 -- the lines of the numbers from `first` on
 lines_more : (lines : ℕ → List Words) (text : List ℕ) (first count : ℕ)
-    → (text ++ flat_map line_text (flat_map lines (numbers_from first count))) ++ flat_map line_text (lines (count + first)) ≡ text ++ flat_map line_text (flat_map lines (numbers_from first (count + 1)))
+    → (text ++ flat_map line_text (flat_map lines (numbers_from first count))) ++ flat_map line_text (lines (count + first)) ≡ text
+    ++ flat_map line_text (flat_map lines (numbers_from first (count + 1)))
 lines_more lines text first count =
     let before = flat_map lines (numbers_from first count) in
     let more : before ++ lines (count + first) ≡ flat_map lines (numbers_from first (count + 1)) =
@@ -32,11 +33,15 @@ lines_more lines text first count =
     ∙ ap (λ (ls : List Words). text ++ flat_map line_text ls) more
 
 pub enclaves_more : (text : List ℕ) (past : List Entry) (count : ℕ)
-    → (text ++ flat_map line_text (flat_map (enclave_lines past) (numbers_from 1 count))) ++ flat_map line_text (enclave_lines past (count + 1)) ≡ text ++ flat_map line_text (flat_map (enclave_lines past) (numbers_from 1 (count + 1)))
+    → (text ++ flat_map line_text (flat_map (enclave_lines past) (numbers_from 1 count)))
+    ++ flat_map line_text (enclave_lines past (count + 1)) ≡ text
+    ++ flat_map line_text (flat_map (enclave_lines past) (numbers_from 1 (count + 1)))
 enclaves_more text past count = lines_more (enclave_lines past) text 1 count
 
 pub cpus_more : (text : List ℕ) (past : List Entry) (count : ℕ)
-    → (text ++ flat_map line_text (flat_map (cpu_lines past) (numbers_from 0 count))) ++ flat_map line_text (cpu_lines past count) ≡ text ++ flat_map line_text (flat_map (cpu_lines past) (numbers_from 0 (count + 1)))
+    → (text ++ flat_map line_text (flat_map (cpu_lines past) (numbers_from 0 count))) ++ flat_map line_text (cpu_lines past count) ≡ text
+    ++ flat_map line_text (flat_map (cpu_lines past) (numbers_from 0 (count + 1)))
 cpus_more text past count =
     let e : count ≡ count + 0 = omega arith in
-    ap (λ (p : ℕ). (text ++ flat_map line_text (flat_map (cpu_lines past) (numbers_from 0 count))) ++ flat_map line_text (cpu_lines past p)) e ∙ lines_more (cpu_lines past) text 0 count
+    ap (λ (p : ℕ). (text ++ flat_map line_text (flat_map (cpu_lines past) (numbers_from 0 count))) ++ flat_map line_text (cpu_lines past p))
+    e ∙ lines_more (cpu_lines past) text 0 count

@@ -19,8 +19,10 @@ use Rattle.trace_text.specs.TraceText.{fault_word, refusal_name}
 -- ---- enclaves
 
 abbrev pub init_line : Event → ℕ → List Words → List Words
-init_line (Did (actions.Init e expect) answer) enclave before = if e == enclave then (enclave_word enclave ∷ codes "init" ∷ []) ∷ [] else before
-init_line (Refused (actions.Init e expect) (why.BadMeasure made)) enclave before = if e == enclave then (enclave_word enclave ∷ codes "badmeasure" ∷ []) ∷ [] else before
+init_line (Did (actions.Init e expect) answer) enclave before =
+    if e == enclave then (enclave_word enclave ∷ codes "init" ∷ []) ∷ [] else before
+init_line (Refused (actions.Init e expect) (why.BadMeasure made)) enclave before =
+    if e == enclave then (enclave_word enclave ∷ codes "badmeasure" ∷ []) ∷ [] else before
 init_line _ enclave before = before
 
 -- how an enclave's EINIT ended, nothing where there was none yet
@@ -67,7 +69,8 @@ cpu_lines past p = (codes "cpu" ∷ decimal p ∷ []) ∷ reply_lines past p
 -- ---- the output
 
 abbrev pub out_lines : JobView → List Entry → List Words
-out_lines j past = flat_map (enclave_lines past) (numbers_from 1 (length j.enclaves)) ++ flat_map (cpu_lines past) (numbers_from 0 (length j.scripts))
+out_lines j past =
+    flat_map (enclave_lines past) (numbers_from 1 (length j.enclaves)) ++ flat_map (cpu_lines past) (numbers_from 0 (length j.scripts))
 
 unfoldable pub out_of : JobView → List Entry → List ℕ
 out_of j past = flat_map line_text (out_lines j past)

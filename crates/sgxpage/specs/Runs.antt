@@ -48,7 +48,8 @@ pub record Broke (job : JobView) (out out' trace trace' : Option (List ℕ)) : T
   pub script : Script job past
   pub rules : KeepsRules job.epc past
   pub measure : Along MeasureRule past
-  pub given : (GivesPart trace trace' (trace_of past) × (out' ≡ out)) ⊎ ((trace' ≡ followed_by trace (trace_of past)) × GivesPart out out' (out_of job past))
+  pub given : (GivesPart trace trace' (trace_of past) × (out' ≡ out))
+      ⊎ ((trace' ≡ followed_by trace (trace_of past)) × GivesPart out out' (out_of job past))
 
 -- what was given, and the job is the one that these bytes spell
 pub record Ran (bytes : List ℕ) (out out' trace trace' : Option (List ℕ)) : Type 0 where

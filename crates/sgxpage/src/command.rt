@@ -1,4 +1,5 @@
-ghost use Rattle.std.specs.Prelude.{◌≡◌, ◌≢◌, ◌<◌, ◌+◌, ◌^◌, ◌⊎◌, ◌↔◌, [], ◌∷◌, codes, length, map, string_bytes, IfErr, IfOk, IfNone, IfSome, IsErrOf, IsSomeAnd, OnOk};
+ghost use Rattle.std.specs.Prelude.{◌≡◌, ◌≢◌, ◌<◌, ◌+◌, ◌^◌, ◌⊎◌, ◌↔◌, [], ◌∷◌, codes, length, map, string_bytes, IfErr, IfOk, IfNone};
+ghost use Rattle.std.specs.Prelude.{IfSome, IsErrOf, IsSomeAnd, OnOk};
 ghost use Rattle.io_edges.specs.Faults.{HasRisen};
 ghost use Rattle.io_edges.specs.Sinks.{GivesPart, followed_by};
 ghost use Rattle.io_edges.specs.Sources.{TakesAtMost};
@@ -169,9 +170,11 @@ fn run_over<K: Sink, L: Sink>(
 ) -> Result<(), Ungiven>
     requires { IsSmallJob job.now }
     ensures gave { OnOk result (Gave job.now (K.given out.old) (K.given out.new) (L.given trace.old) (L.given trace.new)) }
-    ensures broke { IsErrOf result Ungiven.Failed → Broke job.now (K.given out.old) (K.given out.new) (L.given trace.old) (L.given trace.new) }
+    ensures broke { IsErrOf result Ungiven.Failed
+        → Broke job.now (K.given out.old) (K.given out.new) (L.given trace.old) (L.given trace.new) }
     ensures memory { IsErrOf result Ungiven.Memory → (out.new ≡ out.old) × (trace.new ≡ trace.old) }
-    ensures failed { IsErrOf result Ungiven.Failed → HasRisen (K.faults out.old) (K.faults out.new) ⊎ HasRisen (L.faults trace.old) (L.faults trace.new) }
+    ensures failed { IsErrOf result Ungiven.Failed
+        → HasRisen (K.faults out.old) (K.faults out.new) ⊎ HasRisen (L.faults trace.old) (L.faults trace.new) }
 {
     let book = run(alloc, job)?;
     let trace_text = print_trace(alloc, book.entries())?;

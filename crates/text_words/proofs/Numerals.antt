@@ -38,7 +38,8 @@ is_numeral-true radix ds h = and_from _ _ (lt-ltb _ _ h.0) (list_all-digits radi
 IsNumeral-true : (radix : ℕ) (ds : List ℕ) → is_numeral radix ds ≡ true → IsNumeral radix ds
 IsNumeral-true radix ds h = let p = and_parts _ _ h in (ltb-true _ _ p.0, AllDigits-list_all radix ds p.1)
 
-pub numeral_of-some : (radix : ℕ) (ds : List ℕ) → IsNumeral radix ds → digits_value radix ds < 2 ^ 64 → numeral_of radix ds ≡ Some (digits_value radix ds)
+pub numeral_of-some : (radix : ℕ) (ds : List ℕ) → IsNumeral radix ds → digits_value radix ds < 2 ^ 64
+    → numeral_of radix ds ≡ Some (digits_value radix ds)
 unfolding numeral_of
 numeral_of-some radix ds h lt = rw (is_numeral-true radix ds h, lt-ltb (digits_value radix ds) (2 ^ 64) lt) refl
 
@@ -47,7 +48,8 @@ unfolding numeral_of
 numeral_of-none radix ds h =
     cond-false _ _ _ (false_from_ne_true _ (λ e. let p = and_parts _ _ e in h (IsNumeral-true radix ds p.0, ltb-true _ _ p.1)))
 
-pub numeral_of-is : (radix : ℕ) (ds : List ℕ) (r : Option ℕ) → SomeIff r (IsNumeral radix ds × (digits_value radix ds < 2 ^ 64)) (digits_value radix ds) → r ≡ numeral_of radix ds
+pub numeral_of-is : (radix : ℕ) (ds : List ℕ) (r : Option ℕ)
+    → SomeIff r (IsNumeral radix ds × (digits_value radix ds < 2 ^ 64)) (digits_value radix ds) → r ≡ numeral_of radix ds
 numeral_of-is radix ds None h = sym (numeral_of-none radix ds h)
 numeral_of-is radix ds (Some v) h = ap (λ (n : ℕ). Some n) h.1 ∙ sym (numeral_of-some radix ds h.0.0 h.0.1)
 

@@ -39,7 +39,8 @@ join-apart (word ∷ []) h = word-apart 10 word (omega arith) h.0
 join-apart (word ∷ next ∷ words) h =
     let first = word-apart 10 word (omega arith) h.0 in
     let rest = join-apart (next ∷ words) h.1 in
-    All-append (λ b. eqb b 10 ≡ false) word (32 ∷ join_with_byte 32 (next ∷ words)) first (All-cons (λ b. eqb b 10 ≡ false) 32 (join_with_byte 32 (next ∷ words)) refl rest)
+    All-append (λ b. eqb b 10 ≡ false) word (32 ∷ join_with_byte 32 (next ∷ words)) first
+    (All-cons (λ b. eqb b 10 ≡ false) 32 (join_with_byte 32 (next ∷ words)) refl rest)
 
 -- the empty line has one empty part
 abbrev pub parts_of : Words → Words
@@ -64,7 +65,8 @@ filter-parts (word ∷ words) h = filter-words (word ∷ words) h
 -- ---- lines of a text
 
 -- what stands after the last line feed is one part more
-pub split-lines : (lines : List Words) → AllByRecursion AreWords lines → slice_split (λ b. eqb b 10) (flat_map line_text lines) ≡ map (join_with_byte 32) lines ++ [] ∷ []
+pub split-lines : (lines : List Words) → AllByRecursion AreWords lines
+    → slice_split (λ b. eqb b 10) (flat_map line_text lines) ≡ map (join_with_byte 32) lines ++ [] ∷ []
 split-lines [] h = refl
 split-lines (line ∷ lines) h =
     ap (slice_split (λ b. eqb b 10)) (append_assoc (join_with_byte 32 line) (10 ∷ []) (flat_map line_text lines))

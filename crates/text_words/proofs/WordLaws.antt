@@ -21,7 +21,10 @@ use Rattle.text_words.proofs.Splits.{is_word}
 digits-above : (radix : ℕ) (ds : List ℕ) → radix ≤ 36 → AllDigits radix ds → list_all (ltb 32) ds ≡ true
 digits-above radix [] low all = refl
 digits-above radix (c ∷ cs) low all =
-    let high : 32 < c = elim (cases_lt c 48) [ inl lt ↦ (let d : digit_value c ≡ 36 = rw (lt-ltb c 48 lt) refl in omega (arith, all.0)) | inr le ↦ omega arith ] in
+    let high : 32 < c = elim (cases_lt c 48) [
+      | inl lt ↦ (let d : digit_value c ≡ 36 = rw (lt-ltb c 48 lt) refl in omega (arith, all.0))
+      | inr le ↦ omega arith
+    ] in
     and_from _ _ (lt-ltb 32 c high) (digits-above radix cs low all.1)
 
 numeral-is_word : (radix : ℕ) (ds : List ℕ) → radix ≤ 36 → IsNumeral radix ds → is_word ds ≡ true
@@ -56,11 +59,13 @@ encoded-above [] all = refl
 encoded-above (b ∷ bytes) all =
     let small : b < 256 = All-head (λ b. b < 256) b bytes all in
     and_from _ _ (lt-ltb 32 (slice_index lower_digits (b / 16)) (digit-above (b / 16) (omega arith)))
-    (and_from _ _ (lt-ltb 32 (slice_index lower_digits (b % 16)) (digit-above (b % 16) (omega arith))) (encoded-above bytes (All-tail (λ b. b < 256) b bytes all)))
+    (and_from _ _ (lt-ltb 32 (slice_index lower_digits (b % 16)) (digit-above (b % 16) (omega arith)))
+    (encoded-above bytes (All-tail (λ b. b < 256) b bytes all)))
 
 pub digest-is_word : (digest : List ℕ) → IsDigest digest → is_word (encode_lower digest) ≡ true
 digest-is_word digest is =
-    and_from _ _ (lt-ltb 0 (length (encode_lower digest)) (omega (arith, length-encode_with lower_digits digest, is.sized))) (encoded-above digest is.bytes)
+    and_from _ _ (lt-ltb 0 (length (encode_lower digest)) (omega (arith, length-encode_with lower_digits digest, is.sized)))
+    (encoded-above digest is.bytes)
 
 -- ---- reading them again
 

@@ -4,11 +4,13 @@ use Rattle.std.proofs.lemmas.List.{append_assoc, reverse-append, take_more}
 use Rattle.sgx_types.specs.declared.entries.Entry.{Entry}
 use Rattle.trace_text.specs.TraceText.{entry_text, entries_text}
 
-pub newest_more : (entries : List Entry) (i : ℕ) (d : Entry) → i < length entries → reverse (take (i + 1) entries) ≡ get_or entries i d ∷ reverse (take i entries)
+pub newest_more : (entries : List Entry) (i : ℕ) (d : Entry) → i < length entries
+    → reverse (take (i + 1) entries) ≡ get_or entries i d ∷ reverse (take i entries)
 newest_more entries i d within = ap reverse (take_more entries i d within) ∙ reverse-append (take i entries) (get_or entries i d ∷ [])
 
 pub entries_text_more : (text : List ℕ) (entries : List Entry) (i : ℕ) (d : Entry) → i < length entries
-    → (text ++ entries_text (reverse (take i entries))) ++ entry_text (get_or entries i d) ≡ text ++ entries_text (reverse (take (i + 1) entries))
+    → (text ++ entries_text (reverse (take i entries))) ++ entry_text (get_or entries i d) ≡ text
+    ++ entries_text (reverse (take (i + 1) entries))
 entries_text_more text entries i d within =
     append_assoc text (entries_text (reverse (take i entries))) (entry_text (get_or entries i d))
     ∙ ap (λ (past : List Entry). text ++ entries_text past) (sym (newest_more entries i d within))

@@ -1,5 +1,6 @@
 ghost use Rattle.std.specs.Prelude.{◌≡◌, [], ◌∷◌};
-ghost use Rattle.trace_text.specs.TraceText.{access_word, cause_word, fault_word, kind_word, look_word, perms_word, refusal_name, stop_word};
+ghost use Rattle.trace_text.specs.TraceText.{access_word, cause_word, fault_word, kind_word, look_word, perms_word, refusal_name};
+ghost use Rattle.trace_text.specs.TraceText.{stop_word};
 
 use sgx_types::entries::{AccessOp, BusWhy, Cause, Look, PfWhy};
 use sgx_types::names::{Kind, Perm};

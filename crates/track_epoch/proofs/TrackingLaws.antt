@@ -78,7 +78,13 @@ IsNonDecreasing-without (y ∷ ys) x h = by_test (eqb y x) (IsNonDecreasing-with
 pub count_by-agrees : (p q : ℕ → Bool) (xs : List ℕ) → All (λ n. p n ≡ q n) xs → count_by p xs ≡ count_by q xs
 count_by-agrees p q [] h = refl
 count_by-agrees p q (x ∷ xs) h =
-    rw (count_by-cons p x xs, count_by-cons q x xs, All-head (λ n. p n ≡ q n) x xs h, count_by-agrees p q xs (All-tail (λ n. p n ≡ q n) x xs h)) refl
+    rw (
+      count_by-cons p x xs,
+      count_by-cons q x xs,
+      All-head (λ n. p n ≡ q n) x xs h,
+      count_by-agrees p q xs
+          (All-tail (λ n. p n ≡ q n) x xs h),
+    ) refl
 
 -- a test that fails everywhere counts nothing
 pub count_by-none : (p : ℕ → Bool) (xs : List ℕ) → All (λ n. p n ≡ false) xs → count_by p xs ≡ 0
@@ -90,7 +96,8 @@ count_by-none p (x ∷ xs) h =
 pub none_by_count : (p : ℕ → Bool) (xs : List ℕ) → count_by p xs ≡ 0 → All (λ n. p n ≡ false) xs
 none_by_count p [] h = All-nil (λ n. p n ≡ false)
 none_by_count p (x ∷ xs) h =
-    All-cons (λ n. p n ≡ false) x xs (fails (p x) (sym (count_by-cons p x xs) ∙ h)) (none_by_count p xs (omega (arith, h, count_by-cons p x xs)))
+    All-cons (λ n. p n ≡ false) x xs (fails (p x) (sym (count_by-cons p x xs) ∙ h))
+    (none_by_count p xs (omega (arith, h, count_by-cons p x xs)))
   where
     fails : (b : Bool) → cond b 1 0 + count_by p xs ≡ 0 → b ≡ false
     fails true some = absurd (omega (arith, some))
@@ -141,7 +148,13 @@ number_newer-entered t = rw (sum_by_push, le-leb t.epoch t.epoch (omega arith)) 
 -- a track starts as each track is
 pub IsTracking-starting_at : (epoch : ℕ) → 1 ≤ epoch → epoch ≤ LAST_EPOCH → IsTracking (starting_at epoch)
 IsTracking-starting_at epoch positive limited =
-    record { positive = positive; limited = limited; few = omega arith; rising = λ i j d i_le_j low. absurd (omega arith); recent = All-nil (IsRecent epoch) }
+    record {
+      positive = positive;
+      limited = limited;
+      few = omega arith;
+      rising = λ i j d i_le_j low. absurd (omega arith);
+      recent = All-nil (IsRecent epoch);
+    }
 
 -- entering keeps each noted epoch the epoch or the one before it, in rising order
 pub IsTracking-entered : (t : Tracking) → length t.noted < PROCESSORS → IsTracking t → IsTracking (entered t)
@@ -156,11 +169,13 @@ IsTracking-entered t room h = record {
 -- ---- leaving
 
 -- the older ones are one fewer where one of them leaves, and else as many
-pub number_older-left : (t : Tracking) (epoch : ℕ) → Contains t.noted epoch → number_older (left t epoch) + cond (ltb epoch t.epoch) 1 0 ≡ number_older t
+pub number_older-left : (t : Tracking) (epoch : ℕ) → Contains t.noted epoch
+    → number_older (left t epoch) + cond (ltb epoch t.epoch) 1 0 ≡ number_older t
 number_older-left t epoch inside = count_by-without (λ n. ltb n t.epoch) t.noted epoch inside
 
 -- .. and so with the others
-pub number_newer-left : (t : Tracking) (epoch : ℕ) → Contains t.noted epoch → number_newer (left t epoch) + cond (leb t.epoch epoch) 1 0 ≡ number_newer t
+pub number_newer-left : (t : Tracking) (epoch : ℕ) → Contains t.noted epoch
+    → number_newer (left t epoch) + cond (leb t.epoch epoch) 1 0 ≡ number_newer t
 number_newer-left t epoch inside = count_by-without (λ n. leb t.epoch n) t.noted epoch inside
 
 -- leaving keeps each noted epoch the epoch or the one before it, in rising order
@@ -177,7 +192,8 @@ IsTracking-left t epoch h = record {
 
 -- no processor inside has entered in the new epoch
 pub number_newer-tracked : (t : Tracking) → IsTracking t → number_newer (tracked t) ≡ 0
-number_newer-tracked t h = count_by-none (λ n. leb (t.epoch + 1) n) t.noted (λ k d low. lt-leb (t.epoch + 1) (get_or t.noted k d) (omega (arith, (h.recent k d low).0)))
+number_newer-tracked t h = count_by-none (λ n. leb (t.epoch + 1) n) t.noted
+    (λ k d low. lt-leb (t.epoch + 1) (get_or t.noted k d) (omega (arith, (h.recent k d low).0)))
 
 -- a new epoch makes older ones of all processors inside
 pub number_older-tracked : (t : Tracking) → IsTracking t → number_older (tracked t) ≡ length t.noted
@@ -206,12 +222,14 @@ number_up_to-counts t block h = by_tests (leb t.epoch block) refl (leb t.epoch (
         → number_up_to t block ≡ cond x (number_older t + number_newer t) (cond y (number_older t) 0)
     by_tests true now y next =
         rw (number_older-number_newer t)
-        (count_by-all (λ n. leb n block) t.noted (λ k d low. le-leb (get_or t.noted k d) block (omega (arith, (h.recent k d low).0, leb-true _ _ now))))
+        (count_by-all (λ n. leb n block) t.noted (λ k d low.
+        le-leb (get_or t.noted k d) block (omega (arith, (h.recent k d low).0, leb-true _ _ now))))
     by_tests false now true next =
         let is : t.epoch ≡ block + 1 = omega (arith, leb-false _ _ now, leb-true _ _ next) in
         count_by-agrees (λ n. leb n block) (λ n. ltb n t.epoch) t.noted (λ k d low. same_test (get_or t.noted k d) block t.epoch is)
     by_tests false now false next =
-        count_by-none (λ n. leb n block) t.noted (λ k d low. lt-leb (get_or t.noted k d) block (omega (arith, (h.recent k d low).1, leb-false _ _ next)))
+        count_by-none (λ n. leb n block) t.noted (λ k d low.
+        lt-leb (get_or t.noted k d) block (omega (arith, (h.recent k d low).1, leb-false _ _ next)))
 
 -- no noted epoch is above the present one
 pub all_up_to_now : (t : Tracking) → IsTracking t → number_up_to t t.epoch ≡ length t.noted
@@ -235,12 +253,28 @@ counted epoch (x ∷ xs) rising recent =
         → x ∷ xs ≡ noted_by epoch (count_by (λ n. ltb n epoch) (x ∷ xs)) (count_by (λ n. leb epoch n) (x ∷ xs))
     by_cases (inl older) rest =
         let first : x ≡ epoch - 1 = omega (arith, (recent 0 x (omega arith)).1) in
-        rw (count_by-cons (λ n. ltb n epoch) x xs, count_by-cons (λ n. leb epoch n) x xs, lt-ltb x epoch older, lt-leb epoch x older, one-add, zero-add)
+        rw (
+          count_by-cons (λ n. ltb n epoch) x xs,
+          count_by-cons (λ n. leb epoch n) x xs,
+          lt-ltb x epoch older,
+          lt-leb epoch x older,
+          one-add,
+          zero-add,
+        )
         (ap₂ ◌∷◌ first rest)
     by_cases (inr newer) rest =
         let first : x ≡ epoch = omega (arith, (recent 0 x (omega arith)).0) in
-        let none = count_by-none (λ n. ltb n epoch) xs (λ k d low. le-ltb (get_or xs k d) epoch (omega (arith, rising-head x xs rising k d low))) in
-        rw (count_by-cons (λ n. ltb n epoch) x xs, count_by-cons (λ n. leb epoch n) x xs, le-ltb x epoch newer, le-leb epoch x newer, one-add, zero-add, none)
+        let none = count_by-none (λ n. ltb n epoch) xs
+        (λ k d low. le-ltb (get_or xs k d) epoch (omega (arith, rising-head x xs rising k d low))) in
+        rw (
+          count_by-cons (λ n. ltb n epoch) x xs,
+          count_by-cons (λ n. leb epoch n) x xs,
+          le-ltb x epoch newer,
+          le-leb epoch x newer,
+          one-add,
+          zero-add,
+          none,
+        )
         (ap₂ ◌∷◌ first (rw none at rest))
 
 -- the noted epochs, by the two counts
@@ -252,11 +286,16 @@ noted-counts t h = counted t.epoch t.noted h.rising h.recent
 -- drained, where an epoch has begun since the block and no processor inside has one at or below the block's
 pub IsDrained-from_count : (t : Tracking) (block : ℕ) → block < t.epoch → number_up_to t block ≡ 0 → IsDrained t block
 IsDrained-from_count t block began none =
-    record { began = began; entered_since = λ k d low. leb-false (get_or t.noted k d) block (none_by_count (λ n. leb n block) t.noted none k d low) }
+    record {
+      began = began;
+      entered_since = λ k d low.
+          leb-false (get_or t.noted k d) block (none_by_count (λ n. leb n block) t.noted none k d low);
+    }
 
 -- .. and the other way round
 pub number_up_to-drained : (t : Tracking) (block : ℕ) → IsDrained t block → number_up_to t block ≡ 0
-number_up_to-drained t block h = count_by-none (λ n. leb n block) t.noted (λ k d low. lt-leb (get_or t.noted k d) block (h.entered_since k d low))
+number_up_to-drained t block h =
+    count_by-none (λ n. leb n block) t.noted (λ k d low. lt-leb (get_or t.noted k d) block (h.entered_since k d low))
 
 -- a drained page stays drained, whoever enters, leaves or tracks
 pub IsDrained-entered : (t : Tracking) (block : ℕ) → IsDrained t block → IsDrained (entered t) block

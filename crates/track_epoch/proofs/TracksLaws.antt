@@ -33,10 +33,13 @@ track_of-with_track tracks enclave other t first last = by_cases (cases_eq other
     by_cases : (other ≡ 0) ⊎ (other ≢ 0) → (enclave ≡ other) ⊎ (enclave ≢ other)
         → track_of (with_track tracks enclave t) other ≡ cond (eqb enclave other) (Some t) (track_of tracks other)
     by_cases (inl none) either = rw (eq-eqb other 0 none, ne_eqb enclave other (λ same. omega arith)) refl
-    by_cases (inr some) (inl same) = rw (ne_eqb other 0 some, eq-eqb enclave other same, ← same) (slice_get-set_same tracks (enclave - 1) t (omega arith))
+    by_cases (inr some) (inl same) =
+        rw (ne_eqb other 0 some, eq-eqb enclave other same, ← same) (slice_get-set_same tracks (enclave - 1) t (omega arith))
     by_cases (inr some) (inr differ) =
-        rw (ne_eqb other 0 some, ne_eqb enclave other differ) (slice_get-set_other tracks (enclave - 1) (other - 1) t (λ same. differ (omega arith)))
+        rw (ne_eqb other 0 some, ne_eqb enclave other differ)
+        (slice_get-set_other tracks (enclave - 1) (other - 1) t (λ same. differ (omega arith)))
 
 -- writing an enclave's own track back changes nothing
-pub with_track-track_of : (tracks : List Tracking) (enclave : ℕ) (t : Tracking) → 1 ≤ enclave → track_of tracks enclave ≡ Some t → with_track tracks enclave t ≡ tracks
+pub with_track-track_of : (tracks : List Tracking) (enclave : ℕ) (t : Tracking) → 1 ≤ enclave → track_of tracks enclave ≡ Some t
+    → with_track tracks enclave t ≡ tracks
 with_track-track_of tracks enclave t first is = set-slice_get tracks (enclave - 1) t (rw (ne_eqb enclave 0 (λ same. omega arith)) at is)

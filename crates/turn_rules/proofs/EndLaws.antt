@@ -17,7 +17,8 @@ waits j past cpu early = rw (lt-leb (length (build_of j)) (built past) early) re
 pub builder_ended : (j : JobView) (past : List Entry) → IsEnded j past → due j past actors.Builder ≡ None
 builder_ended j past ended = rw (ended.built, past_the_end (build_of j)) refl
 
-pub cpu_ended : (j : JobView) (past : List Entry) (cpu : Cpu) → IsEnded j past → cpu.0 < length j.scripts → due j past (actors.Cpu cpu) ≡ None
+pub cpu_ended : (j : JobView) (past : List Entry) (cpu : Cpu) → IsEnded j past → cpu.0 < length j.scripts
+    → due j past (actors.Cpu cpu) ≡ None
 cpu_ended j past cpu ended within =
     let whole : nat_le (length (build_of j)) (built past) ≡ true = le-leb (length (build_of j)) (built past) (omega (arith, ended.built)) in
     rw (whole, ended.replied cpu.0 within, past_the_end (script_of j cpu.0), ended.outside cpu.0 within) refl

@@ -25,7 +25,8 @@ pub record IsRun (r : PageRun) : Type 0 where
 -- the rest of an enclave, where so many of its lines were begun
 abbrev pub open_left : ℕ → Option EnclaveView → BuildCursor → List BuildStep
 open_left enclave None c = []
-open_left enclave (Some e) c = run_left enclave c.pages ++ (flat_map (line_steps enclave) (drop c.line e.lines) ++ builds.Init enclave e.expect ∷ [])
+open_left enclave (Some e) c =
+    run_left enclave c.pages ++ (flat_map (line_steps enclave) (drop c.line e.lines) ++ builds.Init enclave e.expect ∷ [])
 
 -- the steps that are left: the version arrays, the rest of the enclave that was created last, and the enclaves behind it
 abbrev pub left : JobView → BuildCursor → List BuildStep

@@ -49,7 +49,8 @@ page_steps enclave number kind perm init plain = builds.Add enclave number kind 
 -- a line's pages, rising
 abbrev pub line_steps : ℕ → PageLine → List BuildStep
 line_steps enclave (lines.Tcs page ossa nssa plain) = page_steps enclave page kinds.Tcs no_perm (inits.Tcs ossa nssa) plain
-line_steps enclave (lines.Reg first count perm value plain) = flat_map (λ n. page_steps enclave n kinds.Reg perm (inits.Words value) plain) (numbers_from first count)
+line_steps enclave (lines.Reg first count perm value plain) =
+    flat_map (λ n. page_steps enclave n kinds.Reg perm (inits.Words value) plain) (numbers_from first count)
 
 abbrev pub enclave_steps : ℕ → EnclaveView → List BuildStep
 enclave_steps enclave e = builds.Create enclave e.base e.size ∷ flat_map (line_steps enclave) e.lines ++ builds.Init enclave e.expect ∷ []
@@ -81,7 +82,8 @@ with_frame step (Some f) = Some (step_action step f)
 -- a step takes the least free frame, or is of the frame of its page
 abbrev pub step_due : ℕ → List Entry → BuildStep → Option Action
 step_due frames past (builds.Init enclave expect) = Some (actions.Init enclave expect)
-step_due frames past (builds.Extend enclave number chunk) = with_frame (builds.Extend enclave number chunk) (frame_of past (page_at enclave number))
+step_due frames past (builds.Extend enclave number chunk) =
+    with_frame (builds.Extend enclave number chunk) (frame_of past (page_at enclave number))
 step_due frames past step = with_frame step (least_free frames (content past))
 
 -- ---- entries and replies
@@ -172,7 +174,8 @@ leaves_by _ past g = false
 
 abbrev pub saved_after : Event → Bool → Page → ℕ → ℕ
 saved_after (Did (actions.Aex cause) answer) is_left g before = if is_left then before + 1 else before
-saved_after (Did (actions.Resume enclave tcs tf sf) answer) is_left g before = if same_page (page_at enclave tcs) g then before - 1 else before
+saved_after (Did (actions.Resume enclave tcs tf sf) answer) is_left g before =
+    if same_page (page_at enclave tcs) g then before - 1 else before
 saved_after _ is_left g before = before
 
 -- how many state save frames of a TCS page are in use

@@ -27,7 +27,8 @@ pub record OneMore (less more : Keeper) (slot : SlotAt) : Type 0 where
   pub frames : more.frames ≡ less.frames
   pub room : more.room ≡ less.room
 
-among_more : (less more : Keeper) (slot : SlotAt) → OneMore less more slot → (t : SlotAt) → is_among more.free t ≡ (is_among less.free t || (same_slot t slot || false))
+among_more : (less more : Keeper) (slot : SlotAt) → OneMore less more slot → (t : SlotAt)
+    → is_among more.free t ≡ (is_among less.free t || (same_slot t slot || false))
 among_more less more slot one t = ap (λ slots. is_among slots t) one.free ∙ among_push less.free slot t
 
 ours_same : (less more : Keeper) (slot : SlotAt) → OneMore less more slot → (t : SlotAt) → is_ours more t ≡ is_ours less t
@@ -45,17 +46,20 @@ shrunk less more slot one is =
     record {
       keeper = record {
         few = rw (← one.frames, ← one.room) is.few;
-        ours = λ t h. sym (ours_same less more slot one t) ∙ is.ours t (among_more less more slot one t ∙ or_left (is_among less.free t) (same_slot t slot || false) h);
+        ours = λ t h. sym (ours_same less more slot one t)
+            ∙ is.ours t (among_more less more slot one t ∙ or_left (is_among less.free t) (same_slot t slot || false) h);
         distinct = parts.0;
       };
       ours =
           sym (ours_same less more slot one slot)
-          ∙ is.ours slot (among_more less more slot one slot ∙ or_right (is_among less.free slot) (same_slot slot slot || false) (or_left (same_slot slot slot) false (is_same slot)));
+          ∙ is.ours slot (among_more less more slot one slot
+          ∙ or_right (is_among less.free slot) (same_slot slot slot || false) (or_left (same_slot slot slot) false (is_same slot)));
       absent = parts.1;
     }
 
 -- the keeper with the slot
-pub grown : (less more : Keeper) (slot : SlotAt) → OneMore less more slot → IsKeeper less → is_ours less slot ≡ true → is_among less.free slot ≡ false → IsKeeper more
+pub grown : (less more : Keeper) (slot : SlotAt) → OneMore less more slot → IsKeeper less → is_ours less slot ≡ true
+    → is_among less.free slot ≡ false → IsKeeper more
 grown less more slot one is ours absent = record {
   few = rw (one.frames, one.room) is.few;
   ours = λ t h. ours_same less more slot one t ∙ ⊎_elim
@@ -77,20 +81,23 @@ out_more : (o s l m : Bool) → l ≡ (s || m) → (s ≡ true → m ≡ false) 
 out_more o true l m e h = h refl
 out_more o false l m e h = sym e
 
-pub out_shrunk : (less more : Keeper) (slot : SlotAt) → OneMore less more slot → is_ours less slot ≡ true → is_among less.free slot ≡ false → (t : SlotAt) → is_out less t ≡ (same_slot slot t || is_out more t)
+pub out_shrunk : (less more : Keeper) (slot : SlotAt) → OneMore less more slot → is_ours less slot ≡ true → is_among less.free slot ≡ false
+    → (t : SlotAt) → is_out less t ≡ (same_slot slot t || is_out more t)
 out_shrunk less more slot one ours absent t =
     out_less (is_ours less t) (is_among less.free t) (same_slot slot t) (is_among more.free t)
     (among_more less more slot one t ∙ ap (λ b. is_among less.free t || (b || false)) (same_back t slot))
     (λ e. (ap (is_ours less) (sym (same_is slot t e)) ∙ ours, ap (is_among less.free) (sym (same_is slot t e)) ∙ absent))
     ∙ ap (λ o. same_slot slot t || (o && not (is_among more.free t))) (sym (ours_same less more slot one t))
 
-pub out_grown : (less more : Keeper) (slot : SlotAt) → OneMore less more slot → is_ours less slot ≡ true → is_among less.free slot ≡ false → (t : SlotAt) → is_out more t ≡ (not (same_slot slot t) && is_out less t)
+pub out_grown : (less more : Keeper) (slot : SlotAt) → OneMore less more slot → is_ours less slot ≡ true → is_among less.free slot ≡ false
+    → (t : SlotAt) → is_out more t ≡ (not (same_slot slot t) && is_out less t)
 out_grown less more slot one ours absent t =
     out_more true (same_slot slot t) (is_out less t) (is_out more t) (out_shrunk less more slot one ours absent t)
     (λ e. ap (is_out more) (sym (same_is slot t e)) ∙ gone)
   where
     here : is_among more.free slot ≡ true
-    here = among_more less more slot one slot ∙ or_right (is_among less.free slot) (same_slot slot slot || false) (or_left (same_slot slot slot) false (is_same slot))
+    here = among_more less more slot one slot ∙ or_right (is_among less.free slot) (same_slot slot slot || false)
+        (or_left (same_slot slot slot) false (is_same slot))
 
     gone : is_out more slot ≡ false
     gone = ap (λ b. is_ours more slot && not b) here ∙ and_false (is_ours more slot)
@@ -166,7 +173,8 @@ unfolding IsDistinct
 none_distinct = tt
 
 -- a keeper without pages
-pub new_is_keeper : (frames : List Frame) (free : List SlotAt) (room : ℕ) → frames ≡ [] → free ≡ [] → IsKeeper (record { frames = frames; free = free; room = room })
+pub new_is_keeper : (frames : List Frame) (free : List SlotAt) (room : ℕ) → frames ≡ [] → free ≡ []
+    → IsKeeper (record { frames = frames; free = free; room = room })
 new_is_keeper frames free room no_frames no_slots = record {
   few = rw no_frames (omega arith);
   ours = λ t h. absurd (false≢true (ap (λ slots. is_among slots t) (sym no_slots) ∙ h));
@@ -177,15 +185,18 @@ new_is_keeper frames free room no_frames no_slots = record {
 abbrev left : Keeper → List SlotAt → Keeper
 left k slots = record { frames = k.frames; free = slots; room = k.room }
 
-pub popped_keeper : (k : Keeper) (slots : List SlotAt) (r : Option SlotAt) → IsKeeper k → k.free ≡ slots ++ option_to_list r → IsKeeper (left k slots)
+pub popped_keeper : (k : Keeper) (slots : List SlotAt) (r : Option SlotAt) → IsKeeper k → k.free ≡ slots ++ option_to_list r
+    → IsKeeper (left k slots)
 popped_keeper k slots None is e = let same : k.free ≡ slots = e ∙ append-nil slots in rw (← same) is
 popped_keeper k slots (Some slot) is e = (shrunk (left k slots) k slot (record { free = e; frames = refl; room = refl }) is).keeper
 
-pub popped_answer : (k : Keeper) (slots : List SlotAt) (r : Option SlotAt) → IsKeeper k → k.free ≡ slots ++ option_to_list r → (m n : ℕ) → length k.free ≡ n → MatchOption r ((n ≡ 0) × (m ≡ 0)) (λ _. m + 1 ≡ n) → is_some r ≡ nat_lt (count_out k) (count_all k)
+pub popped_answer : (k : Keeper) (slots : List SlotAt) (r : Option SlotAt) → IsKeeper k → k.free ≡ slots ++ option_to_list r → (m n : ℕ)
+    → length k.free ≡ n → MatchOption r ((n ≡ 0) × (m ≡ 0)) (λ _. m + 1 ≡ n) → is_some r ≡ nat_lt (count_out k) (count_all k)
 popped_answer k slots None is e m n size cases = all_gone k (size ∙ cases.0)
 popped_answer k slots (Some slot) is e m n size cases = some_left k (length slots) is (ap length e ∙ length-append slots (slot ∷ []))
 
-pub popped_taken : (k : Keeper) (slots : List SlotAt) (r : Option SlotAt) → IsKeeper k → k.free ≡ slots ++ option_to_list r → IfSome r (λ slot. Takes k slot (left k slots))
+pub popped_taken : (k : Keeper) (slots : List SlotAt) (r : Option SlotAt) → IsKeeper k → k.free ≡ slots ++ option_to_list r
+    → IfSome r (λ slot. Takes k slot (left k slots))
 popped_taken k slots None is e = tt
 popped_taken k slots (Some slot) is e = takes k (left k slots) slot (record { free = e; frames = refl; room = refl }) is
 
@@ -195,27 +206,34 @@ pub record OnePage (old new : Keeper) (frame : Frame) : Type 0 where
   pub free : new.free ≡ old.free ++ first_slots frame 512
   pub room : new.room ≡ old.room
 
-added_more : (old new : Keeper) (frame : Frame) → OnePage old new frame → (n : ℕ) → is_added new n ≡ (is_added old n || ((frame.0 == n) || false))
-added_more old new frame one n = ap (list_any (λ (f : Frame). f.0 == n)) one.frames ∙ list_any-append (λ (f : Frame). f.0 == n) old.frames (frame ∷ [])
+added_more : (old new : Keeper) (frame : Frame) → OnePage old new frame → (n : ℕ)
+    → is_added new n ≡ (is_added old n || ((frame.0 == n) || false))
+added_more old new frame one n =
+    ap (list_any (λ (f : Frame). f.0 == n)) one.frames ∙ list_any-append (λ (f : Frame). f.0 == n) old.frames (frame ∷ [])
 
-among_page : (old new : Keeper) (frame : Frame) → OnePage old new frame → (t : SlotAt) → is_among new.free t ≡ (is_among old.free t || ((frame.0 == t.frame.0) && nat_lt t.index 512))
+among_page : (old new : Keeper) (frame : Frame) → OnePage old new frame → (t : SlotAt)
+    → is_among new.free t ≡ (is_among old.free t || ((frame.0 == t.frame.0) && nat_lt t.index 512))
 among_page old new frame one t =
     ap (λ slots. is_among slots t) one.free
     ∙ list_any-append (same_slot t) old.free (first_slots frame 512)
     ∙ ap (λ b. is_among old.free t || b) (among_first frame 512 t ∙ ap (λ b. b && nat_lt t.index 512) (nat_eq_equiv.symm t.frame.0 frame.0))
 
 -- none of the slots of a page that was not added is there
-not_there : (k : Keeper) (frame : Frame) → IsKeeper k → is_added k frame.0 ≡ false → (t : SlotAt) → t.frame.0 ≡ frame.0 → is_among k.free t ≡ false
+not_there : (k : Keeper) (frame : Frame) → IsKeeper k → is_added k frame.0 ≡ false → (t : SlotAt) → t.frame.0 ≡ frame.0
+    → is_among k.free t ≡ false
 not_there k frame is fresh t same =
     false_from_ne_true (is_among k.free t)
     (λ h. false≢true (sym fresh ∙ sym (ap (is_added k) same) ∙ (and_parts (is_added k t.frame.0) (nat_lt t.index 512) (is.ours t h)).0))
 
-distinct_page : (k : Keeper) (frame : Frame) (n : ℕ) → IsKeeper k → is_added k frame.0 ≡ false → IsDistinct same_slot (k.free ++ first_slots frame n)
-distinct_page k frame zero is fresh = let none : k.free ++ first_slots frame 0 ≡ k.free = ap (λ more. k.free ++ more) (first_slots_none frame) ∙ append-nil k.free in rw none is.distinct
+distinct_page : (k : Keeper) (frame : Frame) (n : ℕ) → IsKeeper k → is_added k frame.0 ≡ false
+    → IsDistinct same_slot (k.free ++ first_slots frame n)
+distinct_page k frame zero is fresh = let none : k.free
+    ++ first_slots frame 0 ≡ k.free = ap (λ more. k.free ++ more) (first_slots_none frame) ∙ append-nil k.free in rw none is.distinct
 distinct_page k frame (suc n) is fresh =
     let next : suc n ≡ n + 1 = omega arith in
     let slots : k.free ++ first_slots frame (suc n) ≡ (k.free ++ first_slots frame n) ++ slot_of frame n ∷ [] =
-    ap (λ more. k.free ++ more) (ap (first_slots frame) next ∙ first_slots_more frame n) ∙ sym (append_assoc k.free (first_slots frame n) (slot_of frame n ∷ [])) in
+    ap (λ more. k.free ++ more) (ap (first_slots frame) next ∙ first_slots_more frame n)
+    ∙ sym (append_assoc k.free (first_slots frame n) (slot_of frame n ∷ [])) in
     let past : nat_lt n n ≡ false = le-ltb n n (omega arith) in
     let absent : is_among (k.free ++ first_slots frame n) (slot_of frame n) ≡ false =
     list_any-append (same_slot (slot_of frame n)) k.free (first_slots frame n)
@@ -232,12 +250,14 @@ ours_more false c i true h e = absurd (false≢true (h refl))
 ours_more false true i false h e = e
 ours_more false false i false h e = absurd (false≢true e)
 
-pub adds_keeper : (old new : Keeper) (frame : Frame) → OnePage old new frame → IsKeeper old → length old.frames < old.room → is_added old frame.0 ≡ false → IsKeeper new
+pub adds_keeper : (old new : Keeper) (frame : Frame) → OnePage old new frame → IsKeeper old → length old.frames < old.room
+    → is_added old frame.0 ≡ false → IsKeeper new
 adds_keeper old new frame one is low fresh = record {
   few = rw (one.frames, one.room, length-append) (omega arith);
   ours = λ t h.
       ap (λ b. b && nat_lt t.index 512) (added_more old new frame one t.frame.0)
-      ∙ ours_more (is_added old t.frame.0) (frame.0 == t.frame.0) (nat_lt t.index 512) (is_among old.free t) (is.ours t) (sym (among_page old new frame one t) ∙ h);
+      ∙ ours_more (is_added old t.frame.0) (frame.0 == t.frame.0) (nat_lt t.index 512) (is_among old.free t) (is.ours t)
+      (sym (among_page old new frame one t) ∙ h);
   distinct = rw one.free (distinct_page old frame 512 is fresh);
 }
 
@@ -257,12 +277,14 @@ adds old new frame one fresh = record {
   room = one.room;
   out = λ t.
       ap (λ b. (b && nat_lt t.index 512) && not (is_among new.free t)) (added_more old new frame one t.frame.0)
-      ∙ ap (λ b. ((is_added old t.frame.0 || ((frame.0 == t.frame.0) || false)) && nat_lt t.index 512) && not b) (among_page old new frame one t)
+      ∙ ap (λ b. ((is_added old t.frame.0 || ((frame.0 == t.frame.0) || false)) && nat_lt t.index 512) && not b)
+      (among_page old new frame one t)
       ∙ out_page (is_added old t.frame.0) (frame.0 == t.frame.0) (nat_lt t.index 512) (is_among old.free t)
       (λ e. ap (is_added old) (sym (eqb-true frame.0 t.frame.0 e)) ∙ fresh);
   counted =
       let pages : length new.frames ≡ length old.frames + 1 = ap length one.frames ∙ length-append old.frames (frame ∷ []) in
-      let slots : length new.free ≡ length old.free + 512 = ap length one.free ∙ length-append old.free (first_slots frame 512) ∙ ap (λ n. length old.free + n) (length-first_slots frame 512) in
+      let slots : length new.free ≡ length old.free + 512 = ap length one.free ∙ length-append old.free (first_slots frame 512)
+      ∙ ap (λ n. length old.free + n) (length-first_slots frame 512) in
       omega (arith, pages, slots);
 }
 

@@ -38,15 +38,18 @@ slot_laws = record {
 }
 
 -- one more slot among others
-pub among_push : (slots : List SlotAt) (slot t : SlotAt) → is_among (slots ++ slot ∷ []) t ≡ (is_among slots t || (same_slot t slot || false))
+pub among_push : (slots : List SlotAt) (slot t : SlotAt)
+    → is_among (slots ++ slot ∷ []) t ≡ (is_among slots t || (same_slot t slot || false))
 among_push slots slot t = list_any-append (same_slot t) slots (slot ∷ [])
 
 -- the others, where the last one goes
-all_but_last : (x slot : SlotAt) (slots : List SlotAt) → AllByRecursion (λ y. same_slot x y ≡ false) (slots ++ slot ∷ []) → AllByRecursion (λ y. same_slot x y ≡ false) slots × (same_slot x slot ≡ false)
+all_but_last : (x slot : SlotAt) (slots : List SlotAt) → AllByRecursion (λ y. same_slot x y ≡ false) (slots ++ slot ∷ [])
+    → AllByRecursion (λ y. same_slot x y ≡ false) slots × (same_slot x slot ≡ false)
 all_but_last x slot [] h = (h.1, h.0)
 all_but_last x slot (y ∷ slots) h = let rest = all_but_last x slot slots h.1 in ((h.0, rest.0), rest.1)
 
-pub distinct_but_last : (slots : List SlotAt) (slot : SlotAt) → IsDistinct same_slot (slots ++ slot ∷ []) → IsDistinct same_slot slots × (is_among slots slot ≡ false)
+pub distinct_but_last : (slots : List SlotAt) (slot : SlotAt) → IsDistinct same_slot (slots ++ slot ∷ [])
+    → IsDistinct same_slot slots × (is_among slots slot ≡ false)
 unfolding IsDistinct
 distinct_but_last [] slot h = (h.1, refl)
 distinct_but_last (x ∷ slots) slot h =
@@ -79,7 +82,8 @@ unfolding first_slots
 among_first frame zero t = grind (arith, nat_tests)
 among_first frame (suc n) t =
     let next : suc n ≡ n + 1 = omega arith in
-    let more : first_slots frame (suc n) ≡ first_slots frame n ++ slot_of frame n ∷ [] = ap (first_slots frame) next ∙ first_slots_more frame n in
+    let more : first_slots frame (suc n) ≡ first_slots frame n ++ slot_of frame n ∷ [] = ap (first_slots frame) next
+    ∙ first_slots_more frame n in
     let below : nat_lt t.index (suc n) ≡ (nat_lt t.index n || (t.index == n)) = grind (arith, nat_tests) in
     ap (λ slots. is_among slots t) more ∙ among_push (first_slots frame n) (slot_of frame n) t
     ∙ ap (λ b. b || ((t.frame.0 == frame.0 && t.index == n) || false)) (among_first frame n t)
@@ -94,14 +98,16 @@ either c i a c' e = ap (λ b. (b && i) || (a && i)) e ∙ split c' i a
     split true false false = refl
     split false i a = refl
 
-pub among_slots_in : (frames : List Frame) (t : SlotAt) → is_among (slots_in frames) t ≡ (list_any (λ (f : Frame). f.0 == t.frame.0) frames && nat_lt t.index 512)
+pub among_slots_in : (frames : List Frame) (t : SlotAt)
+    → is_among (slots_in frames) t ≡ (list_any (λ (f : Frame). f.0 == t.frame.0) frames && nat_lt t.index 512)
 unfolding slots_in
 among_slots_in [] t = refl
 among_slots_in (f ∷ frames) t =
     list_any-append (same_slot t) (first_slots f 512) (slots_in frames)
     ∙ ap (λ b. b || is_among (slots_in frames) t) (among_first f 512 t)
     ∙ ap (λ b. ((t.frame.0 == f.0) && nat_lt t.index 512) || b) (among_slots_in frames t)
-    ∙ either (t.frame.0 == f.0) (nat_lt t.index 512) (list_any (λ (g : Frame). g.0 == t.frame.0) frames) (f.0 == t.frame.0) (nat_eq_equiv.symm t.frame.0 f.0)
+    ∙ either (t.frame.0 == f.0) (nat_lt t.index 512) (list_any (λ (g : Frame). g.0 == t.frame.0) frames) (f.0 == t.frame.0)
+    (nat_eq_equiv.symm t.frame.0 f.0)
 
 pub length-slots_in : (frames : List Frame) → length (slots_in frames) ≡ 512 * length frames
 unfolding slots_in

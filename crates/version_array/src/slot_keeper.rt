@@ -1,6 +1,7 @@
 //! Which slots are in use.
 
-ghost use Rattle.std.specs.Prelude.{◌≡◌, ◌+◌, ◌<◌, ◌≤◌, ◌++◌, true, false, length, is_some, nat_lt, IfOk, IfSome, IfNone, vec_capacity, vec_len};
+ghost use Rattle.std.specs.Prelude.{◌≡◌, ◌+◌, ◌<◌, ◌≤◌, ◌++◌, true, false, length, is_some, nat_lt, IfOk, IfSome, IfNone, vec_capacity};
+ghost use Rattle.std.specs.Prelude.{vec_len};
 ghost use Rattle.version_array.specs.Keeper.{new_keeper, is_added, is_out, count_all, count_out, Adds, Takes, Gives, AllOut};
 ghost use Rattle.version_array.specs.Pages.{first_slots};
 

@@ -6,7 +6,8 @@ pub loop-translation-preserved : goal.loop-translation-preserved
 loop-translation-preserved c =
     let loop = c.loop-translation in
     record {
-      only = index_forget loop.table.slots c.forget.new.self.slots c.args.places.now loop.translation-index _ loop.invariant.only c.forget.ensures.fewer c.forget.ensures.gone;
+      only = index_forget loop.table.slots c.forget.new.self.slots c.args.places.now loop.translation-index _ loop.invariant.only
+          c.forget.ensures.fewer c.forget.ensures.gone;
     }
 
 pub returns : goal.returns

@@ -25,30 +25,35 @@ loop-step-preserved c =
     let from = c.args.from in
     let kept = loop.invariant in
     let steps = c.steps_to in
-    let past = beyond loop.slots from loop.filled loop.step kept.gapped kept.before (omega arith) c.in-Some.slot c.in-Some.is steps.result steps.ensures.within steps.ensures.there
+    let past = beyond loop.slots from loop.filled loop.step kept.gapped kept.before (omega arith) c.in-Some.slot c.in-Some.is steps.result
+    steps.ensures.within steps.ensures.there
     kept.ahead.0 kept.ahead.1 kept.ahead.3 in
     elim c.if-steps_to-step.branch [
       | then-steps_to-step w ↦
           rw (w.slots-is, w.filled-is) (
           let long : loop.step ≤ steps.result + loop.filled = omega (arith, w.if-steps_to-step.true) in
           record {
-            gapped = moves loop.slots from loop.filled loop.step kept.gapped kept.before (omega arith) c.in-Some.slot c.in-Some.is steps.result steps.ensures.within steps.ensures.there
+            gapped = moves loop.slots from loop.filled loop.step kept.gapped kept.before (omega arith) c.in-Some.slot c.in-Some.is
+                steps.result steps.ensures.within steps.ensures.there
                 long w.swap.new.self w.swap.ensures.after;
             before = omega arith;
             ahead = (
               kept.ahead.0,
               past,
               kept.ahead.2,
-              free_still loop.slots from loop.filled loop.step kept.gapped kept.before (omega arith) c.in-Some.slot c.in-Some.is steps.result steps.ensures.within steps.ensures.there
+              free_still loop.slots from loop.filled loop.step kept.gapped kept.before (omega arith) c.in-Some.slot c.in-Some.is
+                  steps.result steps.ensures.within steps.ensures.there
                   long w.swap.new.self w.swap.ensures.after kept.ahead.0 kept.ahead.1 kept.ahead.2 kept.ahead.3,
             );
             same = IsPermutation-trans c.args.slots.now loop.slots w.swap.new.self kept.same
-                (IsPermutation-swap loop.slots w.swap.new.self ((from + loop.filled) % 128) ((from + loop.step) % 128) (omega (arith, kept.gapped.whole)) (omega (arith, kept.gapped.whole)) w.swap.ensures.after);
+                (IsPermutation-swap loop.slots w.swap.new.self ((from + loop.filled) % 128) ((from + loop.step) % 128)
+                (omega (arith, kept.gapped.whole)) (omega (arith, kept.gapped.whole)) w.swap.ensures.after);
           }
           )
       | else-steps_to-step w ↦
           rw (w.slots-is, w.filled-is) (record {
-            gapped = stays loop.slots from loop.filled loop.step kept.gapped kept.before (omega arith) c.in-Some.slot c.in-Some.is steps.result steps.ensures.within steps.ensures.there
+            gapped = stays loop.slots from loop.filled loop.step kept.gapped kept.before (omega arith) c.in-Some.slot c.in-Some.is
+                steps.result steps.ensures.within steps.ensures.there
                 (omega (arith, w.if-steps_to-step.false));
             before = omega arith;
             ahead = (kept.ahead.0, past, kept.ahead.2, kept.ahead.3);

@@ -9,4 +9,5 @@ returns-in_err-slot-clause-none c =
 
 pub returns-clause-none : goal.returns-clause-none
 returns-clause-none c =
-    λ is_none. absent c.args.slots.now c.requires c.args.number c.loop-step.step (omega arith) c.loop-step.invariant.others (λ few. absurd (omega arith))
+    λ is_none. absent c.args.slots.now c.requires c.args.number c.loop-step.step (omega arith) c.loop-step.invariant.others
+    (λ few. absurd (omega arith))

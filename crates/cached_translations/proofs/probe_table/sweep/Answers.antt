@@ -13,18 +13,21 @@ loop-step-preserved c =
     record {
       swept = sweep_more loop.slots c.args.number loop.step loop.invariant.swept c.loop-step-test.true;
       fewer =
-          λ m q leads. loop.invariant.fewer m q (fewer_more loop.slots c.args.number loop.step loop.invariant.swept c.loop-step-test.true m q leads);
+          λ m q leads. loop.invariant.fewer m q (fewer_more loop.slots c.args.number loop.step loop.invariant.swept c.loop-step-test.true m
+          q leads);
     }
 
 -- up to a free place
 pub returns-then-is_none-clause-probed : goal.returns-then-is_none-clause-probed
 returns-then-is_none-clause-probed c =
-    let free : slot_at c.loop-step.slots (c.args.number + c.loop-step.step) ≡ None = none_from_test _ (c.is_none.ensures ∙ ap not c.if-is_none.true) in
+    let free : slot_at c.loop-step.slots (c.args.number + c.loop-step.step) ≡ None =
+    none_from_test _ (c.is_none.ensures ∙ ap not c.if-is_none.true) in
     swept_probed c.loop-step.slots c.args.number c.loop-step.step c.loop-step.invariant.swept (omega arith) (λ few. free)
 
 pub returns-then-is_none-clause-gone : goal.returns-then-is_none-clause-gone
 returns-then-is_none-clause-gone c =
-    let free : slot_at c.loop-step.slots (c.args.number + c.loop-step.step) ≡ None = none_from_test _ (c.is_none.ensures ∙ ap not c.if-is_none.true) in
+    let free : slot_at c.loop-step.slots (c.args.number + c.loop-step.step) ≡ None =
+    none_from_test _ (c.is_none.ensures ∙ ap not c.if-is_none.true) in
     swept_gone c.loop-step.slots c.args.number c.loop-step.step c.loop-step.invariant.swept (omega arith) (λ few. free)
 
 -- all around

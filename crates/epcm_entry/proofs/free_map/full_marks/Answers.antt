@@ -5,7 +5,8 @@ use Rattle.epcm_entry.proofs.free_map.full_marks.Goals.{then-rest-ne0+in_ok-push
 
 pub returns : goal.returns
 returns c =
-    let whole : c.in_ok-marks.marks.items ≡ replicate (c.args.len / 64) (2 ^ 64 - 1) = c.in_ok-marks.ensures.items_if_clones_equal (λ y e. e) in
+    let whole : c.in_ok-marks.marks.items ≡ replicate (c.args.len / 64) (2 ^ 64 - 1) =
+    c.in_ok-marks.ensures.items_if_clones_equal (λ y e. e) in
     elim c.if-rest-ne0.branch [
       | then-rest-ne0+in_ok-push w ↦ rw (w.marks-is, w.in_ok-push.ensures.items, whole) (whole_and_rest c.args.len w.if-rest-ne0.true)
       | else-rest-ne0 w ↦ rw (w.marks-is, whole) (whole_marks c.args.len w.if-rest-ne0.false)

@@ -16,7 +16,8 @@ free (Some digest) e = cc
 pub returns-in_default : goal.returns-in_default
 unfolding with_expect
 returns-in_default c =
-    let nil = with_last-nil (expecting c.args.digest) enclave_view c.args.enclaves.now.items (grind (arith, c.in_default.ensures.variant.1, c.args.enclaves.now.ok.0)) in
+    let nil = with_last-nil (expecting c.args.digest) enclave_view c.args.enclaves.now.items
+    (grind (arith, c.in_default.ensures.variant.1, c.args.enclaves.now.ok.0)) in
     (rw nil refl, refl, refl)
 
 pub returns-then-is_some : goal.returns-then-is_some
@@ -24,7 +25,8 @@ unfolding with_expect
 returns-then-is_some c =
     let enclave = c.in-Some.enclave.now in
     let refused : expecting c.args.digest (enclave_view enclave) ≡ None = rw (taken enclave.expect c.if-is_some.ensures) refl in
-    let none = with_last-none (expecting c.args.digest) enclave_view c.args.enclaves.now.items (vec_len c.args.enclaves.now - 1) enclave (omega (arith, c.args.enclaves.now.ok.0, c.in-Some.ensures.variant.0 refl)) c.in-Some.ensures.value refused in
+    let none = with_last-none (expecting c.args.digest) enclave_view c.args.enclaves.now.items (vec_len c.args.enclaves.now - 1) enclave
+    (omega (arith, c.args.enclaves.now.ok.0, c.in-Some.ensures.variant.0 refl)) c.in-Some.ensures.value refused in
     (rw none refl, refl, refl)
 
 pub returns : goal.returns
@@ -34,8 +36,11 @@ returns c =
     let items = c.args.enclaves.now.items in
     let last = vec_len c.args.enclaves.now - 1 in
     let changed : EnclaveJob = record enclave { expect = Some c.args.digest } in
-    let expects : expecting c.args.digest (enclave_view enclave) ≡ Some (enclave_view changed) = rw (free enclave.expect c.if-is_some.ensures) refl in
-    let set = with_last-set (expecting c.args.digest) enclave_view items last enclave changed (omega (arith, c.args.enclaves.now.ok.0, c.in-Some.ensures.variant.0 refl)) c.in-Some.ensures.value expects in
-    let place = last_place-at items last enclave (omega (arith, c.args.enclaves.now.ok.0, c.in-Some.ensures.variant.0 refl)) c.in-Some.ensures.value in
+    let expects : expecting c.args.digest (enclave_view enclave) ≡ Some (enclave_view changed) =
+    rw (free enclave.expect c.if-is_some.ensures) refl in
+    let set = with_last-set (expecting c.args.digest) enclave_view items last enclave changed
+    (omega (arith, c.args.enclaves.now.ok.0, c.in-Some.ensures.variant.0 refl)) c.in-Some.ensures.value expects in
+    let place = last_place-at items last enclave (omega (arith, c.args.enclaves.now.ok.0, c.in-Some.ensures.variant.0 refl))
+    c.in-Some.ensures.value in
     let same : c.len.result ≡ last_place (enclave_views items) = omega (arith, place, c.len.ensures, enclave.lines.ok.0) in
     rw (set, same) refl

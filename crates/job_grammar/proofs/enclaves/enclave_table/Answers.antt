@@ -33,5 +33,14 @@ returns c =
     let lines = c.args.enclave.now.lines.items in
     let known = rw (c.in-Some.is, c.deref.ensures.value) at c.in_ok-table.ensures in
     let range = c.if-not-has_valid_range.ensures.0 refl in
-    let whole = take_all c.loop-line.line-index lines (rw (← c.deref-line-items.ensures.value) c.loop-line-test.false) in
-    (record { range = range.0; top = range.1; lines = known.0.valid; once = known.0.once; saved = rw whole at c.loop-line.invariant; expect = c.if-not-has_digest.ensures.0 refl }, valid_tells _ _ _ known.0 known.1)
+    let whole = take_all c.loop-line.line-index lines (rw (← c.deref-line-items.ensures.value) c.loop-line-test.false) in (
+      record {
+        range = range.0;
+        top = range.1;
+        lines = known.0.valid;
+        once = known.0.once;
+        saved = rw whole at c.loop-line.invariant;
+        expect = c.if-not-has_digest.ensures.0 refl;
+      },
+      valid_tells _ _ _ known.0 known.1,
+    )

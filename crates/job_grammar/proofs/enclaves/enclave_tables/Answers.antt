@@ -13,5 +13,8 @@ returns-in_default c = λ all.
 pub loop-enclave-preserved : goal.loop-enclave-preserved
 loop-enclave-preserved c =
     let known = rw c.in-Some.is at c.in_ok-table.ensures in
-    rw (views_more enclave_view c.args.enclaves.now _ c.enclave-item.result c.loop-enclave-test.true c.enclave-item.is, c.in_ok-push.ensures.items)
+    rw (
+      views_more enclave_view c.args.enclaves.now _ c.enclave-item.result c.loop-enclave-test.true c.enclave-item.is,
+      c.in_ok-push.ensures.items,
+    )
     (All-push IsValidEnclave _ _ c.loop-enclave.invariant.0 known.0, AreTablesOf-push _ _ _ _ c.loop-enclave.invariant.1 known.1)

@@ -6,4 +6,5 @@ use Rattle.job_grammar.proofs.enclaves.enclave_tables.Given as goal
 
 abbrev pub invariant-loop-enclave : goal.invariant-loop-enclave
 invariant-loop-enclave l =
-    All IsValidEnclave (map enclave_view (take l.enclave-index l.enclaves)) × AreTablesOf (map enclave_view (take l.enclave-index l.enclaves)) l.tables.items
+    All IsValidEnclave (map enclave_view (take l.enclave-index l.enclaves))
+    × AreTablesOf (map enclave_view (take l.enclave-index l.enclaves)) l.tables.items

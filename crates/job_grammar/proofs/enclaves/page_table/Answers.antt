@@ -22,6 +22,7 @@ loop-line-preserved c =
     let added = c.if-not-add.ensures.added in
     rw (take_more c.args.lines.now c.loop-line.line-index (Tcs 0 0 0 false) c.loop-line-test.true) (
       c.add.ensures.length ∙ so_far.0,
-      AreValidPages-more _ _ _ c.loop-line.table.lines.items c.add.new.self.lines.items so_far.1 (c.if-not-is_valid_line.ensures.0 refl) so_far.2 added,
+      AreValidPages-more _ _ _ c.loop-line.table.lines.items c.add.new.self.lines.items so_far.1 (c.if-not-is_valid_line.ensures.0 refl)
+          so_far.2 added,
       IsTableOf-more _ _ c.loop-line.table.lines.items c.add.new.self.lines.items so_far.2 added,
     )

@@ -40,7 +40,8 @@ returns-then-not-are_valid_scripts c =
                 let all = subst IsValid same accepted.valid in
                 false≢true ((valid j refl).1 all.ops))
             | then-not-are_valid_scripts-via-else-not-are_valid_scripts+then-not-is_small_job w ↦
-                (let form = rw (w.deref-else-not-are_valid_scripts.ensures.value, w.deref-else-not-are_valid_scripts-2.ensures.value) at w.if-not-is_small_job.ensures in
+                (let form = rw (w.deref-else-not-are_valid_scripts.ensures.value, w.deref-else-not-are_valid_scripts-2.ensures.value) at
+                w.if-not-is_small_job.ensures in
                 false≢true (form.1 (subst IsSmallJob same accepted.form)))
           ],
       refl,

@@ -21,7 +21,8 @@ returns-then-ne-clause-only c = λ job is.
     let draft = c.in_ok-draft.ensures in
     let same = accepted_is c.args.bytes.now job is _ _ draft c.in_ok-job.ensures in
     let text = rw (same, c.deref.ensures.value) at c.in_ok-text.ensures in
-    let equal : c.as_bytes.result.now ≡ c.args.bytes.now = c.as_bytes.ensures.value ∙ text ∙ written_again c.args.bytes.now job is _ draft in
+    let equal : c.as_bytes.result.now ≡ c.args.bytes.now = c.as_bytes.ensures.value ∙ text
+    ∙ written_again c.args.bytes.now job is _ draft in
     true≢false (rw ((bytes_eq-Decides c.as_bytes.result.now c.args.bytes.now).1 equal) at c.if-ne.ensures)
 
 pub returns-clause-only : goal.returns-clause-only

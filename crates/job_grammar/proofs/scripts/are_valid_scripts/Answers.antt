@@ -12,7 +12,8 @@ pub returns-then-not-is_valid_script : goal.returns-then-not-is_valid_script
 returns-then-not-is_valid_script c = λ j of. (
   λ e. absurd (false≢true e),
   λ all.
-      let this = All-view_at (λ (script : Vec Op). script.items) c.args.scripts.now _ c.script-item.result c.loop-script-test.true c.script-item.is (All (IsValidOp j)) all in
+      let this = All-view_at (λ (script : Vec Op). script.items) c.args.scripts.now _ c.script-item.result c.loop-script-test.true
+      c.script-item.is (All (IsValidOp j)) all in
       let answer = rw c.deref.ensures.value at c.if-not-is_valid_script.ensures j of in
       answer.1 this,
 )

@@ -13,7 +13,8 @@ returns-then-not-is_valid_op c = λ j of. (
 
 pub loop-op-preserved : goal.loop-op-preserved
 loop-op-preserved c = λ j of.
-    All-more (IsValidOp j) c.args.script.now c.loop-op.op-index _ c.loop-op-test.true (c.loop-op.invariant j of) ((c.if-not-is_valid_op.ensures j of).0 refl)
+    All-more (IsValidOp j) c.args.script.now c.loop-op.op-index _ c.loop-op-test.true (c.loop-op.invariant j of)
+    ((c.if-not-is_valid_op.ensures j of).0 refl)
 
 pub returns : goal.returns
 returns c = λ j of.

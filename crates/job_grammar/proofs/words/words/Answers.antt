@@ -13,7 +13,8 @@ returns c =
     (YieldsList-at c.take.ensures.source
     (YieldsList-from_filter _ (λ word. not (eqb (length word) 0))
     (YieldsList-at c.filter.ensures.source
-    (YieldsList-from_slice_split _ (λ b. eqb b 32) c.args.line.now c.split.ensures.rest c.split.ensures.done c.split.ensures.closure (λ x b q k. search (rules, tests))))
+    (YieldsList-from_slice_split _ (λ b. eqb b 32) c.args.line.now c.split.ensures.rest c.split.ensures.done c.split.ensures.closure
+    (λ x b q k. search (rules, tests))))
     c.filter.ensures.closure
     (λ x b q k. search (rules, tests))))
     c.take.ensures.count)

@@ -4,5 +4,9 @@ use Rattle.sgx_types.proofs.layouts.long_at.Goals as goal
 
 pub returns : goal.returns
 returns c =
-    rw (← chunk_of_chunks 8 (length c.args.bytes.now / 8) c.args.index c.args.bytes.now (omega (arith, c.requires)), ← c.as_chunks.ensures.front)
+    rw (
+      ← chunk_of_chunks 8 (length c.args.bytes.now / 8) c.args.index c.args.bytes.now (omega (arith, c.requires)),
+      ←
+          c.as_chunks.ensures.front,
+    )
     c.from_le_bytes.ensures

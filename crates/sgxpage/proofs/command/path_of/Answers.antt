@@ -15,5 +15,9 @@ returns-in-len2-clause-path c =
     let items = two_items c.args.words.now c.command-item.result c.path-item.result two c.command-item.is c.path-item.is in
     let run = (bytes_eq-Decides c.as_str.result.now (codes "run")).0 (sym c.eq.ensures ∙ c.if-eq.true) in
     let command : string_bytes c.command-item.result ≡ codes "run" = sym c.as_str.ensures.value ∙ run in
-    let path = c.as_str-in-len2.ensures.value in
-    (ap (map string_bytes) items ∙ ap (λ text. text ∷ string_bytes c.path-item.result ∷ []) command ∙ ap (λ text. codes "run" ∷ text ∷ []) (sym path), grind (arith, nat_tests, c.is_empty.ensures, c.if-not-is_empty.true, c.path-item.result.bytes.ok.0, ap length path))
+    let path = c.as_str-in-len2.ensures.value in (
+      ap (map string_bytes) items ∙ ap (λ text. text ∷ string_bytes c.path-item.result ∷ []) command
+          ∙ ap (λ text. codes "run" ∷ text ∷ []) (sym path),
+      grind
+          (arith, nat_tests, c.is_empty.ensures, c.if-not-is_empty.true, c.path-item.result.bytes.ok.0, ap length path),
+    )

@@ -21,6 +21,7 @@ returns-in-Err-Fault-clause-fault g c =
     let bytes = c.in-Ok.bytes.items in
     let fault = c.in-Err-Fault in
     let short : length bytes ≤ 2 ^ 24 = omega (arith, c.in-Ok.bytes.ok.0, c.in-Ok.ensures.within) in
-    fault-early (g.J.Source.left c.args.source.now) bytes fault.line fault.kind c.in-Ok.ensures.all short (rw fault.field-0-is at fault.ensures.kinds)
+    fault-early (g.J.Source.left c.args.source.now) bytes fault.line fault.kind c.in-Ok.ensures.all short
+    (rw fault.field-0-is at fault.ensures.kinds)
     (λ zeroth is. rw c.deref.ensures.value at fault.ensures.too_long.0 (ap Err (fault.field-0-is ∙ rw (zeroth, is) refl)))
     (λ zeroth is. rw c.deref.ensures.value at fault.ensures.not_yet (ap Err (fault.field-0-is ∙ rw (zeroth, is) refl)))

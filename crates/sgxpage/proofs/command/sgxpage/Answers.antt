@@ -15,4 +15,5 @@ returns-in-Err-clause-complete g c = λ run some source out trace.
     c.tell.ensures.not_bad_words c.tell.ensures.fault (λ is. (c.tell.ensures.failed is).0) c.tell.ensures.ungiven
 
 pub returns-in-Ok-run_over-clause-no_job : goal.returns-in-Ok-run_over-clause-no_job
-returns-in-Ok-run_over-clause-no_job g c = λ run none. absurd (no_job-read (g.J.Source.left c.args.job.now) c.in-Ok.job c.in-Ok.ensures.job none)
+returns-in-Ok-run_over-clause-no_job g c =
+    λ run none. absurd (no_job-read (g.J.Source.left c.args.job.now) c.in-Ok.job c.in-Ok.ensures.job none)

@@ -5,4 +5,5 @@ use Rattle.sgxpage.specs.OutText.{cpu_lines}
 use Rattle.sgxpage.proofs.replies.push_cpus.Given as goal
 
 abbrev pub invariant-loop-cpu : goal.invariant-loop-cpu
-invariant-loop-cpu l = l.onto.items ≡ l.fn.onto.items ++ flat_map line_text (flat_map (cpu_lines (reverse l.entries)) (numbers_from 0 l.cpu))
+invariant-loop-cpu l =
+    l.onto.items ≡ l.fn.onto.items ++ flat_map line_text (flat_map (cpu_lines (reverse l.entries)) (numbers_from 0 l.cpu))

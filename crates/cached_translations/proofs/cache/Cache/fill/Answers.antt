@@ -21,11 +21,16 @@ invariant_of-self c =
       first_until_full = λ h. c.self.invariant.first_until_full few;
       room = omega (arith, c.push_reserved.ensures.capacity, c.self.invariant.room);
       fits =
-          rw (c.push_reserved.ensures.items, pushed ring.places.items ring.oldest c.args.translation (c.self.invariant.first_until_full few) few none)
+          rw (
+            c.push_reserved.ensures.items,
+            pushed ring.places.items ring.oldest c.args.translation (c.self.invariant.first_until_full few)
+                few none,
+          )
           (FitsCache-with_translation (from_oldest ring) c.args.translation (omega arith) c.self.invariant.fits);
       index =
           rw c.push_reserved.ensures.items
-          (index_push ring.table.slots ring.places.items c.self.invariant.index c.insert.new.self.slots c.args.translation _ c.insert.ensures.adds (omega (arith, ring.places.ok.0)));
+          (index_push ring.table.slots ring.places.items c.self.invariant.index c.insert.new.self.slots c.args.translation _
+          c.insert.ensures.adds (omega (arith, ring.places.ok.0)));
     }
 
 pub insert-requires-clause-absent : goal.insert-requires-clause-absent
@@ -72,8 +77,10 @@ invariant_of-self-else-len-lt-PLACES c =
           let low : ring.oldest < length ring.places.items = omega (arith, full, c.self.invariant.oldest_in) in
           let of_page : number_at ring.places.items ring.oldest ≡ c.index.result.now.number =
           number_at-is ring.places.items ring.oldest c.index.result.now low ∙ ap (λ (t : Translation). t.number) (sym c.index.ensures) in
-          index_set ring.table.slots ring.places.items c.self.invariant.index ring.table.probed c.remove.new.self.slots c.insert-else-len-lt-PLACES.new.self.slots ring.oldest c.args.translation low
-          (subst (λ (m : ℕ). Drops ring.table.slots c.remove.new.self.slots m) (sym of_page) c.remove.ensures.drops) c.insert-else-len-lt-PLACES.ensures.adds;
+          index_set ring.table.slots ring.places.items c.self.invariant.index ring.table.probed c.remove.new.self.slots
+          c.insert-else-len-lt-PLACES.new.self.slots ring.oldest c.args.translation low
+          (subst (λ (m : ℕ). Drops ring.table.slots c.remove.new.self.slots m) (sym of_page) c.remove.ensures.drops)
+          c.insert-else-len-lt-PLACES.ensures.adds;
     }
 
 pub returns-else-len-lt-PLACES : goal.returns-else-len-lt-PLACES

@@ -8,7 +8,8 @@ pub returns-in_err-place : goal.returns-in_err-place
 returns-in_err-place c =
     let ring = c.self.inside in
     let none = found_nowhere ring.table.slots ring.places.items c.self.invariant.index c.args.number (c.in_err-place.ensures.none refl) in
-    rw (← c.self.view_is) (c.from_residual.ensures ∙ sym none ∙ translation_of-around_from ring.places.items ring.oldest c.args.number c.self.invariant.fits)
+    rw (← c.self.view_is) (c.from_residual.ensures ∙ sym none
+    ∙ translation_of-around_from ring.places.items ring.oldest c.args.number c.self.invariant.fits)
 
 -- the table leads to a place of the ring
 pub index-requires : goal.index-requires
@@ -20,5 +21,7 @@ pub returns : goal.returns
 returns c =
     let ring = c.self.inside in
     let found =
-    found_at ring.table.slots ring.places.items c.self.invariant.index ring.table.probed c.args.number c.in_ok-place.place c.index.result.now c.in_ok-place.ensures.found in
-    rw (← c.self.view_is) (ap Some c.index.ensures ∙ sym found ∙ translation_of-around_from ring.places.items ring.oldest c.args.number c.self.invariant.fits)
+    found_at ring.table.slots ring.places.items c.self.invariant.index ring.table.probed c.args.number c.in_ok-place.place
+    c.index.result.now c.in_ok-place.ensures.found in
+    rw (← c.self.view_is) (ap Some c.index.ensures ∙ sym found
+    ∙ translation_of-around_from ring.places.items ring.oldest c.args.number c.self.invariant.fits)

@@ -12,10 +12,12 @@ pub returns-clause-value : goal.returns-clause-value
 returns-clause-value c =
     let page = page_is _ _ _ c.self.invariant.paged c.self.view_is _ c.requires _ c.self.invariant.pages c.index-page.ensures in
     let whole = rw c.unwrap.ensures at c.as_array.ensures.cases in
-    whole.same ∙ c.as_flattened.ensures.value ∙ sym (bytes_of-page c.index-page.result.now page.words) ∙ ap bytes_of (sym (words_are _ _ _ c.self.invariant.paged c.self.view_is _ c.requires _ c.index-page.ensures))
+    whole.same ∙ c.as_flattened.ensures.value ∙ sym (bytes_of-page c.index-page.result.now page.words)
+    ∙ ap bytes_of (sym (words_are _ _ _ c.self.invariant.paged c.self.view_is _ c.requires _ c.index-page.ensures))
 
 pub returns-clause-words : goal.returns-clause-words
 returns-clause-words c =
     let page = page_is _ _ _ c.self.invariant.paged c.self.view_is _ c.requires _ c.self.invariant.pages c.index-page.ensures in
     let whole = rw c.unwrap.ensures at c.as_array.ensures.cases in
-    ap words_of (whole.same ∙ c.as_flattened.ensures.value) ∙ words_of-page c.index-page.result.now page.words ∙ sym (words_are _ _ _ c.self.invariant.paged c.self.view_is _ c.requires _ c.index-page.ensures)
+    ap words_of (whole.same ∙ c.as_flattened.ensures.value) ∙ words_of-page c.index-page.result.now page.words
+    ∙ sym (words_are _ _ _ c.self.invariant.paged c.self.view_is _ c.requires _ c.index-page.ensures)

@@ -14,8 +14,10 @@ index_mut-page-requires c =
 pub invariant_of-self : goal.invariant_of-self
 invariant_of-self c =
     let low : c.args.frame.0 < length c.put.new.self = rw (c.put.ensures, length-set) c.requires in
-    let page : IsPage c.index_mut-page.result.now = page_is _ _ _ c.self.invariant.paged c.self.view_is _ low _ c.self.invariant.pages c.index_mut-page.ensures.value in
-    let zeros : c.fill.new.self ≡ replicate 512 zero_word = c.fill.ensures.after (λ y e. each_same _ _ e.whole) ∙ ap (λ n. replicate n zero_word) page.sized in
+    let page : IsPage c.index_mut-page.result.now =
+    page_is _ _ _ c.self.invariant.paged c.self.view_is _ low _ c.self.invariant.pages c.index_mut-page.ensures.value in
+    let zeros : c.fill.new.self ≡ replicate 512 zero_word = c.fill.ensures.after (λ y e. each_same _ _ e.whole)
+    ∙ ap (λ n. replicate n zero_word) page.sized in
     record {
       small = c.self.invariant.small;
       paged = length-set _ _ _ ∙ c.self.invariant.paged;
@@ -26,8 +28,10 @@ invariant_of-self c =
 pub returns : goal.returns
 returns c =
     let low : c.args.frame.0 < length c.put.new.self = rw (c.put.ensures, length-set) c.requires in
-    let page : IsPage c.index_mut-page.result.now = page_is _ _ _ c.self.invariant.paged c.self.view_is _ low _ c.self.invariant.pages c.index_mut-page.ensures.value in
-    let zeros : c.fill.new.self ≡ replicate 512 zero_word = c.fill.ensures.after (λ y e. each_same _ _ e.whole) ∙ ap (λ n. replicate n zero_word) page.sized in
+    let page : IsPage c.index_mut-page.result.now =
+    page_is _ _ _ c.self.invariant.paged c.self.view_is _ low _ c.self.invariant.pages c.index_mut-page.ensures.value in
+    let zeros : c.fill.new.self ≡ replicate 512 zero_word = c.fill.ensures.after (λ y e. each_same _ _ e.whole)
+    ∙ ap (λ n. replicate n zero_word) page.sized in
     rw zeros
     (page_put _ _ _ c.self.invariant.paged c.self.view_is _ low (replicate 512 zero_word)
     ∙ ap (with_words c.put.new.self c.args.frame.0) zeros-page

@@ -13,7 +13,8 @@ pub invariant_of-result : goal.invariant_of-result
 invariant_of-result c =
     let entries : c.in_ok-vec.field-0.items ≡ replicate c.args.frames Free = c.in_ok-vec.ensures.items_if_clones_equal (λ y e. e) in
     let pages : c.in_ok-vec-2.field-0.items ≡ replicate c.args.frames (replicate 512 zero_word) =
-    c.in_ok-vec-2.ensures.items_if_clones_equal (λ y e. same_from_all_zip (λ (a b : List ℕ). AllZipBelow (λ (m n : ℕ). n ≡ m) a b 8) _ _ e.whole (λ a b f. each_same a b f.whole)) in
+    c.in_ok-vec-2.ensures.items_if_clones_equal (λ y e.
+    same_from_all_zip (λ (a b : List ℕ). AllZipBelow (λ (m n : ℕ). n ≡ m) a b 8) _ _ e.whole (λ a b f. each_same a b f.whole)) in
     record {
       small = rw (entries, length-replicate) c.requires;
       paged = rw (entries, pages) (length-replicate c.args.frames (replicate 512 zero_word) ∙ sym (length-replicate c.args.frames Free));
@@ -25,5 +26,6 @@ pub returns : goal.returns
 returns c =
     let entries : c.in_ok-vec.field-0.items ≡ replicate c.args.frames Free = c.in_ok-vec.ensures.items_if_clones_equal (λ y e. e) in
     let pages : c.in_ok-vec-2.field-0.items ≡ replicate c.args.frames (replicate 512 zero_word) =
-    c.in_ok-vec-2.ensures.items_if_clones_equal (λ y e. same_from_all_zip (λ (a b : List ℕ). AllZipBelow (λ (m n : ℕ). n ≡ m) a b 8) _ _ e.whole (λ a b f. each_same a b f.whole)) in
+    c.in_ok-vec-2.ensures.items_if_clones_equal (λ y e.
+    same_from_all_zip (λ (a b : List ℕ). AllZipBelow (λ (m n : ℕ). n ≡ m) a b 8) _ _ e.whole (λ a b f. each_same a b f.whole)) in
     rw (entries, pages) (new_frames c.args.frames (replicate 512 zero_word) zeros-page)

@@ -12,7 +12,8 @@ pub update-requires-clause-within : goal.update-requires-clause-within
 update-requires-clause-within c = free_within _ _ _ c.self.invariant.paged c.self.view_is _ c.requires _ c.self.invariant.marked
 
 pub update-requires-clause-known : goal.update-requires-clause-known
-update-requires-clause-known c = free_known _ _ _ c.self.invariant.paged c.self.view_is _ c.requires _ c.self.invariant.marked _ c.index-old.ensures ∙ sym c.is_free.ensures.value
+update-requires-clause-known c = free_known _ _ _ c.self.invariant.paged c.self.view_is _ c.requires _ c.self.invariant.marked _
+    c.index-old.ensures ∙ sym c.is_free.ensures.value
 
 pub invariant_of-self : goal.invariant_of-self
 invariant_of-self c = record {

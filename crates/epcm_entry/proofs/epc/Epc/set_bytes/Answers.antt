@@ -12,11 +12,13 @@ invariant_of-self c =
     record {
       small = c.self.invariant.small;
       paged = length-set _ _ _ ∙ c.self.invariant.paged;
-      pages = rw (c.copy_from_slice.ensures.after, c.as_chunks.ensures.front) (pages_put _ _ _ c.self.invariant.pages (chunk_page _ c.told-from c.fits-from));
+      pages = rw (c.copy_from_slice.ensures.after, c.as_chunks.ensures.front)
+          (pages_put _ _ _ c.self.invariant.pages (chunk_page _ c.told-from c.fits-from));
       marked = c.self.invariant.marked;
     }
 
 pub returns : goal.returns
 returns c =
     rw (c.copy_from_slice.ensures.after, c.as_chunks.ensures.front)
-    (page_put _ _ _ c.self.invariant.paged c.self.view_is _ c.requires _ ∙ ap (with_words c.args.self.now c.args.frame.0) (words_of-chunks c.args.from.now))
+    (page_put _ _ _ c.self.invariant.paged c.self.view_is _ c.requires _
+    ∙ ap (with_words c.args.self.now c.args.frame.0) (words_of-chunks c.args.from.now))

@@ -6,11 +6,13 @@ use Rattle.epcm_entry.proofs.Frames.{in_pages, page_is, page_put, words_are, pag
 use Rattle.epcm_entry.proofs.epc.Epc.set_word.Goals as goal
 
 pub index_mut-page-requires : goal.index_mut-page-requires
-index_mut-page-requires c = omega (arith, in_pages _ _ _ c.self.invariant.paged c.self.view_is _ c.requires.within, c.self.inside.pages.ok.0)
+index_mut-page-requires c =
+    omega (arith, in_pages _ _ _ c.self.invariant.paged c.self.view_is _ c.requires.within, c.self.inside.pages.ok.0)
 
 pub invariant_of-self : goal.invariant_of-self
 invariant_of-self c =
-    let page = page_is _ _ _ c.self.invariant.paged c.self.view_is _ c.requires.within _ c.self.invariant.pages c.index_mut-page.ensures.value in
+    let page = page_is _ _ _ c.self.invariant.paged c.self.view_is _ c.requires.within _ c.self.invariant.pages
+    c.index_mut-page.ensures.value in
     record {
       small = c.self.invariant.small;
       paged = length-set _ _ _ ∙ c.self.invariant.paged;
@@ -21,7 +23,9 @@ invariant_of-self c =
 pub returns : goal.returns
 returns c =
     rw (c.to_le_bytes.ensures, c.from.ensures)
-    (page_put _ _ _ c.self.invariant.paged c.self.view_is _ c.requires.within (set c.index_mut-page.result.now c.args.index (to_le_bytes w64 c.args.value))
+    (page_put _ _ _ c.self.invariant.paged c.self.view_is _ c.requires.within
+    (set c.index_mut-page.result.now c.args.index (to_le_bytes w64 c.args.value))
     ∙ ap (with_words c.args.self.now c.args.frame.0)
     (words-word_page c.index_mut-page.result.now c.args.index c.args.value (omega arith)
-    ∙ ap (λ ws. set ws c.args.index c.args.value) (sym (words_are _ _ _ c.self.invariant.paged c.self.view_is _ c.requires.within _ c.index_mut-page.ensures.value))))
+    ∙ ap (λ ws. set ws c.args.index c.args.value)
+    (sym (words_are _ _ _ c.self.invariant.paged c.self.view_is _ c.requires.within _ c.index_mut-page.ensures.value))))

@@ -10,4 +10,5 @@ pub returns : goal.returns
 returns c =
     let words = words_are _ _ _ c.self.invariant.paged c.self.view_is _ c.requires.within _ c.index-page.ensures in
     let page = page_is _ _ _ c.self.invariant.paged c.self.view_is _ c.requires.within _ c.self.invariant.pages c.index-page.ensures in
-    c.from_le_bytes.ensures ∙ (rw c.from.ensures (word-page c.index-page.result.now c.args.index page c.requires.in_frame)) ∙ ap (λ ws. get_or ws c.args.index 0) (sym words)
+    c.from_le_bytes.ensures ∙ (rw c.from.ensures (word-page c.index-page.result.now c.args.index page c.requires.in_frame))
+    ∙ ap (λ ws. get_or ws c.args.index 0) (sym words)

@@ -9,4 +9,5 @@ pub returns : goal.returns
 returns c =
     c.set_busy.ensures
     ∙ ap (λ (m : FlatMemory). with_busy m (page_at c.args.enclave c.from.result) false) c.set_cpu.ensures
-    ∙ rw c.from.ensures (left_by (memory_of c.args.self.now) c.args.cpu.0 c.args.enclave c.args.tcs c.acc-acc.result c.requires.inside c.acc-acc.ensures)
+    ∙ rw c.from.ensures (left_by (memory_of c.args.self.now) c.args.cpu.0 c.args.enclave c.args.tcs c.acc-acc.result c.requires.inside
+    c.acc-acc.ensures)

@@ -9,4 +9,5 @@ returns-clause-done c =
     let e = c.args.enclave in
     let whole = c.self.invariant in
     let k = creates d.enclaves e c.args.base c.args.size (rw (← c.self.view_is) at c.requires) in
-    rw (c.from-place.ensures, c.in_ok-table.ensures, ← c.self.view_is) (memory_created d e c.args.base c.args.size (c.args.size / 4096) k whole.enclaves_len whole.tables_len (whole.pages_len e))
+    rw (c.from-place.ensures, c.in_ok-table.ensures, ← c.self.view_is)
+    (memory_created d e c.args.base c.args.size (c.args.size / 4096) k whole.enclaves_len whole.tables_len (whole.pages_len e))

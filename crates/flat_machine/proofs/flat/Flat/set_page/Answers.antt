@@ -27,7 +27,12 @@ invariant_of-self-2 c =
       tables_len = rw length-set whole.tables_len;
       cpus_len = whole.cpus_len;
       pages_len = λ n.
-          rw (c.from.ensures, c.put.ensures, read_at d.tables e c.index_mut.result.now [] low (rw c.from.ensures at c.index_mut.ensures.value))
+          rw (
+            c.from.ensures,
+            c.put.ensures,
+            read_at d.tables e c.index_mut.result.now [] low
+                (rw c.from.ensures at c.index_mut.ensures.value),
+          )
           (slot_lengths d.tables e c.args.number _ n ∙ whole.pages_len n);
     }
 
@@ -38,5 +43,11 @@ returns-clause-done c =
     let whole = c.self.invariant in
     let k = adds d e c.args.number c.args.kind c.args.perm c.args.init (rw (← c.self.view_is) at c.requires) in
     let low : e < length d.tables = omega (arith, k.place, whole.enclaves_len, whole.tables_len) in
-    rw (c.from.ensures, c.put.ensures, read_at d.tables e c.index_mut.result.now [] low (rw c.from.ensures at c.index_mut.ensures.value), c.write.ensures, ← c.self.view_is)
+    rw (
+      c.from.ensures,
+      c.put.ensures,
+      read_at d.tables e c.index_mut.result.now [] low (rw c.from.ensures at c.index_mut.ensures.value),
+      c.write.ensures,
+      ← c.self.view_is,
+    )
     (memory_added d e c.args.number _ refl k.new low (rw (whole.pages_len e) k.within))

@@ -21,25 +21,31 @@ none_beyond : (d : Parts) (past : List Entry) → StandsWithRules (state_of d) p
 none_beyond d past standing n le = sym (content_is standing.stands.columns n) ∙ free_past d n le
 
 pub apply-requires : goal.apply-requires
-apply-requires c = rw c.deref_mut.ensures.value (can_do (length c.self.inside.machine.value.cpus) c.args.actor c.args.action (rw (← c.self.view_is) at c.requires))
+apply-requires c = rw c.deref_mut.ensures.value (can_do (length c.self.inside.machine.value.cpus) c.args.actor c.args.action
+    (rw (← c.self.view_is) at c.requires))
 
 pub note_home-requires : goal.note_home-requires
-note_home-requires c = λ g. (let entries = c.self.inside.entries in home_small c.self.inside.homes entries.items g c.self.invariant.homes (omega (arith, entries.ok.0)))
+note_home-requires c = λ g. (let entries = c.self.inside.entries in
+    home_small c.self.inside.homes entries.items g c.self.invariant.homes (omega (arith, entries.ok.0)))
 
 pub returns-clause-done : goal.returns-clause-done
 returns-clause-done c =
-    let step = step_of (state_of c.self.inside.machine.value) (state_of c.apply.new.self) c.args.actor c.args.action c.in_ok-entry.entry (rw c.deref_mut.ensures.value at c.in_ok-entry.ensures.step) in
+    let step = step_of (state_of c.self.inside.machine.value) (state_of c.apply.new.self) c.args.actor c.args.action c.in_ok-entry.entry
+    (rw c.deref_mut.ensures.value at c.in_ok-entry.ensures.step) in
     let past : reverse c.push_reserved.new.self.items ≡ c.in_ok-entry.entry ∷ reverse c.self.inside.entries.items =
     rw (c.push_reserved.ensures.items, c.reserve.ensures.items) (reverse-append c.self.inside.entries.items (c.in_ok-entry.entry ∷ [])) in
-    let all = c.in_ok-entry.ensures.history c.self.invariant.making (reverse c.self.inside.entries.items) [] (rw c.deref_mut.ensures.value c.self.invariant.stands) in
+    let all = c.in_ok-entry.ensures.history c.self.invariant.making (reverse c.self.inside.entries.items) []
+    (rw c.deref_mut.ensures.value c.self.invariant.stands) in
     let standing = all.standing in
     let can : CanAsk c.args.self.now.cpus c.in_ok-entry.entry.actor c.args.action = rw step.actor_is c.requires in
-    let stay = pages_stay c.args.self.now.cpus _ c.in_ok-entry.entry.actor c.args.action c.in_ok-entry.entry.event (reverse c.self.inside.entries.items) can step.action_is standing.rules in
+    let stay = pages_stay c.args.self.now.cpus _ c.in_ok-entry.entry.actor c.args.action c.in_ok-entry.entry.event
+    (reverse c.self.inside.entries.items) can step.action_is standing.rules in
     record {
       goes = record {
         frames = rw (← c.self.view_is) step.frames_same;
         cpus = rw (← c.self.view_is) (rw c.deref_mut.ensures.value at c.apply.ensures.cpus);
-        calm = rw past (calm_more c.args.self.now.cpus _ c.in_ok-entry.entry.actor c.args.action c.in_ok-entry.entry.event (reverse c.self.inside.entries.items) can step.action_is standing.rules stay c.self.invariant.calm);
+        calm = rw past (calm_more c.args.self.now.cpus _ c.in_ok-entry.entry.actor c.args.action c.in_ok-entry.entry.event
+            (reverse c.self.inside.entries.items) can step.action_is standing.rules stay c.self.invariant.calm);
         keeps = rw (past, ← c.self.view_is) stay.keeps;
       };
       event = c.in_ok-entry.entry.event;
@@ -51,19 +57,26 @@ returns-clause-done c =
 
 pub invariant_of-self-2 : goal.invariant_of-self-2
 invariant_of-self-2 c =
-    let step = step_of (state_of c.self.inside.machine.value) (state_of c.apply.new.self) c.args.actor c.args.action c.in_ok-entry.entry (rw c.deref_mut.ensures.value at c.in_ok-entry.ensures.step) in
+    let step = step_of (state_of c.self.inside.machine.value) (state_of c.apply.new.self) c.args.actor c.args.action c.in_ok-entry.entry
+    (rw c.deref_mut.ensures.value at c.in_ok-entry.ensures.step) in
     let past : reverse c.push_reserved.new.self.items ≡ c.in_ok-entry.entry ∷ reverse c.self.inside.entries.items =
     rw (c.push_reserved.ensures.items, c.reserve.ensures.items) (reverse-append c.self.inside.entries.items (c.in_ok-entry.entry ∷ [])) in
-    let all = c.in_ok-entry.ensures.history c.self.invariant.making (reverse c.self.inside.entries.items) [] (rw c.deref_mut.ensures.value c.self.invariant.stands) in
+    let all = c.in_ok-entry.ensures.history c.self.invariant.making (reverse c.self.inside.entries.items) []
+    (rw c.deref_mut.ensures.value c.self.invariant.stands) in
     let standing = all.standing in
     let can : CanAsk c.args.self.now.cpus c.in_ok-entry.entry.actor c.args.action = rw step.actor_is c.requires in
-    let stay = pages_stay c.args.self.now.cpus _ c.in_ok-entry.entry.actor c.args.action c.in_ok-entry.entry.event (reverse c.self.inside.entries.items) can step.action_is standing.rules in
-    let left : c.page_left-left.result ≡ page_left c.in_ok-entry.entry.actor c.args.action (reverse c.self.inside.entries.items) = c.page_left-left.ensures ∙ rw (step.actor_is, ← c.self.view_is) refl in
+    let stay = pages_stay c.args.self.now.cpus _ c.in_ok-entry.entry.actor c.args.action c.in_ok-entry.entry.event
+    (reverse c.self.inside.entries.items) can step.action_is standing.rules in
+    let left : c.page_left-left.result ≡ page_left c.in_ok-entry.entry.actor c.args.action (reverse c.self.inside.entries.items) =
+    c.page_left-left.ensures ∙ rw (step.actor_is, ← c.self.view_is) refl in
     record {
       making = c.self.invariant.making;
       stands = rw past all;
-      calm = rw past (calm_more c.args.self.now.cpus _ c.in_ok-entry.entry.actor c.args.action c.in_ok-entry.entry.event (reverse c.self.inside.entries.items) can step.action_is standing.rules stay c.self.invariant.calm);
+      calm = rw past (calm_more c.args.self.now.cpus _ c.in_ok-entry.entry.actor c.args.action c.in_ok-entry.entry.event
+          (reverse c.self.inside.entries.items) can step.action_is standing.rules stay c.self.invariant.calm);
       homes = rw past
-          (homes_more c.args.self.now.cpus _ c.in_ok-entry.entry.actor c.args.action c.in_ok-entry.entry.event (reverse c.self.inside.entries.items) _ _ can step.action_is standing.rules c.self.invariant.calm
-          c.self.invariant.homes (λ g. c.note_home.ensures g ∙ ap (λ o. home_by c.in_ok-entry.entry.event o g (home_in c.self.inside.homes g)) left));
+          (homes_more c.args.self.now.cpus _ c.in_ok-entry.entry.actor c.args.action c.in_ok-entry.entry.event
+          (reverse c.self.inside.entries.items) _ _ can step.action_is standing.rules c.self.invariant.calm
+          c.self.invariant.homes (λ g. c.note_home.ensures g
+          ∙ ap (λ o. home_by c.in_ok-entry.entry.event o g (home_in c.self.inside.homes g)) left));
     }

@@ -7,4 +7,5 @@ use Rattle.machine_book.proofs.book.Book.is_init.Goals as goal
 pub returns : goal.returns
 returns c =
     let ready = rw c.deref.ensures at c.is_init.ensures in
-    rw (← c.self.view_is) (ready ∙ ap (λ o. is_ready (enclave_sight_of o)) (enclave_flat c.self.invariant.stands.standing.stands c.args.enclave))
+    rw (← c.self.view_is) (ready ∙ ap (λ o. is_ready (enclave_sight_of o))
+    (enclave_flat c.self.invariant.stands.standing.stands c.args.enclave))

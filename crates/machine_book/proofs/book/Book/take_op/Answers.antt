@@ -8,7 +8,8 @@ use Rattle.machine_book.proofs.book.Book.take_op.Goals as goal
 pub unwrap-action-requires : goal.unwrap-action-requires
 unwrap-action-requires c =
     let valid = first_valid c.args.job.now c.args.cpu.0 c.args.op c.args.self.now.past c.requires.ready in
-    rw (c.op_due.ensures c.requires.ready.room valid) (op_there c.args.job.now c.args.cpu.0 c.args.op c.args.self.now.past c.requires.calm c.requires.ready)
+    rw (c.op_due.ensures c.requires.ready.room valid)
+    (op_there c.args.job.now c.args.cpu.0 c.args.op c.args.self.now.past c.requires.calm c.requires.ready)
 
 pub apply-requires : goal.apply-requires
 apply-requires c =

@@ -30,15 +30,24 @@ invariant_of-self-2 c =
       | in-Ok w ↦
           (let number = numbered d.secs g.enclave x h.table.places found in
           let k = adds d.epc c.args.frame.0 g.number c.args.kind c.args.perm c.args.init _ x (sym w.in-Ok.ensures.row) in
-          let page : c.eadd.new.epc ≡ with_added d.epc c.args.frame.0 g c.args.kind c.args.perm c.args.init = w.in-Ok.ensures.done ∙ ap (λ e. with_added d.epc c.args.frame.0 (page_at e g.number) c.args.kind c.args.perm c.args.init) (h.table.own g.enclave x found).number in
-          let written = add_written d g c.args.frame.0 c.args.kind c.args.perm c.args.init x _ c.eadd.new.log _ h.table found h.places w.in-Ok.ensures.row w.in-Ok.ensures.done w.in-Ok.ensures.secs in
+          let page : c.eadd.new.epc ≡ with_added d.epc c.args.frame.0 g c.args.kind c.args.perm c.args.init = w.in-Ok.ensures.done
+          ∙ ap (λ e. with_added d.epc c.args.frame.0 (page_at e g.number) c.args.kind c.args.perm c.args.init)
+          (h.table.own g.enclave x found).number in
+          let written = add_written d g c.args.frame.0 c.args.kind c.args.perm c.args.init x _ c.eadd.new.log _ h.table found h.places
+          w.in-Ok.ensures.row w.in-Ok.ensures.done w.in-Ok.ensures.secs in
           rw c.from.ensures
-          (whole _ (after_add (state_of d) g c.args.frame.0 c.args.kind c.args.perm c.args.init c.eadd.new.log) (builds m h _ _ _ _ written (kept_add (state_of d) g c.args.frame.0 c.args.kind c.args.perm c.args.init c.eadd.new.log k.takes.free (paged c.args.kind c.args.init k.addable) (kept_of m h))
-          (length-set d.measures _ _ ∙ h.places) (rw w.in-Ok.ensures.secs (table_written d.secs g.enclave _ h.table.places number.0 number.1 h.table (added_own g.enclave g.number c.args.kind c.args.perm x (h.table.own g.enclave x found))))
-          (rw page (add_pages d g c.args.frame.0 c.args.kind c.args.perm c.args.init x h.pages k)) (ap length page ∙ length-with_added d.epc c.args.frame.0 g c.args.kind c.args.perm c.args.init))))
+          (whole _ (after_add (state_of d) g c.args.frame.0 c.args.kind c.args.perm c.args.init c.eadd.new.log)
+          (builds m h _ _ _ _ written (kept_add (state_of d) g c.args.frame.0 c.args.kind c.args.perm c.args.init c.eadd.new.log
+          k.takes.free (paged c.args.kind c.args.init k.addable) (kept_of m h))
+          (length-set d.measures _ _ ∙ h.places) (rw w.in-Ok.ensures.secs
+          (table_written d.secs g.enclave _ h.table.places number.0 number.1 h.table
+          (added_own g.enclave g.number c.args.kind c.args.perm x (h.table.own g.enclave x found))))
+          (rw page (add_pages d g c.args.frame.0 c.args.kind c.args.perm c.args.init x h.pages k))
+          (ap length page ∙ length-with_added d.epc c.args.frame.0 g c.args.kind c.args.perm c.args.init))))
       | in-Err w ↦
           (let kept = w.in-Err.ensures.refused in
-          rw c.from.ensures (whole_same m _ (parts_same d c.eadd.new.epc g.enclave x c.eadd.new.secs y c.eadd.new.log h.table found there kept.0 kept.1 kept.2) h))
+          rw c.from.ensures (whole_same m _ (parts_same d c.eadd.new.epc g.enclave x c.eadd.new.secs y c.eadd.new.log h.table found there
+          kept.0 kept.1 kept.2) h))
     ]
 
 pub returns-clause-step : goal.returns-clause-step
@@ -56,10 +65,21 @@ returns-clause-step c =
     elim c.match-eadd.branch [
       | in-Ok w ↦
           rw (c.from.ensures, ← c.self.view_is)
-          (done_step _ _ _ (row ∙ sym w.in-Ok.ensures.row)
-          (w.result-is ∙ w.done.ensures, record { longer = c.eadd.new.log; log = rw there w.in-Ok.ensures.log; state = add_written d g c.args.frame.0 c.args.kind c.args.perm c.args.init x _ c.eadd.new.log _ h.table found h.places w.in-Ok.ensures.row w.in-Ok.ensures.done w.in-Ok.ensures.secs }))
+          (done_step _ _ _ (row ∙ sym w.in-Ok.ensures.row) (
+            w.result-is ∙ w.done.ensures,
+            record {
+              longer = c.eadd.new.log;
+              log = rw there w.in-Ok.ensures.log;
+              state = add_written d g c.args.frame.0 c.args.kind c.args.perm c.args.init x _ c.eadd.new.log _ h.table found h.places
+                  w.in-Ok.ensures.row w.in-Ok.ensures.done w.in-Ok.ensures.secs;
+            },
+          ))
       | in-Err w ↦
           (let kept = w.in-Err.ensures.refused in
           rw (c.from.ensures, ← c.self.view_is)
-          (refused_step _ _ _ _ (row ∙ sym w.in-Err.ensures.row) (w.result-is ∙ w.refused-in-Err.ensures, ap state_of (parts_same d c.eadd.new.epc g.enclave x c.eadd.new.secs y c.eadd.new.log h.table found there kept.0 kept.1 kept.2))))
+          (refused_step _ _ _ _ (row ∙ sym w.in-Err.ensures.row) (
+            w.result-is ∙ w.refused-in-Err.ensures,
+            ap state_of
+                (parts_same d c.eadd.new.epc g.enclave x c.eadd.new.secs y c.eadd.new.log h.table found there kept.0 kept.1 kept.2),
+          )))
     ]

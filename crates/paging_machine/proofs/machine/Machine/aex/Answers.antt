@@ -102,7 +102,9 @@ invariant_of-self c =
     let inside : Some e ≡ enclave_inside (cpu_at d p).mode = rw (c.mode.ensures, ← c.self.view_is) at c.in-Some.ensures in
     let k = inside_at (cpu_at d p).mode e inside in
     let a = c.aex.ensures in
-    rw c.from.ensures (whole _ (after_aex (state_of d) p) (aex_leaves m h p e x t low found track v there k c.aex.new.epc c.aex.new.secs c.aex.new.track c.aex.new.cpu a.epc a.secs a.track a.cpu))
+    rw c.from.ensures (whole _ (after_aex (state_of d) p)
+    (aex_leaves m h p e x t low found track v there k c.aex.new.epc c.aex.new.secs c.aex.new.track c.aex.new.cpu a.epc a.secs a.track
+    a.cpu))
 
 pub returns-clause-step : goal.returns-clause-step
 returns-clause-step c =
@@ -121,6 +123,9 @@ returns-clause-step c =
     let inside : Some e ≡ enclave_inside (cpu_at d p).mode = rw (c.mode.ensures, ← c.self.view_is) at c.in-Some.ensures in
     let k = inside_at (cpu_at d p).mode e inside in
     let a = c.aex.ensures in
-    let left = aex_leaves m h p e x t low found track v there k c.aex.new.epc c.aex.new.secs c.aex.new.track c.aex.new.cpu a.epc a.secs a.track a.cpu in
-    let allowed : first_of_row (row_of (state_of d) (actors.Cpu c.args.cpu) (Aex c.args.cause)) ≡ None = inside_allowed (cpu_at d p).mode e k in
-    rw c.from.ensures (by_view m c.args.self.now (actors.Cpu c.args.cpu) (Aex c.args.cause) c.done.result _ c.self.view_is (done_step _ _ _ allowed (c.done.ensures, left.state)))
+    let left = aex_leaves m h p e x t low found track v there k c.aex.new.epc c.aex.new.secs c.aex.new.track c.aex.new.cpu a.epc a.secs
+    a.track a.cpu in
+    let allowed : first_of_row (row_of (state_of d) (actors.Cpu c.args.cpu) (Aex c.args.cause)) ≡ None =
+    inside_allowed (cpu_at d p).mode e k in
+    rw c.from.ensures (by_view m c.args.self.now (actors.Cpu c.args.cpu) (Aex c.args.cause) c.done.result _ c.self.view_is
+    (done_step _ _ _ allowed (c.done.ensures, left.state)))

@@ -19,27 +19,38 @@ use Rattle.paging_laws.proofs.WholeLaws.{step_all}
 use Rattle.paging_machine.proofs.machine.Machine.apply.Goals as goal
 
 -- what every machine keeps is all that a step's laws ask
-module _ (m : Inside) (now : Parts) (a : Actor) (action : Action) (e : Entry) (is : parts_of m ≡ now) (whole : IsWhole m) (can : CanApply (length now.cpus) a action) where
-  fits : (t : State) → IsStep (state_of now) a action e t → (made : Making) (past : List Entry) → ShapeWithRules made (state_of now) past → LoadsAwayRule past e → FitsApart made.frames past → FitsApart made.frames (e ∷ past)
+module _ (m : Inside) (now : Parts) (a : Actor) (action : Action) (e : Entry) (is : parts_of m ≡ now) (whole : IsWhole m)
+    (can : CanApply (length now.cpus) a action) where
+  fits : (t : State) → IsStep (state_of now) a action e t → (made : Making) (past : List Entry) → ShapeWithRules made (state_of now) past
+      → LoadsAwayRule past e → FitsApart made.frames past → FitsApart made.frames (e ∷ past)
   fits t step made past h away k =
-      step_fits (state_of now) t made past (length now.cpus) a action e (rw (← is) whole.processors) can (rw (← is) whole.sound) (rw (← is) whole.guarded) (rw (← is) whole.framed) step h away k
+      step_fits (state_of now) t made past (length now.cpus) a action e (rw (← is) whole.processors) can (rw (← is) whole.sound)
+      (rw (← is) whole.guarded) (rw (← is) whole.framed) step h away k
 
-  shaped : (m' : Inside) (next : Parts) → parts_of m' ≡ next → IsWhole m' → IsStep (state_of now) a action e (state_of next) → (made : Making) (past : List Entry) → ShapeWithRules made (state_of now) past → ShapeWithRules made (state_of next) (e ∷ past)
+  shaped : (m' : Inside) (next : Parts) → parts_of m' ≡ next → IsWhole m' → IsStep (state_of now) a action e (state_of next)
+      → (made : Making) (past : List Entry) → ShapeWithRules made (state_of now) past → ShapeWithRules made (state_of next) (e ∷ past)
   shaped m' next is' whole' step made past h =
-      step_shaped (state_of now) (state_of next) made past (length now.cpus) a action e (rw (← is) whole.processors) can (rw (← is) whole.sound) (rw (← is) whole.guarded) (rw (← is') whole'.sound) (rw (← is') whole'.guarded) step h
+      step_shaped (state_of now) (state_of next) made past (length now.cpus) a action e (rw (← is) whole.processors) can
+      (rw (← is) whole.sound) (rw (← is) whole.guarded) (rw (← is') whole'.sound) (rw (← is') whole'.guarded) step h
 
-  all : (m' : Inside) (next : Parts) → parts_of m' ≡ next → IsWhole m' → IsStep (state_of now) a action e (state_of next) → (made : Making) (past : List Entry) (records : List Made) → StandsWithAllRules made (state_of now) past records → StandsWithAllRules made (state_of next) (e ∷ past) records
+  all : (m' : Inside) (next : Parts) → parts_of m' ≡ next → IsWhole m' → IsStep (state_of now) a action e (state_of next)
+      → (made : Making) (past : List Entry) (records : List Made) → StandsWithAllRules made (state_of now) past records
+      → StandsWithAllRules made (state_of next) (e ∷ past) records
   all m' next is' whole' step made past records h =
-      step_all (state_of now) (state_of next) made past records (length now.cpus) a action e (rw (← is) whole.processors) can (rw (← is) whole.sound) (rw (← is) whole.guarded) (rw (← is) (pages_made (parts_of m) whole.framed))
+      step_all (state_of now) (state_of next) made past records (length now.cpus) a action e (rw (← is) whole.processors) can
+      (rw (← is) whole.sound) (rw (← is) whole.guarded) (rw (← is) (pages_made (parts_of m) whole.framed))
       (rw (← is') whole'.sound) (rw (← is') whole'.guarded) step h
 
 pub returns-clause-shape : goal.returns-clause-shape
 returns-clause-shape c =
-    shaped c.self.inside c.args.self.now c.args.actor c.args.action c.in_ok-entry.entry c.self.view_is c.self.invariant c.requires c.self-2.inside c.row.new.self c.self-2.view_is c.self-2.invariant (c.in_ok-entry.ensures {u = tt}).step
+    shaped c.self.inside c.args.self.now c.args.actor c.args.action c.in_ok-entry.entry c.self.view_is c.self.invariant c.requires
+    c.self-2.inside c.row.new.self c.self-2.view_is c.self-2.invariant (c.in_ok-entry.ensures {u = tt}).step
 
 pub returns-clause-fits : goal.returns-clause-fits
-returns-clause-fits c = fits c.self.inside c.args.self.now c.args.actor c.args.action c.in_ok-entry.entry c.self.view_is c.self.invariant c.requires (state_of c.row.new.self) (c.in_ok-entry.ensures {u = tt}).step
+returns-clause-fits c = fits c.self.inside c.args.self.now c.args.actor c.args.action c.in_ok-entry.entry c.self.view_is c.self.invariant
+    c.requires (state_of c.row.new.self) (c.in_ok-entry.ensures {u = tt}).step
 
 pub returns-clause-history : goal.returns-clause-history
 returns-clause-history c =
-    all c.self.inside c.args.self.now c.args.actor c.args.action c.in_ok-entry.entry c.self.view_is c.self.invariant c.requires c.self-2.inside c.row.new.self c.self-2.view_is c.self-2.invariant (c.in_ok-entry.ensures {u = tt}).step
+    all c.self.inside c.args.self.now c.args.actor c.args.action c.in_ok-entry.entry c.self.view_is c.self.invariant c.requires
+    c.self-2.inside c.row.new.self c.self-2.view_is c.self-2.invariant (c.in_ok-entry.ensures {u = tt}).step

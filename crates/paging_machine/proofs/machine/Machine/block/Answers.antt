@@ -25,5 +25,6 @@ returns-clause-step c =
       | in-Ok w ↦
           (let left = block_leaves m c.self.invariant c.args.frame.0 c.eblock.new.epc (sym w.in-Ok.ensures.row) w.in-Ok.ensures.done in
           rw (← c.self.view_is) (done_step _ _ _ (sym w.in-Ok.ensures.row) (w.result-is ∙ w.done.ensures, left.state)))
-      | in-Err w ↦ rw (← c.self.view_is) (refused_step _ _ _ _ (sym w.in-Err.ensures.row) (w.result-is ∙ w.refused.ensures, ap state_of (epc_same (parts_of m) c.eblock.new.epc w.in-Err.ensures.refused)))
+      | in-Err w ↦ rw (← c.self.view_is) (refused_step _ _ _ _ (sym w.in-Err.ensures.row)
+          (w.result-is ∙ w.refused.ensures, ap state_of (epc_same (parts_of m) c.eblock.new.epc w.in-Err.ensures.refused)))
     ]

@@ -20,14 +20,19 @@ invariant_of-self c =
     let d = parts_of m in
     let e = c.args.enclave in
     let h = c.self.invariant in
-    let allowed : first_of_row (create_row e c.args.base c.args.size (is_some ((state_of d).enclaves e)) (sight_in d.epc c.args.frame.0)) ≡ None = rw (c.is_created-exists.ensures, ← c.self.view_is) at (sym c.in-Ok.ensures.row) in
+    let allowed : first_of_row (create_row e c.args.base c.args.size (is_some ((state_of d).enclaves e)) (sight_in d.epc c.args.frame.0))
+    ≡ None = rw (c.is_created-exists.ensures, ← c.self.view_is) at (sym c.in-Ok.ensures.row) in
     let k = creates d.epc c.args.frame.0 e c.args.base c.args.size _ allowed in
-    let new = no_enclave (enclave_at d.secs e) (none_holds (create_row e c.args.base c.args.size (is_some ((state_of d).enclaves e)) (sight_in d.epc c.args.frame.0)) allowed).1.0 in
+    let new = no_enclave (enclave_at d.secs e) (none_holds
+    (create_row e c.args.base c.args.size (is_some ((state_of d).enclaves e)) (sight_in d.epc c.args.frame.0)) allowed).1.0 in
     let there : e < length d.measures = omega (arith, k.last, h.places) in
     rw (c.insert.ensures, c.in-Ok.ensures.secs, c.in-Ok.ensures.done, c.from.ensures)
-    (whole _ (after_create (state_of d) e c.args.frame.0 c.args.base c.args.size c.in-Ok.measure) (builds m h _ _ _ _ (create_state d e c.args.frame.0 c.args.base c.args.size c.in-Ok.measure k new h.table there)
-    (kept_create (state_of d) e c.args.frame.0 c.args.base c.args.size c.in-Ok.measure k.takes.free (kept_of m h)) (length-set d.measures _ _ ∙ h.places)
-    (table_written d.secs e (created e c.args.base c.args.size) h.table.places k.first k.last h.table (created_own e c.args.base c.args.size k.lawful))
+    (whole _ (after_create (state_of d) e c.args.frame.0 c.args.base c.args.size c.in-Ok.measure)
+    (builds m h _ _ _ _ (create_state d e c.args.frame.0 c.args.base c.args.size c.in-Ok.measure k new h.table there)
+    (kept_create (state_of d) e c.args.frame.0 c.args.base c.args.size c.in-Ok.measure k.takes.free (kept_of m h))
+    (length-set d.measures _ _ ∙ h.places)
+    (table_written d.secs e (created e c.args.base c.args.size) h.table.places k.first k.last h.table
+    (created_own e c.args.base c.args.size k.lawful))
     (create_pages d c.args.frame.0 e h.pages k.takes) (length-with_secs d.epc c.args.frame.0 e)))
 
 pub invariant_of-self-in-Err-Refused : goal.invariant_of-self-in-Err-Refused
@@ -38,12 +43,21 @@ returns-in-Ok-clause-step c =
     let d = parts_of c.self.inside in
     let e = c.args.enclave in
     let h = c.self.invariant in
-    let allowed : first_of_row (create_row e c.args.base c.args.size (is_some ((state_of d).enclaves e)) (sight_in d.epc c.args.frame.0)) ≡ None = rw (c.is_created-exists.ensures, ← c.self.view_is) at (sym c.in-Ok.ensures.row) in
+    let allowed : first_of_row (create_row e c.args.base c.args.size (is_some ((state_of d).enclaves e)) (sight_in d.epc c.args.frame.0))
+    ≡ None = rw (c.is_created-exists.ensures, ← c.self.view_is) at (sym c.in-Ok.ensures.row) in
     let k = creates d.epc c.args.frame.0 e c.args.base c.args.size _ allowed in
-    let new = no_enclave (enclave_at d.secs e) (none_holds (create_row e c.args.base c.args.size (is_some ((state_of d).enclaves e)) (sight_in d.epc c.args.frame.0)) allowed).1.0 in
+    let new = no_enclave (enclave_at d.secs e) (none_holds
+    (create_row e c.args.base c.args.size (is_some ((state_of d).enclaves e)) (sight_in d.epc c.args.frame.0)) allowed).1.0 in
     let there : e < length d.measures = omega (arith, k.last, h.places) in
     rw (c.insert.ensures, c.in-Ok.ensures.secs, c.in-Ok.ensures.done, c.from.ensures, ← c.self.view_is)
-    (done_step _ _ _ allowed (c.done.ensures, record { begun = c.in-Ok.measure; log = c.in-Ok.ensures.log; state = create_state d e c.args.frame.0 c.args.base c.args.size c.in-Ok.measure k new h.table there }))
+    (done_step _ _ _ allowed (
+      c.done.ensures,
+      record {
+        begun = c.in-Ok.measure;
+        log = c.in-Ok.ensures.log;
+        state = create_state d e c.args.frame.0 c.args.base c.args.size c.in-Ok.measure k new h.table there;
+      },
+    ))
 
 pub invariant_of-self-in-Err-Memory : goal.invariant_of-self-in-Err-Memory
 invariant_of-self-in-Err-Memory c = rw c.in-Err-Memory.ensures.refused c.self.invariant

@@ -16,24 +16,48 @@ use Rattle.paging_machine.proofs.machine.Machine.eld_commit.Goals as goal
 
 -- what the commit leaves and answers where it is done
 is_back : (c : goal.After-drop-work-inside-in-Ok)
-    → Ended c.self.inside c.args.actor c.args.frame c.done.result c.args.work.rec (record (parts_of c.self.inside) { epc = c.eld_commit-ended.new.epc; va = c.eld_commit-ended.new.va; starts = set c.self.inside.starts.items c.args.frame.0 None })
+    → Ended c.self.inside c.args.actor c.args.frame c.done.result c.args.work.rec
+    (record (parts_of c.self.inside) {
+      epc = c.eld_commit-ended.new.epc;
+      va = c.eld_commit-ended.new.va;
+      starts = set c.self.inside.starts.items c.args.frame.0 None;
+    })
 is_back c =
     let work = c.opened-work.result in
     let ends = c.in-Ok.ensures {u = tt} in
-    let is : IsOpened (state_of (parts_of c.self.inside)) c.args.frame.0 work c.args.work.rec = record { key = rw (← c.self.view_is) at c.opened-work.ensures.key; version = rw (← c.self.view_is) at c.opened-work.ensures.version; rec_is = c.opened-work.ensures.rec } in
-    ended_back c.self.inside c.self.invariant c.args.actor c.args.frame work c.args.work.rec c.start-start.result c.unwrap-page.result c.eld_commit-ended.new.epc c.eld_commit-ended.new.va (rw (← c.self.view_is) at c.requires) is
+    let is : IsOpened (state_of (parts_of c.self.inside)) c.args.frame.0 work c.args.work.rec =
+    record {
+      key = rw (← c.self.view_is) at c.opened-work.ensures.key;
+      version = rw (← c.self.view_is) at c.opened-work.ensures.version;
+      rec_is = c.opened-work.ensures.rec;
+    } in
+    ended_back c.self.inside c.self.invariant c.args.actor c.args.frame work c.args.work.rec c.start-start.result c.unwrap-page.result
+    c.eld_commit-ended.new.epc c.eld_commit-ended.new.va (rw (← c.self.view_is) at c.requires) is
     (rw (← c.self.view_is) at c.start-start.ensures) c.unwrap-page.ensures c.done.result ends.row ends.epc ends.va
-    (c.done.ensures ∙ ap (λ (o : UnsealedWork). did_by c.args.actor (Eld c.args.frame) (Moved c.unwrap-page.result c.start-start.result.version o.rec.tag)) c.work.view_is)
+    (c.done.ensures ∙ ap (λ (o : UnsealedWork). did_by c.args.actor (Eld c.args.frame)
+    (Moved c.unwrap-page.result c.start-start.result.version o.rec.tag)) c.work.view_is)
 
 -- .. and where it is refused
 is_refused : (c : goal.After-drop-work-inside-3)
-    → Ended c.self.inside c.args.actor c.args.frame c.refused.result c.args.work.rec (record (parts_of c.self.inside) { epc = c.eld_commit-ended.new.epc; va = c.eld_commit-ended.new.va; starts = set c.self.inside.starts.items c.args.frame.0 None })
+    → Ended c.self.inside c.args.actor c.args.frame c.refused.result c.args.work.rec
+    (record (parts_of c.self.inside) {
+      epc = c.eld_commit-ended.new.epc;
+      va = c.eld_commit-ended.new.va;
+      starts = set c.self.inside.starts.items c.args.frame.0 None;
+    })
 is_refused c =
     let work = c.opened-work.result in
     let ends = c.in-Err.ensures {u = tt} in
-    let is : IsOpened (state_of (parts_of c.self.inside)) c.args.frame.0 work c.args.work.rec = record { key = rw (← c.self.view_is) at c.opened-work.ensures.key; version = rw (← c.self.view_is) at c.opened-work.ensures.version; rec_is = c.opened-work.ensures.rec } in
-    ended_refused c.self.inside c.self.invariant c.args.actor c.args.frame work c.args.work.rec c.start-start.result c.unwrap-page.result c.eld_commit-ended.new.epc c.eld_commit-ended.new.va (rw (← c.self.view_is) at c.requires) is
-    (rw (← c.self.view_is) at c.start-start.ensures) c.unwrap-page.ensures c.refused.result c.in-Err.refusal ends.row ends.refused.0 ends.refused.1 c.refused.ensures
+    let is : IsOpened (state_of (parts_of c.self.inside)) c.args.frame.0 work c.args.work.rec =
+    record {
+      key = rw (← c.self.view_is) at c.opened-work.ensures.key;
+      version = rw (← c.self.view_is) at c.opened-work.ensures.version;
+      rec_is = c.opened-work.ensures.rec;
+    } in
+    ended_refused c.self.inside c.self.invariant c.args.actor c.args.frame work c.args.work.rec c.start-start.result c.unwrap-page.result
+    c.eld_commit-ended.new.epc c.eld_commit-ended.new.va (rw (← c.self.view_is) at c.requires) is
+    (rw (← c.self.view_is) at c.start-start.ensures) c.unwrap-page.ensures c.refused.result c.in-Err.refusal ends.row ends.refused.0
+    ends.refused.1 c.refused.ensures
 
 pub invariant_of-self : goal.invariant_of-self
 invariant_of-self c = let k = is_back c in whole _ _ k.leaves
@@ -46,7 +70,8 @@ returns-in-Ok-clause-shape c = λ making past shaped.
     let h = c.self.invariant in
     let k = is_back c in
     let t = kept_as _ _ k.leaves.state k.leaves.kept in
-    reloaded_shaped (state_of (parts_of c.self.inside)) _ making past c.args.actor c.args.frame c.done.result c.args.work.rec h.sound h.guarded t.sound t.guarded (rw (← c.self.view_is) at c.requires) k.back (rw (← c.self.view_is) at shaped)
+    reloaded_shaped (state_of (parts_of c.self.inside)) _ making past c.args.actor c.args.frame c.done.result c.args.work.rec h.sound
+    h.guarded t.sound t.guarded (rw (← c.self.view_is) at c.requires) k.back (rw (← c.self.view_is) at shaped)
 
 pub returns-in-Ok-clause-fits : goal.returns-in-Ok-clause-fits
 returns-in-Ok-clause-fits c = λ making past shaped fits.
@@ -54,14 +79,16 @@ returns-in-Ok-clause-fits c = λ making past shaped fits.
     let h = c.self.invariant in
     let comes : (state_of d).content c.args.frame.0 ≡ IsLoading = rw (← c.self.view_is) at c.requires in
     let k = is_back c in
-    reloaded_fits (state_of d) _ making past c.args.actor c.args.frame c.args.work.rec c.done.result h.sound h.guarded comes (low_in d c.args.frame.0 comes) k.back (rw (← c.self.view_is) at shaped) fits
+    reloaded_fits (state_of d) _ making past c.args.actor c.args.frame c.args.work.rec c.done.result h.sound h.guarded comes
+    (low_in d c.args.frame.0 comes) k.back (rw (← c.self.view_is) at shaped) fits
 
 pub returns-in-Ok-clause-history : goal.returns-in-Ok-clause-history
 returns-in-Ok-clause-history c = λ making past records given upholds unforged.
     let h = c.self.invariant in
     let k = is_back c in
     let t = kept_as _ _ k.leaves.state k.leaves.kept in
-    reloaded_all (state_of (parts_of c.self.inside)) _ making past records c.args.actor c.args.frame c.args.work.rec c.done.result h.sound h.guarded t.sound t.guarded (rw (← c.self.view_is) at c.requires) k.back (rw (← c.self.view_is) at upholds) given
+    reloaded_all (state_of (parts_of c.self.inside)) _ making past records c.args.actor c.args.frame c.args.work.rec c.done.result h.sound
+    h.guarded t.sound t.guarded (rw (← c.self.view_is) at c.requires) k.back (rw (← c.self.view_is) at upholds) given
     (rw (← c.self.view_is) at unforged)
 
 pub invariant_of-self-2 : goal.invariant_of-self-2
@@ -75,7 +102,8 @@ returns-clause-shape c = λ making past shaped.
     let h = c.self.invariant in
     let k = is_refused c in
     let t = kept_as _ _ k.leaves.state k.leaves.kept in
-    reloaded_shaped (state_of (parts_of c.self.inside)) _ making past c.args.actor c.args.frame c.refused.result c.args.work.rec h.sound h.guarded t.sound t.guarded (rw (← c.self.view_is) at c.requires) k.back (rw (← c.self.view_is) at shaped)
+    reloaded_shaped (state_of (parts_of c.self.inside)) _ making past c.args.actor c.args.frame c.refused.result c.args.work.rec h.sound
+    h.guarded t.sound t.guarded (rw (← c.self.view_is) at c.requires) k.back (rw (← c.self.view_is) at shaped)
 
 pub returns-clause-fits : goal.returns-clause-fits
 returns-clause-fits c = λ making past shaped fits.
@@ -83,12 +111,14 @@ returns-clause-fits c = λ making past shaped fits.
     let h = c.self.invariant in
     let comes : (state_of d).content c.args.frame.0 ≡ IsLoading = rw (← c.self.view_is) at c.requires in
     let k = is_refused c in
-    reloaded_fits (state_of d) _ making past c.args.actor c.args.frame c.args.work.rec c.refused.result h.sound h.guarded comes (low_in d c.args.frame.0 comes) k.back (rw (← c.self.view_is) at shaped) fits
+    reloaded_fits (state_of d) _ making past c.args.actor c.args.frame c.args.work.rec c.refused.result h.sound h.guarded comes
+    (low_in d c.args.frame.0 comes) k.back (rw (← c.self.view_is) at shaped) fits
 
 pub returns-clause-history : goal.returns-clause-history
 returns-clause-history c = λ making past records given upholds unforged.
     let h = c.self.invariant in
     let k = is_refused c in
     let t = kept_as _ _ k.leaves.state k.leaves.kept in
-    reloaded_all (state_of (parts_of c.self.inside)) _ making past records c.args.actor c.args.frame c.args.work.rec c.refused.result h.sound h.guarded t.sound t.guarded (rw (← c.self.view_is) at c.requires) k.back (rw (← c.self.view_is) at upholds) given
+    reloaded_all (state_of (parts_of c.self.inside)) _ making past records c.args.actor c.args.frame c.args.work.rec c.refused.result
+    h.sound h.guarded t.sound t.guarded (rw (← c.self.view_is) at c.requires) k.back (rw (← c.self.view_is) at upholds) given
     (rw (← c.self.view_is) at unforged)

@@ -13,22 +13,28 @@ pub invariant_of-self : goal.invariant_of-self
 invariant_of-self c =
     let d = parts_of c.self.inside in
     let w = c.in-Ok.ensures in
-    whole _ _ (eldstart_leaves c.self.inside c.self.invariant c.args.frame.0 c.args.page c.args.slot _ (sym w.row) (in_as d c.args.frame.0 c.args.page c.args.slot c.eld_start.new.epc c.eld_start.new.va c.in-Ok.version w.epc w.va w.answer))
+    whole _ _ (eldstart_leaves c.self.inside c.self.invariant c.args.frame.0 c.args.page c.args.slot _ (sym w.row)
+    (in_as d c.args.frame.0 c.args.page c.args.slot c.eld_start.new.epc c.eld_start.new.va c.in-Ok.version w.epc w.va w.answer))
 
 pub invariant_of-self-in-Err : goal.invariant_of-self-in-Err
-invariant_of-self-in-Err c = let w = c.in-Err.ensures in whole_same c.self.inside _ (slots_same (parts_of c.self.inside) c.eld_start.new.epc c.eld_start.new.va w.refused.0 w.refused.1) c.self.invariant
+invariant_of-self-in-Err c = let w = c.in-Err.ensures in
+    whole_same c.self.inside _ (slots_same (parts_of c.self.inside) c.eld_start.new.epc c.eld_start.new.va w.refused.0 w.refused.1)
+    c.self.invariant
 
 pub returns-in-Ok-clause-step : goal.returns-in-Ok-clause-step
 returns-in-Ok-clause-step c =
     let d = parts_of c.self.inside in
     let w = c.in-Ok.ensures in
-    let left = eldstart_leaves c.self.inside c.self.invariant c.args.frame.0 c.args.page c.args.slot _ (sym w.row) (in_as d c.args.frame.0 c.args.page c.args.slot c.eld_start.new.epc c.eld_start.new.va c.in-Ok.version w.epc w.va w.answer) in
+    let left = eldstart_leaves c.self.inside c.self.invariant c.args.frame.0 c.args.page c.args.slot _ (sym w.row)
+    (in_as d c.args.frame.0 c.args.page c.args.slot c.eld_start.new.epc c.eld_start.new.va c.in-Ok.version w.epc w.va w.answer) in
     rw (← c.self.view_is)
-    (done_step _ _ _ (sym (eldstart_row_at d c.args.frame.0 c.args.page c.args.slot) ∙ sym w.row) (c.done.ensures ∙ ap (λ n. did_by c.args.actor (EldStart c.args.frame c.args.page c.args.slot) (Version n)) w.answer, left.state))
+    (done_step _ _ _ (sym (eldstart_row_at d c.args.frame.0 c.args.page c.args.slot) ∙ sym w.row)
+    (c.done.ensures ∙ ap (λ n. did_by c.args.actor (EldStart c.args.frame c.args.page c.args.slot) (Version n)) w.answer, left.state))
 
 pub returns-in-Err-clause-step : goal.returns-in-Err-clause-step
 returns-in-Err-clause-step c =
     let d = parts_of c.self.inside in
     let w = c.in-Err.ensures in
     rw (← c.self.view_is)
-    (refused_step _ _ _ _ (sym (eldstart_row_at d c.args.frame.0 c.args.page c.args.slot) ∙ sym w.row) (c.refused.ensures, ap state_of (slots_same d c.eld_start.new.epc c.eld_start.new.va w.refused.0 w.refused.1)))
+    (refused_step _ _ _ _ (sym (eldstart_row_at d c.args.frame.0 c.args.page c.args.slot) ∙ sym w.row)
+    (c.refused.ensures, ap state_of (slots_same d c.eld_start.new.epc c.eld_start.new.va w.refused.0 w.refused.1)))

@@ -34,7 +34,8 @@ eenter-requires-clause-room c =
     let track : track_of d.tracks e ≡ Some t = c.get_mut-track.ensures.value in
     let there : v ≡ cpu_at d p = cpu_there d p v low (rw c.from-2.ensures at c.index_mut-processor.ensures.value) in
     let number = numbered d.secs e x h.table.places found in
-    λ out. room d.tracks d.cpus p e t v h.track_places number.0 number.1 low track h.tracked h.processors (ap (λ (x : Processor). is_inside x.mode) (sym there) ∙ out)
+    λ out. room d.tracks d.cpus p e t v h.track_places number.0 number.1 low track h.tracked h.processors
+    (ap (λ (x : Processor). is_inside x.mode) (sym there) ∙ out)
 
 pub eenter-requires-clause-added : goal.eenter-requires-clause-added
 eenter-requires-clause-added c =
@@ -57,8 +58,12 @@ invariant_of-self-2 c =
     let track : track_of d.tracks e ≡ Some t = c.get_mut-track.ensures.value in
     let there : v ≡ cpu_at d p = cpu_there d p v low (rw c.from-2.ensures at c.index_mut-processor.ensures.value) in
     elim c.match-eenter.branch [
-      | in-Ok w ↦ rw c.from-2.ensures (whole _ (after_enter (state_of d) p (seat_of e c.args.tcs c.args.tcs_frame.0 c.args.ssa_frame.0)) (enter_leaves m h p e x t low found track v there c.args.tcs c.args.tcs_frame c.args.ssa_frame c.eenter.new.secs c.eenter.new.track c.eenter.new.cpu w.in-Ok.ensures.row w.in-Ok.ensures.secs w.in-Ok.ensures.track w.in-Ok.ensures.cpu))
-      | in-Err w ↦ (let kept = w.in-Err.ensures.refused in rw c.from-2.ensures (whole_same m _ (seats_same d d.epc e p x c.eenter.new.secs t c.eenter.new.track v c.eenter.new.cpu h.table found track there refl kept.0 kept.1 kept.2) h))
+      | in-Ok w ↦ rw c.from-2.ensures (whole _ (after_enter (state_of d) p (seat_of e c.args.tcs c.args.tcs_frame.0 c.args.ssa_frame.0))
+          (enter_leaves m h p e x t low found track v there c.args.tcs c.args.tcs_frame c.args.ssa_frame c.eenter.new.secs
+          c.eenter.new.track c.eenter.new.cpu w.in-Ok.ensures.row w.in-Ok.ensures.secs w.in-Ok.ensures.track w.in-Ok.ensures.cpu))
+      | in-Err w ↦ (let kept = w.in-Err.ensures.refused in
+          rw c.from-2.ensures (whole_same m _ (seats_same d d.epc e p x c.eenter.new.secs t c.eenter.new.track v c.eenter.new.cpu h.table
+          found track there refl kept.0 kept.1 kept.2) h))
     ]
 
 pub returns-clause-step : goal.returns-clause-step
@@ -78,10 +83,19 @@ returns-clause-step c =
     let row = enter_row_at m h p e x t low found track v there c.args.tcs c.args.tcs_frame c.args.ssa_frame in
     elim c.match-eenter.branch [
       | in-Ok w ↦
-          (let left = enter_leaves m h p e x t low found track v there c.args.tcs c.args.tcs_frame c.args.ssa_frame c.eenter.new.secs c.eenter.new.track c.eenter.new.cpu w.in-Ok.ensures.row w.in-Ok.ensures.secs w.in-Ok.ensures.track w.in-Ok.ensures.cpu in
-          let answer = ap (λ n. did_by (actors.Cpu c.args.cpu) (Enter e c.args.tcs c.args.tcs_frame c.args.ssa_frame) (Cssa n)) w.in-Ok.ensures.answer in
-          rw (c.from-2.ensures, ← c.self.view_is) (done_step _ _ _ (row ∙ sym w.in-Ok.ensures.row) (w.result-is ∙ w.done.ensures ∙ answer, left.state)))
+          (let left = enter_leaves m h p e x t low found track v there c.args.tcs c.args.tcs_frame c.args.ssa_frame c.eenter.new.secs
+          c.eenter.new.track c.eenter.new.cpu w.in-Ok.ensures.row w.in-Ok.ensures.secs w.in-Ok.ensures.track w.in-Ok.ensures.cpu in
+          let answer = ap (λ n. did_by (actors.Cpu c.args.cpu) (Enter e c.args.tcs c.args.tcs_frame c.args.ssa_frame) (Cssa n))
+          w.in-Ok.ensures.answer in
+          rw (c.from-2.ensures, ← c.self.view_is)
+          (done_step _ _ _ (row ∙ sym w.in-Ok.ensures.row) (w.result-is ∙ w.done.ensures ∙ answer, left.state)))
       | in-Err w ↦
           (let kept = w.in-Err.ensures.refused in
-          rw (c.from-2.ensures, ← c.self.view_is) (refused_step _ _ _ _ (row ∙ sym w.in-Err.ensures.row) (w.result-is ∙ w.refused-in-Err.ensures, ap state_of (seats_same d d.epc e p x c.eenter.new.secs t c.eenter.new.track v c.eenter.new.cpu h.table found track there refl kept.0 kept.1 kept.2))))
+          rw (c.from-2.ensures, ← c.self.view_is)
+          (refused_step _ _ _ _ (row ∙ sym w.in-Err.ensures.row) (
+            w.result-is ∙ w.refused-in-Err.ensures,
+            ap state_of
+                (seats_same d d.epc e p x c.eenter.new.secs t c.eenter.new.track v c.eenter.new.cpu h.table found track there refl kept.0
+                kept.1 kept.2),
+          )))
     ]

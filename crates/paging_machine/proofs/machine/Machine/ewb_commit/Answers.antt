@@ -15,11 +15,19 @@ use Rattle.paging_machine.proofs.machine.Machine.ewb_commit.Goals as goal
 
 -- what the commit leaves and answers
 is_written : (c : goal.After-drop-work)
-    → Written c.self.inside c.args.actor c.args.frame c.done.result c.sealed-work.result.rec (record (parts_of c.self.inside) { epc = c.ewb_commit-page.new.epc; va = c.ewb_commit-page.new.va; starts = set c.self.inside.starts.items c.args.frame.0 None })
+    → Written c.self.inside c.args.actor c.args.frame c.done.result c.sealed-work.result.rec
+    (record (parts_of c.self.inside) {
+      epc = c.ewb_commit-page.new.epc;
+      va = c.ewb_commit-page.new.va;
+      starts = set c.self.inside.starts.items c.args.frame.0 None;
+    })
 is_written c =
-    written c.self.inside c.self.invariant c.args.actor c.args.frame c.done.result c.sealed-work.result c.start-start.result c.ewb_commit-page.result c.ewb_commit-page.new.epc c.ewb_commit-page.new.va
-    (rw (← c.self.view_is) at c.requires) (rw (← c.self.view_is) at c.sealed-work.ensures) (rw (← c.self.view_is) at c.start-start.ensures) c.ewb_commit-page.ensures.answer c.ewb_commit-page.ensures.epc c.ewb_commit-page.ensures.va
-    (c.done.ensures ∙ ap (λ (r : Sealed). did_by c.args.actor (Ewb c.args.frame) (Moved c.ewb_commit-page.result c.start-start.result.version r.tag)) c.rec.view_is)
+    written c.self.inside c.self.invariant c.args.actor c.args.frame c.done.result c.sealed-work.result c.start-start.result
+    c.ewb_commit-page.result c.ewb_commit-page.new.epc c.ewb_commit-page.new.va
+    (rw (← c.self.view_is) at c.requires) (rw (← c.self.view_is) at c.sealed-work.ensures) (rw (← c.self.view_is) at c.start-start.ensures)
+    c.ewb_commit-page.ensures.answer c.ewb_commit-page.ensures.epc c.ewb_commit-page.ensures.va
+    (c.done.ensures ∙ ap (λ (r : Sealed). did_by c.args.actor (Ewb c.args.frame)
+    (Moved c.ewb_commit-page.result c.start-start.result.version r.tag)) c.rec.view_is)
 
 pub invariant_of-self : goal.invariant_of-self
 invariant_of-self c = let k = is_written c in whole _ _ k.leaves
@@ -33,7 +41,8 @@ returns-clause-shape c = λ making past shaped.
     let h = c.self.invariant in
     let k = is_written c in
     let t = kept_as _ _ k.leaves.state k.leaves.kept in
-    written_shaped s _ making past c.args.actor c.args.frame c.done.result c.sealed-work.result.rec h.sound h.guarded t.sound t.guarded (rw (← c.self.view_is) at c.requires) k.out (rw (← c.self.view_is) at shaped)
+    written_shaped s _ making past c.args.actor c.args.frame c.done.result c.sealed-work.result.rec h.sound h.guarded t.sound t.guarded
+    (rw (← c.self.view_is) at c.requires) k.out (rw (← c.self.view_is) at shaped)
 
 pub returns-clause-fits : goal.returns-clause-fits
 returns-clause-fits c = λ making past shaped fits.
@@ -41,7 +50,8 @@ returns-clause-fits c = λ making past shaped fits.
     let h = c.self.invariant in
     let leaves : (state_of d).is_sealing c.args.frame.0 ≡ true = rw (← c.self.view_is) at c.requires in
     let k = is_written c in
-    written_fits (state_of d) _ making past c.args.actor c.args.frame c.done.result c.sealed-work.result.rec h.sound h.guarded leaves (low_out d c.args.frame.0 leaves) k.out (rw (← c.self.view_is) at shaped) fits
+    written_fits (state_of d) _ making past c.args.actor c.args.frame c.done.result c.sealed-work.result.rec h.sound h.guarded leaves
+    (low_out d c.args.frame.0 leaves) k.out (rw (← c.self.view_is) at shaped) fits
 
 pub returns-clause-history : goal.returns-clause-history
 returns-clause-history c = λ making past records upholds.
@@ -49,4 +59,5 @@ returns-clause-history c = λ making past records upholds.
     let h = c.self.invariant in
     let k = is_written c in
     let t = kept_as _ _ k.leaves.state k.leaves.kept in
-    written_all s _ making past records c.args.actor c.args.frame c.done.result c.sealed-work.result.rec h.sound h.guarded t.sound t.guarded (rw (← c.self.view_is) at c.requires) k.out (rw (← c.self.view_is) at upholds)
+    written_all s _ making past records c.args.actor c.args.frame c.done.result c.sealed-work.result.rec h.sound h.guarded t.sound t.guarded
+    (rw (← c.self.view_is) at c.requires) k.out (rw (← c.self.view_is) at upholds)

@@ -82,8 +82,12 @@ invariant_of-self c =
     let inside : Some e ≡ enclave_inside (cpu_at d p).mode = rw (c.mode.ensures, ← c.self.view_is) at c.in-Some.ensures in
     let k = inside_at (cpu_at d p).mode e inside in
     elim c.match-eexit.branch [
-      | in-Ok w ↦ rw c.from.ensures (whole _ (after_exit (state_of d) p) (exit_leaves m h p e x t low found track v there k c.eexit.new.secs c.eexit.new.track c.eexit.new.cpu w.in-Ok.ensures.secs w.in-Ok.ensures.track w.in-Ok.ensures.cpu))
-      | in-Err w ↦ (let kept = w.in-Err.ensures.refused in rw c.from.ensures (whole_same m _ (seats_same d d.epc e p x c.eexit.new.secs t c.eexit.new.track v c.eexit.new.cpu h.table found track there refl kept.0 kept.1 kept.2) h))
+      | in-Ok w ↦ rw c.from.ensures (whole _ (after_exit (state_of d) p)
+          (exit_leaves m h p e x t low found track v there k c.eexit.new.secs c.eexit.new.track c.eexit.new.cpu w.in-Ok.ensures.secs
+          w.in-Ok.ensures.track w.in-Ok.ensures.cpu))
+      | in-Err w ↦ (let kept = w.in-Err.ensures.refused in
+          rw c.from.ensures (whole_same m _ (seats_same d d.epc e p x c.eexit.new.secs t c.eexit.new.track v c.eexit.new.cpu h.table found
+          track there refl kept.0 kept.1 kept.2) h))
     ]
 
 pub returns-clause-step : goal.returns-clause-step
@@ -105,10 +109,17 @@ returns-clause-step c =
     let row = inside_row_at d p v there in
     elim c.match-eexit.branch [
       | in-Ok w ↦
-          (let left = exit_leaves m h p e x t low found track v there k c.eexit.new.secs c.eexit.new.track c.eexit.new.cpu w.in-Ok.ensures.secs w.in-Ok.ensures.track w.in-Ok.ensures.cpu in
-          rw (c.from.ensures, ← c.self.view_is) (done_step _ _ _ (row ∙ sym w.in-Ok.ensures.row) (w.result-is ∙ w.done.ensures, left.state)))
+          (let left = exit_leaves m h p e x t low found track v there k c.eexit.new.secs c.eexit.new.track c.eexit.new.cpu
+          w.in-Ok.ensures.secs w.in-Ok.ensures.track w.in-Ok.ensures.cpu in
+          rw (c.from.ensures, ← c.self.view_is) (done_step _ _ _ (row ∙ sym w.in-Ok.ensures.row)
+          (w.result-is ∙ w.done.ensures, left.state)))
       | in-Err w ↦
           (let kept = w.in-Err.ensures.refused in
           rw (c.from.ensures, ← c.self.view_is)
-          (refused_step _ _ _ _ (row ∙ sym w.in-Err.ensures.row) (w.result-is ∙ w.refused-in-Err.ensures, ap state_of (seats_same d d.epc e p x c.eexit.new.secs t c.eexit.new.track v c.eexit.new.cpu h.table found track there refl kept.0 kept.1 kept.2))))
+          (refused_step _ _ _ _ (row ∙ sym w.in-Err.ensures.row) (
+            w.result-is ∙ w.refused-in-Err.ensures,
+            ap state_of
+                (seats_same d d.epc e p x c.eexit.new.secs t c.eexit.new.track v c.eexit.new.cpu h.table found track there refl kept.0 kept.1
+                kept.2),
+          )))
     ]

@@ -37,7 +37,10 @@ invariant_of-self c =
     elim c.match-eextend.branch [
       | in-Ok w ↦
           rw c.from.ensures
-          (whole _ (after_extend (state_of d) g.enclave c.eextend.new.log) (builds m h _ _ _ _ (extend_state d g.enclave c.eextend.new.log low) (kept_extend (state_of d) g.enclave c.eextend.new.log (kept_of m h)) (length-set d.measures _ _ ∙ h.places) h.table h.pages refl))
+          (whole _ (after_extend (state_of d) g.enclave c.eextend.new.log)
+          (builds m h _ _ _ _ (extend_state d g.enclave c.eextend.new.log low)
+          (kept_extend (state_of d) g.enclave c.eextend.new.log (kept_of m h)) (length-set d.measures _ _ ∙ h.places) h.table h.pages
+          refl))
       | in-Err w ↦ rw c.from.ensures (whole_same m _ (measures_same d g.enclave y c.eextend.new.log there w.in-Err.ensures.refused) h)
     ]
 
@@ -57,8 +60,16 @@ returns-clause-step c =
     elim c.match-eextend.branch [
       | in-Ok w ↦
           rw (c.from.ensures, ← c.self.view_is)
-          (done_step _ _ _ (row ∙ sym w.in-Ok.ensures.row) (w.result-is ∙ w.done.ensures, extend_done d c.args.frame.0 c.args.chunk g x y c.eextend.new.log h.table here found h.places there w.in-Ok.ensures.done))
+          (done_step _ _ _ (row ∙ sym w.in-Ok.ensures.row) (
+            w.result-is ∙ w.done.ensures,
+            extend_done d c.args.frame.0 c.args.chunk g x y c.eextend.new.log h.table here found h.places
+                there w.in-Ok.ensures.done,
+          ))
       | in-Err w ↦
           rw (c.from.ensures, ← c.self.view_is)
-          (refused_step _ _ _ _ (row ∙ sym w.in-Err.ensures.row) (w.result-is ∙ w.refused-in-Err.ensures, ap state_of (measures_same d g.enclave y c.eextend.new.log there w.in-Err.ensures.refused)))
+          (refused_step _ _ _ _ (row ∙ sym w.in-Err.ensures.row) (
+            w.result-is ∙ w.refused-in-Err.ensures,
+            ap state_of
+                (measures_same d g.enclave y c.eextend.new.log there w.in-Err.ensures.refused),
+          ))
     ]

@@ -17,7 +17,8 @@ invariant_of-self c =
     let low : p < length d.cpus = rw (← c.self.view_is) at c.requires in
     let there : v ≡ cpu_at d p = cpu_there d p v low (rw c.from.ensures at c.index_mut-processor.ensures.value) in
     elim c.match-fill.branch [
-      | in-Ok w ↦ (let left = fill_leaves m h p c.args.number c.args.frame v c.fill.new.cpu low there w.in-Ok.ensures.row w.in-Ok.ensures.done in rw c.from.ensures (whole _ _ left))
+      | in-Ok w ↦ (let left = fill_leaves m h p c.args.number c.args.frame v c.fill.new.cpu low there w.in-Ok.ensures.row
+          w.in-Ok.ensures.done in rw c.from.ensures (whole _ _ left))
       | in-Err w ↦ rw c.from.ensures (whole_same m _ (cpus_same d p v c.fill.new.cpu there w.in-Err.ensures.refused) h)
     ]
 
@@ -34,7 +35,9 @@ returns-clause-step c =
     elim c.match-fill.branch [
       | in-Ok w ↦
           (let left = fill_leaves m h p c.args.number c.args.frame v c.fill.new.cpu low there w.in-Ok.ensures.row w.in-Ok.ensures.done in
-          rw (c.from.ensures, ← c.self.view_is) (done_step _ _ _ (row ∙ sym w.in-Ok.ensures.row) (w.result-is ∙ w.done.ensures, left.state)))
+          rw (c.from.ensures, ← c.self.view_is) (done_step _ _ _ (row ∙ sym w.in-Ok.ensures.row)
+          (w.result-is ∙ w.done.ensures, left.state)))
       | in-Err w ↦
-          rw (c.from.ensures, ← c.self.view_is) (refused_step _ _ _ _ (row ∙ sym w.in-Err.ensures.row) (w.result-is ∙ w.refused.ensures, ap state_of (cpus_same d p v c.fill.new.cpu there w.in-Err.ensures.refused)))
+          rw (c.from.ensures, ← c.self.view_is) (refused_step _ _ _ _ (row ∙ sym w.in-Err.ensures.row)
+          (w.result-is ∙ w.refused.ensures, ap state_of (cpus_same d p v c.fill.new.cpu there w.in-Err.ensures.refused)))
     ]

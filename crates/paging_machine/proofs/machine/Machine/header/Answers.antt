@@ -15,7 +15,8 @@ address-requires c =
     let h = c.self.invariant in
     let w = c.in-Valid in
     let at : entry_at d.epc c.args.frame.0 ≡ views.Valid w.page w.kind w.perm w.blocked w.sealing = sym (w.ensures {u = tt}) in
-    let held : (state_of d).content c.args.frame.0 ≡ Holds w.page w.kind w.perm = leaving_held d c.args.frame.0 w.page w.kind w.perm w.blocked w.sealing h.guarded at (rw (← c.self.view_is) at c.requires) in
+    let held : (state_of d).content c.args.frame.0 ≡ Holds w.page w.kind w.perm =
+    leaving_held d c.args.frame.0 w.page w.kind w.perm w.blocked w.sealing h.guarded at (rw (← c.self.view_is) at c.requires) in
     let found : enclave_at d.secs w.page.enclave ≡ Some c.unwrap-secs.result.now = sym (rw c.unwrap-secs.ensures at c.get.ensures.value) in
     page_below d w.page c.unwrap-secs.result.now h.table found (h.framed c.args.frame.0 w.page w.kind w.perm held)
 

@@ -25,7 +25,8 @@ invariant_of-self-2 c =
       | in-Ok w ↦
           (let number = numbered d.secs e x h.table.places found in
           rw w.in-Ok.ensures.done
-          (whole _ (after_init (state_of d) e) (builds m h _ _ _ _ (init_state d e x found h.table) (kept_init (state_of d) e (kept_of m h)) h.places
+          (whole _ (after_init (state_of d) e) (builds m h _ _ _ _ (init_state d e x found h.table) (kept_init (state_of d) e (kept_of m h))
+          h.places
           (table_written d.secs e _ h.table.places number.0 number.1 h.table (initialised_own e x (h.table.own e x found))) h.pages refl)))
       | in-Err w ↦ whole_same m _ (secs_same d e x c.einit.new.secs h.table found w.in-Err.ensures.refused) h
     ]
@@ -52,6 +53,7 @@ returns-clause-step c =
           rw (← c.self.view_is) (done_step _ _ _ (row ∙ sym w.in-Ok.ensures.row) judged))
       | in-Err w ↦
           rw (← c.self.view_is)
-          (init_refused (state_of d) c.args.actor e c.args.expect (sight_of x) y w.in-Err.refusal c.match-einit.result _ row there w.in-Err.ensures.row (λ made is. rw is at w.in-Err.ensures.expected) w.in-Err.ensures.measured
+          (init_refused (state_of d) c.args.actor e c.args.expect (sight_of x) y w.in-Err.refusal c.match-einit.result _ row there
+          w.in-Err.ensures.row (λ made is. rw is at w.in-Err.ensures.expected) w.in-Err.ensures.measured
           (w.result-is ∙ w.refused-in-Err.ensures) (ap state_of (secs_same d e x c.einit.new.secs h.table found w.in-Err.ensures.refused)))
     ]

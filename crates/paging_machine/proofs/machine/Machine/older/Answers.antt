@@ -4,4 +4,6 @@ use Rattle.paging_machine.proofs.PagingSights.{number_seen}
 use Rattle.paging_machine.proofs.machine.Machine.older.Goals as goal
 
 pub returns : goal.returns
-returns c = rw (c.at_or_below.ensures, ← c.self.view_is) (number_seen (parts_of c.self.inside) c.args.enclave c.get.result.now (λ m. nat_le m c.args.block) c.self.invariant.processors c.self.invariant.tracked c.get.ensures.value)
+returns c = rw (c.at_or_below.ensures, ← c.self.view_is)
+    (number_seen (parts_of c.self.inside) c.args.enclave c.get.result.now (λ m. nat_le m c.args.block) c.self.invariant.processors
+    c.self.invariant.tracked c.get.ensures.value)

@@ -23,8 +23,10 @@ invariant_of-self c =
     let v = c.index_mut-processor.result.now in
     let low : p < length d.cpus = rw (← c.self.view_is) at c.requires in
     let there : v ≡ cpu_at d p = cpu_there d p v low (rw c.from.ensures at c.index_mut-processor.ensures.value) in
-    let sum : sum_of v.acc c.args.value ≡ sum_of ((state_of d).acc p) c.args.value = ap (λ (q : Processor). sum_of q.acc c.args.value) there in
-    rw c.from.ensures (whole _ (with_acc (state_of d) p (sum_of ((state_of d).acc p) c.args.value)) (acc_leaves m h p (sum_of ((state_of d).acc p) c.args.value) v _ low there (ap (λ n. record v { acc = n }) sum)))
+    let sum : sum_of v.acc c.args.value ≡ sum_of ((state_of d).acc p) c.args.value =
+    ap (λ (q : Processor). sum_of q.acc c.args.value) there in
+    rw c.from.ensures (whole _ (with_acc (state_of d) p (sum_of ((state_of d).acc p) c.args.value))
+    (acc_leaves m h p (sum_of ((state_of d).acc p) c.args.value) v _ low there (ap (λ n. record v { acc = n }) sum)))
 
 pub returns-clause-step : goal.returns-clause-step
 returns-clause-step c =
@@ -35,7 +37,10 @@ returns-clause-step c =
     let v = c.index_mut-processor.result.now in
     let low : p < length d.cpus = rw (← c.self.view_is) at c.requires in
     let there : v ≡ cpu_at d p = cpu_there d p v low (rw c.from.ensures at c.index_mut-processor.ensures.value) in
-    let sum : sum_of v.acc c.args.value ≡ sum_of ((state_of d).acc p) c.args.value = ap (λ (q : Processor). sum_of q.acc c.args.value) there in
+    let sum : sum_of v.acc c.args.value ≡ sum_of ((state_of d).acc p) c.args.value =
+    ap (λ (q : Processor). sum_of q.acc c.args.value) there in
     let left = acc_leaves m h p (sum_of ((state_of d).acc p) c.args.value) v _ low there (ap (λ n. record v { acc = n }) sum) in
-    let inside : is_inside (cpu_at d p).mode ≡ true = rw (c.mode.ensures, ← c.self.view_is) at (sym (c.if-not-is_inside.ensures {u = tt})) in
-    rw (c.from.ensures, ← c.self.view_is) (done_step _ _ _ (inside_only (cpu_at d p).mode inside) (c.done.ensures ∙ ap (λ n. did_by (actors.Cpu c.args.cpu) (Plus c.args.value) (Value n)) sum, left.state))
+    let inside : is_inside (cpu_at d p).mode ≡ true =
+    rw (c.mode.ensures, ← c.self.view_is) at (sym (c.if-not-is_inside.ensures {u = tt})) in
+    rw (c.from.ensures, ← c.self.view_is) (done_step _ _ _ (inside_only (cpu_at d p).mode inside)
+    (c.done.ensures ∙ ap (λ n. did_by (actors.Cpu c.args.cpu) (Plus c.args.value) (Value n)) sum, left.state))

@@ -34,7 +34,8 @@ eresume-requires-clause-room c =
     let track : track_of d.tracks e ≡ Some t = c.get_mut-track.ensures.value in
     let there : v ≡ cpu_at d p = cpu_there d p v low (rw c.from-2.ensures at c.index_mut-processor.ensures.value) in
     let number = numbered d.secs e x h.table.places found in
-    λ out. room d.tracks d.cpus p e t v h.track_places number.0 number.1 low track h.tracked h.processors (ap (λ (x : Processor). is_inside x.mode) (sym there) ∙ out)
+    λ out. room d.tracks d.cpus p e t v h.track_places number.0 number.1 low track h.tracked h.processors
+    (ap (λ (x : Processor). is_inside x.mode) (sym there) ∙ out)
 
 pub eresume-requires-clause-added : goal.eresume-requires-clause-added
 eresume-requires-clause-added c =
@@ -57,8 +58,13 @@ invariant_of-self-2 c =
     let track : track_of d.tracks e ≡ Some t = c.get_mut-track.ensures.value in
     let there : v ≡ cpu_at d p = cpu_there d p v low (rw c.from-2.ensures at c.index_mut-processor.ensures.value) in
     elim c.match-eresume.branch [
-      | in-Ok w ↦ rw c.from-2.ensures (whole _ (after_resume (state_of d) p (seat_of e c.args.tcs c.args.tcs_frame.0 c.args.ssa_frame.0)) (resume_leaves m h p e x t low found track v there c.args.tcs c.args.tcs_frame c.args.ssa_frame c.eresume.new.epc c.eresume.new.secs c.eresume.new.track c.eresume.new.cpu w.in-Ok.ensures.row w.in-Ok.ensures.epc w.in-Ok.ensures.secs w.in-Ok.ensures.track w.in-Ok.ensures.cpu))
-      | in-Err w ↦ (let kept = w.in-Err.ensures.refused in rw c.from-2.ensures (whole_same m _ (seats_same d c.eresume.new.epc e p x c.eresume.new.secs t c.eresume.new.track v c.eresume.new.cpu h.table found track there kept.0 kept.1 kept.2 kept.3) h))
+      | in-Ok w ↦ rw c.from-2.ensures (whole _ (after_resume (state_of d) p (seat_of e c.args.tcs c.args.tcs_frame.0 c.args.ssa_frame.0))
+          (resume_leaves m h p e x t low found track v there c.args.tcs c.args.tcs_frame c.args.ssa_frame c.eresume.new.epc
+          c.eresume.new.secs c.eresume.new.track c.eresume.new.cpu w.in-Ok.ensures.row w.in-Ok.ensures.epc w.in-Ok.ensures.secs
+          w.in-Ok.ensures.track w.in-Ok.ensures.cpu))
+      | in-Err w ↦ (let kept = w.in-Err.ensures.refused in
+          rw c.from-2.ensures (whole_same m _ (seats_same d c.eresume.new.epc e p x c.eresume.new.secs t c.eresume.new.track v
+          c.eresume.new.cpu h.table found track there kept.0 kept.1 kept.2 kept.3) h))
     ]
 
 pub returns-clause-step : goal.returns-clause-step
@@ -78,10 +84,20 @@ returns-clause-step c =
     let row = resume_row_at m h p e x t low found track v there c.args.tcs c.args.tcs_frame c.args.ssa_frame in
     elim c.match-eresume.branch [
       | in-Ok w ↦
-          (let left = resume_leaves m h p e x t low found track v there c.args.tcs c.args.tcs_frame c.args.ssa_frame c.eresume.new.epc c.eresume.new.secs c.eresume.new.track c.eresume.new.cpu w.in-Ok.ensures.row w.in-Ok.ensures.epc w.in-Ok.ensures.secs w.in-Ok.ensures.track w.in-Ok.ensures.cpu in
-          let answer = ap (λ n. did_by (actors.Cpu c.args.cpu) (Resume e c.args.tcs c.args.tcs_frame c.args.ssa_frame) (Value n)) w.in-Ok.ensures.answer in
-          rw (c.from-2.ensures, ← c.self.view_is) (done_step _ _ _ (row ∙ sym w.in-Ok.ensures.row) (w.result-is ∙ w.done.ensures ∙ answer, left.state)))
+          (let left = resume_leaves m h p e x t low found track v there c.args.tcs c.args.tcs_frame c.args.ssa_frame c.eresume.new.epc
+          c.eresume.new.secs c.eresume.new.track c.eresume.new.cpu w.in-Ok.ensures.row w.in-Ok.ensures.epc w.in-Ok.ensures.secs
+          w.in-Ok.ensures.track w.in-Ok.ensures.cpu in
+          let answer = ap (λ n. did_by (actors.Cpu c.args.cpu) (Resume e c.args.tcs c.args.tcs_frame c.args.ssa_frame) (Value n))
+          w.in-Ok.ensures.answer in
+          rw (c.from-2.ensures, ← c.self.view_is)
+          (done_step _ _ _ (row ∙ sym w.in-Ok.ensures.row) (w.result-is ∙ w.done.ensures ∙ answer, left.state)))
       | in-Err w ↦
           (let kept = w.in-Err.ensures.refused in
-          rw (c.from-2.ensures, ← c.self.view_is) (refused_step _ _ _ _ (row ∙ sym w.in-Err.ensures.row) (w.result-is ∙ w.refused-in-Err.ensures, ap state_of (seats_same d c.eresume.new.epc e p x c.eresume.new.secs t c.eresume.new.track v c.eresume.new.cpu h.table found track there kept.0 kept.1 kept.2 kept.3))))
+          rw (c.from-2.ensures, ← c.self.view_is)
+          (refused_step _ _ _ _ (row ∙ sym w.in-Err.ensures.row) (
+            w.result-is ∙ w.refused-in-Err.ensures,
+            ap state_of
+                (seats_same d c.eresume.new.epc e p x c.eresume.new.secs t c.eresume.new.track v c.eresume.new.cpu h.table found track there
+                kept.0 kept.1 kept.2 kept.3),
+          )))
     ]

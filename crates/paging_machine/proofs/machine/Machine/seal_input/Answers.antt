@@ -10,13 +10,15 @@ use Rattle.paging_machine.proofs.machine.Machine.seal_input.Goals as goal
 pub start-start-requires : goal.start-start-requires
 start-start-requires c =
     let s = state_of (parts_of c.self.inside) in
-    let open_start : is_some (s.start c.args.frame.0) ≡ true = start_out s c.args.frame.0 c.self.invariant.guarded (rw (← c.self.view_is) at c.requires) in
+    let open_start : is_some (s.start c.args.frame.0) ≡ true =
+    start_out s c.args.frame.0 c.self.invariant.guarded (rw (← c.self.view_is) at c.requires) in
     rw (← c.self.view_is) open_start
 
 pub returns : goal.returns
 returns c =
     let x = c.start-start.result in
-    let words : words_of (bytes_at c.self.inside.epc c.args.frame.0) ≡ words_at c.self.inside.epc c.args.frame.0 = ap words_of (sym c.bytes.ensures.value) ∙ c.bytes.ensures.words in
+    let words : words_of (bytes_at c.self.inside.epc c.args.frame.0) ≡ words_at c.self.inside.epc c.args.frame.0 =
+    ap words_of (sym c.bytes.ensures.value) ∙ c.bytes.ensures.words in
     let leaving : IsLeaving (state_of c.args.self.now) c.args.frame.0 = record {
       start = record { slot = x.slot; version = x.version; loads = x.loads };
       opened = c.start-start.ensures;

@@ -29,5 +29,6 @@ returns-clause-step c =
     let low : p < length d.cpus = rw (← c.self.view_is) at c.requires in
     let there : v ≡ cpu_at d p = cpu_there d p v low (rw c.from.ensures at c.index_mut-processor.ensures.value) in
     let left = acc_leaves m h p c.args.value v _ low there refl in
-    let inside : is_inside (cpu_at d p).mode ≡ true = rw (c.mode.ensures, ← c.self.view_is) at (sym (c.if-not-is_inside.ensures {u = tt})) in
+    let inside : is_inside (cpu_at d p).mode ≡ true =
+    rw (c.mode.ensures, ← c.self.view_is) at (sym (c.if-not-is_inside.ensures {u = tt})) in
     rw (c.from.ensures, ← c.self.view_is) (done_step _ _ _ (inside_only (cpu_at d p).mode inside) (c.done.ensures, left.state))

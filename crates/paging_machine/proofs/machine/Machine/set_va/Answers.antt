@@ -14,7 +14,8 @@ invariant_of-self-2 c =
     let m = c.self.inside in
     let f = c.args.frame.0 in
     let k = takes-epa (parts_of m) f (rw (← c.self.view_is) at c.requires) in
-    whole _ (after_epa (state_of (parts_of m)) f) (epa_leaves m c.self.invariant f _ _ c.set.new.self c.epa.new.self k c.set.ensures (c.in_ok-epa.ensures {u = tt}).done)
+    whole _ (after_epa (state_of (parts_of m)) f)
+    (epa_leaves m c.self.invariant f _ _ c.set.new.self c.epa.new.self k c.set.ensures (c.in_ok-epa.ensures {u = tt}).done)
 
 pub returns-clause-done : goal.returns-clause-done
 returns-clause-done c =

@@ -24,7 +24,8 @@ invariant_of-self c =
     elim c.match-store.branch [
       | in-Ok w ↦
           (let k = through (state_of d) p c.args.off allows_write h.sound (row ∙ sym w.in-Ok.ensures.row) in
-          whole _ (after_store (state_of d) p c.args.off c.args.value) (store_leaves m h p c.args.off c.args.value v c.store.new.epc there k w.in-Ok.ensures.done))
+          whole _ (after_store (state_of d) p c.args.off c.args.value)
+          (store_leaves m h p c.args.off c.args.value v c.store.new.epc there k w.in-Ok.ensures.done))
       | in-Err w ↦ whole_same m _ (ap (λ epc. record d { epc = epc }) w.in-Err.ensures.refused) h
     ]
 
@@ -42,9 +43,17 @@ returns-clause-step c =
       | in-Ok w ↦
           (let k = through (state_of d) p c.args.off allows_write h.sound (row ∙ sym w.in-Ok.ensures.row) in
           let left = store_leaves m h p c.args.off c.args.value v c.store.new.epc there k w.in-Ok.ensures.done in
-          let allowed : first_of_row (row_of (state_of d) (actors.Cpu c.args.cpu) (Store c.args.off c.args.value)) ≡ None = row ∙ sym w.in-Ok.ensures.row in
-          by_view m c.args.self.now (actors.Cpu c.args.cpu) (Store c.args.off c.args.value) _ _ c.self.view_is (done_step _ _ _ allowed (w.result-is ∙ w.done.ensures, left.state)))
+          let allowed : first_of_row (row_of (state_of d) (actors.Cpu c.args.cpu) (Store c.args.off c.args.value)) ≡ None = row
+          ∙ sym w.in-Ok.ensures.row in
+          by_view m c.args.self.now (actors.Cpu c.args.cpu) (Store c.args.off c.args.value) _ _ c.self.view_is
+          (done_step _ _ _ allowed (w.result-is ∙ w.done.ensures, left.state)))
       | in-Err w ↦
-          (let refused : first_of_row (row_of (state_of d) (actors.Cpu c.args.cpu) (Store c.args.off c.args.value)) ≡ Some w.in-Err.refusal = row ∙ sym w.in-Err.ensures.row in
-          by_view m c.args.self.now (actors.Cpu c.args.cpu) (Store c.args.off c.args.value) _ _ c.self.view_is (refused_step _ _ _ _ refused (w.result-is ∙ w.refused.ensures, ap (λ epc. state_of (record d { epc = epc })) w.in-Err.ensures.refused)))
+          (let refused : first_of_row (row_of (state_of d) (actors.Cpu c.args.cpu) (Store c.args.off c.args.value)) ≡ Some
+          w.in-Err.refusal = row ∙ sym w.in-Err.ensures.row in
+          by_view m c.args.self.now (actors.Cpu c.args.cpu) (Store c.args.off c.args.value) _ _ c.self.view_is
+          (refused_step _ _ _ _ refused (
+            w.result-is
+                ∙ w.refused.ensures,
+            ap (λ epc. state_of (record d { epc = epc })) w.in-Err.ensures.refused,
+          )))
     ]

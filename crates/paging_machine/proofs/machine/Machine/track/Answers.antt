@@ -11,7 +11,8 @@ pub invariant_of-self : goal.invariant_of-self
 invariant_of-self c =
     let m = c.self.inside in
     elim c.match-etrack.branch [
-      | in-Ok w ↦ whole _ _ (track_leaves m c.self.invariant c.args.enclave c.etrack.new.tracks (sym w.in-Ok.ensures.row) w.in-Ok.ensures.done)
+      | in-Ok w ↦ whole _ _ (track_leaves m c.self.invariant c.args.enclave c.etrack.new.tracks (sym w.in-Ok.ensures.row)
+          w.in-Ok.ensures.done)
       | in-Err w ↦ whole_same m _ (tracks_same (parts_of m) c.etrack.new.tracks w.in-Err.ensures.refused) c.self.invariant
     ]
 
@@ -24,5 +25,6 @@ returns-clause-step c =
       | in-Ok w ↦
           (let left = track_leaves m h c.args.enclave c.etrack.new.tracks (sym w.in-Ok.ensures.row) w.in-Ok.ensures.done in
           rw (← c.self.view_is) (done_step _ _ _ (sym row ∙ sym w.in-Ok.ensures.row) (w.result-is ∙ w.done.ensures, left.state)))
-      | in-Err w ↦ rw (← c.self.view_is) (refused_step _ _ _ _ (sym row ∙ sym w.in-Err.ensures.row) (w.result-is ∙ w.refused.ensures, ap state_of (tracks_same (parts_of m) c.etrack.new.tracks w.in-Err.ensures.refused)))
+      | in-Err w ↦ rw (← c.self.view_is) (refused_step _ _ _ _ (sym row ∙ sym w.in-Err.ensures.row)
+          (w.result-is ∙ w.refused.ensures, ap state_of (tracks_same (parts_of m) c.etrack.new.tracks w.in-Err.ensures.refused)))
     ]

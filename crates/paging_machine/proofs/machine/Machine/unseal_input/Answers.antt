@@ -7,5 +7,6 @@ use Rattle.paging_machine.proofs.machine.Machine.unseal_input.Goals as goal
 pub start-start-requires : goal.start-start-requires
 start-start-requires c =
     let s = state_of (parts_of c.self.inside) in
-    let open_start : is_some (s.start c.args.frame.0) ≡ true = start_in s c.args.frame.0 c.self.invariant.guarded (rw (← c.self.view_is) at c.requires) in
+    let open_start : is_some (s.start c.args.frame.0) ≡ true =
+    start_in s c.args.frame.0 c.self.invariant.guarded (rw (← c.self.view_is) at c.requires) in
     rw (← c.self.view_is) open_start

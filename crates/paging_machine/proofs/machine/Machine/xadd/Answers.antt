@@ -28,7 +28,10 @@ invariant_of-self c =
     elim c.match-xadd.branch [
       | in-Ok w ↦
           (let k = through (state_of d) p c.args.off allows_update h.sound (row ∙ sym w.in-Ok.ensures.row) in
-          whole _ (after_xadd (state_of d) p c.args.off c.args.value) (store_leaves m h p c.args.off (sum_of (word_at (state_of d) p c.args.off) c.args.value) v c.xadd.new.epc there k (w.in-Ok.ensures.done ∙ ap (λ n. with_stored d.epc v.cache c.args.off (sum_of n c.args.value)) (word_seen d p c.args.off v there k))))
+          whole _ (after_xadd (state_of d) p c.args.off c.args.value)
+          (store_leaves m h p c.args.off (sum_of (word_at (state_of d) p c.args.off) c.args.value) v c.xadd.new.epc there k
+          (w.in-Ok.ensures.done ∙ ap (λ n. with_stored d.epc v.cache c.args.off (sum_of n c.args.value))
+          (word_seen d p c.args.off v there k))))
       | in-Err w ↦ whole_same m _ (ap (λ epc. record d { epc = epc }) w.in-Err.ensures.refused) h
     ]
 
@@ -45,10 +48,25 @@ returns-clause-step c =
     elim c.match-xadd.branch [
       | in-Ok w ↦
           (let k = through (state_of d) p c.args.off allows_update h.sound (row ∙ sym w.in-Ok.ensures.row) in
-          let left = store_leaves m h p c.args.off (sum_of (word_at (state_of d) p c.args.off) c.args.value) v c.xadd.new.epc there k (w.in-Ok.ensures.done ∙ ap (λ n. with_stored d.epc v.cache c.args.off (sum_of n c.args.value)) (word_seen d p c.args.off v there k)) in
-          let allowed : first_of_row (row_of (state_of d) (actors.Cpu c.args.cpu) (Xadd c.args.off c.args.value)) ≡ None = row ∙ sym w.in-Ok.ensures.row in
-          by_view m c.args.self.now (actors.Cpu c.args.cpu) (Xadd c.args.off c.args.value) _ _ c.self.view_is (done_step _ _ _ allowed (w.result-is ∙ w.done.ensures ∙ ap (λ n. did_by (actors.Cpu c.args.cpu) (Xadd c.args.off c.args.value) (Value n)) (w.in-Ok.ensures.answer ∙ word_seen d p c.args.off v there k), left.state)))
+          let left = store_leaves m h p c.args.off (sum_of (word_at (state_of d) p c.args.off) c.args.value) v c.xadd.new.epc there k
+          (w.in-Ok.ensures.done ∙ ap (λ n. with_stored d.epc v.cache c.args.off (sum_of n c.args.value))
+          (word_seen d p c.args.off v there k)) in
+          let allowed : first_of_row (row_of (state_of d) (actors.Cpu c.args.cpu) (Xadd c.args.off c.args.value)) ≡ None = row
+          ∙ sym w.in-Ok.ensures.row in
+          by_view m c.args.self.now (actors.Cpu c.args.cpu) (Xadd c.args.off c.args.value) _ _ c.self.view_is
+          (done_step _ _ _ allowed (
+            w.result-is ∙ w.done.ensures
+                ∙ ap (λ n. did_by (actors.Cpu c.args.cpu) (Xadd c.args.off c.args.value) (Value n))
+                (w.in-Ok.ensures.answer ∙ word_seen d p c.args.off v there k),
+            left.state,
+          )))
       | in-Err w ↦
-          (let refused : first_of_row (row_of (state_of d) (actors.Cpu c.args.cpu) (Xadd c.args.off c.args.value)) ≡ Some w.in-Err.refusal = row ∙ sym w.in-Err.ensures.row in
-          by_view m c.args.self.now (actors.Cpu c.args.cpu) (Xadd c.args.off c.args.value) _ _ c.self.view_is (refused_step _ _ _ _ refused (w.result-is ∙ w.refused.ensures, ap (λ epc. state_of (record d { epc = epc })) w.in-Err.ensures.refused)))
+          (let refused : first_of_row (row_of (state_of d) (actors.Cpu c.args.cpu) (Xadd c.args.off c.args.value)) ≡ Some w.in-Err.refusal =
+          row ∙ sym w.in-Err.ensures.row in
+          by_view m c.args.self.now (actors.Cpu c.args.cpu) (Xadd c.args.off c.args.value) _ _ c.self.view_is
+          (refused_step _ _ _ _ refused (
+            w.result-is
+                ∙ w.refused.ensures,
+            ap (λ epc. state_of (record d { epc = epc })) w.in-Err.ensures.refused,
+          )))
     ]

@@ -5,5 +5,6 @@ use Rattle.secs_state.proofs.secs.Secs.address.Goals as goal
 
 pub overflow_add-result : goal.overflow_add-result
 overflow_add-result c =
-    let fits : c.self.inside.base + 4096 * c.args.number < 2 ^ 64 = address_fits (secs_of c.self.inside) c.args.number c.self.invariant (omega arith) (rw (← c.self.view_is) at c.requires) in
+    let fits : c.self.inside.base + 4096 * c.args.number < 2 ^ 64 =
+    address_fits (secs_of c.self.inside) c.args.number c.self.invariant (omega arith) (rw (← c.self.view_is) at c.requires) in
     search rules

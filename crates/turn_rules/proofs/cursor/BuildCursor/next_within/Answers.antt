@@ -10,8 +10,10 @@ returns-then-self-len-clause-left c =
     let begun = c.requires.cursor.begun c.requires.unfinished in
     let len = length-map c.enclaves.result.now enclave_view in
     let all = ap length c.enclaves.ensures.value in
-    let at = view_at c.enclaves.result.now c.args.job.now.enclaves (c.from.result - 1) c.index-enclaves-from.result c.enclaves.ensures.value (omega (arith, few, begun, len, all, c.from.ensures)) c.index-enclaves-from.is in
-    left_init c.args.job.now c.args.self.now c.requires.vas (enclave_view c.index-enclaves-from.result) c.next.new.self c.requires.unfinished (rw c.from.ensures at at) c.in_default.ensures.none
+    let at = view_at c.enclaves.result.now c.args.job.now.enclaves (c.from.result - 1) c.index-enclaves-from.result c.enclaves.ensures.value
+    (omega (arith, few, begun, len, all, c.from.ensures)) c.index-enclaves-from.is in
+    left_init c.args.job.now c.args.self.now c.requires.vas (enclave_view c.index-enclaves-from.result) c.next.new.self
+    c.requires.unfinished (rw c.from.ensures at at) c.in_default.ensures.none
     (omega (arith, c.len.ensures, c.if-self-len.true))
 
 pub of-self-requires : goal.of-self-requires
@@ -20,9 +22,12 @@ of-self-requires c =
     let begun = c.requires.cursor.begun c.requires.unfinished in
     let len = length-map c.enclaves.result.now enclave_view in
     let all = ap length c.enclaves.ensures.value in
-    let at = view_at c.enclaves.result.now c.args.job.now.enclaves (c.from.result - 1) c.index-enclaves-from.result c.enclaves.ensures.value (omega (arith, few, begun, len, all, c.from.ensures)) c.index-enclaves-from.is in
-    let valid = valid_of c.args.job.now.enclaves (c.from.result - 1) (enclave_view c.index-enclaves-from.result) at c.enclaves.ensures.valid.enclaves in
-    (line_of (enclave_view c.index-enclaves-from.result) c.args.self.now.line c.index.result.now (omega (arith, c.len.ensures, c.if-self-len.false)) c.index.ensures valid).fits
+    let at = view_at c.enclaves.result.now c.args.job.now.enclaves (c.from.result - 1) c.index-enclaves-from.result c.enclaves.ensures.value
+    (omega (arith, few, begun, len, all, c.from.ensures)) c.index-enclaves-from.is in
+    let valid = valid_of c.args.job.now.enclaves (c.from.result - 1) (enclave_view c.index-enclaves-from.result) at
+    c.enclaves.ensures.valid.enclaves in
+    (line_of (enclave_view c.index-enclaves-from.result) c.args.self.now.line c.index.result.now
+    (omega (arith, c.len.ensures, c.if-self-len.false)) c.index.ensures valid).fits
 
 pub add-requires-clause-some : goal.add-requires-clause-some
 add-requires-clause-some c =
@@ -30,9 +35,12 @@ add-requires-clause-some c =
     let begun = c.requires.cursor.begun c.requires.unfinished in
     let len = length-map c.enclaves.result.now enclave_view in
     let all = ap length c.enclaves.ensures.value in
-    let at = view_at c.enclaves.result.now c.args.job.now.enclaves (c.from.result - 1) c.index-enclaves-from.result c.enclaves.ensures.value (omega (arith, few, begun, len, all, c.from.ensures)) c.index-enclaves-from.is in
-    let valid = valid_of c.args.job.now.enclaves (c.from.result - 1) (enclave_view c.index-enclaves-from.result) at c.enclaves.ensures.valid.enclaves in
-    rw c.of-self.ensures.count (line_of (enclave_view c.index-enclaves-from.result) c.args.self.now.line c.index.result.now (omega (arith, c.len.ensures, c.if-self-len.false)) c.index.ensures valid).some
+    let at = view_at c.enclaves.result.now c.args.job.now.enclaves (c.from.result - 1) c.index-enclaves-from.result c.enclaves.ensures.value
+    (omega (arith, few, begun, len, all, c.from.ensures)) c.index-enclaves-from.is in
+    let valid = valid_of c.args.job.now.enclaves (c.from.result - 1) (enclave_view c.index-enclaves-from.result) at
+    c.enclaves.ensures.valid.enclaves in
+    rw c.of-self.ensures.count (line_of (enclave_view c.index-enclaves-from.result) c.args.self.now.line c.index.result.now
+    (omega (arith, c.len.ensures, c.if-self-len.false)) c.index.ensures valid).some
 
 pub returns-clause-left : goal.returns-clause-left
 returns-clause-left c =
@@ -40,6 +48,9 @@ returns-clause-left c =
     let begun = c.requires.cursor.begun c.requires.unfinished in
     let len = length-map c.enclaves.result.now enclave_view in
     let all = ap length c.enclaves.ensures.value in
-    let at = view_at c.enclaves.result.now c.args.job.now.enclaves (c.from.result - 1) c.index-enclaves-from.result c.enclaves.ensures.value (omega (arith, few, begun, len, all, c.from.ensures)) c.index-enclaves-from.is in
-    left_line c.args.job.now c.args.self.now c.requires.vas (enclave_view c.index-enclaves-from.result) c.index.result.now c.of-self.result c.add.new.self c.add.result c.requires.unfinished (rw c.from.ensures at at)
-    c.in_default.ensures.none (omega (arith, c.len.ensures, c.if-self-len.false)) c.index.ensures (c.of-self.ensures.left c.args.self.now.enclave) c.add.ensures.left
+    let at = view_at c.enclaves.result.now c.args.job.now.enclaves (c.from.result - 1) c.index-enclaves-from.result c.enclaves.ensures.value
+    (omega (arith, few, begun, len, all, c.from.ensures)) c.index-enclaves-from.is in
+    left_line c.args.job.now c.args.self.now c.requires.vas (enclave_view c.index-enclaves-from.result) c.index.result.now c.of-self.result
+    c.add.new.self c.add.result c.requires.unfinished (rw c.from.ensures at at)
+    c.in_default.ensures.none (omega (arith, c.len.ensures, c.if-self-len.false)) c.index.ensures
+    (c.of-self.ensures.left c.args.self.now.enclave) c.add.ensures.left

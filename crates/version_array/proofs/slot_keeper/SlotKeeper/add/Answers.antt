@@ -6,12 +6,14 @@ use Rattle.version_array.proofs.slot_keeper.SlotKeeper.add.Goals as goal
 
 pub push_slots-requires : goal.push_slots-requires
 push_slots-requires c =
-    let low : length (keeper_of c.self.inside).frames < (keeper_of c.self.inside).room = omega (arith, ap (λ (k : Keeper). length k.frames) c.self.view_is, ap (λ (k : Keeper). k.room) c.self.view_is, c.requires.room) in
+    let low : length (keeper_of c.self.inside).frames < (keeper_of c.self.inside).room =
+    omega (arith, ap (λ (k : Keeper). length k.frames) c.self.view_is, ap (λ (k : Keeper). k.room) c.self.view_is, c.requires.room) in
     omega (arith, room_to_add (keeper_of c.self.inside) c.self.invariant.keeper low, c.self.invariant.slots_fit, c.self.inside.free.ok.0)
 
 pub invariant_of-self : goal.invariant_of-self
 invariant_of-self c =
-    let low : length (keeper_of c.self.inside).frames < (keeper_of c.self.inside).room = omega (arith, ap (λ (k : Keeper). length k.frames) c.self.view_is, ap (λ (k : Keeper). k.room) c.self.view_is, c.requires.room) in
+    let low : length (keeper_of c.self.inside).frames < (keeper_of c.self.inside).room =
+    omega (arith, ap (λ (k : Keeper). length k.frames) c.self.view_is, ap (λ (k : Keeper). k.room) c.self.view_is, c.requires.room) in
     let fresh : is_added (keeper_of c.self.inside) c.args.f.0 ≡ false = ap (λ k. is_added k c.args.f.0) c.self.view_is ∙ c.requires.fresh in
     record {
       keeper =

@@ -12,7 +12,8 @@ invariant_of-self c = record {
 pub returns-clause-answer : goal.returns-clause-answer
 returns-clause-answer c =
     rw (← c.self.view_is)
-    (popped_answer (keeper_of c.self.inside) _ _ c.self.invariant.keeper c.pop.ensures.items _ _ (sym c.self.inside.free.ok.0) c.pop.ensures.cases)
+    (popped_answer (keeper_of c.self.inside) _ _ c.self.invariant.keeper c.pop.ensures.items _ _ (sym c.self.inside.free.ok.0)
+    c.pop.ensures.cases)
 
 pub returns-clause-taken : goal.returns-clause-taken
 returns-clause-taken c =

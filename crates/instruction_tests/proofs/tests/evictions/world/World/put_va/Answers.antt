@@ -4,5 +4,6 @@ use Rattle.instruction_tests.proofs.tests.evictions.world.World.put_va.Goals as 
 
 pub invariant_of-self-2 : goal.invariant_of-self-2
 invariant_of-self-2 g c = record {
-  pages = rw (c.set.ensures, c.in_ok-epa.ensures.done) (pages-with_va c.args.self.now.epc c.args.self.now.va c.args.frame _ _ c.args.self.now.pages (search rules));
+  pages = rw (c.set.ensures, c.in_ok-epa.ensures.done)
+      (pages-with_va c.args.self.now.epc c.args.self.now.va c.args.frame _ _ c.args.self.now.pages (search rules));
 }
