@@ -1,3 +1,5 @@
+//! A table that leads from page numbers to places, with linear probing.
+
 ghost use Rattle.std.specs.Prelude.{◌≡◌, ◌<◌, ◌+◌, ◌%◌, ℕ, IfSome, IsNone, IsPermutation, length};
 ghost use Rattle.cached_translations.specs.Probe.{Leads, IsProbed, IsGapped, IsOfPage, IsFree, Adds, Drops, used};
 

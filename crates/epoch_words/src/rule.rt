@@ -1,3 +1,5 @@
+//! The rule that the words, their seat and the passes keep.
+
 use crate::seen::Seen;
 use atomic_table::{Play, Split, TableRule};
 use std::collections::LinkedList;

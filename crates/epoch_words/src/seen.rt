@@ -1,3 +1,5 @@
+//! What a tracking word says.
+
 ghost use Rattle.std.specs.Prelude.{◌≡◌};
 ghost use Rattle.epoch_words.specs.Seen.{IsLawful, word_of, seen_in};
 

@@ -1,3 +1,5 @@
+//! The words, the seat that writes them, and the passes that read them.
+
 ghost use Rattle.std.specs.Prelude.{◌≡◌, ◌≤◌, length, replicate, IfOk};
 ghost use Rattle.epoch_words.specs.Seen.{IsLawful, starting_at, HasRoom, entered, IsInside, left, CanTrack, tracked, Changes, IsNotAhead};
 ghost use Rattle.epoch_words.specs.Known.{enclaves, known, seen_of, learnt};

@@ -1,5 +1,4 @@
 mod accesses;
 mod builds;
 mod entries;
-mod evictions;
 mod perms;

@@ -1,3 +1,5 @@
+//! A file that is made at its first write.
+
 ghost use Rattle.std.specs.Prelude.{◌≡◌, true, false, None, OnOk};
 ghost use Rattle.std.specs.Io.{WritesAtMost};
 ghost use Rattle.std.specs.Io.KnownBytes.{WriteAppends};

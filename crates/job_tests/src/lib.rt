@@ -1,4 +1,4 @@
-// Tests of jobs: of their text, as read or refused, and of what a job's instructions do to flat memory.
+// Tests of the text of jobs, as read or refused.
 #![tactic(auto)]
 
 #[cfg(test)]

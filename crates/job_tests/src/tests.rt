@@ -1,5 +1,4 @@
 mod enclaves;
-mod flat;
 mod jobs;
 mod operations;
 mod texts;

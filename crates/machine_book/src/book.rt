@@ -1,3 +1,5 @@
+//! The book: a machine with its entries, and where its pages are.
+
 ghost use Rattle.std.specs.Prelude.{◌≡◌, ◌<◌, ◌≤◌, ◌^◌, [], ◌∷◌, reverse, length, true, Some, IfOk, OnOk, OnErr};
 ghost use Rattle.std.specs.Option.{option_map};
 ghost use Rattle.sgx_types.specs.Frames.{content, frame_of, least_free};

@@ -1,3 +1,5 @@
+//! The builder's part of a run.
+
 ghost use Rattle.std.specs.Prelude.{ℕ, ◌≡◌, [], OnOk};
 ghost use Rattle.std.specs.List.{All};
 ghost use Rattle.job_grammar.specs.Jobs.{lines_at};

@@ -1,3 +1,5 @@
+//! The frames that an entry and a resumption name.
+
 ghost use Rattle.std.specs.Prelude.{ℕ, ◌≡◌, ◌<◌};
 ghost use Rattle.job_grammar.specs.Jobs.{lines_at, tcs_line};
 ghost use Rattle.turn_rules.specs.Script.{enter_by, is_turned_away, op_due, resume_by};

@@ -1,3 +1,5 @@
+//! Where each page is, and how many of its state save pages are in use.
+
 ghost use Rattle.std.specs.Prelude.{◌≡◌, ◌<◌, ◌^◌, IfOk, replicate};
 ghost use Rattle.sgx_types.specs.declared.names.Page.{Page};
 ghost use Rattle.machine_book.specs.Homes.{home_in, home_after, no_home, place_of, with_fewer, with_frame, with_more};

@@ -1,3 +1,5 @@
+//! The processors' part of a run.
+
 ghost use Rattle.std.specs.Prelude.{◌≡◌, ◌<◌, ◌≤◌, List, [], ◌∷◌, length, OnOk};
 ghost use Rattle.sgx_types.specs.Rules.{Along};
 ghost use Rattle.job_grammar.specs.declared.jobs.Op.{Op};

@@ -1,3 +1,5 @@
+//! A run of a job, from an empty machine to its last entry.
+
 ghost use Rattle.std.specs.Prelude.{◌≡◌, [], length, IfOk};
 ghost use Rattle.turn_rules.specs.Script.{Script};
 ghost use Rattle.job_grammar.specs.Valid.{IsSmallJob, IsValid};

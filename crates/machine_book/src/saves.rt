@@ -1,3 +1,5 @@
+//! The state save pages of a job's TCS pages.
+
 ghost use Rattle.std.specs.Prelude.{◌≡◌, ◌&&◌};
 ghost use Rattle.job_grammar.specs.Jobs.{covers, is_tcs_line, tcs_line};
 ghost use Rattle.machine_book.specs.Saves.{saves_of};

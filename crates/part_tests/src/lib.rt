@@ -1,5 +1,4 @@
-// Tests of what the instructions stand on: types and layouts, frames, enclaves, tracks, processors, slots, logs, seals, and the
-// edges where bytes come in and go out.
+// Tests of what the instructions stand on: frames, enclaves, slots, logs and seals.
 #![tactic(auto)]
 
 #[cfg(test)]

@@ -1,13 +1,5 @@
-mod edges;
 mod enclaves;
-mod entries;
 mod frames;
-mod layouts;
 mod logs;
-mod names;
-mod processors;
-mod records;
-mod refusals;
 mod seals;
 mod slots;
-mod tracks;

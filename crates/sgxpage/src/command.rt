@@ -1,3 +1,5 @@
+//! The command: its words, its run, and how it ends.
+
 ghost use Rattle.std.specs.Prelude.{◌≡◌, ◌≢◌, ◌<◌, ◌+◌, ◌^◌, ◌⊎◌, ◌↔◌, [], ◌∷◌, codes, length, map, string_bytes, IfErr, IfOk, IfNone};
 ghost use Rattle.std.specs.Prelude.{IfSome, IsErrOf, IsSomeAnd, OnOk};
 ghost use Rattle.io_edges.specs.Faults.{HasRisen};

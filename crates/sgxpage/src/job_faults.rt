@@ -1,3 +1,5 @@
+//! The line on what is wrong with a job.
+
 ghost use Rattle.std.specs.Prelude.{◌≡◌, ◌++◌, codes, IfOk, OnOk};
 ghost use Rattle.std.specs.Fmt.{decimal};
 ghost use Rattle.sgxpage.specs.Runs.{fault_text, kind_text};

@@ -1,3 +1,5 @@
+//! The text of the output.
+
 ghost use Rattle.std.specs.Prelude.{◌≡◌, [], ◌++◌, reverse, flat_map, OnOk, IfOk};
 ghost use Rattle.sgx_types.specs.Processors.{is_by};
 ghost use Rattle.turn_rules.specs.Script.{interrupted_after, is_reply, is_reply_action, numbers_from};

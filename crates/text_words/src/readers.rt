@@ -1,3 +1,5 @@
+//! Words that are read.
+
 ghost use Rattle.std.specs.Prelude.{◌≡◌, ◌≤◌, ◌^◌, ◌<◌, SomeIff};
 ghost use Rattle.std.specs.Str.Parse.{IsNumeral, digits_value};
 ghost use Rattle.text_words.specs.Reading.{digest_of, letter_of, number_of, small_of};

@@ -1,3 +1,5 @@
+//! Words that are printed.
+
 ghost use Rattle.std.specs.Prelude.{◌≡◌, ◌≤◌, ◌<◌, ◌∷◌, ◌++◌, false, map, OnOk};
 ghost use Rattle.std.specs.Fmt.{digits, digit_glyph};
 ghost use Rattle.text_words.specs.Words.{digest_word, enclave_word, hexadecimal, line_text, with_words, word_text};

@@ -1,3 +1,5 @@
+//! The words of instructions, answers and refusals.
+
 ghost use Rattle.std.specs.Prelude.{◌≡◌, [], ◌∷◌, OnOk};
 ghost use Rattle.std.specs.Fmt.{decimal};
 ghost use Rattle.text_words.specs.Words.{enclave_word, hexadecimal, with_words};

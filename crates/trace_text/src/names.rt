@@ -1,3 +1,5 @@
+//! The words for the cases of an enum.
+
 ghost use Rattle.std.specs.Prelude.{◌≡◌, [], ◌∷◌};
 ghost use Rattle.trace_text.specs.TraceText.{access_word, cause_word, fault_word, kind_word, look_word, perms_word, refusal_name};
 ghost use Rattle.trace_text.specs.TraceText.{stop_word};

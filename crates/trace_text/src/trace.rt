@@ -1,3 +1,5 @@
+//! The text of a trace.
+
 ghost use Rattle.std.specs.Prelude.{◌≡◌, ◌++◌, drop, reverse, OnOk, IfOk};
 ghost use Rattle.trace_text.specs.TraceText.{actor_word, answer_words, entry_text, event_words, refusal_words, trace_of};
 ghost use Rattle.text_words.specs.Words.{with_words};

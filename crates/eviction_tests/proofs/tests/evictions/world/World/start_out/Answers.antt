@@ -1,6 +1,6 @@
 use Rattle.evict_reload.specs.Sights.{drain_sight}
 use Rattle.evict_reload.proofs.CallLaws.{after_start_out}
-use Rattle.instruction_tests.proofs.tests.evictions.world.World.start_out.Goals as goal
+use Rattle.eviction_tests.proofs.tests.evictions.world.World.start_out.Goals as goal
 
 pub invariant_of-self : goal.invariant_of-self
 invariant_of-self g c = record {

@@ -1,6 +1,6 @@
 use Rattle.evict_reload.specs.Sights.{is_added}
 use Rattle.evict_reload.proofs.CallLaws.{after_start_in}
-use Rattle.instruction_tests.proofs.tests.evictions.world.World.start_in.Goals as goal
+use Rattle.eviction_tests.proofs.tests.evictions.world.World.start_in.Goals as goal
 
 pub invariant_of-self : goal.invariant_of-self
 invariant_of-self c = record {

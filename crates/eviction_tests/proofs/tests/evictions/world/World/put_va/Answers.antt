@@ -1,6 +1,6 @@
 use Rattle.std.proofs.Common.{rules}
 use Rattle.evict_reload.proofs.PageLaws.{pages-with_va}
-use Rattle.instruction_tests.proofs.tests.evictions.world.World.put_va.Goals as goal
+use Rattle.eviction_tests.proofs.tests.evictions.world.World.put_va.Goals as goal
 
 pub invariant_of-self-2 : goal.invariant_of-self-2
 invariant_of-self-2 g c = record {

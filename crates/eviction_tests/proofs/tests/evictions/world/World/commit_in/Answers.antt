@@ -1,7 +1,7 @@
 use Rattle.std.proofs.Common.{rules}
 use Rattle.evict_reload.specs.Sights.{added_in}
 use Rattle.evict_reload.proofs.CallLaws.{after_commit_in}
-use Rattle.instruction_tests.proofs.tests.evictions.world.World.commit_in.Goals as goal
+use Rattle.eviction_tests.proofs.tests.evictions.world.World.commit_in.Goals as goal
 
 pub invariant_of-self : goal.invariant_of-self
 invariant_of-self g c = record {

@@ -1,0 +1,9 @@
+use sgx_types::names::Perm;
+
+pub const NONE: Perm = Perm::NONE;
+
+pub const READ_WRITE: Perm = Perm {
+    r: true,
+    w: true,
+    x: false,
+};

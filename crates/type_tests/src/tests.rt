@@ -1,0 +1,7 @@
+mod entries;
+mod layouts;
+mod names;
+mod processors;
+mod records;
+mod refusals;
+mod tracks;
