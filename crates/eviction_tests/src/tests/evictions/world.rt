@@ -17,7 +17,7 @@ use seal_record::unseal::{UnsealWork, UnsealedWork, unseal};
 use secs_state::secs::Secs;
 use secs_state::table::SecsTable;
 use sgx_types::lawful::is_lawful;
-use sgx_types::names::{Frame, Kind, Memory, PROCESSORS, Page, SlotAt};
+use sgx_types::names::{Frame, Kind, LAST_EPOCH, Memory, PROCESSORS, Page, SlotAt};
 use sgx_types::record::{Header, Record};
 use sgx_types::refusals::Refusal;
 use std::alloc::Global;
@@ -58,7 +58,7 @@ pub fn play(
 
 impl World {
     fn new(rt: &impl Abort, alloc: Global, frames: u32, epoch: u64) -> Result<World, Memory> {
-        assert!(rt; frames <= 4096);
+        assert!(rt; frames <= 4096 && 1 <= epoch && epoch <= LAST_EPOCH);
         let epc = Epc::new(alloc, frames)?;
         Ok(World {
             epc,
