@@ -2,7 +2,6 @@ ghost use Rattle.std.specs.Prelude.{◌≡◌, IsTrue, true};
 ghost use Rattle.sgx_types.specs.Flat.{is_visible};
 ghost use Rattle.flat_machine.specs.Step.{IsItsActor};
 
-use super::super::jobs::FIRST as JOB;
 use super::rows::{BUILDER, Instruction, PLAIN, READ_WRITE, Row};
 use flat_machine::flat::Flat;
 use flat_machine::reply::FlatReply;
@@ -12,6 +11,18 @@ use sgx_types::names::{Memory, PROCESSORS, Page};
 use std::alloc::Global;
 use std::process::Abort;
 use std::test::Fail;
+
+// A job whose pages flat memory takes room for.
+const JOB: &str = "epc 6
+enclave A 0x10000 0x10000
+tcs 0 1 1 plain
+reg 1 1 rw 0 plain
+reg 2 1 rw 7 plain
+cpu 0
+eenter A 0
+load 0x2000
+eexit
+";
 
 // Plays tables, one after the other, on flat memory in which nothing is built, with room for the pages of the first job.
 pub fn play(rt: &impl Abort, alloc: Global, tables: &[&[Row]]) -> Result<(), Fail> {
