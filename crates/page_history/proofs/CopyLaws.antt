@@ -17,14 +17,14 @@ use Rattle.sgx_types.specs.declared.names.SlotAt.{SlotAt}
 use Rattle.sgx_types.specs.Flat.{FlatPage, added_as, flat}
 use Rattle.sgx_types.specs.Frames.{Content, Free, IsVa, SecsOf, Holds, IsLoading, added, content, is_page, page_at, reloaded, same_page}
 use Rattle.sgx_types.specs.Rules.{RefusalRule}
-use Rattle.sgx_types.specs.Sights.{sight_at}
+use Rattle.sgx_types.specs.Sights.{row_at, sight_at}
 use Rattle.sgx_types.specs.Slots.{open_slot, same_slot, slot_of, version_in}
 use Rattle.sgx_types.specs.Starts.{Start, open_start}
-use Rattle.sgx_types.specs.Table.{EnclaveSight, FrameSight, add_row, create_row, eldstart_row, epa_row, first_of_row, is_valid}
+use Rattle.sgx_types.specs.Table.{EnclaveSight, FrameSight, add_row, create_row, epa_row, first_of_row, is_valid}
 use Rattle.page_history.specs.Copies.{InFrame, InSlot, OneLiveCopy, copy, copy_after, in_slot}
-use Rattle.page_history.specs.Fresh.{FreshRule, IsLastOut, Out, last_out, out_after}
+use Rattle.sgx_types.specs.Fresh.{FreshRule, IsLastOut, Out, last_out, out_after}
 use Rattle.sgx_types.specs.Making.{Making}
-use Rattle.page_history.specs.Moves.{EndsIn, MovesRule, slot_sight_at}
+use Rattle.sgx_types.specs.Ends.{EndsIn}
 use Rattle.page_history.specs.Once.{DrawnOnce, Gone, IsGone, KeepsMoves, StartsApart, gone, gone_after}
 use Rattle.page_history.proofs.DrawnLaws.{drawn_once}
 use Rattle.page_history.proofs.FlatLaws.{added_flat}
@@ -44,7 +44,7 @@ one_page (Holds page kind perm) a b h k = sym (same_pages page a h) ∙ same_pag
 one_page Free a b h k = cc
 one_page IsVa a b h k = cc
 one_page (SecsOf e) a b h k = cc
-one_page IsLoading a b h k = cc
+one_page (IsLoading page) a b h k = cc
 
 -- a page stands in no two frames
 one_frame : (past : List Entry) → OneLiveCopy past → (m n : ℕ) (g : Page) → is_page (content past m) g ≡ true
@@ -139,7 +139,7 @@ whose_copy first past live drawn s g more out =
 -- a frame that is not valid holds no page
 vacant : (c : Content) → is_valid c ≡ false → (g : Page) → is_page c g ≡ false
 vacant Free none g = refl
-vacant IsLoading none g = refl
+vacant (IsLoading page) none g = refl
 vacant IsVa none g = cc
 vacant (SecsOf enclave) none g = cc
 vacant (Holds page kind perm) none g = cc
@@ -350,7 +350,7 @@ live_ewb past live a f g v tag start held opened empty above = record {
 
 -- a page comes back from its slot
 live_eld : (past : List Entry) → IsLive past → (a : Actor) (f : Frame) (g : Page) (told v : ℕ) (tag : List ℕ) (start : Start)
-    → content past f.0 ≡ IsLoading → open_start past f.0 ≡ Some start → copy past g ≡ Some (InSlot start.slot v)
+    → content past f.0 ≡ IsLoading g → open_start past f.0 ≡ Some start → copy past g ≡ Some (InSlot start.slot v)
     → IsLive (entry_of a (Did (Eld f) (Moved g told tag)) ∷ past)
 live_eld past live a f g told v tag start loading opened was = record {
   one = record {
@@ -425,10 +425,10 @@ no_value None h = refl
 no_value (Some x) h = absurd (h refl)
 
 -- an entry that keeps the rules leaves each page one live copy
-live_more : (k : Making) (past : List Entry) (e : Entry) → 1 ≤ k.first_version → KeepsMoves k past → RefusalRule k.frames past e
-    → MovesRule k past e → FreshRule k.first_version past e
+live_more : (k : Making) (past : List Entry) (e : Entry) → 1 ≤ k.first_version → KeepsMoves k past → RefusalRule k past e
+    → FreshRule k.first_version past e
     → IsLive past → IsLive (e ∷ past)
-live_more k past e low keeps refusal moves fresh live = by_event e.event refusal moves fresh
+live_more k past e low keeps refusal fresh live = by_event e.event refusal fresh
   where
     a : Actor
     a = e.actor
@@ -462,38 +462,40 @@ live_more k past e low keeps refusal moves fresh live = by_event e.event refusal
         whose_copy k.first_version past live.one drawn ends.start.slot g (omega (arith, found.0, found.1))
         (rw at (out_is_gone past g _ last.last))
 
-    by_event : (ev : Event) → RefusalRule k.frames past (entry_of a ev) → MovesRule k past (entry_of a ev)
+    by_event : (ev : Event) → RefusalRule k past (entry_of a ev)
         → FreshRule k.first_version past (entry_of a ev) → IsLive (entry_of a ev ∷ past)
-    by_event (Did (Epa f) answer) refusal moves fresh =
+    by_event (Did (Epa f) answer) refusal fresh =
         let none = none_holds (epa_row (sight_at k.frames past f.0)) refusal.0 in
         live_still past _ (λ g. refl) (unpaged past f.0 IsVa (λ g. refl) (vacant (content past f.0) none.1.1.0)) (λ s. refl) (λ g. refl)
         live
-    by_event (Did (Create enclave f base size) answer) refusal moves fresh =
+    by_event (Did (Create enclave f base size) answer) refusal fresh =
         let none = none_holds (create_row enclave base size _ (sight_at k.frames past f.0)) refusal.0 in
         live_still past _ (λ g. refl) (unpaged past f.0 (SecsOf enclave) (λ g. refl) (vacant (content past f.0) none.1.1.1.0)) (λ s. refl)
         (λ g. refl) live
-    by_event (Did (Add enclave number f kind perm init) answer) refusal moves fresh =
+    by_event (Did (Add enclave number f kind perm init) answer) refusal fresh =
         let adding = adds number kind perm init _ _ (sight_at k.frames past f.0) refusal.0 in
         live_add past live a enclave number f kind perm init answer (vacant (content past f.0) adding.empty)
         (unadded (page_at enclave number) adding.new)
-    by_event (Did (EldStart f page slot) answer) refusal moves fresh =
-        let none = none_holds (eldstart_row (sight_at k.frames past f.0) _ (slot_sight_at k.frames past slot)) (moves tt).0 in
-        live_still past _ (λ g. refl) (unpaged past f.0 IsLoading (λ g. refl) (vacant (content past f.0) none.1.1.1.0)) (λ s. refl)
+    by_event (Did (EldStart f page slot) answer) refusal fresh =
+        let none = none_holds (row_at k past a (EldStart f page slot)) refusal.0 in
+        live_still past _ (λ g. refl) (unpaged past f.0 (IsLoading page) (λ g. refl) (vacant (content past f.0) none.1.1.1.1.0)) (λ s. refl)
         (λ g. refl) live
-    by_event (Did (Ewb f) answer) refusal out fresh =
+    by_event (Did (Ewb f) answer) refusal fresh =
+        let out = refusal.1 in
         rw out.told
         (live_ewb past live a f out.page out.version out.tag out.start (rw out.held (same_page-refl out.page)) out.opened
         (apart.empty f.0 out.start out.opened out.writes) above)
-    by_event (Did (Eld f) answer) refusal back fresh =
+    by_event (Did (Eld f) answer) refusal fresh =
+        let back = refusal.1 in
         let ends = back.ends in
         let last : IsLastOut past f.0 back.page back.version back.tag = rw back.told at fresh.reload in
         rw back.told
         (live_eld past live a f back.page back.version (version_in past ends.start.slot) back.tag ends.start
         (apart.loading f.0 ends.start back.page ends.opened ends.loads) ends.opened
         (slotted f.0 back.page back.version back.tag ends last))
-    by_event (Refused (Eld f) why) refusal unfit fresh =
+    by_event (Refused (Eld f) why) unfit fresh =
         live_still past _ (λ g. refl) (unpaged past f.0 Free (λ g. refl) (loading f.0 unfit.page unfit.ends)) (λ s. refl) (λ g. refl) live
-    by_event ev refusal moves fresh = live_still past (entry_of a ev) (λ g. refl) (λ n g. refl) (λ s. refl) (λ g. refl) live
+    by_event ev refusal fresh = live_still past (entry_of a ev) (λ g. refl) (λ n g. refl) (λ s. refl) (λ g. refl) live
 
 -- where the rules are kept, each page that was added has one live copy, and no other page has one
 pub all_live : (k : Making) (past : List Entry) → 1 ≤ k.first_version → KeepsMoves k past → IsLive past
@@ -512,11 +514,10 @@ all_live k (e ∷ past) low keeps =
     let before : KeepsMoves k past = record {
       refusal = keeps.refusal.1;
       flat = keeps.flat.1;
-      moves = keeps.moves.1;
       evict = keeps.evict.1;
       fresh = keeps.fresh.1;
     } in
-    live_more k past e low before keeps.refusal.0 keeps.moves.0 keeps.fresh.0 (all_live k past low before)
+    live_more k past e low before keeps.refusal.0 keeps.fresh.0 (all_live k past low before)
 
 -- .. of which the contract tells the first
 pub live_copies : (k : Making) (past : List Entry) → 1 ≤ k.first_version → KeepsMoves k past → OneLiveCopy past

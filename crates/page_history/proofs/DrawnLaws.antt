@@ -175,7 +175,7 @@ drawn_still first past actor event rising evict h = fewer_drawn first past (entr
 
 -- the rules were kept before the last entry
 pub keeps_before : (k : Making) (e : Entry) (past : List Entry) → KeepsMoves k (e ∷ past) → KeepsMoves k past
-keeps_before k e past h = record { refusal = h.refusal.1; flat = h.flat.1; moves = h.moves.1; evict = h.evict.1; fresh = h.fresh.1 }
+keeps_before k e past h = record { refusal = h.refusal.1; flat = h.flat.1; evict = h.evict.1; fresh = h.fresh.1 }
 
 -- where the rules are kept, each version is drawn once
 pub drawn_once : (k : Making) (past : List Entry) → KeepsMoves k past → DrawnOnce k.first_version past

@@ -14,12 +14,11 @@ use Rattle.sgx_types.specs.declared.names.Kind.{Kind}
 use Rattle.sgx_types.specs.declared.names.Page.{Page}
 use Rattle.sgx_types.specs.declared.names.Perm.{Perm}
 use Rattle.sgx_types.specs.declared.record.Header.{Header}
-use Rattle.sgx_types.specs.Flat.{FlatEnclave, FlatMemory, FlatPage, Inside, accepts, added_as, at_offset, build_after, cpu_after, enclave_sight, event_after, fields_in, first_words, flat, flat_build_row, marked, memory_after, open_frame, rewritten, saved, stored, sum_of, with_cssa, with_words, word_index, word_seen}
+use Rattle.sgx_types.specs.Flat.{FlatEnclave, FlatMemory, FlatPage, Inside, accepts, added_as, at_offset, build_after, cpu_after, enclave_sight, event_after, fields_in, first_words, flat, flat_build_row, header_by, header_in, marked, memory_after, open_frame, rewritten, saved, stored, sum_of, with_cssa, with_words, word_index, word_seen}
 use Rattle.sgx_types.specs.Frames.{added, page_at, same_page}
 use Rattle.sgx_types.specs.Rules.{Along, FlatRule}
 use Rattle.sgx_types.specs.Sealed.{header_of}
 use Rattle.sgx_types.specs.Table.{EnclaveSight, FrameSight, add_row, first_of_row}
-use Rattle.page_history.specs.Moves.{IsHeader}
 use Rattle.sgx_types.proofs.Pages.{same_page-swap, same_pages}
 use Rattle.sgx_types.proofs.Rows.{NoneHolds, none_holds}
 use Rattle.sgx_types.proofs.Truths.{eqb-swap}
@@ -180,36 +179,36 @@ memory_pages actor (Add enclave number f kind perm init) m g taken there =
     (is_none-None (first_of_row (flat_build_row m (Add enclave number f kind perm init))) taken) there
 memory_pages actor action m g taken there = memory_kinds actor action m g refl
 
--- where base, kind and permissions stay, a page has its header still
-header_by : (m now : FlatMemory) (g : Page) (header : Header) → (is : IsHeader m g header)
-    → base_of (now.enclaves g.enclave) ≡ Some is.enclave.base → added_as (now.pages g) ≡ Some (is.page.kind, is.page.perm)
-    → IsHeader now g header
-header_by m now g header is = by_values (now.enclaves g.enclave) (now.pages g) refl refl
-  where
-    by_values : (enclave : Option FlatEnclave) (page : Option FlatPage) → now.enclaves g.enclave ≡ enclave → now.pages g ≡ page
-        → base_of enclave ≡ Some is.enclave.base → added_as page ≡ Some (is.page.kind, is.page.perm)
-        → IsHeader now g header
-    by_values None page made there base kinds = cc
-    by_values (Some x) None made there base kinds = cc
-    by_values (Some x) (Some y) made there base kinds =
-        let same_base : x.base ≡ is.enclave.base = cc in
-        let same_kinds : ◌≡◌ {A = Kind × Perm} (y.kind, y.perm) (is.page.kind, is.page.perm) = cc in
-        record {
-          enclave = x;
-          made = made;
-          page = y;
-          added = there;
-          headed = is.headed ∙ sym (λ i. header_of (same_base i) g ((same_kinds i).0) ((same_kinds i).1));
-        }
+-- a header is made of the enclave's base and of what the page was added as
+header_seen : (g : Page) (o o' : Option FlatEnclave) (x x' : Option FlatPage) → base_of o' ≡ base_of o → added_as x' ≡ added_as x
+    → header_by o' g x' ≡ header_by o g x
+header_seen g None None x x' bases kinds = refl
+header_seen g None (Some e') x x' bases kinds = cc
+header_seen g (Some e) None x x' bases kinds = cc
+header_seen g (Some e) (Some e') None None bases kinds = refl
+header_seen g (Some e) (Some e') None (Some y') bases kinds = cc
+header_seen g (Some e) (Some e') (Some y) None bases kinds = cc
+header_seen g (Some e) (Some e') (Some y) (Some y') bases kinds =
+    let same_base : e'.base ≡ e.base = cc in
+    let same_kinds : ◌≡◌ {A = Kind × Perm} (y'.kind, y'.perm) (y.kind, y.perm) = cc in
+    λ i. Some (header_of (same_base i) g ((same_kinds i).0) ((same_kinds i).1))
+
+-- a page that has a header was added to an enclave that was created
+pub header_there : (g : Page) (o : Option FlatEnclave) (x : Option FlatPage) (header : Header) → header_by o g x ≡ Some header
+    → (is_some o ≡ true) × (is_some x ≡ true)
+header_there g None x header is = cc
+header_there g (Some e) None header is = cc
+header_there g (Some e) (Some y) header is = (refl, refl)
 
 -- a page has its header for ever
-pub header_still : (actor : Actor) (event : Event) (m : FlatMemory) (g : Page) (header : Header) → IsHeader m g header
-    → IsHeader (event_after actor event m) g header
+pub header_still : (actor : Actor) (event : Event) (m : FlatMemory) (g : Page) (header : Header) → header_in m g ≡ Some header
+    → header_in (event_after actor event m) g ≡ Some header
 header_still actor (Did action answer) m g header is =
-    cond_both (accepts m actor action) (memory_after actor action m) m (λ (now : FlatMemory). IsHeader now g header)
+    let there = header_there g (m.enclaves g.enclave) (m.pages g) header is in
+    cond_both (accepts m actor action) (memory_after actor action m) m (λ (now : FlatMemory). header_in now g ≡ Some header)
     (λ taken.
-    header_by m (memory_after actor action m) g header is
-    (memory_bases actor action m g.enclave taken (ap is_some is.made) ∙ ap base_of is.made)
-    (memory_pages actor action m g taken (ap is_some is.added) ∙ ap added_as is.added))
+    header_seen g (m.enclaves g.enclave) ((memory_after actor action m).enclaves g.enclave) (m.pages g)
+    ((memory_after actor action m).pages g)
+    (memory_bases actor action m g.enclave taken there.0) (memory_pages actor action m g taken there.1) ∙ is)
     (λ _. is)
 header_still actor event m g header is = is

@@ -1,5 +1,5 @@
 -- Each record is of one page, and no two have one version.
-use Rattle.std.proofs.Common.{◌≡◌, ℕ, true, false, refl, sym, ap, ◌∙◌, subst, Option, Some, None, List, [], ◌∷◌, ◌++◌, ◌⊎◌, inl, inr, ⊎_elim, Any, arith}
+use Rattle.std.proofs.Common.{◌≡◌, ℕ, true, false, refl, sym, ap, ◌∙◌, subst, Option, Some, None, option_map, List, [], ◌∷◌, ◌++◌, ◌⊎◌, inl, inr, ⊎_elim, Any, arith}
 use Rattle.std.proofs.lemmas.List.Quantifiers.{Any-push}
 use Rattle.sgx_types.specs.declared.entries.Action.TheVariants.{Ewb, Eld}
 use Rattle.sgx_types.specs.declared.entries.Actor.{Actor}
@@ -10,19 +10,19 @@ use Rattle.sgx_types.specs.declared.entries.Event.TheVariants.{Did}
 use Rattle.sgx_types.specs.declared.names.Frame.{Frame}
 use Rattle.sgx_types.specs.declared.names.Page.{Page}
 use Rattle.sgx_types.specs.declared.names.SlotAt.{SlotAt}
-use Rattle.sgx_types.specs.Flat.{FlatEnclave, FlatMemory, FlatPage, flat}
+use Rattle.sgx_types.specs.Flat.{FlatMemory, flat, header_in, words_of}
 use Rattle.sgx_types.specs.Frames.{same_page}
 use Rattle.sgx_types.specs.Rules.{Along, EvictRule}
 use Rattle.sgx_types.specs.Layouts.{bytes_of}
-use Rattle.sgx_types.specs.Sealed.{Sealed, header_of}
+use Rattle.sgx_types.specs.declared.record.Header.{Header}
+use Rattle.sgx_types.specs.Sealed.{Sealed}
 use Rattle.sgx_types.specs.Starts.{open_start}
 use Rattle.seal_record.specs.Cipher.{tag, sealed}
 use Rattle.seal_record.specs.Records.{Made}
-use Rattle.page_history.specs.Fresh.{Out, last_out}
+use Rattle.sgx_types.specs.Fresh.{Out, last_out}
 use Rattle.sgx_types.specs.Making.{Making}
-use Rattle.page_history.specs.Moves.{IsHeader}
 use Rattle.page_history.specs.Once.{DrawnOnce, Gone, IsGone, IsLastMade, IsMade, IsOfPage, KeepsMoves, MadeOnce, gone}
-use Rattle.page_history.specs.Records.{IsSealed, SealedRule, made_by, made_with, more_made, record_by, record_in}
+use Rattle.seal_record.specs.Sealing.{IsSealed, SealedRule, made_by, made_with, more_made, record_in}
 use Rattle.page_history.proofs.DrawnLaws.{drawn_once, keeps_before}
 use Rattle.page_history.proofs.FlatLaws.{header_still}
 use Rattle.page_history.proofs.OpenStarts.{any_front, any_head, any_last, any_rest, ended_cases, entry_of, opened_cases}
@@ -54,23 +54,21 @@ kept_records key past actor event goes before after lasts h = record {
 
 -- what a sealed record of a page is
 record IsSealedOf (key : List ℕ) (version : ℕ) (m : FlatMemory) (g : Page) (rec : Sealed) : Type 0 where
-  pub header : IsHeader m g rec.header
+  pub header : header_in m g ≡ Some rec.header
   pub tagged : rec.tag ≡ tag key version rec.header rec.cipher
 
 -- the sealed record of a page has the page's header and its own tag
 sealed_of : (key : List ℕ) (version : ℕ) (m : FlatMemory) (g : Page) (rec : Sealed) → record_in key version m g ≡ Some rec
     → IsSealedOf key version m g rec
-sealed_of key version m g rec = by_values (m.enclaves g.enclave) (m.pages g) refl refl
+sealed_of key version m g rec = by_header (header_in m g) refl
   where
-    by_values : (enclave : Option FlatEnclave) (page : Option FlatPage) → m.enclaves g.enclave ≡ enclave → m.pages g ≡ page
-        → record_by key version g enclave page ≡ Some rec → IsSealedOf key version m g rec
-    by_values None page made added is = cc
-    by_values (Some x) None made added is = cc
-    by_values (Some x) (Some y) made added is =
-        let its : Sealed = sealed key version (header_of x.base g y.kind y.perm) (bytes_of y.words) in
+    by_header : (o : Option Header) → header_in m g ≡ o
+        → option_map (λ header. sealed key version header (bytes_of (words_of m g))) o ≡ Some rec → IsSealedOf key version m g rec
+    by_header None headed is = cc
+    by_header (Some header) headed is =
+        let its : Sealed = sealed key version header (bytes_of (words_of m g)) in
         let same : its ≡ rec = cc in
-        subst (IsSealedOf key version m g) same (record
-        { header = record { enclave = x; made = made; page = y; added = added; headed = refl }; tagged = refl })
+        subst (IsSealedOf key version m g) same (record { header = headed; tagged = refl })
 
 -- a page is out, and its record is made
 module _ (first : ℕ) (key : List ℕ) (past : List Entry) (actor : Actor) (f : Frame) (page : Page) (version : ℕ) (digest : List ℕ)

@@ -20,7 +20,6 @@ use Rattle.sgx_types.specs.Slots.{busy_after, is_slot_busy, names_slot, open_slo
 use Rattle.sgx_types.specs.Starts.{Start, open_start, opened_by, version_told}
 use Rattle.sgx_types.specs.Table.{EnclaveSight, FrameSight, add_row, is_busy, is_loading}
 use Rattle.sgx_types.specs.Making.{Making}
-use Rattle.page_history.specs.Moves.{MovesRule, move_row_at}
 use Rattle.page_history.specs.Once.{KeepsMoves, StartsApart}
 use Rattle.page_history.proofs.DrawnLaws.{keeps_before}
 use Rattle.page_history.proofs.FlatLaws.{added_flat}
@@ -40,13 +39,13 @@ pub record LeavesStarts (e : Event) : Type 0 where
 -- .. leaves each start apart, where it takes no page that is added nor a frame that is being loaded
 kept_apart : (past : List Entry) (e : Entry) → LeavesStarts e.event
     → ((g : Page) → is_some (added past g) ≡ true → is_some (added (e ∷ past) g) ≡ true)
-    → ((n : ℕ) → content past n ≡ IsLoading → content (e ∷ past) n ≡ IsLoading) → StartsApart past → StartsApart (e ∷ past)
+    → ((n : ℕ) (g : Page) → content past n ≡ IsLoading g → content (e ∷ past) n ≡ IsLoading g) → StartsApart past → StartsApart (e ∷ past)
 kept_apart past e q adds puts h = record {
   busy = λ n x is. rw (q.busies (open_slot past) x.slot (is_slot_busy past x.slot)) (h.busy n x (before n x is));
   alone = λ m n x y is too same. h.alone m n x y (before m x is) (before n y too) same;
   found = λ n x g is loads. rw (q.versions (open_slot past) x.slot (version_in past x.slot)) (h.found n x g (before n x is) loads);
   added = λ n x g is loads. adds g (h.added n x g (before n x is) loads);
-  loading = λ n x g is loads. puts n (h.loading n x g (before n x is) loads);
+  loading = λ n x g is loads. puts n g (h.loading n x g (before n x is) loads);
   empty = λ n x is writes. rw (q.versions (open_slot past) x.slot (version_in past x.slot)) (h.empty n x (before n x is) writes);
 }
   where
@@ -54,15 +53,15 @@ kept_apart past e q adds puts h = record {
     before n x is = sym (q.opens n (open_start past n)) ∙ is
 
 -- what takes a frame that is not busy takes none that is being loaded
-kept_loading : (s : FrameSight) → is_busy s ≡ false → s.content ≡ IsLoading → ⊥
-kept_loading s idle loads = let k = neither s.is_sealing (is_loading s.content) idle in false≢true (sym k.1 ∙ ap is_loading loads)
+kept_loading : (s : FrameSight) (g : Page) → is_busy s ≡ false → s.content ≡ IsLoading g → ⊥
+kept_loading s g idle loads = let k = neither s.is_sealing (is_loading s.content) idle in false≢true (sym k.1 ∙ ap is_loading loads)
 
 -- .. and so each loading frame is left
-taken_idle : (k : Making) (past : List Entry) (f n : ℕ) (new : Content) → is_busy (sight_at k.frames past f) ≡ false
-    → content past n ≡ IsLoading → cond (f == n) new (content past n) ≡ IsLoading
-taken_idle k past f n new idle loads =
-    cond_both (f == n) new (content past n) (λ v. v ≡ IsLoading)
-    (λ same. absurd (kept_loading (sight_at k.frames past f) idle (ap (content past) (eqb-true f n same) ∙ loads))) (λ _. loads)
+taken_idle : (k : Making) (past : List Entry) (f n : ℕ) (g : Page) (new : Content) → is_busy (sight_at k.frames past f) ≡ false
+    → content past n ≡ IsLoading g → cond (f == n) new (content past n) ≡ IsLoading g
+taken_idle k past f n g new idle loads =
+    cond_both (f == n) new (content past n) (λ v. v ≡ IsLoading g)
+    (λ same. absurd (kept_loading (sight_at k.frames past f) g idle (ap (content past) (eqb-true f n same) ∙ loads))) (λ _. loads)
 
 -- one more page was added
 more_added : (b : Bool) (x : Kind × Perm) (o : Option (Kind × Perm)) → is_some o ≡ true → is_some (cond b (Some x) o) ≡ true
@@ -134,7 +133,7 @@ module _ (past : List Entry) (e : Entry) (f : ℕ) (new : Start) (h : StartsApar
     pub idle : is_slot_busy past new.slot ≡ false
     pub found : (g : Page) → new.loads ≡ Some g → (version_in past new.slot ≡ new.version) × (0 < new.version)
     pub there : (g : Page) → new.loads ≡ Some g → is_some (added past g) ≡ true
-    pub loading : (g : Page) → new.loads ≡ Some g → content (e ∷ past) f ≡ IsLoading
+    pub loading : (g : Page) → new.loads ≡ Some g → content (e ∷ past) f ≡ IsLoading g
     pub puts : (n : ℕ) → (f == n) ≡ false → content (e ∷ past) n ≡ content past n
     pub empty : new.loads ≡ None → version_in past new.slot ≡ 0
 
@@ -202,29 +201,29 @@ above_zero zero h = let no : true ≡ false = h in absurd (false≢true (sym no)
 above_zero (suc n) h = omega arith
 
 -- an entry that keeps the rules leaves the starts apart
-starts_still : (k : Making) (past : List Entry) (actor : Actor) (event : Event) → RefusalRule k.frames past (entry_of actor event)
-    → MovesRule k past (entry_of actor event) → Along FlatRule past → StartsApart past
+starts_still : (k : Making) (past : List Entry) (actor : Actor) (event : Event) → RefusalRule k past (entry_of actor event)
+    → Along FlatRule past → StartsApart past
     → StartsApart (entry_of actor event ∷ past)
-starts_still k past actor (Did (Epa f) answer) refusal moves answers h =
-    let row = none_holds (row_at k.frames past actor (Epa f)) refusal.0 in
+starts_still k past actor (Did (Epa f) answer) refusal answers h =
+    let row = none_holds (row_at k past actor (Epa f)) refusal.0 in
     kept_apart past (entry_of actor (Did (Epa f) answer))
     (record { opens = λ n o. refl; busies = λ opened slot b. refl; versions = λ opened slot v. refl }) (λ g is. is)
-    (λ n loads. taken_idle k past f.0 n IsVa row.1.0 loads) h
-starts_still k past actor (Did (Create enclave f base size) answer) refusal moves answers h =
-    let row = none_holds (row_at k.frames past actor (Create enclave f base size)) refusal.0 in
+    (λ n g loads. taken_idle k past f.0 n g IsVa row.1.0 loads) h
+starts_still k past actor (Did (Create enclave f base size) answer) refusal answers h =
+    let row = none_holds (row_at k past actor (Create enclave f base size)) refusal.0 in
     kept_apart past (entry_of actor (Did (Create enclave f base size) answer))
     (record { opens = λ n o. refl; busies = λ opened slot b. refl; versions = λ opened slot v. refl }) (λ g is. is)
-    (λ n loads. taken_idle k past f.0 n (SecsOf enclave) row.1.1.0 loads) h
-starts_still k past actor (Did (Add enclave number f kind perm init) answer) refusal moves answers h =
-    let row = none_holds (row_at k.frames past actor (Add enclave number f kind perm init)) refusal.0 in
+    (λ n g loads. taken_idle k past f.0 n g (SecsOf enclave) row.1.1.0 loads) h
+starts_still k past actor (Did (Add enclave number f kind perm init) answer) refusal answers h =
+    let row = none_holds (row_at k past actor (Add enclave number f kind perm init)) refusal.0 in
     let idle = add_idle number kind perm init (enclave_sight (flat past) enclave) (is_some ((flat past).pages (page_at enclave number)))
     (sight_at k.frames past f.0) row in
     kept_apart past (entry_of actor (Did (Add enclave number f kind perm init) answer))
     (record { opens = λ n o. refl; busies = λ opened slot b. refl; versions = λ opened slot v. refl })
     (λ g is. more_added (same_page (page_at enclave number) g) (kind, perm) (added past g) is)
-    (λ n loads. taken_idle k past f.0 n (Holds (page_at enclave number) kind perm) idle loads) h
-starts_still k past actor (Did (EwbStart f slot) answer) refusal moves answers h =
-    let row = none_holds (move_row_at k past (EwbStart f slot)) (moves tt).0 in
+    (λ n g loads. taken_idle k past f.0 n g (Holds (page_at enclave number) kind perm) idle loads) h
+starts_still k past actor (Did (EwbStart f slot) answer) refusal answers h =
+    let row = none_holds (row_at k past actor (EwbStart f slot)) refusal.0 in
     started_apart past (entry_of actor (Did (EwbStart f slot) answer)) f.0
     (record { slot = slot; version = version_told answer; loads = None }) h
     (record {
@@ -239,10 +238,10 @@ starts_still k past actor (Did (EwbStart f slot) answer) refusal moves answers h
       puts = λ n isnt. refl;
       empty = λ writes. eqb-true (version_in past slot) 0 (not_false (version_in past slot == 0) row.1.1.1.1.1.1.0);
     })
-starts_still k past actor (Did (EldStart f page slot) answer) refusal moves answers h =
-    let row = none_holds (move_row_at k past (EldStart f page slot)) (moves tt).0 in
-    let told : version_in past slot ≡ version_told answer = sym (ap version_told (moves tt).1) in
-    let low : 0 < version_in past slot = above_zero (version_in past slot) row.1.1.1.1.1.0 in
+starts_still k past actor (Did (EldStart f page slot) answer) refusal answers h =
+    let row = none_holds (row_at k past actor (EldStart f page slot)) refusal.0 in
+    let told : version_in past slot ≡ version_told answer = sym (ap version_told refusal.1) in
+    let low : 0 < version_in past slot = above_zero (version_in past slot) row.1.1.1.1.1.1.0 in
     started_apart past (entry_of actor (Did (EldStart f page slot) answer)) f.0
     (record { slot = slot; version = version_told answer; loads = Some page }) h
     (record {
@@ -250,16 +249,16 @@ starts_still k past actor (Did (EldStart f page slot) answer) refusal moves answ
       busies = λ at. refl;
       versions = λ at. refl;
       adds = λ g. refl;
-      idle = (neither (is_busy (sight_at k.frames past f.0)) (is_slot_busy past slot) row.1.1.0).1;
+      idle = (neither (is_busy (sight_at k.frames past f.0)) (is_slot_busy past slot) row.1.1.1.0).1;
       found = λ g loads. (told, subst (λ v. 0 < v) told low);
       there = λ g loads. let same : page ≡ g = cc in
           subst (λ q. is_some (added past q) ≡ true) same
-          (is_added_flat past page answers (not_false (is_some ((flat past).pages page)) row.1.0));
-      loading = λ g loads. rw (eq-eqb f.0 f.0 refl) refl;
+          (is_added_flat past page answers (not_false (is_some ((flat past).pages page)) row.1.1.0));
+      loading = λ g loads. let same : page ≡ g = cc in rw (eq-eqb f.0 f.0 refl) (ap IsLoading same);
       puts = λ n isnt. rw isnt refl;
       empty = λ writes. cc;
     })
-starts_still k past actor (Did (Ewb f) (Moved page version tag)) refusal moves answers h =
+starts_still k past actor (Did (Ewb f) (Moved page version tag)) refusal answers h =
     ended_apart past (entry_of actor (Did (Ewb f) (Moved page version tag))) f.0 h
     (record {
       opens = λ n. refl;
@@ -268,7 +267,7 @@ starts_still k past actor (Did (Ewb f) (Moved page version tag)) refusal moves a
       adds = λ g. refl;
       puts = λ n isnt. rw isnt refl;
     })
-starts_still k past actor (Did (Ewb f) answer) refusal moves answers h =
+starts_still k past actor (Did (Ewb f) answer) refusal answers h =
     ended_apart past (entry_of actor (Did (Ewb f) answer)) f.0 h
     (record {
       opens = λ n. refl;
@@ -277,7 +276,7 @@ starts_still k past actor (Did (Ewb f) answer) refusal moves answers h =
       adds = λ g. refl;
       puts = λ n isnt. rw isnt refl;
     })
-starts_still k past actor (Did (Eld f) (Moved page version tag)) refusal moves answers h =
+starts_still k past actor (Did (Eld f) (Moved page version tag)) refusal answers h =
     ended_apart past (entry_of actor (Did (Eld f) (Moved page version tag))) f.0 h
     (record {
       opens = λ n. refl;
@@ -286,7 +285,7 @@ starts_still k past actor (Did (Eld f) (Moved page version tag)) refusal moves a
       adds = λ g. refl;
       puts = λ n isnt. rw isnt refl;
     })
-starts_still k past actor (Did (Eld f) answer) refusal moves answers h =
+starts_still k past actor (Did (Eld f) answer) refusal answers h =
     ended_apart past (entry_of actor (Did (Eld f) answer)) f.0 h
     (record {
       opens = λ n. refl;
@@ -295,7 +294,7 @@ starts_still k past actor (Did (Eld f) answer) refusal moves answers h =
       adds = λ g. refl;
       puts = λ n isnt. refl;
     })
-starts_still k past actor (Refused (Eld f) why) refusal moves answers h =
+starts_still k past actor (Refused (Eld f) why) refusal answers h =
     ended_apart past (entry_of actor (Refused (Eld f) why)) f.0 h
     (record {
       opens = λ n. refl;
@@ -304,9 +303,9 @@ starts_still k past actor (Refused (Eld f) why) refusal moves answers h =
       adds = λ g. refl;
       puts = λ n isnt. rw isnt refl;
     })
-starts_still k past actor event refusal moves answers h =
+starts_still k past actor event refusal answers h =
     kept_apart past (entry_of actor event) (record
-    { opens = λ n o. refl; busies = λ opened slot b. refl; versions = λ opened slot v. refl }) (λ g is. is) (λ n is. is) h
+    { opens = λ n o. refl; busies = λ opened slot b. refl; versions = λ opened slot v. refl }) (λ g is. is) (λ n g is. is) h
 
 -- where the rules are kept, each open start has its slot for itself
 pub starts_apart : (k : Making) (past : List Entry) → KeepsMoves k past → StartsApart past
@@ -319,5 +318,5 @@ starts_apart k [] h = record {
   empty = λ n x is writes. cc;
 }
 starts_apart k (e ∷ past) h =
-    starts_still k past e.actor e.event h.refusal.0 h.moves.0 h.flat.1
+    starts_still k past e.actor e.event h.refusal.0 h.flat.1
     (starts_apart k past (keeps_before k e past h))

@@ -10,23 +10,21 @@ use Rattle.sgx_types.specs.declared.entries.Event.TheVariants.{Did}
 use Rattle.sgx_types.specs.declared.names.Page.{Page}
 use Rattle.sgx_types.specs.Frames.{IsLoading, added, content}
 use Rattle.sgx_types.specs.Rules.{Along, EvictRule, FlatRule, RefusalRule}
-use Rattle.sgx_types.specs.Flat.{flat}
+use Rattle.sgx_types.specs.Flat.{header_at}
 use Rattle.sgx_types.specs.Slots.{is_slot_busy, next_version, same_slot, version_in}
 use Rattle.sgx_types.specs.Starts.{Start, open_start}
 use Rattle.seal_record.specs.Cipher.{tag}
 use Rattle.seal_record.specs.Records.{Made, made_of, tag_of}
-use Rattle.page_history.specs.Fresh.{FreshRule, Out, last_out}
+use Rattle.sgx_types.specs.Fresh.{FreshRule, Out, last_out}
 use Rattle.sgx_types.specs.Making.{Making}
-use Rattle.page_history.specs.Moves.{IsHeader, MovesRule}
-use Rattle.page_history.specs.Records.{made_by}
+use Rattle.seal_record.specs.Sealing.{made_by}
 
 -- ---- the rules together
 
 -- the rules on instructions and versions
 pub record KeepsMoves (k : Making) (past : List Entry) : Type 0 where
-  pub refusal : Along (RefusalRule k.frames) past
+  pub refusal : Along (RefusalRule k) past
   pub flat : Along FlatRule past
-  pub moves : Along (MovesRule k) past
   pub evict : Along EvictRule past
   pub fresh : Along (FreshRule k.first_version) past
 
@@ -68,7 +66,7 @@ pub record StartsApart (past : List Entry) : Type 0 where
   pub found : (n : ℕ) (x : Start) (g : Page) → open_start past n ≡ Some x → x.loads ≡ Some g
       → (version_in past x.slot ≡ x.version) × (0 < x.version)
   pub added : (n : ℕ) (x : Start) (g : Page) → open_start past n ≡ Some x → x.loads ≡ Some g → is_some (added past g) ≡ true
-  pub loading : (n : ℕ) (x : Start) (g : Page) → open_start past n ≡ Some x → x.loads ≡ Some g → content past n ≡ IsLoading
+  pub loading : (n : ℕ) (x : Start) (g : Page) → open_start past n ≡ Some x → x.loads ≡ Some g → content past n ≡ IsLoading g
   pub empty : (n : ℕ) (x : Start) → open_start past n ≡ Some x → x.loads ≡ None → version_in past x.slot ≡ 0
 
 -- ---- records
@@ -77,7 +75,7 @@ pub record StartsApart (past : List Entry) : Type 0 where
 pub record IsOfPage (key : List ℕ) (past : List Entry) (one : Made) : Type 0 where
   pub page : Page
   pub gone : IsGone past (record { page = page; version = one.version })
-  pub header : IsHeader (flat past) page one.header
+  pub header : header_at past page ≡ Some one.header
   pub tagged : one.tag ≡ tag_of key (made_of one)
 
 abbrev pub IsMade : List ℕ → List Entry → Made → Type 0

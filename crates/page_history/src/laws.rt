@@ -6,7 +6,7 @@ ghost use Rattle.sgx_types.specs.Rules.{Along};
 ghost use Rattle.page_history.specs.Copies.{OneLiveCopy};
 ghost use Rattle.sgx_types.specs.Making.{Making};
 ghost use Rattle.page_history.specs.Once.{DrawnOnce, KeepsMoves, MadeOnce, StartsApart};
-ghost use Rattle.page_history.specs.Records.{SealedRule};
+ghost use Rattle.seal_record.specs.Sealing.{SealedRule};
 
 /// Where the rules are kept, each version is drawn once, and each open start has its slot for itself.
 pub fn versions_are_drawn_once()

@@ -1,3 +1,4 @@
 pub mod Cipher
 pub mod Records
 pub mod Row
+pub mod Sealing

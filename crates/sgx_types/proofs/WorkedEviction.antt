@@ -131,7 +131,7 @@ refused = record { actor = cpu 0; event = Refused (actions.Eld (frame 5)) (why.M
 abbrev reloaded : List Entry
 reloaded = did (cpu 0) (actions.Eld (frame 5)) (answers.Moved (page_at 1 2) 1 []) ∷ loading
 
-frame_loads : content loading 5 ≡ IsLoading
+frame_loads : content loading 5 ≡ IsLoading (page_at 1 2)
 frame_loads = refl
 
 keeps_version : version_in refused first_slot ≡ 1

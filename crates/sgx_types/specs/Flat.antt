@@ -16,8 +16,10 @@ use Rattle.sgx_types.specs.declared.names.Page.{Page}
 use Rattle.sgx_types.specs.declared.names.Kind.{Kind}
 use Rattle.sgx_types.specs.declared.names.Kind.TheVariants as kinds
 use Rattle.sgx_types.specs.declared.names.Perm.{Perm}
+use Rattle.sgx_types.specs.declared.record.Header.{Header}
 use Rattle.sgx_types.specs.Frames.{Content, Free, Holds, same_page, page_at}
 use Rattle.sgx_types.specs.Layouts.{bytes_of}
+use Rattle.sgx_types.specs.Sealed.{header_of}
 use Rattle.sgx_types.specs.Table.{Case, allowed, first_of_row, FrameSight, EnclaveSight, EnterSight, TcsSight, fault_of, create_row, add_row, extend_row, init_row, enter_row, resume_row, exit_row, aex_row, load_row, store_row, xadd_row, set_row, plus_row, pf_row, outload_row, outstore_row}
 
 -- ---- the memory
@@ -369,6 +371,22 @@ event_after actor _ m = m
 abbrev pub flat : List Entry → FlatMemory
 flat [] = fresh
 flat (e ∷ past) = event_after e.actor e.event (flat past)
+
+-- ---- what is sealed of a page
+
+-- the header of a page, by its enclave and what it was added as, None where it was not added
+abbrev pub header_by : Option FlatEnclave → Page → Option FlatPage → Option Header
+header_by None g page = None
+header_by (Some enclave) g None = None
+header_by (Some enclave) g (Some x) = Some (header_of enclave.base g x.kind x.perm)
+
+-- .. in flat memory
+abbrev pub header_in : FlatMemory → Page → Option Header
+header_in m g = header_by (m.enclaves g.enclave) g (m.pages g)
+
+-- .. before a place
+abbrev pub header_at : List Entry → Page → Option Header
+header_at past g = header_in (flat past) g
 
 -- a page's bytes in flat memory before a place
 abbrev pub bytes_at : List Entry → Page → List ℕ

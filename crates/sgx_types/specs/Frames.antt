@@ -9,13 +9,14 @@ use Rattle.sgx_types.specs.declared.names.Page.{Page}
 use Rattle.sgx_types.specs.declared.names.Kind.{Kind}
 use Rattle.sgx_types.specs.declared.names.Perm.{Perm}
 
--- what a frame holds
+-- what a frame holds: nothing, a version array page, an enclave's SECS, a TCS or REG page as it was added, or nothing yet but the
+-- page that it waits for
 pub data Content : Type 0 where
   Free : Content
   IsVa : Content
   SecsOf : (enclave : ℕ) → Content
   Holds : (page : Page) → (kind : Kind) → (perm : Perm) → Content
-  IsLoading : Content
+  IsLoading : (page : Page) → Content
 
 -- no permission, which a TCS, SECS or VA page has
 abbrev pub no_perm : Perm
@@ -42,8 +43,10 @@ pub record Put : Type 0 where
   pub frame : ℕ
   pub content : Content
 
+-- a page that is back. One that was never added has no kind, and its frame goes on waiting for it: no list that keeps the rule
+-- Refusal has such a reload, since a load starts only for a page that was added
 abbrev pub reloaded : Page → Option (Kind × Perm) → Content
-reloaded page None = IsLoading
+reloaded page None = IsLoading page
 reloaded page (Some k) = Holds page k.0 k.1
 
 -- the frame whose content an event puts or takes
@@ -52,7 +55,7 @@ put_by (Did (Epa f) answer) kinds = Some (record { frame = f.0; content = IsVa }
 put_by (Did (Create enclave f base size) answer) kinds = Some (record { frame = f.0; content = SecsOf enclave })
 put_by (Did (Add enclave number f kind perm init) answer) kinds =
     Some (record { frame = f.0; content = Holds (page_at enclave number) kind perm })
-put_by (Did (EldStart f page slot) answer) kinds = Some (record { frame = f.0; content = IsLoading })
+put_by (Did (EldStart f page slot) answer) kinds = Some (record { frame = f.0; content = IsLoading page })
 put_by (Did (Ewb f) answer) kinds = Some (record { frame = f.0; content = Free })
 put_by (Did (Eld f) (Moved page version tag)) kinds = Some (record { frame = f.0; content = reloaded page (kinds page) })
 put_by (Refused (Eld f) why) kinds = Some (record { frame = f.0; content = Free })
@@ -89,6 +92,14 @@ is_block _ n = false
 abbrev pub is_blocked : List Entry → ℕ → Bool
 is_blocked [] n = false
 is_blocked (e ∷ past) n = is_block e.event n || (not (is_put (put_by e.event (added past)) n) && is_blocked past n)
+
+-- the TCS or REG page that a frame holds
+abbrev pub page_of : Content → Option Page
+page_of Free = None
+page_of IsVa = None
+page_of (SecsOf enclave) = None
+page_of (Holds page kind perm) = Some page
+page_of (IsLoading page) = None
 
 -- the enclave whose TCS or REG page a frame holds
 abbrev pub enclave_in : Content → Option ℕ

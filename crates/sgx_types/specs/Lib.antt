@@ -15,3 +15,5 @@ pub mod ByEpochs
 pub mod Starts
 pub mod Enclaves
 pub mod Making
+pub mod Ends
+pub mod Fresh

@@ -83,7 +83,8 @@ translations_after (Did (Fill number f) answer) is_its_own before =
     if is_its_own then with_filled before (record { number = number; frame = f.0 }) else before
 translations_after _ is_its_own before = before
 
--- the translations that a processor holds since it entered, oldest first
+-- the translations that a processor holds since it entered, oldest first. A fill of one that is outside is collected too, and counts
+-- for nothing: nothing asks for translations outside, and the next entry drops them
 abbrev pub translations : List Entry → ℕ → List BareTranslation
 translations [] p = []
 translations (e ∷ past) p = translations_after e.event (is_by p e.actor) (translations past p)

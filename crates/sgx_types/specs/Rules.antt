@@ -4,7 +4,7 @@ use Rattle.std.specs.Prelude.{ℕ, ◌≡◌, ◌<◌, ◌/◌, Bool, true, fals
 use Rattle.std.specs.List.{All}
 use Rattle.sgx_types.specs.declared.entries.Entry.{Entry}
 use Rattle.sgx_types.specs.declared.entries.Event.{Event}
-use Rattle.sgx_types.specs.declared.entries.Event.TheVariants.{Did, Refused}
+use Rattle.sgx_types.specs.declared.entries.Event.TheVariants.{Did, Refused, Age, Kick, Bus}
 use Rattle.sgx_types.specs.declared.entries.Actor.{Actor}
 use Rattle.sgx_types.specs.declared.entries.Actor.TheVariants as actors
 use Rattle.sgx_types.specs.declared.entries.Action.{Action}
@@ -15,12 +15,14 @@ use Rattle.sgx_types.specs.declared.entries.PfWhy.{PfWhy}
 use Rattle.sgx_types.specs.declared.names.Page.{Page}
 use Rattle.sgx_types.specs.declared.refusals.Refusal.{Refusal}
 use Rattle.sgx_types.specs.declared.refusals.Refusal.TheVariants as why
-use Rattle.sgx_types.specs.Frames.{Content, Free, content, is_sealing, is_page, page_at}
+use Rattle.sgx_types.specs.Ends.{EndsOut, IsBack, IsNotBack}
+use Rattle.sgx_types.specs.Frames.{Content, Free, IsVa, SecsOf, Holds, IsLoading, content, is_sealing, is_page, page_at}
+use Rattle.sgx_types.specs.Making.{Making}
 use Rattle.sgx_types.specs.Processors.{Stay, stay, BareTranslation, holds_number, translations}
 use Rattle.sgx_types.specs.declared.names.SlotAt.{SlotAt}
 use Rattle.sgx_types.specs.Table.{first_of_row}
 use Rattle.sgx_types.specs.Eviction.{is_drained}
-use Rattle.sgx_types.specs.Slots.{next_version}
+use Rattle.sgx_types.specs.Slots.{next_version, version_in}
 use Rattle.sgx_types.specs.Starts.{Start, open_start, is_load_of}
 use Rattle.sgx_types.specs.Flat.{FlatMemory, flat, accepts, flat_answer, is_visible}
 use Rattle.sgx_types.specs.Sights.{row_at}
@@ -35,60 +37,63 @@ abbrev pub AtEachPlace : (List Entry → Type 0) → List Entry → Type 0
 AtEachPlace P [] = P []
 AtEachPlace P (e ∷ past) = P (e ∷ past) × AtEachPlace P past
 
--- ---- Refusal: an instruction is done exactly where no case of its row holds, and else refused by the first that holds. Of the
--- instructions that move pages the rule says nothing
+-- ---- Refusal: an instruction is done exactly where no case of its row holds, and else refused by the first that holds
 
--- the form of answer that each row gives
-abbrev pub HasForm : Action → Answer → Type 0
-HasForm (Epa f) answer = answer ≡ answers.Plain
-HasForm (Create enclave f base size) answer = answer ≡ answers.Plain
-HasForm (Add enclave number f kind perm init) answer = answer ≡ answers.Plain
-HasForm (Extend f chunk) answer = answer ≡ answers.Plain
-HasForm (Init enclave expect) answer = (digest : List ℕ) × (answer ≡ answers.Hash digest)
-HasForm (Enter enclave tcs tf sf) answer = (cssa : ℕ) × (answer ≡ answers.Cssa cssa)
-HasForm (Resume enclave tcs tf sf) answer = (acc : ℕ) × (answer ≡ answers.Value acc)
-HasForm Exit answer = answer ≡ answers.Plain
-HasForm (Aex cause) answer = answer ≡ answers.Plain
-HasForm (Fill number f) answer = answer ≡ answers.Plain
-HasForm (Load off) answer = (word : ℕ) × (answer ≡ answers.Value word)
-HasForm (Store off value) answer = answer ≡ answers.Plain
-HasForm (Xadd off value) answer = (word : ℕ) × (answer ≡ answers.Value word)
-HasForm (Set value) answer = answer ≡ answers.Plain
-HasForm (Plus value) answer = (acc : ℕ) × (answer ≡ answers.Value acc)
-HasForm (Pf op off) answer = (fault : PfWhy) × (answer ≡ answers.Pf fault)
-HasForm (OutLoad enclave off) answer = (word : ℕ) × (answer ≡ answers.Value word)
-HasForm (OutStore enclave off value) answer = answer ≡ answers.Plain
-HasForm _ answer = Unit {0}
+-- the form of answer that each row gives. A start of ELDU tells the version in its slot, and a commit the page of its start
+abbrev pub HasForm : List Entry → Action → Answer → Type 0
+HasForm past (Epa f) answer = answer ≡ answers.Plain
+HasForm past (Create enclave f base size) answer = answer ≡ answers.Plain
+HasForm past (Add enclave number f kind perm init) answer = answer ≡ answers.Plain
+HasForm past (Extend f chunk) answer = answer ≡ answers.Plain
+HasForm past (Init enclave expect) answer = (digest : List ℕ) × (answer ≡ answers.Hash digest)
+HasForm past (Enter enclave tcs tf sf) answer = (cssa : ℕ) × (answer ≡ answers.Cssa cssa)
+HasForm past (Resume enclave tcs tf sf) answer = (acc : ℕ) × (answer ≡ answers.Value acc)
+HasForm past Exit answer = answer ≡ answers.Plain
+HasForm past (Aex cause) answer = answer ≡ answers.Plain
+HasForm past (Fill number f) answer = answer ≡ answers.Plain
+HasForm past (Load off) answer = (word : ℕ) × (answer ≡ answers.Value word)
+HasForm past (Store off value) answer = answer ≡ answers.Plain
+HasForm past (Xadd off value) answer = (word : ℕ) × (answer ≡ answers.Value word)
+HasForm past (Set value) answer = answer ≡ answers.Plain
+HasForm past (Plus value) answer = (acc : ℕ) × (answer ≡ answers.Value acc)
+HasForm past (Pf op off) answer = (fault : PfWhy) × (answer ≡ answers.Pf fault)
+HasForm past (OutLoad enclave off) answer = (word : ℕ) × (answer ≡ answers.Value word)
+HasForm past (OutStore enclave off value) answer = answer ≡ answers.Plain
+HasForm past (Block f) answer = answer ≡ answers.Plain
+HasForm past (Track enclave) answer = answer ≡ answers.Plain
+HasForm past (EwbStart f slot) answer = (version : ℕ) × (answer ≡ answers.Version version)
+HasForm past (Ewb f) answer = EndsOut past f.0 answer
+HasForm past (EldStart f page slot) answer = answer ≡ answers.Version (version_in past slot)
+HasForm past (Eld f) answer = IsBack past f.0 answer
 
 -- whether an expected digest differs only the measurement can tell
 abbrev pub case_of : Action → Refusal → Option Refusal
 case_of (Init enclave expect) (why.BadMeasure made) = None
 case_of action refusal = Some refusal
 
-abbrev pub RefusalRule : ℕ → List Entry → Entry → Type 0
-RefusalRule frames past e = by_event e.event
+-- the commit of EWB is never refused, and that of ELDU only for its record
+abbrev pub RefusalRule : Making → List Entry → Entry → Type 0
+RefusalRule k past e = by_event e.event
   where
     by_event : Event → Type 0
-    by_event (Did action answer) = (first_of_row (row_at frames past e.actor action) ≡ None) × HasForm action answer
-    by_event (Refused (Block f) refusal) = Unit {0}
-    by_event (Refused (Track enclave) refusal) = Unit {0}
-    by_event (Refused (EwbStart f slot) refusal) = Unit {0}
-    by_event (Refused (Ewb f) refusal) = Unit {0}
-    by_event (Refused (EldStart f page slot) refusal) = Unit {0}
-    by_event (Refused (Eld f) refusal) = Unit {0}
-    by_event (Refused action refusal) = first_of_row (row_at frames past e.actor action) ≡ case_of action refusal
-    by_event _ = Unit {0}
+    by_event (Did action answer) = (first_of_row (row_at k past e.actor action) ≡ None) × HasForm past action answer
+    by_event (Refused (Ewb f) refusal) = ⊥
+    by_event (Refused (Eld f) refusal) = IsNotBack past f.0 refusal
+    by_event (Refused action refusal) = first_of_row (row_at k past e.actor action) ≡ case_of action refusal
+    by_event (Age page look) = Unit {0}
+    by_event (Kick cpu) = Unit {0}
+    by_event (Bus page why) = Unit {0}
 
 -- ---- Flat: each instruction that programs see answers as memory that is never evicted
 
--- a digest counts as no answer: the measurement decides it
-abbrev pub seen_answer : Answer → Answer
-seen_answer (answers.Hash digest) = answers.Plain
-seen_answer answer = answer
+-- the digest of `init` counts as no answer: the measurement decides it
+abbrev pub seen_answer : Action → Answer → Answer
+seen_answer (Init enclave expect) (answers.Hash digest) = answers.Plain
+seen_answer action answer = answer
 
 pub record AnswersAsFlat (m : FlatMemory) (actor : Actor) (action : Action) (answer : Answer) : Type 0 where
   pub taken : accepts m actor action ≡ true
-  pub same : seen_answer answer ≡ flat_answer m actor action
+  pub same : seen_answer action answer ≡ flat_answer m actor action
 
 abbrev pub FlatRule : List Entry → Entry → Type 0
 FlatRule past e = by_event e.event
@@ -185,6 +190,14 @@ pub record EndsWriteOut (o : Option Start) (version : ℕ) : Type 0 where
   pub slot : SlotAt
   pub opened : o ≡ Some (record { slot = slot; version = version; loads = None })
 
+-- what may start to go out of a frame, by what the frame holds: a TCS or REG page that is drained, and nothing else
+abbrev pub GoesOut : List Entry → ℕ → Content → Type 0
+GoesOut past n Free = ⊥
+GoesOut past n IsVa = ⊥
+GoesOut past n (SecsOf enclave) = ⊥
+GoesOut past n (Holds page kind perm) = is_drained past n ≡ true
+GoesOut past n (IsLoading page) = ⊥
+
 -- a page that starts to go out is drained, and what ends is the one open start of its frame, with the version of it
 abbrev pub EvictRule : List Entry → Entry → Type 0
 EvictRule past e = by_event e.event
@@ -194,7 +207,7 @@ EvictRule past e = by_event e.event
     by_end n _ = ⊥
 
     by_event : Event → Type 0
-    by_event (Did (EwbStart f slot) answer) = is_drained past f.0 ≡ true
+    by_event (Did (EwbStart f slot) answer) = GoesOut past f.0 (content past f.0)
     by_event (Did (Ewb f) answer) = by_end f.0 answer
     by_event _ = Unit {0}
 
@@ -221,8 +234,8 @@ LoadsAwayRule past e = by_event e.event
 
 -- ---- the rules of the machine together
 
-pub record KeepsRules (frames : ℕ) (past : List Entry) : Type 0 where
-  pub refusal : Along (RefusalRule frames) past
+pub record KeepsRules (k : Making) (past : List Entry) : Type 0 where
+  pub refusal : Along (RefusalRule k) past
   pub flat : Along FlatRule past
-  pub fits : Fits frames past
+  pub fits : Fits k.frames past
   pub stale : Stale past

@@ -1,17 +1,25 @@
--- What the rows of the instruction table see, read from the entries before a place.
-use Rattle.std.specs.Prelude.{ℕ, ◌/◌, Bool, true, false, if◌then◌else◌, List, Option, Some, None, nat_le, is_some}
+-- What the rows of the instruction table see, read from the entries before a place, and by it the row of each instruction.
+use Rattle.std.specs.Prelude.{ℕ, ◌==◌, ◌/◌, ◌^◌, Bool, true, false, if◌then◌else◌, List, [], Option, Some, None, nat_le, nat_lt, is_some}
 use Rattle.sgx_types.specs.declared.entries.Entry.{Entry}
 use Rattle.sgx_types.specs.declared.entries.Actor.{Actor}
 use Rattle.sgx_types.specs.declared.entries.Actor.TheVariants as actors
 use Rattle.sgx_types.specs.declared.entries.Action.{Action}
-use Rattle.sgx_types.specs.declared.entries.Action.TheVariants.{Epa, Create, Add, Extend, Init, Enter, Resume, Exit, Aex, Fill, Load, Store, Xadd, Set, Plus, Pf, OutLoad, OutStore}
+use Rattle.sgx_types.specs.declared.entries.Action.TheVariants.{Epa, Create, Add, Extend, Init, Enter, Resume, Exit, Aex, Fill, Load, Store, Xadd, Set, Plus, Pf, OutLoad, OutStore, Block, Track, EwbStart, Ewb, EldStart, Eld}
 use Rattle.sgx_types.specs.declared.names.Kind.{Kind}
+use Rattle.sgx_types.specs.declared.names.Page.{Page}
 use Rattle.sgx_types.specs.declared.names.Perm.{Perm}
+use Rattle.sgx_types.specs.declared.names.SlotAt.{SlotAt}
+use Rattle.sgx_types.specs.declared.names.TheConstants.{LAST_EPOCH}
+use Rattle.sgx_types.specs.Epochs.{epoch, epoch_in, older_at}
+use Rattle.sgx_types.specs.Eviction.{is_drained, kept_back}
 use Rattle.sgx_types.specs.Frames.{content, enclave_in, is_sealing, is_blocked, page_at}
+use Rattle.sgx_types.specs.Making.{Making}
 use Rattle.sgx_types.specs.Processors.{Seat, Stay, stay, holds_number, translations}
-use Rattle.sgx_types.specs.declared.refusals.Refusal.TheVariants as why
-use Rattle.sgx_types.specs.Table.{Case, allowed, when, ◌otherwise◌, FrameSight, EnterSight, is_ready, epa_row, create_row, add_row, extend_row, init_row, enter_row, resume_row, exit_row, aex_row, fill_row, load_row, store_row, xadd_row, set_row, plus_row, pf_row, outload_row, outstore_row}
+use Rattle.sgx_types.specs.Slots.{is_slot_busy, next_version, version_in}
+use Rattle.sgx_types.specs.Table.{Case, allowed, FrameSight, EnterSight, TrackSight, SlotSight, DrainSight, is_ready, epa_row, create_row, add_row, extend_row, init_row, enter_row, resume_row, exit_row, aex_row, fill_row, load_row, store_row, xadd_row, set_row, plus_row, pf_row, outload_row, outstore_row, block_row, track_row, ewbstart_row, eldstart_row}
 use Rattle.sgx_types.specs.Flat.{FlatMemory, FlatPage, flat, added_as, enclave_sight, fields_in}
+
+-- ---- frames and enclaves
 
 -- a frame of an EPC with so many frames
 abbrev pub sight_at : ℕ → List Entry → ℕ → FrameSight
@@ -21,6 +29,19 @@ sight_at frames past n = record {
   is_sealing = is_sealing past n;
   is_blocked = is_blocked past n;
 }
+
+-- whether the enclave of the page in a frame is initialised
+abbrev pub is_closed : FlatMemory → Option ℕ → Bool
+is_closed m None = false
+is_closed m (Some enclave) = is_ready (enclave_sight m enclave)
+
+-- ---- processors
+
+-- how an actor is inside an enclave: who is no processor is inside none
+abbrev pub stay_of : List Entry → Actor → Option Stay
+stay_of past (actors.Cpu p) = stay past p.0
+stay_of past actors.Builder = None
+stay_of past actors.Reclaimer = None
 
 abbrev pub enclave_of_stay : Option Stay → Option ℕ
 enclave_of_stay None = None
@@ -38,20 +59,21 @@ translation_at past p (Some s) number = held (holds_number (translations past p)
     held : Bool → Option Perm
     held held_now = if held_now then perm_of_page ((flat past).pages (page_at s.seat.enclave number)) else None
 
--- whether the enclave of the page in a frame is initialised
-abbrev pub is_closed : FlatMemory → Option ℕ → Bool
-is_closed m None = false
-is_closed m (Some enclave) = is_ready (enclave_sight m enclave)
+-- .. that an actor holds: who is no processor holds none
+abbrev pub translation_by : List Entry → Actor → ℕ → Option Perm
+translation_by past (actors.Cpu p) number = translation_at past p.0 (stay past p.0) number
+translation_by past actors.Builder number = None
+translation_by past actors.Reclaimer number = None
 
--- what the page at an offset in the enclave that a processor is inside was added as
+-- what the page at an offset in the enclave that an actor is inside was added as
 abbrev pub added_at : List Entry → Option Stay → ℕ → Option (Kind × Perm)
 added_at past None number = None
 added_at past (Some s) number = added_as ((flat past).pages (page_at s.seat.enclave number))
 
 -- what `enter` and `resume` see
-abbrev pub enter_sight_at : ℕ → List Entry → ℕ → Seat → EnterSight
-enter_sight_at frames past p seat = record {
-  is_inside = is_some (stay past p);
+abbrev pub enter_sight_at : ℕ → List Entry → Option Stay → Seat → EnterSight
+enter_sight_at frames past inside seat = record {
+  is_inside = is_some inside;
   enclave = enclave_sight (flat past) seat.enclave;
   tcs = sight_at frames past seat.tcs_frame;
   tcs_busy = (flat past).is_busy (page_at seat.enclave seat.tcs);
@@ -62,50 +84,67 @@ enter_sight_at frames past p seat = record {
 abbrev pub seat_of : ℕ → ℕ → ℕ → ℕ → Seat
 seat_of enclave tcs tf sf = record { enclave = enclave; tcs = tcs; tcs_frame = tf; ssa_frame = sf }
 
--- the row of an instruction of processor p
-abbrev pub cpu_row_at : ℕ → List Entry → ℕ → Action → List Case
-cpu_row_at frames past p (Enter enclave tcs tf sf) = enter_row enclave tcs (enter_sight_at frames past p (seat_of enclave tcs tf.0 sf.0))
-cpu_row_at frames past p (Resume enclave tcs tf sf) = resume_row enclave tcs (enter_sight_at frames past p (seat_of enclave tcs tf.0 sf.0))
-cpu_row_at frames past p Exit = exit_row (is_some (stay past p))
-cpu_row_at frames past p (Aex cause) = aex_row (is_some (stay past p))
-cpu_row_at frames past p (Fill number f) = fill_row number (enclave_of_stay (stay past p)) (sight_at frames past f.0)
-cpu_row_at frames past p (Load off) = load_row off (is_some (stay past p)) (translation_at past p (stay past p) (off / 4096))
-cpu_row_at frames past p (Store off value) = store_row off (is_some (stay past p)) (translation_at past p (stay past p) (off / 4096))
-cpu_row_at frames past p (Xadd off value) = xadd_row off (is_some (stay past p)) (translation_at past p (stay past p) (off / 4096))
-cpu_row_at frames past p (Set value) = set_row (is_some (stay past p))
-cpu_row_at frames past p (Plus value) = plus_row (is_some (stay past p))
-cpu_row_at frames past p (Pf op off) = pf_row op off (is_some (stay past p)) (added_at past (stay past p) (off / 4096))
-cpu_row_at frames past p (OutLoad enclave off) = outload_row (is_some (stay past p))
-cpu_row_at frames past p (OutStore enclave off value) = outstore_row (is_some (stay past p))
-cpu_row_at frames past p _ = allowed
+-- ---- tracking and slots
 
--- who is no processor is inside no enclave
-abbrev pub no_processor : List Case
-no_processor = when true why.WrongMode otherwise allowed
+-- an enclave's tracking, where epochs count from the first
+abbrev pub track_sight_at : ℕ → List Entry → ℕ → TrackSight
+track_sight_at first past enclave = record {
+  enclave = enclave_sight (flat past) enclave;
+  older = older_at past enclave;
+  is_spent = epoch first past enclave == LAST_EPOCH;
+}
 
--- the row of an instruction, by its actor
-abbrev pub row_at : ℕ → List Entry → Actor → Action → List Case
-row_at frames past actor (Epa f) = epa_row (sight_at frames past f.0)
-row_at frames past actor (Create enclave f base size) =
-    create_row enclave base size (is_some ((flat past).enclaves enclave)) (sight_at frames past f.0)
-row_at frames past actor (Add enclave number f kind perm init) =
+abbrev pub slot_sight_at : ℕ → List Entry → SlotAt → SlotSight
+slot_sight_at frames past slot = record {
+  frame = sight_at frames past slot.frame.0;
+  is_beyond = nat_lt 511 slot.index;
+  is_busy = is_slot_busy past slot;
+  version = version_in past slot;
+}
+
+-- the tracking of the page in a frame, seen from its block
+abbrev pub drain_sight_at : ℕ → List Entry → ℕ → DrainSight
+drain_sight_at first past n = record {
+  epoch = epoch_in first past n;
+  kept_back = kept_back past n;
+  is_drained = is_drained past n;
+}
+
+-- ---- the rows
+
+-- the row of an instruction, by its actor, on a machine of this making. The two commits have none: what they end decides
+abbrev pub row_at : Making → List Entry → Actor → Action → List Case
+row_at k past actor (Epa f) = epa_row (sight_at k.frames past f.0)
+row_at k past actor (Create enclave f base size) =
+    create_row enclave base size (is_some ((flat past).enclaves enclave)) (sight_at k.frames past f.0)
+row_at k past actor (Add enclave number f kind perm init) =
     add_row number kind perm init (enclave_sight (flat past) enclave) (is_some ((flat past).pages (page_at enclave number)))
-    (sight_at frames past f.0)
-row_at frames past actor (Extend f chunk) =
-    extend_row chunk (is_closed (flat past) (enclave_in (content past f.0))) (sight_at frames past f.0)
-row_at frames past actor (Init enclave expect) = init_row (enclave_sight (flat past) enclave)
-row_at frames past (actors.Cpu p) action = cpu_row_at frames past p.0 action
-row_at frames past actor (Enter enclave tcs tf sf) = no_processor
-row_at frames past actor (Resume enclave tcs tf sf) = no_processor
-row_at frames past actor Exit = no_processor
-row_at frames past actor (Aex cause) = no_processor
-row_at frames past actor (Fill number f) = no_processor
-row_at frames past actor (Load off) = no_processor
-row_at frames past actor (Store off value) = no_processor
-row_at frames past actor (Xadd off value) = no_processor
-row_at frames past actor (Set value) = no_processor
-row_at frames past actor (Plus value) = no_processor
-row_at frames past actor (Pf op off) = no_processor
-row_at frames past actor (OutLoad enclave off) = no_processor
-row_at frames past actor (OutStore enclave off value) = no_processor
-row_at frames past actor action = allowed
+    (sight_at k.frames past f.0)
+row_at k past actor (Extend f chunk) =
+    extend_row chunk (is_closed (flat past) (enclave_in (content past f.0))) (sight_at k.frames past f.0)
+row_at k past actor (Init enclave expect) = init_row (enclave_sight (flat past) enclave)
+row_at k past actor (Enter enclave tcs tf sf) =
+    enter_row enclave tcs (enter_sight_at k.frames past (stay_of past actor) (seat_of enclave tcs tf.0 sf.0))
+row_at k past actor (Resume enclave tcs tf sf) =
+    resume_row enclave tcs (enter_sight_at k.frames past (stay_of past actor) (seat_of enclave tcs tf.0 sf.0))
+row_at k past actor Exit = exit_row (is_some (stay_of past actor))
+row_at k past actor (Aex cause) = aex_row (is_some (stay_of past actor))
+row_at k past actor (Fill number f) = fill_row number (enclave_of_stay (stay_of past actor)) (sight_at k.frames past f.0)
+row_at k past actor (Load off) = load_row off (is_some (stay_of past actor)) (translation_by past actor (off / 4096))
+row_at k past actor (Store off value) = store_row off (is_some (stay_of past actor)) (translation_by past actor (off / 4096))
+row_at k past actor (Xadd off value) = xadd_row off (is_some (stay_of past actor)) (translation_by past actor (off / 4096))
+row_at k past actor (Set value) = set_row (is_some (stay_of past actor))
+row_at k past actor (Plus value) = plus_row (is_some (stay_of past actor))
+row_at k past actor (Pf op off) = pf_row op off (is_some (stay_of past actor)) (added_at past (stay_of past actor) (off / 4096))
+row_at k past actor (OutLoad enclave off) = outload_row (is_some (stay_of past actor))
+row_at k past actor (OutStore enclave off value) = outstore_row (is_some (stay_of past actor))
+row_at k past actor (Block f) = block_row (sight_at k.frames past f.0)
+row_at k past actor (Track enclave) = track_row (track_sight_at k.first_epoch past enclave)
+row_at k past actor (EwbStart f slot) =
+    ewbstart_row (sight_at k.frames past f.0) (slot_sight_at k.frames past slot) (drain_sight_at k.first_epoch past f.0)
+    (next_version k.first_version past == 2 ^ 64)
+row_at k past actor (Ewb f) = allowed
+row_at k past actor (EldStart f page slot) =
+    eldstart_row (sight_at k.frames past f.0) (enclave_sight (flat past) page.enclave) (is_some ((flat past).pages page))
+    (slot_sight_at k.frames past slot)
+row_at k past actor (Eld f) = allowed

@@ -52,12 +52,12 @@ pub record FrameSight : Type 0 where
   pub is_blocked : Bool
 
 abbrev pub is_loading : Content → Bool
-is_loading IsLoading = true
+is_loading (IsLoading page) = true
 is_loading _ = false
 
 abbrev pub is_valid : Content → Bool
 is_valid Free = false
-is_valid IsLoading = false
+is_valid (IsLoading page) = false
 is_valid _ = true
 
 abbrev pub is_tcs : Content → Bool
@@ -348,13 +348,13 @@ block_row s =
 
 -- what `track` sees of its enclave: how many processors inside have an older epoch, and whether the epoch is the last
 pub record TrackSight : Type 0 where
-  pub is_created : Bool
+  pub enclave : Option EnclaveSight
   pub older : ℕ
   pub is_spent : Bool
 
 abbrev pub track_row : TrackSight → List Case
 track_row s =
-    when (not s.is_created) why.Absent
+    when (not (is_made s.enclave)) why.Absent
     otherwise when (not (s.older == 0)) (why.PrevTrk s.older)
     otherwise when s.is_spent why.EpochSpent
     otherwise allowed
@@ -390,10 +390,11 @@ ewbstart_row s slot drain is_spent =
     otherwise when is_spent why.VersionSpent
     otherwise allowed
 
--- the start of ELDU, by whether the page was added to an enclave that was created
-abbrev pub eldstart_row : FrameSight → Bool → SlotSight → List Case
-eldstart_row s is_added slot =
+-- the start of ELDU, by the page's enclave and whether the page was added
+abbrev pub eldstart_row : FrameSight → Option EnclaveSight → Bool → SlotSight → List Case
+eldstart_row s enclave is_added slot =
     when (is_out_of_range s slot) why.BadRange
+    otherwise when (not (is_made enclave)) why.Absent
     otherwise when (not is_added) why.Absent
     otherwise when (is_busy s || slot.is_busy) why.Conflict
     otherwise when (is_valid s.content) why.FrameBusy

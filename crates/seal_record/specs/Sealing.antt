@@ -1,5 +1,5 @@
 -- The records that write-outs give, by the entries and flat memory, and the rule Sealed.
-use Rattle.std.specs.Prelude.{ℕ, ◌≡◌, List, [], ◌∷◌, ◌++◌, Option, Some, None}
+use Rattle.std.specs.Prelude.{ℕ, ◌≡◌, List, [], ◌∷◌, ◌++◌, Option, Some, None, option_map}
 use Rattle.sgx_types.specs.declared.entries.Action.TheVariants.{Ewb}
 use Rattle.sgx_types.specs.declared.entries.Answer.{Answer}
 use Rattle.sgx_types.specs.declared.entries.Answer.TheVariants as answers
@@ -7,20 +7,15 @@ use Rattle.sgx_types.specs.declared.entries.Entry.{Entry}
 use Rattle.sgx_types.specs.declared.entries.Event.{Event}
 use Rattle.sgx_types.specs.declared.entries.Event.TheVariants.{Did}
 use Rattle.sgx_types.specs.declared.names.Page.{Page}
-use Rattle.sgx_types.specs.Flat.{FlatEnclave, FlatMemory, FlatPage, flat}
+use Rattle.sgx_types.specs.Flat.{FlatMemory, flat, header_in, words_of}
 use Rattle.sgx_types.specs.Layouts.{bytes_of}
-use Rattle.sgx_types.specs.Sealed.{Sealed, header_of}
+use Rattle.sgx_types.specs.Sealed.{Sealed}
 use Rattle.seal_record.specs.Cipher.{sealed}
 use Rattle.seal_record.specs.Records.{Made}
 
--- the record of a page under a key and a version, by what flat memory has of the page
-abbrev pub record_by : List ℕ → ℕ → Page → Option FlatEnclave → Option FlatPage → Option Sealed
-record_by key version g (Some enclave) (Some page) =
-    Some (sealed key version (header_of enclave.base g page.kind page.perm) (bytes_of page.words))
-record_by key version g _ _ = None
-
+-- the record of a page under a key and a version: its header and its bytes in flat memory, None where it was not added
 abbrev pub record_in : List ℕ → ℕ → FlatMemory → Page → Option Sealed
-record_in key version m g = record_by key version g (m.enclaves g.enclave) (m.pages g)
+record_in key version m g = option_map (λ header. sealed key version header (bytes_of (words_of m g))) (header_in m g)
 
 -- a record that was given out, with its version
 abbrev pub made_with : ℕ → Sealed → Made

@@ -1,4 +1,4 @@
--- The rule Fresh: each reload takes the version last written out.
+-- The rule Fresh: each reload takes the version last written out, and versions rise.
 use Rattle.std.specs.Prelude.{ℕ, ◌≡◌, if◌then◌else◌, List, [], ◌∷◌, Option, Some, None}
 use Rattle.std.specs.Option.{IsSomeAnd}
 use Rattle.sgx_types.specs.declared.entries.Action.TheVariants.{Ewb, Eld}
