@@ -16,7 +16,7 @@ is_free _ = false
 -- the frame takes part in an EWB or ELDU that has started
 abbrev pub is_busy : EntryView → Bool
 is_busy views.Free = false
-is_busy views.Loading = true
+is_busy (views.Loading page) = true
 is_busy (views.Valid page kind perm blocked sealing) = sealing
 
 -- the frame holds a page

@@ -69,9 +69,9 @@ with_blocked epc f epoch = with_entry epc f (with_block (entry_at epc f) epoch)
 abbrev pub with_sealing : List EpcFrame → ℕ → List EpcFrame
 with_sealing epc f = with_entry epc f (outgoing (entry_at epc f))
 
--- the frame Loading
-abbrev pub with_loading : List EpcFrame → ℕ → List EpcFrame
-with_loading epc f = with_entry epc f Loading
+-- the frame waiting for a page
+abbrev pub with_loading : List EpcFrame → ℕ → Page → List EpcFrame
+with_loading epc f page = with_entry epc f (Loading page)
 
 -- the frame with other words
 abbrev pub with_words : List EpcFrame → ℕ → List ℕ → List EpcFrame

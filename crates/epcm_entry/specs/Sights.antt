@@ -20,7 +20,7 @@ content_of page kinds.Reg perm = Holds page kinds.Reg perm
 -- what an entry says that its frame holds
 abbrev pub held : EntryView → Content
 held views.Free = Free
-held views.Loading = IsLoading
+held (views.Loading page) = IsLoading page
 held (views.Valid page kind perm blocked sealing) = content_of page kind perm
 
 -- what a row sees of a frame

@@ -10,13 +10,15 @@ ghost use Rattle.epcm_entry.specs.Sights.{held};
 
 use sgx_types::names::{Kind, Page, Perm};
 
-/// The EPCM entry of a frame (Intel SDM volume 3D, EPCM): it is free, it is being loaded, or it holds a page. A page
+/// The EPCM entry of a frame (Intel SDM volume 3D, EPCM): it is free, it waits for a page that is being loaded, or it holds a page. A page
 /// that is blocked has the epoch of its block. A page that is being written out is sealing. The states Loading and
 /// sealing are this project's own.
 #[derive(Clone, Copy, Debug, PartialEq, Eq)]
 pub enum EntryView {
     Free,
-    Loading,
+    Loading {
+        page: Page,
+    },
     Valid {
         page: Page,
         kind: Kind,
@@ -42,7 +44,7 @@ impl EntryView {
     {
         matches!(
             self,
-            EntryView::Loading | EntryView::Valid { sealing: true, .. }
+            EntryView::Loading { .. } | EntryView::Valid { sealing: true, .. }
         )
     }
 

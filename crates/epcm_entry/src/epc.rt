@@ -116,18 +116,18 @@ impl Epc {
         Ok(())
     }
 
-    /// Claims a free frame for an ELDU: it is Loading from then on. A busy frame is refused.
-    pub fn claim_load(&mut self, frame: Frame) -> Result<(), Refusal>
+    /// Claims a free frame for an ELDU of a page: it is Loading from then on. A busy frame is refused.
+    pub fn claim_load(&mut self, frame: Frame, page: Page) -> Result<(), Refusal>
         requires within { frame.0 < length self.old }
         requires free_or_busy { (is_free (entry_at self.old frame.0) || is_busy (entry_at self.old frame.0)) ≡ true }
         ensures answer { result ≡ claim_answer (entry_at self.old frame.0) }
-        ensures done { OnOk result (self.new ≡ with_loading self.old frame.0) }
+        ensures done { OnOk result (self.new ≡ with_loading self.old frame.0 page) }
         ensures refused { OnErr result (self.new ≡ self.old) }
     {
         if self.entry(frame).is_busy() {
             return Err(Refusal::Conflict);
         }
-        self.put(frame, EntryView::Loading);
+        self.put(frame, EntryView::Loading { page });
         Ok(())
     }
 

@@ -10,7 +10,7 @@ use Rattle.sgx_types.specs.declared.names.SlotAt.{SlotAt}
 use Rattle.sgx_types.specs.declared.refusals.Refusal.{Refusal}
 use Rattle.sgx_types.specs.declared.refusals.Refusal.TheVariants as why
 use Rattle.sgx_types.specs.Frames.{Content, Free, IsVa, SecsOf, Holds, IsLoading}
-use Rattle.sgx_types.specs.Table.{DrainSight, refusal_in, first_of_row, is_va, is_valid, is_loading, is_out_of_range, ewbstart_row, eldstart_row}
+use Rattle.sgx_types.specs.Table.{DrainSight, EnclaveSight, refusal_in, first_of_row, is_made, is_va, is_valid, is_loading, is_out_of_range, ewbstart_row, eldstart_row}
 use Rattle.epcm_entry.specs.declared.entry_view.EntryView.TheVariants as views
 use Rattle.epcm_entry.specs.EntryView.{holding, outgoing}
 use Rattle.epcm_entry.specs.Epc.{EpcFrame, entry_at, with_page, with_sealing, with_loading, cleared}
@@ -37,14 +37,14 @@ not_va Free e = refl
 not_va IsVa e = e
 not_va (SecsOf enclave) e = refl
 not_va (Holds page kind perm) e = refl
-not_va IsLoading e = refl
+not_va (IsLoading page) e = refl
 
 loading_is_not_va : (content : Content) → is_loading content ≡ true → is_va content ≡ false
 loading_is_not_va Free e = refl
 loading_is_not_va IsVa e = sym e
 loading_is_not_va (SecsOf enclave) e = refl
 loading_is_not_va (Holds page kind perm) e = refl
-loading_is_not_va IsLoading e = refl
+loading_is_not_va (IsLoading page) e = refl
 
 -- a frame and a slot that are not past their end
 record InRange (epc : List EpcFrame) (f : ℕ) (slot : SlotAt) : Type 0 where
@@ -61,22 +61,24 @@ in_range epc va f slot e =
     record { frame = low; index = below }
 
 -- the start of ELDU
-pub after_start_in : (epc epc' : List EpcFrame) (va va' : List (Option (List VaSlot))) (f : ℕ) (slot : SlotAt) (added : Bool)
+pub after_start_in : (epc epc' : List EpcFrame) (va va' : List (Option (List VaSlot))) (f : ℕ) (page : Page) (slot : SlotAt)
+    (enclave : Option EnclaveSight) (added : Bool)
     (result : Result ℕ Refusal) → AreVaPages epc va
-    → refusal_in result ≡ first_of_row (eldstart_row (sight_in epc f) added (slot_sight epc va slot))
-    → OnOk result (epc' ≡ with_loading epc f) → OnOk result (va' ≡ with_busy va slot true) → OnErr result ((epc' ≡ epc) × (va' ≡ va))
+    → refusal_in result ≡ first_of_row (eldstart_row (sight_in epc f) enclave added (slot_sight epc va slot))
+    → OnOk result (epc' ≡ with_loading epc f page) → OnOk result (va' ≡ with_busy va slot true) → OnErr result ((epc' ≡ epc) × (va' ≡ va))
     → AreVaPages epc' va'
-after_start_in epc epc' va va' f slot added (Err refusal) pages row loads marks same = rw (same.0, same.1) pages
-after_start_in epc epc' va va' f slot added (Ok version) pages row loads marks same =
+after_start_in epc epc' va va' f page slot enclave added (Err refusal) pages row loads marks same = rw (same.0, same.1) pages
+after_start_in epc epc' va va' f page slot enclave added (Ok version) pages row loads marks same =
     let a = first_fails (is_out_of_range (sight_in epc f) (slot_sight epc va slot)) why.BadRange _ (sym row) in
-    let b = first_fails (not added) why.Absent _ a.1 in
+    let known = first_fails (not (is_made enclave)) why.Absent _ a.1 in
+    let b = first_fails (not added) why.Absent _ known.1 in
     let c = first_fails _ why.Conflict _ b.1 in
     let d = first_fails (is_valid (sight_in epc f).content) why.FrameBusy _ c.1 in
     let e = first_fails (not (is_va (sight_in epc slot.frame.0).content)) why.BadKind _ d.1 in
     let range = in_range epc va f slot a.0 in
     let at : IsSlot va slot = is_slot epc va slot pages (not-false (is_va (sight_in epc slot.frame.0).content) e.0) range.index in
-    rw (loads, marks) (pages-with_slot (with_loading epc f) va slot _
-    (pages-with_entry epc va f views.Loading pages range.frame (sym (not_va (sight_in epc f).content d.0))) at)
+    rw (loads, marks) (pages-with_slot (with_loading epc f page) va slot _
+    (pages-with_entry epc va f (views.Loading page) pages range.frame (sym (not_va (sight_in epc f).content d.0))) at)
 
 -- the start of EWB
 pub after_start_out : (epc epc' : List EpcFrame) (va va' : List (Option (List VaSlot))) (f : ℕ) (slot : SlotAt) (drain : DrainSight)

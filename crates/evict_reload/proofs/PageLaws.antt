@@ -48,12 +48,12 @@ pages-with_slot epc va slot content pages at n = has_page-with_slot va slot cont
 -- a block and a claim change no page
 pub is_va-with_block : (entry : EntryView) (epoch : ℕ) → is_va (held (with_block entry epoch)) ≡ is_va (held entry)
 is_va-with_block views.Free epoch = refl
-is_va-with_block views.Loading epoch = refl
+is_va-with_block (views.Loading page) epoch = refl
 is_va-with_block (views.Valid page kind perm blocked sealing) epoch = refl
 
 pub is_va-outgoing : (entry : EntryView) → is_va (held (outgoing entry)) ≡ is_va (held entry)
 is_va-outgoing views.Free = refl
-is_va-outgoing views.Loading = refl
+is_va-outgoing (views.Loading page) = refl
 is_va-outgoing (views.Valid page kind perm blocked sealing) = refl
 
 -- a version array page more

@@ -1,17 +1,18 @@
 -- What the rows of block, track, write-out and reload see of the EPC, the tracks, the version arrays and the enclaves.
 use Rattle.std.specs.Prelude.{◌≡◌, ℕ, ◌≤◌, ◌==◌, ◌&&◌, nat_lt, Bool, false, List, Option, Some, None, IfSome, is_some}
-use Rattle.std.specs.Option.{option_and_then}
+use Rattle.std.specs.Option.{option_and_then, option_map}
 use Rattle.sgx_types.specs.declared.names.Kind.{Kind}
 use Rattle.sgx_types.specs.declared.names.Page.{Page}
 use Rattle.sgx_types.specs.declared.names.Perm.{Perm}
 use Rattle.sgx_types.specs.declared.names.SlotAt.{SlotAt}
 use Rattle.sgx_types.specs.Frames.{Content, enclave_in}
-use Rattle.sgx_types.specs.Table.{is_va, TrackSight, SlotSight, DrainSight}
+use Rattle.sgx_types.specs.Table.{is_va, EnclaveSight, TrackSight, SlotSight, DrainSight}
 use Rattle.epcm_entry.specs.declared.entry_view.EntryView.{EntryView}
 use Rattle.epcm_entry.specs.declared.entry_view.EntryView.TheVariants as views
 use Rattle.epcm_entry.specs.Epc.{EpcFrame, entry_at}
 use Rattle.epcm_entry.specs.Sights.{sight_in}
 use Rattle.secs_state.specs.Secs.{SecsState, added_at}
+use Rattle.secs_state.specs.Sights.{sight_of}
 use Rattle.secs_state.specs.Table.{enclave_at}
 use Rattle.sgx_types.specs.declared.names.TheConstants.{LAST_EPOCH}
 use Rattle.track_epoch.specs.Tracking.{Tracking, number_older, number_up_to}
@@ -57,14 +58,18 @@ drain_of tracks _ = record { epoch = 0; kept_back = 0; is_drained = false }
 abbrev pub drain_sight : List EpcFrame → List Tracking → ℕ → DrainSight
 drain_sight epc tracks f = drain_of tracks (entry_at epc f)
 
--- the track of an enclave that was created or not, as `track` sees it
-abbrev pub track_seen : Bool → Option Tracking → TrackSight
-track_seen is_created None = record { is_created = is_created; older = 0; is_spent = false }
-track_seen is_created (Some t) = record { is_created = is_created; older = number_older t; is_spent = t.epoch == LAST_EPOCH }
+-- an enclave by its number, None where it was not created
+abbrev pub enclave_sight : List (Option SecsState) → ℕ → Option EnclaveSight
+enclave_sight table enclave = option_map sight_of (enclave_at table enclave)
 
--- the same of an enclave by its number
+-- the track of an enclave, as `track` sees it
+abbrev pub track_seen : Option EnclaveSight → Option Tracking → TrackSight
+track_seen enclave None = record { enclave = enclave; older = 0; is_spent = false }
+track_seen enclave (Some t) = record { enclave = enclave; older = number_older t; is_spent = t.epoch == LAST_EPOCH }
+
+-- .. of an enclave by its number
 abbrev pub track_sight : List (Option SecsState) → List Tracking → ℕ → TrackSight
-track_sight table tracks enclave = track_seen (is_some (enclave_at table enclave)) (track_of tracks enclave)
+track_sight table tracks enclave = track_seen (enclave_sight table enclave) (track_of tracks enclave)
 
 -- ---- enclaves
 

@@ -7,7 +7,7 @@ ghost use Rattle.epcm_entry.specs.Epc.{entry_at, with_loading, with_page, with_w
 ghost use Rattle.epcm_entry.specs.Sights.{sight_in};
 ghost use Rattle.epcm_entry.specs.Words.{words_of};
 ghost use Rattle.version_array.specs.Slots.{IsSlot, version_in, with_busy};
-ghost use Rattle.evict_reload.specs.Sights.{AreVaPages, is_added, added_in, slot_sight};
+ghost use Rattle.evict_reload.specs.Sights.{AreVaPages, enclave_sight, is_added, added_in, slot_sight};
 ghost use Rattle.seal_record.specs.Row.{eld_row};
 ghost use Rattle.evict_reload.specs.Effects.{header_in, with_ended, with_reloaded};
 
@@ -22,7 +22,7 @@ use sgx_types::record::Header;
 use sgx_types::refusals::Refusal;
 use version_array::va_table::VaTable;
 
-/// The start of ELDU (Intel SDM volume 3D): a free frame is Loading, for a page whose version stands in a slot. The slot is
+/// The start of ELDU (Intel SDM volume 3D): a free frame waits for a page whose version stands in a slot. The slot is
 /// busy, and its version is the answer.
 ///
 /// Refused, in this order, as BadRange where a frame is past the EPC's end or there is no such slot; Absent where the
@@ -38,9 +38,10 @@ pub fn eld_start(
 ) -> Result<u64, Refusal>
     requires { AreVaPages epc.old va.old }
     ensures row { refusal_in result
-        ≡ first_of_row (eldstart_row (sight_in epc.old frame.0) (is_added secs.now page) (slot_sight epc.old va.old slot)) }
+        ≡ first_of_row (eldstart_row (sight_in epc.old frame.0) (enclave_sight secs.now page.enclave) (is_added secs.now page)
+        (slot_sight epc.old va.old slot)) }
     ensures answer { IfOk result (λ version. version ≡ version_in va.old slot) }
-    ensures epc { OnOk result (epc.new ≡ with_loading epc.old frame.0) }
+    ensures epc { OnOk result (epc.new ≡ with_loading epc.old frame.0 page) }
     ensures va { OnOk result (va.new ≡ with_busy va.old slot true) }
     ensures refused { OnErr result ((epc.new ≡ epc.old) × (va.new ≡ va.old)) }
 {
@@ -48,7 +49,7 @@ pub fn eld_start(
         return Err(refusal);
     }
     let version = va.slot(slot);
-    epc.claim_load(frame)?;
+    epc.claim_load(frame, page)?;
     va.set_busy(slot, true);
     Ok(version)
 }
@@ -64,12 +65,16 @@ fn start_refusal(
 ) -> Option<Refusal>
     requires { AreVaPages epc.now va.now }
     ensures { result
-        ≡ first_of_row (eldstart_row (sight_in epc.now frame.0) (is_added secs.now page) (slot_sight epc.now va.now slot)) }
+        ≡ first_of_row (eldstart_row (sight_in epc.now frame.0) (enclave_sight secs.now page.enclave) (is_added secs.now page)
+        (slot_sight epc.now va.now slot)) }
 {
     if is_out_of_range(epc, va, frame, slot) {
         return Some(Refusal::BadRange);
     }
-    if added(secs, page).is_none() {
+    let Some(enclave) = secs.get(page.enclave) else {
+        return Some(Refusal::Absent);
+    };
+    if enclave.added(page.number).is_none() {
         return Some(Refusal::Absent);
     }
     let entry = epc.entry(frame);

@@ -7,19 +7,14 @@ use Rattle.sgx_types.specs.declared.entries.Action.TheVariants.{Init}
 use Rattle.sgx_types.specs.declared.entries.Answer.TheVariants.{Hash}
 use Rattle.sgx_types.specs.declared.refusals.Refusal.TheVariants.{BadMeasure}
 use Rattle.sgx_types.specs.declared.names.Page.{Page}
-use Rattle.sgx_types.specs.Frames.{Content, Holds, content}
+use Rattle.sgx_types.specs.Frames.{content, page_of}
 use Rattle.sgx_types.specs.Flat.{bytes_at}
 use Rattle.measure_log.specs.Log.{log_of}
 use Rattle.measure_log.specs.Measure.{measurement_of}
 
--- the TCS or REG page that a frame with this content holds
-abbrev pub page_held : Content → Option Page
-page_held (Holds page kind perm) = Some page
-page_held _ = None
-
 -- the page in a frame
 abbrev pub page_in : List Entry → ℕ → Option Page
-page_in past frame = page_held (content past frame)
+page_in past frame = page_of (content past frame)
 
 -- the measurement log of an enclave
 abbrev pub log : List Entry → ℕ → List ℕ
