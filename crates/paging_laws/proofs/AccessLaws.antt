@@ -116,7 +116,7 @@ reg_has_perm (Holds page kinds.Va perm) is = cc
 reg_has_perm Free is = cc
 reg_has_perm IsVa is = cc
 reg_has_perm (SecsOf x) is = cc
-reg_has_perm IsLoading is = cc
+reg_has_perm (IsLoading page) is = cc
 
 fill_some : (s : State) (p number f : ℕ) → first_of_row (fill_row number (seat_enclave (s.inside p)) (sight s f)) ≡ None
     → is_some (perm_in (s.content f)) ≡ true

@@ -38,8 +38,8 @@ is_free_frame Free sealing idle none = refl
 is_free_frame IsVa sealing idle none = cc
 is_free_frame (SecsOf enclave) sealing idle none = cc
 is_free_frame (Holds page kind perm) sealing idle none = cc
-is_free_frame IsLoading true idle none = cc
-is_free_frame IsLoading false idle none = cc
+is_free_frame (IsLoading page) true idle none = cc
+is_free_frame (IsLoading page) false idle none = cc
 
 -- ---- a frame that is put
 

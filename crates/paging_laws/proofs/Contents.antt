@@ -1,11 +1,11 @@
 -- What a frame holds that holds a given page.
-use Rattle.std.proofs.Common.{◌≡◌, true, sym, ap, ◌∙◌}
+use Rattle.std.proofs.Common.{refl, ◌≡◌, true, sym, ap, ◌∙◌}
 use Rattle.sgx_types.specs.declared.names.Page.{Page}
 use Rattle.sgx_types.specs.declared.names.Kind.{Kind}
 use Rattle.sgx_types.specs.declared.names.Kind.TheVariants as kinds
 use Rattle.sgx_types.specs.declared.names.Perm.{Perm}
 use Rattle.sgx_types.specs.Frames.{Content, Free, IsVa, SecsOf, Holds, IsLoading, is_page}
-use Rattle.sgx_types.specs.Table.{is_tcs, is_reg}
+use Rattle.sgx_types.specs.Table.{is_tcs, is_reg, is_loading}
 use Rattle.sgx_types.proofs.Pages.{same_pages}
 
 pub record IsKindOf (c : Content) (g : Page) (kind : Kind) : Type 0 where
@@ -20,7 +20,7 @@ tcs_there (Holds page kinds.Va perm) g here is = cc
 tcs_there Free g here is = cc
 tcs_there IsVa g here is = cc
 tcs_there (SecsOf enclave) g here is = cc
-tcs_there IsLoading g here is = cc
+tcs_there (IsLoading page) g here is = cc
 
 pub reg_there : (c : Content) (g : Page) → is_page c g ≡ true → is_reg c ≡ true → IsKindOf c g kinds.Reg
 reg_there (Holds page kinds.Reg perm) g here is = record { perm = perm; holds = ap (λ q. Holds q kinds.Reg perm) (same_pages page g here) }
@@ -30,7 +30,7 @@ reg_there (Holds page kinds.Va perm) g here is = cc
 reg_there Free g here is = cc
 reg_there IsVa g here is = cc
 reg_there (SecsOf enclave) g here is = cc
-reg_there IsLoading g here is = cc
+reg_there (IsLoading page) g here is = cc
 
 -- a frame holds one page
 pub one_page : (c : Content) (g h : Page) → is_page c g ≡ true → is_page c h ≡ true → (g.enclave ≡ h.enclave) × (g.number ≡ h.number)
@@ -40,7 +40,7 @@ one_page (Holds page kind perm) g h here there =
 one_page Free g h here there = cc
 one_page IsVa g h here there = cc
 one_page (SecsOf enclave) g h here there = cc
-one_page IsLoading g h here there = cc
+one_page (IsLoading page) g h here there = cc
 
 -- .. of one kind
 pub tcs_no_reg : (c : Content) → is_tcs c ≡ true → is_reg c ≡ true → ⊥
@@ -51,4 +51,12 @@ tcs_no_reg (Holds page kinds.Va perm) is other = cc
 tcs_no_reg Free is other = cc
 tcs_no_reg IsVa is other = cc
 tcs_no_reg (SecsOf enclave) is other = cc
-tcs_no_reg IsLoading is other = cc
+tcs_no_reg (IsLoading page) is other = cc
+
+-- a frame that is loading waits for a page
+pub waits_for : (c : Content) → is_loading c ≡ true → (g : Page) × (c ≡ IsLoading g)
+waits_for Free is = cc
+waits_for IsVa is = cc
+waits_for (SecsOf e) is = cc
+waits_for (Holds page kind perm) is = cc
+waits_for (IsLoading page) is = (page, refl)

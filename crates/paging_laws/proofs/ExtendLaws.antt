@@ -9,7 +9,7 @@ use Rattle.sgx_types.specs.declared.entries.Action.TheVariants.{Extend}
 use Rattle.sgx_types.specs.declared.entries.Answer.TheVariants.{Plain}
 use Rattle.sgx_types.specs.declared.names.Frame.{Frame}
 use Rattle.sgx_types.specs.declared.names.Page.{Page}
-use Rattle.sgx_types.specs.Frames.{Content, Free, IsVa, SecsOf, Holds, IsLoading, enclave_in}
+use Rattle.sgx_types.specs.Frames.{Content, Free, IsVa, SecsOf, Holds, IsLoading, enclave_in, page_of}
 use Rattle.sgx_types.specs.Table.{extend_row, first_of_row}
 use Rattle.sgx_types.specs.Flat.{some_page, page_words, bytes_at}
 use Rattle.sgx_types.proofs.Rows.{none_holds, none_refused}
@@ -19,7 +19,7 @@ use Rattle.measure_log.specs.declared.measure.Measure.{Measure}
 use Rattle.measure_log.specs.Blocks.{eextend_block, chunk_of}
 use Rattle.measure_log.specs.Measure.{TakesIn}
 use Rattle.measure_log.specs.Log.{Logged, logged_chunk}
-use Rattle.measure_log.specs.Rule.{page_held, page_in, log}
+use Rattle.measure_log.specs.Rule.{page_in, log}
 use Rattle.paging_laws.specs.State.{State, sight, is_closed, row_of, after_extend}
 use Rattle.paging_laws.specs.Stands.{Stands}
 use Rattle.paging_laws.proofs.TestLaws.{is_none-None}
@@ -29,22 +29,22 @@ use Rattle.paging_laws.proofs.ColumnLaws.{content_is}
 
 -- the page in a frame is one of a created enclave
 abbrev pub IsMade : State → Type 0
-IsMade s = (n : ℕ) (g : Page) → page_held (s.content n) ≡ Some g → is_some (s.enclaves g.enclave) ≡ true
+IsMade s = (n : ℕ) (g : Page) → page_of (s.content n) ≡ Some g → is_some (s.enclaves g.enclave) ≡ true
 
 -- ---- the entries
 
 -- the block of a chunk of the words that a frame holds is the one that the entries log
-logs : (s : State) (past : List Entry) (f chunk : ℕ) (g : Page) → Stands s past → page_held (s.content f) ≡ Some g
+logs : (s : State) (past : List Entry) (f chunk : ℕ) (g : Page) → Stands s past → page_of (s.content f) ≡ Some g
     → logged_chunk page_in bytes_at past chunk (page_in past f) ≡ Some
     (record { enclave = g.enclave; block = eextend_block (4096 * g.number + 256 * chunk) (chunk_of (bytes_of (s.words f)) chunk) })
 logs s past f chunk g stands is = by_content (s.content f) refl is
   where
-    by_content : (c : Content) → s.content f ≡ c → page_held c ≡ Some g
+    by_content : (c : Content) → s.content f ≡ c → page_of c ≡ Some g
         → logged_chunk page_in bytes_at past chunk (page_in past f) ≡ Some
         (record { enclave = g.enclave; block = eextend_block (4096 * g.number + 256 * chunk) (chunk_of (bytes_of (s.words f)) chunk) })
     by_content (Holds page kind perm) e k =
         let same : page ≡ g = cc in
-        let here : page_in past f ≡ Some page = ap page_held (sym (content_is stands.columns f) ∙ e) in
+        let here : page_in past f ≡ Some page = ap page_of (sym (content_is stands.columns f) ∙ e) in
         ap (logged_chunk page_in bytes_at past chunk) here
         ∙ ap (λ x. Some (let l : Logged = record {
           enclave = page.enclave;
@@ -57,10 +57,10 @@ logs s past f chunk g stands is = by_content (s.content f) refl is
     by_content Free e k = cc
     by_content IsVa e k = cc
     by_content (SecsOf enclave) e k = cc
-    by_content IsLoading e k = cc
+    by_content (IsLoading page) e k = cc
 
 pub extend_brings : (s : State) (past : List Entry) (a : Actor) (f : Frame) (chunk : ℕ) (g : Page) (longer : Measure)
-    → first_of_row (row_of s a (Extend f chunk)) ≡ None → page_held (s.content f.0) ≡ Some g
+    → first_of_row (row_of s a (Extend f chunk)) ≡ None → page_of (s.content f.0) ≡ Some g
     → IsSomeAnd (s.measure g.enclave) (λ m. TakesIn m
     (eextend_block (4096 * g.number + 256 * chunk) (chunk_of (bytes_of (s.words f.0)) chunk)) longer) → IsMade s → Stands s past
     → BringsDone s (after_extend s g.enclave longer) past a (Extend f chunk) Plain

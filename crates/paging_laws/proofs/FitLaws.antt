@@ -19,7 +19,7 @@ use Rattle.sgx_types.specs.declared.refusals.Refusal.{Refusal}
 use Rattle.sgx_types.specs.Frames.{Content, Free, IsVa, SecsOf, Holds, IsLoading, added, content, is_page, page_at, reloaded, same_page}
 use Rattle.sgx_types.specs.Starts.{Start, open_start, opened_by, is_load_of, loads_page, version_told}
 use Rattle.sgx_types.specs.Rules.{Along, FitsRule, LoadsAwayRule, NoPageTwice}
-use Rattle.sgx_types.specs.Table.{first_of_row}
+use Rattle.sgx_types.specs.Table.{is_loading, first_of_row}
 use Rattle.sgx_types.specs.Sealed.{Sealed}
 use Rattle.epcm_entry.specs.Words.{words_of}
 use Rattle.seal_record.specs.Cipher.{cipher}
@@ -33,7 +33,7 @@ use Rattle.paging_laws.specs.Columns.{HasColumns}
 use Rattle.paging_laws.proofs.BuildLaws.{adds}
 use Rattle.paging_laws.proofs.ColumnLaws.{added_is, content_is, start_is}
 use Rattle.paging_laws.proofs.RowLaws.{row_fits, step_entry, IsEntryOf}
-use Rattle.paging_laws.proofs.MoveSights.{is_end, no_end}
+use Rattle.paging_laws.proofs.MoveEnds.{is_end, no_end}
 use Rattle.sgx_types.specs.Flat.{enclave_sight_of}
 use Rattle.sgx_types.proofs.Pages.{same_pages}
 use Rattle.sgx_types.specs.Making.{Making}
@@ -138,7 +138,7 @@ unadded_away s guarded framed g new n = (by_content (s.content n) refl, by_start
     by_content Free e = refl
     by_content IsVa e = refl
     by_content (SecsOf enclave) e = refl
-    by_content IsLoading e = refl
+    by_content (IsLoading page) e = refl
 
     by_load : (o : Option Page) → IfSome o (λ page. is_some (s.added page) ≡ true) → loads_page o g ≡ false
     by_load None h = refl
@@ -179,7 +179,7 @@ module _ (s : State) (past : List Entry) (a : Actor) (guarded : IsGuarded s) (fr
       let started = start_apart (content past) (open_start past) f.0
       (Some (record { slot = slot; version = version_told answer; loads = Some page })) (λ g loads. rw (← same_pages page g loads) away)
       (apart_in s.frames past h) in
-      fits_more s.frames past _ rule (put_apart (content past) _ f.0 IsLoading (λ g held. cc) started) h
+      fits_more s.frames past _ rule (put_apart (content past) _ f.0 (IsLoading page) (λ g held. cc) started) h
 
   -- any instruction that is done
   done_fits : (action : Action) (answer : Answer) → first_of_row (row_of s a action) ≡ None → is_end action ≡ false
@@ -304,7 +304,7 @@ coming_in s past columns f coming =
     same_page-itself g = rw (eq-eqb g.enclave g.enclave refl, eq-eqb g.number g.number refl) refl
 
 pub reloaded_fits : (s t : State) (made : Making) (past : List Entry) (a : Actor) (f : Frame) (rec : Sealed) (e : Entry) → IsSound s
-    → IsGuarded s → s.content f.0 ≡ IsLoading → f.0 < s.frames
+    → IsGuarded s → is_loading (s.content f.0) ≡ true → f.0 < s.frames
     → IsReloaded s a f rec e t → ShapeWithRules made s past → FitsApart made.frames past → FitsApart made.frames (e ∷ past)
 reloaded_fits s t made past a f rec e sound guarded loading below k shaped =
     at_making made s past e shaped (λ h. by_row (first_of_row (commit_row s f.0 k.coming rec)) k.row h)

@@ -15,7 +15,7 @@ use Rattle.cached_translations.specs.declared.cache.Translation.{Translation}
 use Rattle.cached_translations.specs.Translations.{with_translation}
 use Rattle.paging_laws.specs.State.{State, sight, enter_sight, seat_enclave, with_inside, with_saved, is_seated_by, cssa_in, saved_word, after_enter, after_resume, after_exit, after_aex, after_fill}
 use Rattle.paging_laws.specs.Guarded.{IsNoEarlier, HasNoted, IsTakenIn, IsGuarded}
-use Rattle.paging_laws.proofs.TestLaws.{equal, none_there}
+use Rattle.paging_laws.proofs.TestLaws.{equal, none_there, there_then}
 use Rattle.paging_laws.proofs.EntryLaws.{enters, enter_saves, enter_saved, resume_saves, resume_saved}
 use Rattle.paging_laws.proofs.AccessLaws.{outside_refused}
 use Rattle.paging_laws.proofs.TranslationLaws.{All-with_translation}
@@ -53,7 +53,7 @@ guarded_inside s p seat acc words h low outside tcs ssa = record {
       ];
   blocks = h.blocks;
   sealing = λ n is.
-      IfSome_then (s.blocked n) (h.sealing n is)
+      there_then (s.blocked n) (h.sealing n is)
       (λ b k. record {
         tracked = k.tracked;
         left = λ q.
@@ -108,7 +108,7 @@ guarded_left s p words h = record {
       ];
   blocks = h.blocks;
   sealing = λ n is.
-      IfSome_then (s.blocked n) (h.sealing n is)
+      there_then (s.blocked n) (h.sealing n is)
       (λ b k. record {
         tracked = k.tracked;
         left = λ q.

@@ -111,7 +111,7 @@ module _ (s : State) (f : ℕ) (content : ℕ → Content) (blocked : ℕ → Op
     pub unblocked : blocked f ≡ None
     pub settled : is_sealing f ≡ false
     pub opened : IfSome (start f) (IsOpen s.content s.added)
-    pub loaded : content f ≡ IsLoading → IsSomeAnd (start f) Loads
+    pub loaded : (g : Page) → content f ≡ IsLoading g → IsSomeAnd (start f) (Loads g)
 
   pub guarded_frame : IsGuarded s → IsPut → IsGuarded
       (record s { content = content; blocked = blocked; is_sealing = is_sealing; start = start })
@@ -125,8 +125,9 @@ module _ (s : State) (f : ℕ) (content : ℕ → Content) (blocked : ℕ → Op
     blocks = each_frame f (λ n. IfSome (blocked n) (λ b. b ≤ epoch_of s.epoch (enclave_in (content n)))) (rw k.unblocked tt)
         (λ n e. let same = k.same n e in rw (same.blocked_at, same.held) (h.blocks n));
     sealing =
-        each_frame f (λ n. is_sealing n ≡ true → IfSome (blocked n)
-        (IsDrainedAt s.inside s.noted (enclave_in (content n)) (epoch_of s.epoch (enclave_in (content n))))) (λ _. rw k.unblocked tt)
+        each_frame f (λ n. is_sealing n ≡ true → IsSomeAnd (blocked n)
+        (IsDrainedAt s.inside s.noted (enclave_in (content n)) (epoch_of s.epoch (enclave_in (content n)))))
+        (λ leaves. absurd (false≢true (sym k.settled ∙ leaves)))
         (λ n e. let same = k.same n e in rw (same.sealing, same.blocked_at, same.held) (h.sealing n));
     taken = λ g busy. let k = h.taken g busy in record { cpu = k.cpu; by = k.by };
     opened = λ n. IfSome_then (start n) (each_frame f (λ n. IfSome (start n) (IsOpen s.content s.added)) k.opened
@@ -134,8 +135,8 @@ module _ (s : State) (f : ℕ) (content : ℕ → Content) (blocked : ℕ → Op
     written =
         each_frame f (λ n. is_sealing n ≡ true → IsSomeAnd (start n) WritesOut) (λ leaves. absurd (false≢true (sym k.settled ∙ leaves)))
         (λ n e. let same = k.same n e in rw (same.sealing, same.start_of) (h.written n));
-    loaded = each_frame f (λ n. content n ≡ IsLoading → IsSomeAnd (start n) Loads) k.loaded
-        (λ n e. let same = k.same n e in rw (same.held, same.start_of) (h.loaded n));
+    loaded = λ n g. each_frame f (λ m. content m ≡ IsLoading g → IsSomeAnd (start m) (Loads g)) (k.loaded g)
+        (λ m e. let same = k.same m e in rw (same.held, same.start_of) (h.loaded m g)) n;
     kinds = h.kinds;
     goes_out =
         each_frame f (λ n. is_sealing n ≡ true → is_some (enclave_in (content n)) ≡ true)
@@ -153,7 +154,8 @@ module _ (s : State) (f : ℕ) (content : ℕ → Content) (blocked : ℕ → Op
 -- ---- building
 
 -- a free frame that is put, and may get other words
-pub guarded_put : (s : State) (f : ℕ) (c : Content) (words : ℕ → List ℕ) → IsGuarded s → s.content f ≡ Free → (c ≡ IsLoading → ⊥)
+pub guarded_put : (s : State) (f : ℕ) (c : Content) (words : ℕ → List ℕ) → IsGuarded s → s.content f ≡ Free
+    → ((g : Page) → c ≡ IsLoading g → ⊥)
     → IsGuarded (record (with_content s f c) { words = words })
 guarded_put s f c words h free settled =
     let t = with_content s f c in
@@ -164,7 +166,7 @@ guarded_put s f c words h free settled =
       unblocked = rw (equal f f refl) refl;
       settled = stays_in s f h (rw free refl);
       opened = h.opened f;
-      loaded = λ waits. absurd (settled (rw (equal f f refl) at waits));
+      loaded = λ g waits. absurd (settled g (rw (equal f f refl) at waits));
     }))
 
 -- a free frame that comes to hold an SECS page
@@ -173,7 +175,7 @@ pub guarded_create : (s : State) (enclave f base size : ℕ) (begun : Measure) �
 guarded_create s enclave f base size begun h free =
     let t = after_create s enclave f base size begun in
     guarded_beside (with_content s f (SecsOf enclave)) s.words t.enclaves t.measure s.acc s.version_in s.is_slot_busy s.next_version
-    (guarded_put s f (SecsOf enclave) s.words h free (λ waits. cc waits))
+    (guarded_put s f (SecsOf enclave) s.words h free (λ g waits. cc waits))
 
 -- a page more that was added, of a kind for pages
 guarded_added : (s : State) (g : Page) (kind : Kind) (perm : Perm) → IsGuarded s → IsPaged kind
@@ -205,4 +207,4 @@ guarded_add s g f kind perm init longer h free paged =
     guarded_beside (record (with_content s f (Holds g kind perm)) { added = t.added }) t.words s.enclaves t.measure s.acc s.version_in
     s.is_slot_busy s.next_version
     (guarded_added (with_content s f (Holds g kind perm)) g kind perm
-    (guarded_put s f (Holds g kind perm) s.words h free (λ waits. cc waits)) paged)
+    (guarded_put s f (Holds g kind perm) s.words h free (λ g waits. cc waits)) paged)

@@ -3,6 +3,7 @@ use Rattle.std.proofs.Common.{◌≡◌, ℕ, zero, suc, ◌+◌, ◌<◌, ◌�
 use Rattle.std.specs.List.{All}
 use Rattle.std.proofs.lemmas.Bool.{cond_both, false≢true, eqb-true, eq-eqb, ltb-true, ltb-false, leb-false, cases_lt}
 use Rattle.std.proofs.lemmas.Option.{IfSome_then}
+use Rattle.sgx_types.specs.Flat.{enclave_sight_of}
 use Rattle.sgx_types.specs.declared.names.Kind.{Kind}
 use Rattle.sgx_types.specs.declared.names.Page.{Page}
 use Rattle.sgx_types.specs.declared.names.Perm.{Perm}
@@ -19,7 +20,7 @@ use Rattle.cached_translations.specs.declared.cache.Translation.{Translation}
 use Rattle.paging_laws.specs.State.{State, sight, is_noting, number_noting, epoch_in, track_sight, slot_sight, drain_sight, has_passed, is_version_spent, after_block, after_track, after_ewbstart, after_eldstart, after_ewb, after_eld, after_failed_eld}
 use Rattle.paging_laws.specs.Stands.{IsTranslation, IsSeated, IsSound}
 use Rattle.paging_laws.specs.Guarded.{IsNoEarlier, HasNoted, IsDrainedAt, IsOpen, WritesOut, Loads, IsGuarded}
-use Rattle.paging_laws.proofs.TestLaws.{equal, each_there, each_there_at}
+use Rattle.paging_laws.proofs.TestLaws.{there_at, there_then, equal, each_there, each_there_at}
 use Rattle.paging_laws.proofs.BuildLaws.{is_free_frame}
 use Rattle.paging_laws.proofs.SoundLaws.{seat_at}
 use Rattle.paging_laws.proofs.GuardCpus.{noted_at, unblocked}
@@ -43,7 +44,7 @@ guarded_block s f allowed sound h = record {
       (λ _. h.blocks n);
   sealing = λ n is.
       cond_both (f == n) (Some (epoch_in s n)) (s.blocked n)
-      (λ o. IfSome o (IsDrainedAt s.inside s.noted (enclave_in (s.content n)) (epoch_in s n)))
+      (λ o. IsSomeAnd o (IsDrainedAt s.inside s.noted (enclave_in (s.content n)) (epoch_in s n)))
       (λ e. absurd (false≢true (sym idle ∙ ap s.is_sealing (eqb-true f n e) ∙ is))) (λ _. h.sealing n is);
   taken = λ g busy. let k = h.taken g busy in record { cpu = k.cpu; by = k.by };
   opened = h.opened;
@@ -106,7 +107,7 @@ guarded_track s enclave allowed h = record {
   noted = each_there s.inside (λ p. HasNoted (after_track s enclave).epoch s.blocked (s.noted p) (s.cache p))
       (λ p seat is. noted p seat is (noted_at s h p seat is));
   blocks = λ n. IfSome_then (s.blocked n) (h.blocks n) (λ b k. omega (arith, k, more (enclave_in (s.content n))));
-  sealing = λ n is. IfSome_then (s.blocked n) (h.sealing n is)
+  sealing = λ n is. there_then (s.blocked n) (h.sealing n is)
       (λ b k. record { tracked = omega (arith, k.tracked, more (enclave_in (s.content n))); left = k.left });
   taken = λ g busy. let k = h.taken g busy in record { cpu = k.cpu; by = k.by };
   opened = h.opened;
@@ -156,7 +157,7 @@ va_there IsVa h = refl
 va_there Free h = cc h
 va_there (SecsOf enclave) h = cc h
 va_there (Holds page kind perm) h = cc h
-va_there IsLoading h = cc h
+va_there (IsLoading page) h = cc h
 
 -- a frame that holds something else than an SECS or a version array page holds a page of an enclave
 page_there : (c : Content) → is_loading c ≡ false → is_free c ≡ false → is_secs c ≡ false → is_va c ≡ false → is_some (enclave_in c) ≡ true
@@ -164,7 +165,7 @@ page_there (Holds page kind perm) waits free secs va = refl
 page_there Free waits free secs va = cc free
 page_there IsVa waits free secs va = cc va
 page_there (SecsOf enclave) waits free secs va = cc secs
-page_there IsLoading waits free secs va = cc waits
+page_there (IsLoading page) waits free secs va = cc waits
 
 pub starts_out : (s : State) (f : ℕ) (slot : SlotAt)
     → first_of_row (ewbstart_row (sight s f) (slot_sight s slot) (drain_sight s f) (is_version_spent s)) ≡ None → StartsOut s f slot
@@ -190,13 +191,13 @@ pub record StartsIn (s : State) (f : ℕ) (page : Page) (slot : SlotAt) : Type 0
   pub within : slot.index < 512
 
 pub starts_in : (s : State) (f : ℕ) (page : Page) (slot : SlotAt)
-    → first_of_row (eldstart_row (sight s f) (is_some (s.added page)) (slot_sight s slot)) ≡ None → StartsIn s f page slot
+    → first_of_row (eldstart_row (sight s f) (enclave_sight_of (s.enclaves page.enclave)) (is_some (s.added page)) (slot_sight s slot)) ≡ None → StartsIn s f page slot
 starts_in s f page slot allowed =
-    let none = none_holds (eldstart_row (sight s f) (is_some (s.added page)) (slot_sight s slot)) allowed in
+    let none = none_holds (eldstart_row (sight s f) (enclave_sight_of (s.enclaves page.enclave)) (is_some (s.added page)) (slot_sight s slot)) allowed in
     record {
-      free = is_free_frame (s.content f) (s.is_sealing f) (neither _ (s.is_slot_busy slot) none.1.1.0).0 none.1.1.1.0;
-      added = not_false _ none.1.0;
-      paged = va_there (s.content slot.frame.0) (not_false _ none.1.1.1.1.0);
+      free = is_free_frame (s.content f) (s.is_sealing f) (neither _ (s.is_slot_busy slot) none.1.1.1.0).0 none.1.1.1.1.0;
+      added = not_false _ none.1.1.0;
+      paged = va_there (s.content slot.frame.0) (not_false _ none.1.1.1.1.1.0);
       within = let low = ltb-false 511 slot.index (neither _ (ltb 511 slot.index) none.0).1 in omega (arith, low);
     }
 
@@ -233,15 +234,16 @@ guarded_ewbstart s f slot allowed h =
       blocks = h.blocks;
       sealing =
           each_frame f (λ n. t.is_sealing n ≡ true
-          → IfSome (s.blocked n) (IsDrainedAt s.inside s.noted (enclave_in (s.content n)) (epoch_in s n)))
-          (λ _. each_there_at (s.blocked f) (IsDrainedAt s.inside s.noted (enclave_in (s.content f)) (epoch_in s f))
+          → IsSomeAnd (s.blocked n) (IsDrainedAt s.inside s.noted (enclave_in (s.content n)) (epoch_in s n)))
+          (λ _. there_at (s.blocked f) (IsDrainedAt s.inside s.noted (enclave_in (s.content f)) (epoch_in s f)) k.blocked
           (λ b is. tracked_drained s f b h is k.drained)) (λ n e. rw e (h.sealing n));
       taken = λ g busy. let k = h.taken g busy in record { cpu = k.cpu; by = k.by };
       opened = each_frame f (λ n. IfSome (t.start n) (IsOpen s.content s.added))
           (rw here (record { paged = k.paged; within = k.within; loads = tt })) (λ n e. rw e (h.opened n));
       written = each_frame f (λ n. t.is_sealing n ≡ true → IsSomeAnd (t.start n) WritesOut) (λ _. rw here refl) (λ n e. rw e (h.written n));
-      loaded = each_frame f (λ n. s.content n ≡ IsLoading → IsSomeAnd (t.start n) Loads) (λ waits. absurd (false≢true (rw waits at k.ours)))
-          (λ n e. rw e (h.loaded n));
+      loaded = λ n g.
+          each_frame f (λ m. s.content m ≡ IsLoading g → IsSomeAnd (t.start m) (Loads g)) (λ waits. absurd (false≢true (rw waits at k.ours)))
+          (λ m e. rw e (h.loaded m g)) n;
       kinds = h.kinds;
       goes_out = each_frame f (λ n. t.is_sealing n ≡ true → is_some (enclave_in (s.content n)) ≡ true) (λ _. k.ours)
           (λ n e. rw e (h.goes_out n));
@@ -249,7 +251,7 @@ guarded_ewbstart s f slot allowed h =
 
 -- a free frame starts to wait for a page
 pub guarded_eldstart : (s : State) (f : ℕ) (page : Page) (slot : SlotAt)
-    → first_of_row (eldstart_row (sight s f) (is_some (s.added page)) (slot_sight s slot)) ≡ None → IsGuarded s
+    → first_of_row (eldstart_row (sight s f) (enclave_sight_of (s.enclaves page.enclave)) (is_some (s.added page)) (slot_sight s slot)) ≡ None → IsGuarded s
     → IsGuarded (after_eldstart s f page slot)
 guarded_eldstart s f page slot allowed h =
     let t = after_eldstart s f page slot in
@@ -263,13 +265,14 @@ guarded_eldstart s f page slot allowed h =
       unblocked = rw here refl;
       settled = stays_in s f h (rw k.free refl);
       opened = rw here (record { paged = k.paged; within = k.within; loads = k.added });
-      loaded = λ _. rw here refl;
+      loaded = λ g waits. let is : IsLoading page ≡ IsLoading g = rw here at waits in let same : page ≡ g = cc in
+          rw here (ap Some same);
     }))
 
 -- a frame whose start has ended
 ended : (s : State) (f : ℕ) (content : ℕ → Content) (blocked : ℕ → Option ℕ) (is_sealing : ℕ → Bool) → IsGuarded s
     → ((n : ℕ) → (f == n) ≡ false → (content n ≡ s.content n) × (blocked n ≡ s.blocked n) × (is_sealing n ≡ s.is_sealing n))
-    → (s.content f ≡ IsVa → ⊥) → blocked f ≡ None → is_sealing f ≡ false → (content f ≡ IsLoading → ⊥)
+    → (s.content f ≡ IsVa → ⊥) → blocked f ≡ None → is_sealing f ≡ false → ((g : Page) → content f ≡ IsLoading g → ⊥)
     → IsGuarded (record s { content = content; blocked = blocked; is_sealing = is_sealing; start = λ n. cond (f == n) None (s.start n) })
 ended s f content blocked is_sealing h same unpaged unblocked settled done =
     guarded_frame s f content blocked is_sealing (λ n. cond (f == n) None (s.start n)) h
@@ -279,7 +282,7 @@ ended s f content blocked is_sealing h same unpaged unblocked settled done =
       unblocked = unblocked;
       settled = settled;
       opened = rw (equal f f refl) tt;
-      loaded = λ waits. absurd (done waits);
+      loaded = λ g waits. absurd (done g waits);
     })
 
 -- .. which is free then
@@ -290,7 +293,7 @@ freed s f start unpaged h =
     guarded_beside (record s { content = t.content; blocked = t.blocked; is_sealing = t.is_sealing; start = t.start }) t.words s.enclaves
     s.measure s.acc s.version_in t.is_slot_busy s.next_version
     (ended s f t.content t.blocked t.is_sealing h (λ n e. (rw e refl, rw e refl, rw e refl)) unpaged (rw here refl) (rw here refl)
-    (λ waits. let free : Free ≡ IsLoading = rw here at waits in cc free))
+    (λ g waits. let free : Free ≡ IsLoading g = rw here at waits in cc free))
 
 -- a page is out
 pub guarded_ewb : (s : State) (f : ℕ) (start : Start) → s.is_sealing f ≡ true → IsGuarded s → IsGuarded (after_ewb s f start)
@@ -300,17 +303,18 @@ guarded_ewb s f start leaving h =
     (freed s f start (λ va. false≢true (rw va at (h.goes_out f leaving))) h)
 
 -- a load is refused
-pub guarded_failed_eld : (s : State) (f : ℕ) (start : Start) → s.content f ≡ IsLoading → IsGuarded s
+pub guarded_failed_eld : (s : State) (f : ℕ) (start : Start) (g : Page) → s.content f ≡ IsLoading g → IsGuarded s
     → IsGuarded (after_failed_eld s f start)
-guarded_failed_eld s f start waits h = freed s f start (λ va. cc (waits, va)) h
+guarded_failed_eld s f start g waits h = freed s f start (λ va. cc (waits, va)) h
 
 -- a page is back
-pub guarded_eld : (s : State) (f : ℕ) (start : Start) (page : Page) (kind : Kind) (perm : Perm) (words : List ℕ) → s.content f ≡ IsLoading
+pub guarded_eld : (s : State) (f : ℕ) (start : Start) (page : Page) (kind : Kind) (perm : Perm) (words : List ℕ) (g : Page)
+    → s.content f ≡ IsLoading g
     → IsGuarded s → IsGuarded (after_eld s f start page kind perm words)
-guarded_eld s f start page kind perm words waits h =
+guarded_eld s f start page kind perm words g waits h =
     let t = after_eld s f start page kind perm words in
     let here : (f == f) ≡ true = equal f f refl in
     guarded_beside (record s { content = t.content; blocked = t.blocked; start = t.start }) t.words s.enclaves s.measure s.acc t.version_in
     t.is_slot_busy s.next_version
     (ended s f t.content t.blocked s.is_sealing h (λ n e. (rw e refl, rw e refl, refl)) (λ va. cc (waits, va)) (rw here refl)
-    (stays_in s f h (rw waits refl)) (λ again. let page_is : Holds page kind perm ≡ IsLoading = rw here at again in cc page_is))
+    (stays_in s f h (rw waits refl)) (λ w again. let page_is : Holds page kind perm ≡ IsLoading w = rw here at again in cc page_is))

@@ -14,6 +14,7 @@ pub mod ShapeColumns
 pub mod AccessLaws
 pub mod RegisterLaws
 pub mod ExtendLaws
+pub mod MoveSights
 pub mod RowLaws
 pub mod GuardLaws
 pub mod GuardCpus
@@ -22,8 +23,8 @@ pub mod PagingSound
 pub mod ShapeLaws
 pub mod ShapeRows
 pub mod ShapeSteps
-pub mod MoveSights
 pub mod FitLaws
+pub mod MoveEnds
 pub mod MoveLaws
 pub mod StepLaws
 pub mod OutsideLaws

@@ -16,7 +16,6 @@ use Rattle.sgx_types.specs.Flat.{FlatEnclave, FlatMemory, FlatPage, added_as, fl
 use Rattle.sgx_types.specs.Flat as flats
 use Rattle.sgx_types.specs.Frames.{Content, Free, Holds, IsLoading}
 use Rattle.sgx_types.specs.Sealed.{Sealed}
-use Rattle.sgx_types.specs.Sights.{row_at}
 use Rattle.sgx_types.specs.Starts.{Start}
 use Rattle.sgx_types.specs.Table.{first_of_row}
 use Rattle.epcm_entry.specs.Words.{words_of, zero_words}
@@ -25,10 +24,11 @@ use Rattle.paging_laws.specs.Stands.{Stands, StandsWithRules, HasWords}
 use Rattle.paging_laws.specs.State.{State, row_of, after_block, after_eldstart, after_ewb, after_ewbstart, after_track}
 use Rattle.paging_laws.specs.Steps.{IsComing, IsReloaded, IsWrittenOut, commit_row}
 use Rattle.paging_laws.proofs.FitLaws.{open_below}
-use Rattle.paging_laws.proofs.MoveSights.{IsDoneBack, IsRefusedBack, same_value, is_end}
+use Rattle.paging_laws.specs.Guarded.{IsGuarded}
+use Rattle.paging_laws.proofs.MoveEnds.{IsDoneBack, IsRefusedBack, ends_back, ends_out, ends_refused, same_value}
 use Rattle.paging_laws.proofs.BuildLaws.{words_put}
 use Rattle.paging_laws.proofs.NextEntry.{Brings, BringsDone, done_brings, brings_as}
-use Rattle.paging_laws.proofs.ColumnLaws.{added_flat, start_is}
+use Rattle.paging_laws.proofs.ColumnLaws.{added_flat, start_is, version_is}
 use Rattle.sgx_types.specs.declared.names.SlotAt.{SlotAt}
 
 -- ---- what flat memory does not see
@@ -37,7 +37,7 @@ use Rattle.sgx_types.specs.declared.names.SlotAt.{SlotAt}
 pub block_brings : (s : State) (past : List Entry) (a : Actor) (f : Frame) → first_of_row (row_of s a (Block f)) ≡ None → Stands s past
     → BringsDone s (after_block s f.0) past a (Block f) answers.Plain
 block_brings s past a f allowed stands = record {
-  form = tt;
+  form = refl;
   taken = refl;
   same = λ seen. cc seen;
   measure = tt;
@@ -53,7 +53,7 @@ block_brings s past a f allowed stands = record {
 pub track_brings : (s : State) (past : List Entry) (a : Actor) (enclave : ℕ) → Stands s past
     → BringsDone s (after_track s enclave) past a (Track enclave) answers.Plain
 track_brings s past a enclave stands = record {
-  form = tt;
+  form = refl;
   taken = refl;
   same = λ seen. cc seen;
   measure = tt;
@@ -70,7 +70,7 @@ pub ewbstart_brings : (s : State) (past : List Entry) (a : Actor) (f : Frame) (s
     → first_of_row (row_of s a (EwbStart f slot)) ≡ None → Stands s past
     → BringsDone s (after_ewbstart s f.0 slot) past a (EwbStart f slot) (answers.Version s.next_version)
 ewbstart_brings s past a f slot allowed stands = record {
-  form = tt;
+  form = (s.next_version, refl);
   taken = refl;
   same = λ seen. cc seen;
   measure = tt;
@@ -87,14 +87,14 @@ pub eldstart_brings : (s : State) (past : List Entry) (a : Actor) (f : Frame) (p
     → first_of_row (row_of s a (EldStart f page slot)) ≡ None → Stands s past
     → BringsDone s (after_eldstart s f.0 page slot) past a (EldStart f page slot) (answers.Version (s.version_in slot))
 eldstart_brings s past a f page slot allowed stands = record {
-  form = tt;
+  form = ap answers.Version (version_is stands.columns slot);
   taken = refl;
   same = λ seen. cc seen;
   measure = tt;
   memory = record {
     enclaves = stands.memory.enclaves;
     cpus = stands.memory.cpus;
-    words = words_put s.content s.words (flat past) f.0 IsLoading (λ g kind perm at. cc at) stands.memory.words;
+    words = words_put s.content s.words (flat past) f.0 (IsLoading page) (λ g kind perm at. cc at) stands.memory.words;
     measure = stands.memory.measure;
   };
 }
@@ -143,30 +143,21 @@ freed_words s past f stands = put_words s.content s.words (flat past) f Free zer
 
 -- ---- the commits
 
--- the rule on refusals has no row of them
-end_row : (frames : ℕ) (past : List Entry) (a : Actor) (action : Action) → is_end action ≡ true
-    → first_of_row (row_at frames past a action) ≡ None
-end_row frames past (actors.Cpu p) (Ewb f) is = refl
-end_row frames past (actors.Cpu p) (Eld f) is = refl
-end_row frames past a (Ewb f) is = refl
-end_row frames past a (Eld f) is = refl
-end_row frames past a _ is = absurd (false≢true is)
-
 -- a frame whose start is open is one of the EPC
 below : (s : State) (past : List Entry) (f : ℕ) (start : Start) → StandsWithRules s past → s.start f ≡ Some start → f < s.frames
 below s past f start h opened = open_below s.frames past f h.rules.fits.entries (ap is_some (sym (start_is h.stands.columns f) ∙ opened))
 
 -- a page is out
-pub written_brings : (s t : State) (past : List Entry) (a : Actor) (f : Frame) (e : Entry) (rec : Sealed) → IsWrittenOut s a f e rec t
-    → StandsWithRules s past → Brings s t past e
-written_brings s t past a f e rec out h =
+pub written_brings : (s t : State) (past : List Entry) (a : Actor) (f : Frame) (e : Entry) (rec : Sealed) → IsGuarded s
+    → s.is_sealing f.0 ≡ true → IsWrittenOut s a f e rec t → StandsWithRules s past → Brings s t past e
+written_brings s t past a f e rec guarded sealing out h =
     let stands = h.stands in
     brings_as s t _ past e _ out.entry out.state
     (done_brings s (after_ewb s f.0 out.leaving.start) past a (Ewb f)
-    (answers.Moved out.leaving.page.page out.leaving.start.version rec.tag) (end_row s.frames past a (Ewb f) refl)
+    (answers.Moved out.leaving.page.page out.leaving.start.version rec.tag) refl
     (below s past f.0 out.leaving.start h out.leaving.opened, tt)
     (record {
-      form = tt;
+      form = ends_out s t past a f e rec guarded sealing stands.columns out;
       taken = refl;
       same = λ seen. cc seen;
       measure = tt;
@@ -195,10 +186,10 @@ reloaded_brings s t past a f rec e back same h = by_row (first_of_row (commit_ro
         → MatchOption o (IsDoneBack s a f rec e t coming) (IsRefusedBack s a f e t coming) → Brings s t past e
     by_row None allowed done =
         brings_as s t _ past e _ done.0 done.1
-        (done_brings s _ past a (Eld f) (answers.Moved coming.page coming.start.version rec.tag) (end_row s.frames past a (Eld f) refl)
+        (done_brings s _ past a (Eld f) (answers.Moved coming.page coming.start.version rec.tag) refl
         (below s past f.0 coming.start h coming.opened, tt)
         (record {
-          form = tt;
+          form = ends_back s past f.0 coming coming.start.version rec.tag stands.columns;
           taken = refl;
           same = λ seen. cc seen;
           measure = tt;
@@ -212,10 +203,10 @@ reloaded_brings s t past a f rec e back same h = by_row (first_of_row (commit_ro
             measure = stands.memory.measure;
           };
         }))
-    by_row (Some r) refused is =
+    by_row (Some r) allowed is =
         brings_as s t _ past e _ is.0 is.1
         (record {
-          refusal = tt;
+          refusal = ends_refused s past f.0 coming rec r stands.columns stands allowed;
           flat = tt;
           fits = tt;
           measure = tt;

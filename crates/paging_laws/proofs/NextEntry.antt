@@ -14,14 +14,14 @@ use Rattle.sgx_types.specs.Making.{Making}
 use Rattle.measure_log.specs.Rule.{MeasureRule}
 use Rattle.paging_laws.specs.Shape.{ShapeWithRules}
 use Rattle.paging_laws.specs.Stands.{Shows, Stands, StandsWithRules}
-use Rattle.paging_laws.specs.State.{State}
+use Rattle.paging_laws.specs.State.{State, making_of}
 use Rattle.paging_laws.specs.Steps.{did_by, refused_by}
 use Rattle.paging_laws.proofs.TestLaws.{last_place}
 
 -- what the new entry brings, beside the shape
 pub record Brings (s t : State) (past : List Entry) (e : Entry) : Type 0 where
   pub memory : Shows t (e ∷ past) (flat (e ∷ past))
-  pub refusal : RefusalRule s.frames past e
+  pub refusal : RefusalRule (making_of s) past e
   pub flat : FlatRule past e
   pub fits : FitsRule s.frames past e
   pub measure : MeasureRule past e
@@ -35,12 +35,11 @@ pub stands_more : (s t : State) (made : Making) (past : List Entry) (e : Entry) 
     → ShapeWithRules made t (e ∷ past) → NoPageTwice (e ∷ past) → StandsWithRules s past → Brings s t past e → StandsWithRules t (e ∷ past)
 stands_more s t made past e before after once h k = record {
   stands = record { columns = after.shape.columns; memory = k.memory };
-  rules = subst (λ frames. KeepsRules frames (e ∷ past)) (ap (λ (m : Making). m.frames) (before.shape.making ∙ sym after.shape.making))
-      rules;
+  rules = subst (λ k. KeepsRules k (e ∷ past)) (before.shape.making ∙ sym after.shape.making) rules;
   measure = (k.measure, h.measure);
 }
   where
-    rules : KeepsRules s.frames (e ∷ past)
+    rules : KeepsRules (making_of s) (e ∷ past)
     rules = record {
       refusal = (k.refusal, h.rules.refusal);
       flat = (k.flat, h.rules.flat);
@@ -60,14 +59,14 @@ flat_done m a action answer taken = rw taken refl
 
 -- what it brings beside its row and its frames
 pub record BringsDone (s t : State) (past : List Entry) (a : Actor) (action : Action) (answer : Answer) : Type 0 where
-  pub form : HasForm action answer
+  pub form : HasForm past action answer
   pub taken : accepts (flat past) a action ≡ true
-  pub same : is_visible action ≡ true → seen_answer answer ≡ flat_answer (flat past) a action
+  pub same : is_visible action ≡ true → seen_answer action answer ≡ flat_answer (flat past) a action
   pub measure : MeasureRule past (did_by a action answer)
   pub memory : Shows t (did_by a action answer ∷ past) (memory_after a action (flat past))
 
 pub done_brings : (s t : State) (past : List Entry) (a : Actor) (action : Action) (answer : Answer)
-    → first_of_row (row_at s.frames past a action) ≡ None → NamesFrames s.frames action × TakesFree past action
+    → first_of_row (row_at (making_of s) past a action) ≡ None → NamesFrames s.frames action × TakesFree past action
     → BringsDone s t past a action answer
     → Brings s t past (did_by a action answer)
 done_brings s t past a action answer allowed fits k = record {
@@ -83,7 +82,7 @@ done_brings s t past a action answer allowed fits k = record {
 
 -- it leaves what flat memory has
 pub refused_brings : (s : State) (past : List Entry) (a : Actor) (action : Action) (r : Refusal)
-    → RefusalRule s.frames past (refused_by a action r) → MeasureRule past (refused_by a action r) → Stands s past
+    → RefusalRule (making_of s) past (refused_by a action r) → MeasureRule past (refused_by a action r) → Stands s past
     → Brings s s past (refused_by a action r)
 refused_brings s past a action r refusal measure h =
     record {

@@ -31,7 +31,7 @@ use Rattle.seal_record.specs.Cipher.{cipher}
 use Rattle.seal_record.specs.Records.{Made}
 use Rattle.epcm_entry.specs.Words.{words_of as words_in}
 use Rattle.page_history.specs.Copies.{Copy, InFrame, InSlot, OneLiveCopy, copy}
-use Rattle.page_history.specs.Records.{SealedRule, made_by}
+use Rattle.seal_record.specs.Sealing.{SealedRule, made_by}
 use Rattle.paging_laws.specs.Histories.{HasBytes, OutsideBytes}
 use Rattle.paging_laws.specs.Stands.{IsSound, Stands, inside_of_stay, next_save}
 use Rattle.paging_laws.specs.State.{State, enter_sight, row_of, after_init}

@@ -5,6 +5,7 @@ use Rattle.std.specs.List.{All}
 use Rattle.std.proofs.lemmas.Bool.{cond_both, false≢true}
 use Rattle.std.proofs.lemmas.List.{length-replicate}
 use Rattle.std.proofs.lemmas.List.Elements.{All-weaker}
+use Rattle.sgx_types.specs.Flat.{enclave_sight_of}
 use Rattle.sgx_types.specs.declared.names.Kind.{Kind}
 use Rattle.sgx_types.specs.declared.names.Page.{Page}
 use Rattle.sgx_types.specs.declared.names.Perm.{Perm}
@@ -148,7 +149,7 @@ sound_ewbstart s f slot allowed h sound = by_block (s.blocked f) refl (starts_ou
 
 -- a free frame starts to wait for a page
 pub sound_eldstart : (s : State) (f : ℕ) (page : Page) (slot : SlotAt)
-    → first_of_row (eldstart_row (sight s f) (is_some (s.added page)) (slot_sight s slot)) ≡ None → IsSound s
+    → first_of_row (eldstart_row (sight s f) (enclave_sight_of (s.enclaves page.enclave)) (is_some (s.added page)) (slot_sight s slot)) ≡ None → IsSound s
     → IsSound (after_eldstart s f page slot)
 sound_eldstart s f page slot allowed sound =
     let t = after_eldstart s f page slot in
@@ -179,13 +180,14 @@ sound_ewb s f start leaving sound =
     (freed s f start (unusable s f sound (λ enclave u. false≢true (sym u.settled ∙ leaving))) sound)
 
 -- a load is refused
-pub sound_failed_eld : (s : State) (f : ℕ) (start : Start) → s.content f ≡ IsLoading → IsSound s → IsSound (after_failed_eld s f start)
-sound_failed_eld s f start waits sound = freed s f start (unusable_empty s f sound (rw waits refl)) sound
+pub sound_failed_eld : (s : State) (f : ℕ) (start : Start) (g : Page) → s.content f ≡ IsLoading g → IsSound s → IsSound (after_failed_eld s f start)
+sound_failed_eld s f start g waits sound = freed s f start (unusable_empty s f sound (rw waits refl)) sound
 
 -- a page is back, with its words
-pub sound_eld : (s : State) (f : ℕ) (start : Start) (page : Page) (kind : Kind) (perm : Perm) (words : List ℕ) → s.content f ≡ IsLoading
+pub sound_eld : (s : State) (f : ℕ) (start : Start) (page : Page) (kind : Kind) (perm : Perm) (words : List ℕ) (g : Page)
+    → s.content f ≡ IsLoading g
     → length words ≡ 512 → IsSound s → IsSound (after_eld s f start page kind perm words)
-sound_eld s f start page kind perm words waits long sound =
+sound_eld s f start page kind perm words g waits long sound =
     let t = after_eld s f start page kind perm words in
     sound_beside (record s { content = t.content; words = t.words }) t.blocked s.epoch t.start t.version_in t.is_slot_busy s.next_version
     (sound_apart s f t.content s.is_sealing t.words sound (unusable_empty s f sound (rw waits refl)) (λ n e. (rw e refl, refl, rw e refl))

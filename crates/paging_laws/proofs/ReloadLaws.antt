@@ -1,5 +1,5 @@
 -- A load that its commit's row allows brings back what went out last: the page's version, its tag and its bytes.
-use Rattle.std.proofs.Common.{◌≡◌, ℕ, ◌+◌, ◌*◌, ◌<◌, ◌≤◌, ◌==◌, ◌&&◌, true, refl, sym, ap, subst, ◌∙◌, arith, Some, None, List, [], ◌∷◌, ◌++◌, length, All, Any}
+use Rattle.std.proofs.Common.{◌≡◌, ℕ, ◌+◌, ◌*◌, ◌<◌, ◌≤◌, ◌==◌, ◌&&◌, true, refl, sym, ap, subst, ◌∙◌, arith, Option, Some, None, List, [], ◌∷◌, ◌++◌, length, All, Any}
 use Rattle.std.proofs.lemmas.Bool.{eqb-true}
 use Rattle.std.proofs.lemmas.List.{get_or_default}
 use Rattle.std.proofs.lemmas.Slice.Eq.{bytes_eq-Decides}
@@ -12,7 +12,7 @@ use Rattle.sgx_types.specs.declared.names.Kind.{Kind}
 use Rattle.sgx_types.specs.declared.names.Page.{Page}
 use Rattle.sgx_types.specs.declared.names.Perm.{Perm}
 use Rattle.sgx_types.specs.declared.record.Header.{Header}
-use Rattle.sgx_types.specs.Flat.{FlatEnclave, flat}
+use Rattle.sgx_types.specs.Flat.{FlatEnclave, FlatPage, flat, header_at, header_by}
 use Rattle.sgx_types.specs.Flat as memory
 use Rattle.sgx_types.specs.Rules.{Along, RefusalRule}
 use Rattle.sgx_types.specs.Sealed.{Sealed, header_of}
@@ -30,9 +30,9 @@ use Rattle.seal_record.specs.Records.{Given, Made, Tagged, Unforged, given_of, m
 use Rattle.seal_record.proofs.CipherLaws.{cipher_twice}
 use Rattle.seal_record.proofs.RecordLaws.{fitting_made}
 use Rattle.page_history.specs.Copies.{InSlot, copy}
-use Rattle.page_history.specs.Fresh.{IsLastOut, ReloadRule}
+use Rattle.sgx_types.specs.Fresh.{IsLastOut, ReloadRule}
 use Rattle.page_history.specs.Once.{Gone, IsMade, IsOfPage, KeepsMoves, MadeOnce}
-use Rattle.page_history.specs.Records.{SealedRule, made_by}
+use Rattle.seal_record.specs.Sealing.{SealedRule, made_by}
 use Rattle.page_history.proofs.CopyLaws.{copy_is_last, live_copies, went_out}
 use Rattle.page_history.proofs.DrawnLaws.{drawn_once}
 use Rattle.page_history.proofs.RecordLaws.{made_once}
@@ -67,6 +67,18 @@ pub record HasHeader (past : List Entry) (g : Page) (header : Header) : Type 0 w
   pub kind : Kind
   pub perm : Perm
   pub headed : header ≡ header_of enclave.base g kind perm
+
+-- .. which it has where flat memory has it
+has_header : (past : List Entry) (g : Page) (header : Header) → header_at past g ≡ Some header → HasHeader past g header
+has_header past g header is = by_values ((flat past).enclaves g.enclave) ((flat past).pages g) refl is
+  where
+    by_values : (o : Option FlatEnclave) (x : Option FlatPage) → (flat past).enclaves g.enclave ≡ o → header_by o g x ≡ Some header
+        → HasHeader past g header
+    by_values None x made is = cc
+    by_values (Some y) None made is = cc
+    by_values (Some y) (Some x) made is =
+        let told : header_of y.base g x.kind x.perm ≡ header = cc in
+        record { enclave = y; made = made; kind = x.kind; perm = x.perm; headed = sym told }
 
 -- a record that fits brings a page back as it went out last
 pub record BringsBack (key : List ℕ) (past : List Entry) (n : ℕ) (g : Page) (version : ℕ) (rec : Sealed) : Type 0 where
@@ -114,11 +126,11 @@ module _ (k : Making) (key : List ℕ) (past : List Entry) (positive : 1 ≤ k.f
           let its_header : one.header ≡ rec.header = ap (λ (x : Tagged). x.header) same in
           let its_cipher : one.cipher ≡ rec.cipher = ap (λ (x : Tagged). x.cipher) same in
           -- the record is the page's
+          let own_headed = has_header past own.page one.header own.header in
           let its_page : own.page ≡ g =
-          header_page own.header.enclave.base headed.enclave.base own.page g own.header.page.kind headed.kind own.header.page.perm
-          headed.perm
-          (λ in_one. one_base own.header.enclave headed.enclave (sym own.header.made ∙ ap (flat past).enclaves in_one ∙ headed.made))
-          (sym own.header.headed ∙ its_header ∙ headed.headed) in
+          header_page own_headed.enclave.base headed.enclave.base own.page g own_headed.kind headed.kind own_headed.perm headed.perm
+          (λ in_one. one_base own_headed.enclave headed.enclave (sym own_headed.made ∙ ap (flat past).enclaves in_one ∙ headed.made))
+          (sym own_headed.headed ∙ its_header ∙ headed.headed) in
           -- .. and so is the slot's version
           let filled = (live_copies k past positive rules).filled start.slot (rw found.0 found.1) in
           let there : copy past filled.0 ≡ Some (InSlot start.slot version) = filled.1 ∙ ap (λ v. Some (InSlot start.slot v)) found.0 in
@@ -172,10 +184,8 @@ row_allows s f coming rec allowed =
 pub keeps_moves : (made : Making) (s : State) (past : List Entry) (records : List Made) → StandsWithAllRules made s past records
     → KeepsMoves made past
 keeps_moves made s past records h = record {
-  refusal = subst (λ frames. Along (RefusalRule frames) past) (ap (λ (m : Making). m.frames) h.shaped.shape.making)
-      h.standing.rules.refusal;
+  refusal = subst (λ m. Along (RefusalRule m) past) h.shaped.shape.making h.standing.rules.refusal;
   flat = h.standing.rules.flat;
-  moves = h.moves;
   evict = h.shaped.evict;
   fresh = h.fresh;
 }

@@ -25,7 +25,7 @@ use Rattle.sgx_types.specs.Rules.{case_of, RefusalRule, NamesFrames, TakesFree}
 use Rattle.measure_log.specs.Rule.{MeasureRule}
 use Rattle.sgx_types.specs.declared.entries.AccessOp.{AccessOp}
 use Rattle.sgx_types.specs.declared.entries.Answer.TheVariants as answers
-use Rattle.paging_laws.specs.State.{State, enter_sight, seat_enclave, is_closed, row_of, translation, sight}
+use Rattle.paging_laws.specs.State.{State, making_of, enter_sight, seat_enclave, is_closed, row_of, translation, sight}
 use Rattle.paging_laws.specs.Stands.{Stands, IsSound}
 use Rattle.paging_laws.proofs.BuildLaws.{is_some-added_as, is_free_frame, adds}
 use Rattle.paging_laws.proofs.Contents.{tcs_there}
@@ -33,6 +33,7 @@ use Rattle.paging_laws.proofs.ProcessorLaws.{mode_by_entries, enclave_by_entries
 use Rattle.paging_laws.proofs.EntryLaws.{by_fields, enter_saves, enter_saved, resume_saves, resume_saved, enter_sight_of, enters}
 use Rattle.paging_laws.proofs.AccessLaws.{found_translation, fill_within}
 use Rattle.paging_laws.proofs.RegisterLaws.{added_by_entries}
+use Rattle.paging_laws.proofs.MoveSights.{block_agrees, eldstart_agrees, ewbstart_agrees, track_agrees}
 use Rattle.paging_laws.specs.Steps.{CanApply, refused_by, IsStep, IsDone, did_by, answer_of}
 use Rattle.paging_laws.proofs.MeasureLaws.{quiet}
 use Rattle.paging_laws.proofs.ColumnLaws.{added_flat, busy_flat, content_is, enclave_flat, inside_is, sight_is}
@@ -45,7 +46,7 @@ use Rattle.sgx_types.proofs.Truths.{neither, tested}
 -- ---- the rows by the state and by the entries
 
 epa_agrees : (s : State) (past : List Entry) (a : Actor) (f : Frame) → Stands s past
-    → first_of_row (row_of s a (Epa f)) ≡ first_of_row (row_at s.frames past a (Epa f))
+    → first_of_row (row_of s a (Epa f)) ≡ first_of_row (row_at (making_of s) past a (Epa f))
 epa_agrees s past a f stands = ap (λ v. first_of_row (epa_row v)) (sight_is stands.columns f.0)
 
 create_row_same : (enclave base size : ℕ) (o o' : Option FlatEnclave) (v v' : FrameSight) → o ≡ o' → v ≡ v'
@@ -53,7 +54,7 @@ create_row_same : (enclave base size : ℕ) (o o' : Option FlatEnclave) (v v' : 
 create_row_same enclave base size o o' v v' e e' = rw (e, e') refl
 
 create_agrees : (s : State) (past : List Entry) (a : Actor) (enclave : ℕ) (f : Frame) (base size : ℕ) → Stands s past
-    → first_of_row (row_of s a (Create enclave f base size)) ≡ first_of_row (row_at s.frames past a (Create enclave f base size))
+    → first_of_row (row_of s a (Create enclave f base size)) ≡ first_of_row (row_at (making_of s) past a (Create enclave f base size))
 create_agrees s past a enclave f base size stands =
     create_row_same enclave base size _ _ _ _ (enclave_flat stands enclave) (sight_is stands.columns f.0)
 
@@ -66,7 +67,7 @@ add_row_same number kind perm init o o' b b' v v' e1 e2 e3 = rw (e1, e2, e3) ref
 add_agrees : (s : State) (past : List Entry) (a : Actor) (enclave number : ℕ) (f : Frame) (kind : Kind) (perm : Perm) (init : PageInit)
     → Stands s past
     → first_of_row (row_of s a (Add enclave number f kind perm init)) ≡ first_of_row
-    (row_at s.frames past a (Add enclave number f kind perm init))
+    (row_at (making_of s) past a (Add enclave number f kind perm init))
 add_agrees s past a enclave number f kind perm init stands =
     add_row_same number kind perm init _ _ _ _ _ _ (enclave_flat stands enclave)
     (ap is_some (added_flat stands (page_at enclave number)) ∙ is_some-added_as ((flat past).pages (page_at enclave number)))
@@ -81,13 +82,13 @@ extend_row_same : (chunk : ℕ) (b b' : Bool) (v v' : FrameSight) → b ≡ b' �
 extend_row_same chunk b b' v v' e e' = rw (e, e') refl
 
 pub extend_agrees : (s : State) (past : List Entry) (a : Actor) (f : Frame) (chunk : ℕ) → Stands s past
-    → first_of_row (row_of s a (Extend f chunk)) ≡ first_of_row (row_at s.frames past a (Extend f chunk))
+    → first_of_row (row_of s a (Extend f chunk)) ≡ first_of_row (row_at (making_of s) past a (Extend f chunk))
 extend_agrees s past a f chunk stands =
     extend_row_same chunk _ _ _ _ (closed_agrees s past stands (enclave_in (s.content f.0))
     ∙ ap (λ c. sights.is_closed (flat past) (enclave_in c)) (content_is stands.columns f.0)) (sight_is stands.columns f.0)
 
 pub init_agrees : (s : State) (past : List Entry) (a : Actor) (enclave : ℕ) (expect : Option (List ℕ)) → Stands s past
-    → first_of_row (row_of s a (Init enclave expect)) ≡ first_of_row (row_at s.frames past a (Init enclave expect))
+    → first_of_row (row_of s a (Init enclave expect)) ≡ first_of_row (row_at (making_of s) past a (Init enclave expect))
 init_agrees s past a enclave expect stands = ap (λ o. first_of_row (init_row (enclave_sight_of o))) (enclave_flat stands enclave)
 
 fill_row_same : (number : ℕ) (o o' : Option ℕ) (v v' : FrameSight) → o ≡ o' → v ≡ v'
@@ -95,7 +96,7 @@ fill_row_same : (number : ℕ) (o o' : Option ℕ) (v v' : FrameSight) → o ≡
 fill_row_same number o o' v v' e e' = rw (e, e') refl
 
 fill_agrees : (s : State) (past : List Entry) (p : Cpu) (number : ℕ) (f : Frame) → Stands s past
-    → first_of_row (row_of s (actors.Cpu p) (Fill number f)) ≡ first_of_row (row_at s.frames past (actors.Cpu p) (Fill number f))
+    → first_of_row (row_of s (actors.Cpu p) (Fill number f)) ≡ first_of_row (row_at (making_of s) past (actors.Cpu p) (Fill number f))
 fill_agrees s past p number f stands =
     fill_row_same number _ _ _ _ (ap seat_enclave (inside_is stands.columns p.0) ∙ enclave_by_entries (stay past p.0))
     (sight_is stands.columns f.0)
@@ -117,7 +118,7 @@ pf_row_same : (op : AccessOp) (off : ℕ) (b b' : Bool) (o o' : Option (Kind × 
 pf_row_same op off b b' o o' e e' = rw (e, e') refl
 
 pf_agrees : (s : State) (past : List Entry) (p : Cpu) (op : AccessOp) (off : ℕ) → Stands s past
-    → first_of_row (row_of s (actors.Cpu p) (Pf op off)) ≡ first_of_row (row_at s.frames past (actors.Cpu p) (Pf op off))
+    → first_of_row (row_of s (actors.Cpu p) (Pf op off)) ≡ first_of_row (row_at (making_of s) past (actors.Cpu p) (Pf op off))
 pf_agrees s past p op off stands =
     pf_row_same op off _ _ _ _ (mode_by_entries s past stands p.0) (added_by_entries s past p.0 (off / 4096) stands)
 
@@ -143,7 +144,7 @@ entry_otherwise saves saved enclave tcs v fields other = rw other refl
 -- a row by a TCS page, in the state and by the entries
 entry_agrees : (saves : TcsSight → Case) (saved : TcsSight → ℕ) (s : State) (past : List Entry) (p enclave tcs tf sf : ℕ) → Stands s past
     → first_of_row (by_fields saves saved enclave tcs (enter_sight s p (seat_of enclave tcs tf sf))) ≡ first_of_row
-    (by_fields saves saved enclave tcs (enter_sight_at s.frames past p (seat_of enclave tcs tf sf)))
+    (by_fields saves saved enclave tcs (enter_sight_at s.frames past (stay past p) (seat_of enclave tcs tf sf)))
 entry_agrees saves saved s past p enclave tcs tf sf stands =
     by_page (tested (is_page v.tcs.content g)) (tested (is_tcs v.tcs.content))
     ∙ ap (λ x. first_of_row (by_fields saves saved enclave tcs x))
@@ -172,57 +173,41 @@ entry_agrees saves saved s past p enclave tcs tf sf stands =
 
 -- ---- every row
 
--- the instructions that move no page
-abbrev pub MovesNoPage : Action → Type 0
-MovesNoPage (Block f) = ⊥
-MovesNoPage (Track enclave) = ⊥
-MovesNoPage (EwbStart f slot) = ⊥
-MovesNoPage (EldStart f page slot) = ⊥
-MovesNoPage _ = Unit {0}
-
--- the row of such an instruction, by the state and by the entries
-row_agrees : (s : State) (past : List Entry) (cpus : ℕ) (a : Actor) (action : Action) → CanApply cpus a action → MovesNoPage action
+-- the row of an instruction, by the state and by the entries
+row_agrees : (s : State) (past : List Entry) (cpus : ℕ) (a : Actor) (action : Action) → CanApply cpus a action
     → IsSound s → Stands s past
-    → first_of_row (row_of s a action) ≡ first_of_row (row_at s.frames past a action)
-row_agrees s past cpus a (Epa f) can moves sound stands = epa_agrees s past a f stands
-row_agrees s past cpus a (Create enclave f base size) can moves sound stands = create_agrees s past a enclave f base size stands
-row_agrees s past cpus a (Add enclave number f kind perm init) can moves sound stands =
+    → first_of_row (row_of s a action) ≡ first_of_row (row_at (making_of s) past a action)
+row_agrees s past cpus a (Epa f) can sound stands = epa_agrees s past a f stands
+row_agrees s past cpus a (Create enclave f base size) can sound stands = create_agrees s past a enclave f base size stands
+row_agrees s past cpus a (Add enclave number f kind perm init) can sound stands =
     add_agrees s past a enclave number f kind perm init stands
-row_agrees s past cpus a (Extend f chunk) can moves sound stands = extend_agrees s past a f chunk stands
-row_agrees s past cpus a (Init enclave expect) can moves sound stands = init_agrees s past a enclave expect stands
-row_agrees s past cpus (actors.Cpu p) (Enter enclave tcs tf sf) can moves sound stands =
+row_agrees s past cpus a (Extend f chunk) can sound stands = extend_agrees s past a f chunk stands
+row_agrees s past cpus a (Init enclave expect) can sound stands = init_agrees s past a enclave expect stands
+row_agrees s past cpus (actors.Cpu p) (Enter enclave tcs tf sf) can sound stands =
     entry_agrees enter_saves enter_saved s past p.0 enclave tcs tf.0 sf.0 stands
-row_agrees s past cpus (actors.Cpu p) (Resume enclave tcs tf sf) can moves sound stands =
+row_agrees s past cpus (actors.Cpu p) (Resume enclave tcs tf sf) can sound stands =
     entry_agrees resume_saves resume_saved s past p.0 enclave tcs tf.0 sf.0 stands
-row_agrees s past cpus (actors.Cpu p) Exit can moves sound stands = inside_agrees s past p stands
-row_agrees s past cpus (actors.Cpu p) (Aex cause) can moves sound stands = inside_agrees s past p stands
-row_agrees s past cpus (actors.Cpu p) (Fill number f) can moves sound stands = fill_agrees s past p number f stands
-row_agrees s past cpus (actors.Cpu p) (Load off) can moves sound stands = access_agrees s past p off allows_read sound stands
-row_agrees s past cpus (actors.Cpu p) (Store off value) can moves sound stands = access_agrees s past p off allows_write sound stands
-row_agrees s past cpus (actors.Cpu p) (Xadd off value) can moves sound stands = access_agrees s past p off allows_update sound stands
-row_agrees s past cpus (actors.Cpu p) (Set value) can moves sound stands = inside_agrees s past p stands
-row_agrees s past cpus (actors.Cpu p) (Plus value) can moves sound stands = inside_agrees s past p stands
-row_agrees s past cpus (actors.Cpu p) (Pf op off) can moves sound stands = pf_agrees s past p op off stands
-row_agrees s past cpus (actors.Cpu p) (OutLoad enclave off) can moves sound stands = outside_agrees s past p stands
-row_agrees s past cpus (actors.Cpu p) (OutStore enclave off value) can moves sound stands = outside_agrees s past p stands
-row_agrees s past cpus a (Block f) can moves sound stands = absurd moves
-row_agrees s past cpus a (Track enclave) can moves sound stands = absurd moves
-row_agrees s past cpus a (EwbStart f slot) can moves sound stands = absurd moves
-row_agrees s past cpus a (EldStart f page slot) can moves sound stands = absurd moves
-row_agrees s past cpus a action can moves sound stands = absurd can
+row_agrees s past cpus (actors.Cpu p) Exit can sound stands = inside_agrees s past p stands
+row_agrees s past cpus (actors.Cpu p) (Aex cause) can sound stands = inside_agrees s past p stands
+row_agrees s past cpus (actors.Cpu p) (Fill number f) can sound stands = fill_agrees s past p number f stands
+row_agrees s past cpus (actors.Cpu p) (Load off) can sound stands = access_agrees s past p off allows_read sound stands
+row_agrees s past cpus (actors.Cpu p) (Store off value) can sound stands = access_agrees s past p off allows_write sound stands
+row_agrees s past cpus (actors.Cpu p) (Xadd off value) can sound stands = access_agrees s past p off allows_update sound stands
+row_agrees s past cpus (actors.Cpu p) (Set value) can sound stands = inside_agrees s past p stands
+row_agrees s past cpus (actors.Cpu p) (Plus value) can sound stands = inside_agrees s past p stands
+row_agrees s past cpus (actors.Cpu p) (Pf op off) can sound stands = pf_agrees s past p op off stands
+row_agrees s past cpus (actors.Cpu p) (OutLoad enclave off) can sound stands = outside_agrees s past p stands
+row_agrees s past cpus (actors.Cpu p) (OutStore enclave off value) can sound stands = outside_agrees s past p stands
+row_agrees s past cpus a (Block f) can sound stands = block_agrees s past a f stands.columns
+row_agrees s past cpus a (Track enclave) can sound stands = track_agrees s past a enclave stands
+row_agrees s past cpus a (EwbStart f slot) can sound stands = ewbstart_agrees s past a f slot stands.columns
+row_agrees s past cpus a (EldStart f page slot) can sound stands = eldstart_agrees s past a f page slot stands
+row_agrees s past cpus a action can sound stands = absurd can
 
 -- the row of an instruction that the state allows, by the entries
 pub row_told : (s : State) (past : List Entry) (cpus : ℕ) (a : Actor) (action : Action) → CanApply cpus a action → IsSound s → Stands s past
-    → first_of_row (row_of s a action) ≡ None → first_of_row (row_at s.frames past a action) ≡ None
-row_told s past cpus (actors.Cpu p) (Block f) can sound stands allowed = refl
-row_told s past cpus (actors.Cpu p) (Track enclave) can sound stands allowed = refl
-row_told s past cpus (actors.Cpu p) (EwbStart f slot) can sound stands allowed = refl
-row_told s past cpus (actors.Cpu p) (EldStart f page slot) can sound stands allowed = refl
-row_told s past cpus a (Block f) can sound stands allowed = refl
-row_told s past cpus a (Track enclave) can sound stands allowed = refl
-row_told s past cpus a (EwbStart f slot) can sound stands allowed = refl
-row_told s past cpus a (EldStart f page slot) can sound stands allowed = refl
-row_told s past cpus a action can sound stands allowed = sym (row_agrees s past cpus a action can tt sound stands) ∙ allowed
+    → first_of_row (row_of s a action) ≡ None → first_of_row (row_at (making_of s) past a action) ≡ None
+row_told s past cpus a action can sound stands allowed = sym (row_agrees s past cpus a action can sound stands) ∙ allowed
 
 -- the row of `init` knows nothing of the measurement
 init_case : (o : Option EnclaveSight) (enclave : ℕ) (expect : Option (List ℕ)) (r : Refusal) → first_of_row (init_row o) ≡ Some r
@@ -237,17 +222,15 @@ init_case (Some x) enclave expect r is = by_test x.is_init is
 -- .. and the case for which the state refuses one
 pub refusal_told : (s : State) (past : List Entry) (cpus : ℕ) (a : Actor) (action : Action) (r : Refusal) → CanApply cpus a action
     → IsSound s → Stands s past → first_of_row (row_of s a action) ≡ Some r
-    → RefusalRule s.frames past (refused_by a action r)
-refusal_told s past cpus a (Block f) r can sound stands refused = tt
-refusal_told s past cpus a (Track enclave) r can sound stands refused = tt
-refusal_told s past cpus a (EwbStart f slot) r can sound stands refused = tt
-refusal_told s past cpus a (Ewb f) r can sound stands refused = tt
-refusal_told s past cpus a (EldStart f page slot) r can sound stands refused = tt
-refusal_told s past cpus a (Eld f) r can sound stands refused = tt
+    → RefusalRule (making_of s) past (refused_by a action r)
+refusal_told s past cpus (actors.Cpu p) (Ewb f) r can sound stands refused = absurd can
+refusal_told s past cpus (actors.Cpu p) (Eld f) r can sound stands refused = absurd can
+refusal_told s past cpus a (Ewb f) r can sound stands refused = absurd can
+refusal_told s past cpus a (Eld f) r can sound stands refused = absurd can
 refusal_told s past cpus a (Init enclave expect) r can sound stands refused =
     sym (init_agrees s past a enclave expect stands) ∙ refused
     ∙ sym (init_case (enclave_sight_of (s.enclaves enclave)) enclave expect r refused)
-refusal_told s past cpus a action r can sound stands refused = sym (row_agrees s past cpus a action can tt sound stands) ∙ refused
+refusal_told s past cpus a action r can sound stands refused = sym (row_agrees s past cpus a action can sound stands) ∙ refused
 
 -- a refusal by the row says nothing of a measurement
 pub measure_told : (s : State) (past : List Entry) (a : Actor) (action : Action) (r : Refusal) → first_of_row (row_of s a action) ≡ Some r
@@ -298,8 +281,8 @@ row_fits s past cpus a (EwbStart f slot) can columns allowed =
     (start_names s.frames f.0 slot.frame.0 (ltb 511 slot.index) (none_holds (row_of s a (EwbStart f slot)) allowed).0, tt)
 row_fits s past cpus a (EldStart f page slot) can columns allowed =
     let none = none_holds (row_of s a (EldStart f page slot)) allowed in
-    let idle = neither (s.is_sealing f.0 || is_loading (s.content f.0)) (s.is_slot_busy slot) none.1.1.0 in
-    (start_names s.frames f.0 slot.frame.0 (ltb 511 slot.index) none.0, free_in s past columns f.0 idle.0 none.1.1.1.0)
+    let idle = neither (s.is_sealing f.0 || is_loading (s.content f.0)) (s.is_slot_busy slot) none.1.1.1.0 in
+    (start_names s.frames f.0 slot.frame.0 (ltb 511 slot.index) none.0, free_in s past columns f.0 idle.0 none.1.1.1.1.0)
 row_fits s past cpus (actors.Cpu p) (Enter enclave tcs tf sf) can columns allowed =
     (seat_names s p.0 (seat_of enclave tcs tf.0 sf.0) _ _ allowed, tt)
 row_fits s past cpus (actors.Cpu p) (Resume enclave tcs tf sf) can columns allowed =

@@ -307,7 +307,7 @@ module _ (s : State) (past : List Entry) (h : HasColumns s past) where
   pub eldstart_columns : (a : Actor) (f : Frame) (page : Page) (slot : SlotAt)
       → HasColumns (after_eldstart s f.0 page slot) (did_by a (EldStart f page slot) (Version (s.version_in slot)) ∷ past)
   eldstart_columns a f page slot = record {
-    frames = ap (λ x. put f.0 IsLoading (with_start f.0 (Some (record { slot = slot; version = s.version_in slot; loads = Some page })) x))
+    frames = ap (λ x. put f.0 (IsLoading page) (with_start f.0 (Some (record { slot = slot; version = s.version_in slot; loads = Some page })) x))
         h.frames;
     cpus = h.cpus;
     slots = ap (with_busy slot true) h.slots;

@@ -21,9 +21,9 @@ use Rattle.sgx_types.specs.Making.{Making}
 use Rattle.cached_translations.specs.declared.cache.Translation.{Translation}
 use Rattle.paging_laws.specs.Columns.{HasColumns, noted_inside, without_perm, seat_of_stay}
 use Rattle.paging_laws.specs.Guarded.{IsGuarded, IsTakenIn}
-use Rattle.paging_laws.specs.Shape.{making_of, IsShaped, ShapeWithRules}
+use Rattle.paging_laws.specs.Shape.{IsShaped, ShapeWithRules}
 use Rattle.paging_laws.specs.Stands.{IsTranslation, IsSound}
-use Rattle.paging_laws.specs.State.{State, is_noting, number_noting, has_passed}
+use Rattle.paging_laws.specs.State.{State, is_noting, number_noting, has_passed, making_of}
 use Rattle.paging_laws.proofs.TestLaws.{last_place}
 use Rattle.paging_laws.proofs.ColumnLaws.{content_is, blocked_is, sealing_is, inside_is, noted_is, translations_are, epoch_is}
 use Rattle.paging_laws.proofs.SoundLaws.{seat_at}

@@ -24,15 +24,16 @@ use Rattle.sgx_types.specs.Processors.{Seat, Stay, stay, stay_from, holds_number
 use Rattle.sgx_types.specs.Rules.{EvictRule, RisingRule, StaleRule}
 use Rattle.sgx_types.specs.Sights.{seat_of}
 use Rattle.sgx_types.specs.Starts.{Start}
-use Rattle.sgx_types.specs.Table.{EnclaveSight, FrameSight, is_valid, access_row, add_row, allows_read, allows_update, allows_write, create_row, eldstart_row, epa_row, ewbstart_row, first_of_row}
+use Rattle.sgx_types.specs.Table.{EnclaveSight, FrameSight, is_valid, access_row, add_row, allows_read, allows_update, allows_write, create_row, epa_row, ewbstart_row, first_of_row}
 use Rattle.sgx_types.specs.Flat.{enclave_sight_of}
 use Rattle.sgx_types.proofs.Rows.{none_holds}
+use Rattle.sgx_types.proofs.Goings.{goes_out}
 use Rattle.sgx_types.proofs.Truths.{apart, not_false}
 use Rattle.measure_log.specs.declared.measure.Measure.{Measure}
 use Rattle.cached_translations.specs.declared.cache.Translation.{Translation}
 use Rattle.cached_translations.specs.Translations.{translation_of}
 use Rattle.paging_laws.specs.Columns.{HasColumns}
-use Rattle.paging_laws.specs.Shape.{making_of}
+use Rattle.paging_laws.specs.State.{making_of}
 use Rattle.paging_laws.specs.Stands.{IsUsable, IsSound}
 use Rattle.paging_laws.specs.State.{State, sight, slot_sight, drain_sight, is_version_spent, translation, perm_of_held, with_acc, with_saved, word_at, cssa_in, saved_word, after_epa, after_create, after_add, after_extend, after_init, after_enter, after_resume, after_exit, after_aex, after_fill, after_store, after_xadd, after_block, after_track, after_ewbstart, after_eldstart, after_ewb, after_eld, after_failed_eld, row_of}
 use Rattle.paging_laws.specs.Steps.{did_by, refused_by}
@@ -58,7 +59,7 @@ unused_invalid s f none enclave u = by_content (s.content f) none u.ours
     by_content Free is ours = cc
     by_content IsVa is ours = cc
     by_content (SecsOf e) is ours = cc
-    by_content IsLoading is ours = cc
+    by_content (IsLoading page) is ours = cc
 
 module _ (s : State) (past : List Entry) (sound : IsSound s) (h : HasColumns s past) (held : IsHeld past) where
   -- where an unused frame is put, the frames that processors use hold what they held
@@ -345,18 +346,18 @@ module _ (s : State) (past : List Entry) (sound : IsSound s) (h : HasColumns s p
         columns = ewbstart_columns s past h a f slot;
         held = held;
         access = tt;
-        evict = sym (drained_by s past h f.0) ∙ not_false _ none.1.1.1.1.1.0;
+        evict = goes_out past f.0 (sym (drained_by s past h f.0) ∙ not_false _ none.1.1.1.1.1.0);
         rising = ap answers.Version (next_version_is h);
       }
 
   pub eldstart_next : (a : Actor) (f : Frame) (page : Page) (slot : SlotAt) → first_of_row (row_of s a (EldStart f page slot)) ≡ None
       → IsNextTo s (after_eldstart s f.0 page slot) past (did_by a (EldStart f page slot) (answers.Version (s.version_in slot)))
   eldstart_next a f page slot allowed =
-      let none = none_holds (eldstart_row (sight s f.0) (is_some (s.added page)) (slot_sight s slot)) allowed in
+      let none = none_holds (row_of s a (EldStart f page slot)) allowed in
       record {
         making = refl;
         columns = eldstart_columns s past h a f page slot;
-        held = held_put s past sound h held f.0 IsLoading (unused_invalid s f.0 none.1.1.1.0);
+        held = held_put s past sound h held f.0 (IsLoading page) (unused_invalid s f.0 none.1.1.1.1.0);
         access = tt;
         evict = tt;
         rising = tt;
@@ -383,9 +384,9 @@ module _ (s : State) (past : List Entry) (sound : IsSound s) (h : HasColumns s p
 
   -- a page is back
   pub eld_next : (a : Actor) (f : Frame) (start : Start) (page : Page) (kind : Kind) (perm : Perm) (words tag : List ℕ)
-      → s.start f.0 ≡ Some start → s.content f.0 ≡ IsLoading → s.added page ≡ Some (kind, perm)
+      → s.start f.0 ≡ Some start → (w : Page) → s.content f.0 ≡ IsLoading w → s.added page ≡ Some (kind, perm)
       → IsNextTo s (after_eld s f.0 start page kind perm words) past (did_by a (Eld f) (answers.Moved page start.version tag))
-  eld_next a f start page kind perm words tag is loading told = record {
+  eld_next a f start page kind perm words tag is w loading told = record {
     making = refl;
     columns = eld_columns s past a f start is h page kind perm words tag told;
     held = held_put s past sound h held f.0 (reloaded page (added past page)) (unused_invalid s f.0 (rw loading refl));
@@ -395,10 +396,11 @@ module _ (s : State) (past : List Entry) (sound : IsSound s) (h : HasColumns s p
   }
 
   -- a load is refused
-  pub failed_eld_next : (a : Actor) (f : Frame) (start : Start) (r : Refusal) → s.start f.0 ≡ Some start → s.content f.0 ≡ IsLoading
+  pub failed_eld_next : (a : Actor) (f : Frame) (start : Start) (r : Refusal) → s.start f.0 ≡ Some start → (w : Page)
+      → s.content f.0 ≡ IsLoading w
       → s.is_sealing f.0 ≡ false
       → IsNextTo s (after_failed_eld s f.0 start) past (refused_by a (Eld f) r)
-  failed_eld_next a f start r is loading idle = record {
+  failed_eld_next a f start r is w loading idle = record {
     making = refl;
     columns = failed_eld_columns s past a f start is h r idle;
     held = held_put s past sound h held f.0 Free (unused_invalid s f.0 (rw loading refl));

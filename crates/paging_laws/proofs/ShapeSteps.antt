@@ -1,6 +1,7 @@
 -- Each step takes a machine that has the shape of its entries on to one that does, whatever records are brought.
 use Rattle.std.proofs.Common.{◌≡◌, ℕ, ◌≤◌, inl, inr, Bool, true, false, refl, sym, subst, ◌∙◌, Option, Some, None, MatchOption, is_some, unwrap_or, List, [], ◌∷◌}
 use Rattle.std.proofs.lemmas.Bool.{false≢true}
+use Rattle.sgx_types.specs.declared.names.Page.{Page}
 use Rattle.sgx_types.specs.declared.entries.Entry.{Entry}
 use Rattle.sgx_types.specs.declared.entries.Actor.{Actor}
 use Rattle.sgx_types.specs.declared.entries.Actor.TheVariants as actors
@@ -12,18 +13,19 @@ use Rattle.sgx_types.specs.declared.refusals.Refusal.{Refusal}
 use Rattle.sgx_types.specs.declared.refusals.Refusal.TheVariants as why
 use Rattle.sgx_types.specs.Frames.{IsLoading, enclave_in, no_perm}
 use Rattle.sgx_types.specs.Sealed.{Sealed}
-use Rattle.sgx_types.specs.Table.{perm_in, first_of_row}
+use Rattle.sgx_types.specs.Table.{is_loading, perm_in, first_of_row}
 use Rattle.sgx_types.specs.Making.{Making}
 use Rattle.epcm_entry.specs.Words.{words_of}
 use Rattle.seal_record.specs.Cipher.{cipher}
 use Rattle.paging_laws.specs.Columns.{HasColumns}
 use Rattle.paging_laws.specs.Guarded.{IsGuarded, WritesOut}
 use Rattle.paging_laws.specs.Runs.{Run, nothing, step, written, reloaded as comes_back}
-use Rattle.paging_laws.specs.Shape.{making_of, ShapeWithRules}
+use Rattle.paging_laws.specs.Shape.{ShapeWithRules}
 use Rattle.paging_laws.specs.Stands.{IsSound}
-use Rattle.paging_laws.specs.State.{State, fresh, after_eld, after_failed_eld}
+use Rattle.paging_laws.specs.State.{State, fresh, after_eld, after_failed_eld, making_of}
 use Rattle.paging_laws.specs.Steps.{did_by, refused_by, CanApply, IsStep, IsDone, IsWrittenOut, IsReloaded, commit_row}
 use Rattle.paging_laws.proofs.ShapeColumns.{is_eld}
+use Rattle.paging_laws.proofs.Contents.{waits_for}
 use Rattle.paging_laws.proofs.ShapeLaws.{older_agrees, newer_agrees, IsHeld, IsNextTo, held_by, shaped_more}
 use Rattle.paging_laws.proofs.ShapeRows.{add_next, aex_next, block_next, create_next, eld_next, eldstart_next, enter_next, epa_next, ewb_next, ewbstart_next, exit_next, extend_next, failed_eld_next, fill_next, init_next, load_next, outload_next, outstore_next, pf_next, plus_next, refused_next, resume_next, set_next, store_next, track_next, xadd_next}
 
@@ -139,13 +141,16 @@ written_shaped s t made past a f e rec sound guarded sound' guarded' sealing out
 
 -- the commit of a reload, of whatever record
 pub reloaded_shaped : (s t : State) (made : Making) (past : List Entry) (a : Actor) (f : Frame) (e : Entry) (rec : Sealed) → IsSound s
-    → IsGuarded s → IsSound t → IsGuarded t → s.content f.0 ≡ IsLoading
+    → IsGuarded s → IsSound t → IsGuarded t → is_loading (s.content f.0) ≡ true
     → IsReloaded s a f rec e t → ShapeWithRules made s past → ShapeWithRules made t (e ∷ past)
 reloaded_shaped s t made past a f e rec sound guarded sound' guarded' loading back h =
     shaped_more made s t past e sound' guarded' h (by_row (first_of_row (commit_row s f.0 back.coming rec)) back.row)
   where
+    waits : (g : Page) × (s.content f.0 ≡ IsLoading g)
+    waits = waits_for (s.content f.0) loading
+
     idle : (b : Bool) → s.is_sealing f.0 ≡ b → b ≡ false
-    idle true is = let page = guarded.goes_out f.0 is in let none : is_some (enclave_in (s.content f.0)) ≡ false = rw loading refl in
+    idle true is = let page = guarded.goes_out f.0 is in let none : is_some (enclave_in (s.content f.0)) ≡ false = rw waits.1 refl in
         absurd (false≢true (sym none ∙ page))
     idle false is = refl
 
@@ -159,10 +164,10 @@ reloaded_shaped s t made past a f e rec sound guarded sound' guarded' loading ba
     by_row None k =
         next_as s t _ past e _ k.0 k.1
         (eld_next s past sound h.shape.columns (held_by made s past h) a f back.coming.start back.coming.page back.coming.kind
-        back.coming.perm _ rec.tag back.coming.opened loading back.coming.added)
+        back.coming.perm _ rec.tag back.coming.opened waits.0 waits.1 back.coming.added)
     by_row (Some r) k =
         next_as s t _ past e _ k.0 k.1
-        (failed_eld_next s past sound h.shape.columns (held_by made s past h) a f back.coming.start r back.coming.opened loading
+        (failed_eld_next s past sound h.shape.columns (held_by made s past h) a f back.coming.start r back.coming.opened waits.0 waits.1
         (idle (s.is_sealing f.0) refl))
 
 -- a machine that has done nothing has the shape of no entries

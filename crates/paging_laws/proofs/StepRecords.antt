@@ -1,5 +1,5 @@
 -- The records that steps and commits make, and the bytes of the pages that are outside then.
-use Rattle.std.proofs.Common.{◌≡◌, ℕ, ◌*◌, ◌<◌, arith, length, inl, inr, Bool, true, false, cond, refl, sym, ap, subst, ◌∙◌, Option, Some, None, MatchOption, List, [], ◌∷◌, ◌++◌}
+use Rattle.std.proofs.Common.{◌≡◌, ℕ, ◌*◌, ◌<◌, arith, length, inl, inr, Bool, true, false, cond, refl, sym, ap, subst, ◌∙◌, Option, Some, None, option_map, MatchOption, List, [], ◌∷◌, ◌++◌}
 use Rattle.std.specs.Int.{w64, to_le_bytes}
 use Rattle.std.specs.List.{Any}
 use Rattle.std.proofs.lemmas.List.{get_or_append_left, length-append}
@@ -15,7 +15,7 @@ use Rattle.sgx_types.specs.declared.names.SlotAt.{SlotAt}
 use Rattle.sgx_types.specs.declared.refusals.Refusal.{Refusal}
 use Rattle.sgx_types.specs.Frames.{same_page}
 use Rattle.sgx_types.specs.Table.{first_of_row}
-use Rattle.sgx_types.specs.Flat.{FlatPage, flat, page_words, words_of}
+use Rattle.sgx_types.specs.Flat.{FlatEnclave, FlatPage, flat, header_by, page_words, words_of}
 use Rattle.sgx_types.specs.Sealed.{Sealed, header_of}
 use Rattle.sgx_types.specs.Starts.{Start, open_start}
 use Rattle.sgx_types.proofs.Pages.{same_pages}
@@ -26,7 +26,7 @@ use Rattle.seal_record.specs.Records.{Made}
 use Rattle.epcm_entry.specs.Words.{words_of as words_in}
 use Rattle.page_history.specs.Copies.{InSlot, copy, in_slot}
 use Rattle.page_history.specs.Once.{IsMade}
-use Rattle.page_history.specs.Records.{SealedRule, made_by, made_with, more_made, record_by, record_in}
+use Rattle.seal_record.specs.Sealing.{SealedRule, made_by, made_with, more_made, record_in}
 use Rattle.paging_laws.specs.Histories.{HasBytes, OutsideBytes, given_out}
 use Rattle.paging_laws.specs.Shape.{ShapeWithRules}
 use Rattle.paging_laws.specs.Stands.{IsSound, Stands}
@@ -138,8 +138,9 @@ recorded s made past f leaving stands h =
     let enclave : m.enclaves head.page.enclave ≡ Some head.enclave = sym (enclave_flat stands head.page.enclave) ∙ head.made in
     let page : m.pages head.page ≡ Some x = stands.memory.words f head.page head.kind head.perm head.held in
     let keyed : made.key ≡ s.key = ap (λ (k : Making). k.key) (sym h.shape.making) in
-    ap (λ o. record_by made.key v head.page o (m.pages head.page)) enclave
-    ∙ ap (λ o. record_by made.key v head.page (Some head.enclave) o) page
+    let record_of : Option FlatEnclave → Option FlatPage → Option Sealed =
+    λ o x. option_map (λ header. sealed made.key v header (bytes_of (page_words x))) (header_by o head.page x) in
+    ap (λ o. record_of o (m.pages head.page)) enclave ∙ ap (λ o. record_of (Some head.enclave) o) page
     ∙ ap (λ k. Some (sealed k v (header_of head.enclave.base head.page head.kind head.perm) (bytes_of (s.words f)))) keyed
     ∙ ap (λ header. Some (sealed s.key v header (bytes_of (s.words f)))) (sym head.headed)
 

@@ -1,5 +1,5 @@
 -- Facts on tests, rows and places.
-use Rattle.std.proofs.Common.{rules, ◌≡◌, ℕ, ◌==◌, ◌&&◌, ◌||◌, not, Bool, true, false, cond, refl, sym, ◌∙◌, Option, Some, None, IfSome, is_some, is_none, List, [], ◌∷◌, ◌⊎◌, inl, inr}
+use Rattle.std.proofs.Common.{rules, ◌≡◌, ℕ, ◌==◌, ◌&&◌, ◌||◌, not, Bool, true, false, cond, refl, sym, ◌∙◌, Option, Some, None, IfSome, IsSomeAnd, is_some, is_none, List, [], ◌∷◌, ◌⊎◌, inl, inr}
 use Rattle.std.proofs.lemmas.Bool.{eqb-true, eq-eqb, false≢true}
 use Rattle.sgx_types.specs.declared.entries.Entry.{Entry}
 use Rattle.sgx_types.specs.declared.names.Page.{Page}
@@ -37,3 +37,13 @@ each_there_at (Some t) P h = h t refl
 
 pub equal : (a b : ℕ) → a ≡ b → (a == b) ≡ true
 equal a b e = eq-eqb a b e
+
+-- what a value that is there has, it has in other words
+pub there_then : {X : Type 0} {P Q : X → Type 0} (o : Option X) → IsSomeAnd o P → ((x : X) → P x → Q x) → IsSomeAnd o Q
+there_then None h f = h
+there_then (Some x) h f = f x h
+
+-- .. where it is there
+pub there_at : {X : Type 0} (o : Option X) (P : X → Type 0) → is_some o ≡ true → ((x : X) → o ≡ Some x → P x) → IsSomeAnd o P
+there_at None P is h = cc
+there_at (Some x) P is h = h x refl

@@ -8,27 +8,24 @@ use Rattle.sgx_types.specs.declared.entries.Action.TheVariants.{Eld}
 use Rattle.sgx_types.specs.declared.entries.Answer.{Answer}
 use Rattle.sgx_types.specs.declared.names.Frame.{Frame}
 use Rattle.sgx_types.specs.declared.refusals.Refusal.{Refusal}
-use Rattle.sgx_types.specs.Frames.{IsLoading}
 use Rattle.sgx_types.specs.Rules.{NoPageTwice, RefusalRule}
 use Rattle.sgx_types.specs.Sealed.{Sealed}
-use Rattle.sgx_types.specs.Table.{first_of_row}
+use Rattle.sgx_types.specs.Table.{first_of_row, is_loading}
 use Rattle.sgx_types.specs.Making.{Making}
 use Rattle.seal_record.specs.Records.{Given, Made, Unforged}
 use Rattle.page_history.specs.Copies.{InFrame}
-use Rattle.page_history.specs.Fresh.{ReloadRule}
-use Rattle.page_history.specs.Moves.{MovesRule}
+use Rattle.sgx_types.specs.Fresh.{ReloadRule}
 use Rattle.page_history.specs.Once.{KeepsMoves}
-use Rattle.page_history.specs.Records.{SealedRule, made_by}
+use Rattle.seal_record.specs.Sealing.{SealedRule, made_by}
 use Rattle.page_history.proofs.CopyLaws.{live_copies}
 use Rattle.paging_laws.specs.Guarded.{IsGuarded}
 use Rattle.paging_laws.specs.Histories.{OutsideBytes, StandsWithAllRules, given_out, looked_at}
-use Rattle.paging_laws.specs.Shape.{ShapeWithRules, making_of}
+use Rattle.paging_laws.specs.Shape.{ShapeWithRules}
 use Rattle.paging_laws.specs.Stands.{IsSound, StandsWithRules}
-use Rattle.paging_laws.specs.State.{State, after_failed_eld, fresh}
+use Rattle.paging_laws.specs.State.{State, after_failed_eld, fresh, making_of}
 use Rattle.paging_laws.specs.Steps.{CanApply, IsReloaded, IsStep, IsWrittenOut, commit_row, did_by, refused_by}
 use Rattle.paging_laws.proofs.ExtendLaws.{IsMade}
 use Rattle.paging_laws.proofs.ShapeSteps.{fresh_shaped, reloaded_shaped, step_shaped, written_shaped}
-use Rattle.paging_laws.proofs.MoveSights.{moves_reloaded, moves_rule, moves_written}
 use Rattle.paging_laws.proofs.OutsideLaws.{outside_step}
 use Rattle.paging_laws.proofs.ReloadLaws.{keeps_moves, reload_fresh, reload_words}
 use Rattle.paging_laws.proofs.NextEntry.{Brings, once_before, stands_more}
@@ -55,19 +52,15 @@ same_frame : (m n : ℕ) → Some (InFrame m) ≡ Some (InFrame n) → m ≡ n
 same_frame m n e = cc
 
 module _ (s t : State) (made : Making) (past : List Entry) (records : List Made) (e : Entry) (h : StandsWithAllRules made s past records)
-    (shaped : ShapeWithRules made t (e ∷ past)) (moved : MovesRule made past e) (reload : ReloadRule past e) (brings : Brings s t past e)
+    (shaped : ShapeWithRules made t (e ∷ past)) (reload : ReloadRule past e) (brings : Brings s t past e)
   where
     -- the rules on instructions and versions are kept with one entry more
     keeps_more : KeepsMoves made (e ∷ past)
     keeps_more =
         let k = keeps_moves made s past records h in
         record {
-          refusal = (
-            subst (λ frames. RefusalRule frames past e) (ap (λ (m : Making). m.frames) h.shaped.shape.making) brings.refusal,
-            k.refusal,
-          );
+          refusal = (subst (λ m. RefusalRule m past e) h.shaped.shape.making brings.refusal, k.refusal);
           flat = (brings.flat, k.flat);
-          moves = (moved, k.moves);
           evict = shaped.evict;
           fresh = (record { rising = shaped.rising.0; reload = reload }, k.fresh);
         }
@@ -85,7 +78,6 @@ module _ (s t : State) (made : Making) (past : List Entry) (records : List Made)
       positive = h.positive;
       shaped = shaped;
       standing = stands_more s t made past e h.shaped shaped once_more h.standing brings;
-      moves = (moved, h.moves);
       fresh = (record { rising = shaped.rising.0; reload = reload }, h.fresh);
       sealed = (sealed, h.sealed);
       records = is;
@@ -100,7 +92,7 @@ pub step_all : (s t : State) (made : Making) (past : List Entry) (records : List
     → IsSound t → IsGuarded t → IsStep s a action e t → StandsWithAllRules made s past records
     → StandsWithAllRules made t (e ∷ past) records
 step_all s t made past records cpus a action e few can sound guarded framed sound' guarded' k h =
-    all_more s t made past records e h shaped moved reload
+    all_more s t made past records e h shaped reload
     (step_brings s t past cpus few sound framed h.standing.stands (once_before s past h.standing) a action e can k) records
     (sealed_quiet made.key s t past cpus a action e can k)
     (outside_step made.key s t past cpus a action e can sound k h.standing.stands
@@ -109,9 +101,6 @@ step_all s t made past records cpus a action e few can sound guarded framed soun
   where
     shaped : ShapeWithRules made t (e ∷ past)
     shaped = step_shaped s t made past cpus a action e few can sound guarded sound' guarded' k h.shaped
-
-    moved : MovesRule made past e
-    moved = moves_rule s t made past cpus a action e can h.shaped.shape.columns h.standing.stands h.shaped.shape.making k
 
     reload : ReloadRule past e
     reload = step_reload past cpus a action e can (step_entry s t a action e k)
@@ -122,15 +111,12 @@ pub written_all : (s t : State) (made : Making) (past : List Entry) (records : L
     → IsWrittenOut s a f e rec t → StandsWithAllRules made s past records
     → StandsWithAllRules made t (e ∷ past) (records ++ given_out e.event rec)
 written_all s t made past records a f e rec sound guarded sound' guarded' sealing out h =
-    all_more s t made past records e h shaped moved reload (written_brings s t past a f e rec out h.standing)
+    all_more s t made past records e h shaped reload (written_brings s t past a f e rec guarded sealing out h.standing)
     (records ++ given_out e.event rec)
     gives.sealed (gives.outside h.outside) (ap (λ list. list ++ given_out e.event rec) h.records ∙ sym gives.made)
   where
     shaped : ShapeWithRules made t (e ∷ past)
     shaped = written_shaped s t made past a f e rec sound guarded sound' guarded' sealing out h.shaped
-
-    moved : MovesRule made past e
-    moved = moves_written s t made past a f e rec guarded sealing h.shaped.shape.columns out
 
     reload : ReloadRule past e
     reload = subst (λ x. ReloadRule past x) (sym out.entry) tt
@@ -140,11 +126,11 @@ written_all s t made past records a f e rec sound guarded sound' guarded' sealin
 
 -- the commit of a load, where no record is forged
 pub reloaded_all : (s t : State) (made : Making) (past : List Entry) (records : List Made) (a : Actor) (f : Frame) (rec : Sealed)
-    (e : Entry) → IsSound s → IsGuarded s → IsSound t → IsGuarded t → s.content f.0 ≡ IsLoading
+    (e : Entry) → IsSound s → IsGuarded s → IsSound t → IsGuarded t → is_loading (s.content f.0) ≡ true
     → IsReloaded s a f rec e t → StandsWithAllRules made s past records → (given : List Given)
     → Unforged made.key records (given ++ looked_at s f.0 records rec) → StandsWithAllRules made t (e ∷ past) records
 reloaded_all s t made past records a f rec e sound guarded sound' guarded' loading back h given unforged =
-    all_more s t made past records e h shaped moved reload
+    all_more s t made past records e h shaped reload
     (reloaded_brings s t past a f rec e back (λ allowed. reload_words made s past records given f.0 back.coming rec allowed h unforged)
     h.standing) records
     (sealed_quiet_eld made.key s t past a f rec e back) (outside_reloaded made.key s t past a f rec e back h.outside)
@@ -152,9 +138,6 @@ reloaded_all s t made past records a f rec e sound guarded sound' guarded' loadi
   where
     shaped : ShapeWithRules made t (e ∷ past)
     shaped = reloaded_shaped s t made past a f e rec sound guarded sound' guarded' loading back h.shaped
-
-    moved : MovesRule made past e
-    moved = moves_reloaded s t made past a f rec e h.shaped.shape.columns h.standing.stands back
 
     reload : ReloadRule past e
     reload = by_row (first_of_row (commit_row s f.0 back.coming rec)) refl
@@ -188,7 +171,6 @@ fresh_all frames cpus key first_epoch first_version low = record {
   positive = low;
   shaped = fresh_shaped frames cpus key first_epoch first_version;
   standing = fresh_stands frames cpus key first_epoch first_version;
-  moves = tt;
   fresh = tt;
   sealed = tt;
   records = refl;

@@ -56,8 +56,8 @@ pub record IsOpen (content : ℕ → Content) (added : Page → Option (Kind × 
 abbrev pub WritesOut : Start → Type 0
 WritesOut start = start.loads ≡ None
 
-abbrev pub Loads : Start → Type 0
-Loads start = is_some start.loads ≡ true
+abbrev pub Loads : Page → Start → Type 0
+Loads g start = start.loads ≡ Some g
 
 pub record IsGuarded (s : State) : Type 0 where
   -- there are 16 processors at most
@@ -65,14 +65,14 @@ pub record IsGuarded (s : State) : Type 0 where
   pub noted : (p : ℕ) → IfSome (s.inside p) (HasNoted s.epoch s.blocked (s.noted p) (s.cache p))
   -- no block is of an epoch to come
   pub blocks : (n : ℕ) → IfSome (s.blocked n) (λ b. b ≤ epoch_in s n)
-  -- a page on its way out is drained
-  pub sealing : (n : ℕ) → s.is_sealing n ≡ true → IfSome (s.blocked n)
+  -- a page on its way out was blocked, and is drained
+  pub sealing : (n : ℕ) → s.is_sealing n ≡ true → IsSomeAnd (s.blocked n)
       (IsDrainedAt s.inside s.noted (enclave_in (s.content n)) (epoch_in s n))
   -- a TCS page is busy only where a processor is inside by it
   pub taken : (g : Page) → s.is_busy g ≡ true → IsTakenIn s g
   pub opened : (n : ℕ) → IfSome (s.start n) (IsOpen s.content s.added)
   pub written : (n : ℕ) → s.is_sealing n ≡ true → IsSomeAnd (s.start n) WritesOut
-  pub loaded : (n : ℕ) → s.content n ≡ IsLoading → IsSomeAnd (s.start n) Loads
+  pub loaded : (n : ℕ) (g : Page) → s.content n ≡ IsLoading g → IsSomeAnd (s.start n) (Loads g)
   -- a page of an enclave is a TCS or a REG page, and only such a page goes out
   pub kinds : (g : Page) → IfSome (s.added g) (λ x. IsPaged x.0)
   pub goes_out : (n : ℕ) → s.is_sealing n ≡ true → is_some (enclave_in (s.content n)) ≡ true

@@ -18,10 +18,9 @@ use Rattle.epcm_entry.specs.Words as words
 use Rattle.seal_record.specs.Cipher.{cipher}
 use Rattle.seal_record.specs.Records.{Given, Made}
 use Rattle.page_history.specs.Copies.{InSlot, copy}
-use Rattle.page_history.specs.Fresh.{FreshRule}
-use Rattle.page_history.specs.Moves.{MovesRule}
+use Rattle.sgx_types.specs.Fresh.{FreshRule}
 use Rattle.page_history.specs.Once.{IsMade}
-use Rattle.page_history.specs.Records.{SealedRule, made_by, made_with}
+use Rattle.seal_record.specs.Sealing.{SealedRule, made_by, made_with}
 use Rattle.paging_laws.specs.Shape.{ShapeWithRules}
 use Rattle.paging_laws.specs.Stands.{StandsWithRules}
 use Rattle.paging_laws.specs.State.{State}
@@ -43,7 +42,6 @@ pub record StandsWithAllRules (made : Making) (s : State) (past : List Entry) (g
   pub positive : 1 ≤ made.first_version
   pub shaped : ShapeWithRules made s past
   pub standing : StandsWithRules s past
-  pub moves : Along (MovesRule made) past
   pub fresh : Along (FreshRule made.first_version) past
   pub sealed : Along (SealedRule made.key) past
   pub records : given ≡ made_by made.key past

@@ -4,7 +4,7 @@ use Rattle.sgx_types.specs.declared.entries.Entry.{Entry}
 use Rattle.sgx_types.specs.declared.entries.Actor.{Actor}
 use Rattle.sgx_types.specs.declared.entries.Action.{Action}
 use Rattle.sgx_types.specs.declared.names.Frame.{Frame}
-use Rattle.sgx_types.specs.Frames.{IsLoading}
+use Rattle.sgx_types.specs.Table.{is_loading}
 use Rattle.sgx_types.specs.Sealed.{Sealed}
 use Rattle.paging_laws.specs.Guarded.{IsGuarded}
 use Rattle.paging_laws.specs.Stands.{IsSound}
@@ -26,5 +26,5 @@ pub data Run : State → List Entry → Type 0 where
       → s.is_sealing f.0 ≡ true
       → IsWrittenOut s actor f e rec t → Run t (e ∷ past)
   reloaded : (s t : State) (past : List Entry) (actor : Actor) (f : Frame) (rec : Sealed) (e : Entry) → Run s past → IsSafe s → IsSafe t
-      → s.content f.0 ≡ IsLoading
+      → is_loading (s.content f.0) ≡ true
       → IsReloaded s actor f rec e t → Run t (e ∷ past)

@@ -8,10 +8,7 @@ use Rattle.sgx_types.specs.Rules.{Along, EvictRule, Fits, RisingRule, Stale}
 use Rattle.sgx_types.specs.Starts.{LoadsAreApart}
 use Rattle.sgx_types.specs.Making.{Making}
 use Rattle.paging_laws.specs.Columns.{HasColumns}
-use Rattle.paging_laws.specs.State.{State, number_noting}
-
-abbrev pub making_of : State → Making
-making_of s = record { frames = s.frames; cpus = s.cpus; key = s.key; first_epoch = s.first_epoch; first_version = s.first_version }
+use Rattle.paging_laws.specs.State.{State, making_of, number_noting}
 
 -- a TCS page is busy exactly where a processor is inside by it
 pub record IsBusyBy (s : State) (past : List Entry) (g : Page) : Type 0 where

@@ -17,7 +17,7 @@ use Rattle.measure_log.specs.Measure.{HoldsLog}
 use Rattle.measure_log.specs.Rule.{log, MeasureRule}
 use Rattle.cached_translations.specs.declared.cache.Translation.{Translation}
 use Rattle.paging_laws.specs.Columns.{HasColumns}
-use Rattle.paging_laws.specs.State.{State}
+use Rattle.paging_laws.specs.State.{State, making_of}
 
 abbrev pub inside_of_stay : Option Stay → Option Inside
 inside_of_stay None = None
@@ -115,5 +115,5 @@ IsFramed s = (n : ℕ) (g : Page) (kind : Kind) (perm : Perm) → s.content n �
 -- a state that stands for entries which keep the rules
 pub record StandsWithRules (s : State) (past : List Entry) : Type 0 where
   pub stands : Stands s past
-  pub rules : KeepsRules s.frames past
+  pub rules : KeepsRules (making_of s) past
   pub measure : Along MeasureRule past

@@ -11,6 +11,7 @@ use Rattle.sgx_types.specs.declared.names.Page.{Page}
 use Rattle.sgx_types.specs.declared.names.Perm.{Perm}
 use Rattle.sgx_types.specs.declared.names.SlotAt.{SlotAt}
 use Rattle.sgx_types.specs.Counts.{count_below}
+use Rattle.sgx_types.specs.Making.{Making}
 use Rattle.sgx_types.specs.Epochs.{epoch_of}
 use Rattle.sgx_types.specs.Frames.{Content, Free, IsVa, SecsOf, Holds, IsLoading, enclave_in, same_page, page_at}
 use Rattle.sgx_types.specs.Processors.{Seat}
@@ -51,6 +52,10 @@ pub record State : Type 0 where
   pub key : List ℕ
   pub first_epoch : ℕ
   pub first_version : ℕ
+
+-- what the machine was made with
+abbrev pub making_of : State → Making
+making_of s = record { frames = s.frames; cpus = s.cpus; key = s.key; first_epoch = s.first_epoch; first_version = s.first_version }
 
 -- a machine that has done nothing yet
 abbrev pub fresh : ℕ → ℕ → List ℕ → ℕ → ℕ → State
@@ -129,7 +134,7 @@ number_noting s enclave test = count_below (λ p. is_noting enclave test (s.insi
 -- what `track` sees
 abbrev pub track_sight : State → ℕ → TrackSight
 track_sight s enclave = record {
-  is_created = is_some (s.enclaves enclave);
+  enclave = enclave_sight_of (s.enclaves enclave);
   older = number_noting s enclave (λ m. nat_lt m (s.epoch enclave));
   is_spent = s.epoch enclave == LAST_EPOCH;
 }
@@ -194,7 +199,8 @@ row_of s actor (Init enclave expect) = init_row (enclave_sight_of (s.enclaves en
 row_of s actor (Block f) = block_row (sight s f.0)
 row_of s actor (Track enclave) = track_row (track_sight s enclave)
 row_of s actor (EwbStart f slot) = ewbstart_row (sight s f.0) (slot_sight s slot) (drain_sight s f.0) (is_version_spent s)
-row_of s actor (EldStart f page slot) = eldstart_row (sight s f.0) (is_some (s.added page)) (slot_sight s slot)
+row_of s actor (EldStart f page slot) =
+    eldstart_row (sight s f.0) (enclave_sight_of (s.enclaves page.enclave)) (is_some (s.added page)) (slot_sight s slot)
 row_of s (actors.Cpu p) action = cpu_row_of s p.0 action
 row_of s actor action = allowed
 
@@ -333,7 +339,7 @@ after_ewbstart s f slot = record (with_start s f (record { slot = slot; version 
 -- a frame waits for the page whose version is in the slot
 abbrev pub after_eldstart : State → ℕ → Page → SlotAt → State
 after_eldstart s f page slot = record (with_start s f (record { slot = slot; version = s.version_in slot; loads = Some page })) {
-  content = λ n. if f == n then IsLoading else s.content n;
+  content = λ n. if f == n then IsLoading page else s.content n;
   blocked = λ n. if f == n then None else s.blocked n;
 }
 

@@ -16,7 +16,7 @@ use Rattle.sgx_types.specs.declared.names.Frame.{Frame}
 use Rattle.sgx_types.specs.declared.names.Kind.{Kind}
 use Rattle.sgx_types.specs.declared.names.Page.{Page}
 use Rattle.sgx_types.specs.declared.names.Perm.{Perm}
-use Rattle.sgx_types.specs.Frames.{Holds, page_at, no_perm}
+use Rattle.sgx_types.specs.Frames.{Holds, page_at, page_of, no_perm}
 use Rattle.sgx_types.specs.declared.record.Header.{Header}
 use Rattle.sgx_types.specs.Table.{Case, first_of_row, perm_in, fault_of}
 use Rattle.sgx_types.specs.Flat.{FlatEnclave, all_ones, sum_of}
@@ -30,7 +30,7 @@ use Rattle.seal_record.specs.Row.{eld_row}
 use Rattle.measure_log.specs.declared.measure.Measure.{Measure}
 use Rattle.measure_log.specs.Blocks.{ecreate_block, eadd_block, eextend_block, chunk_of}
 use Rattle.measure_log.specs.Measure.{HoldsLog, TakesIn, FinishesTo}
-use Rattle.measure_log.specs.Rule.{page_held, IsExpected, IsOther}
+use Rattle.measure_log.specs.Rule.{IsExpected, IsOther}
 use Rattle.paging_laws.specs.State.{State, row_of, added_inside, cssa_in, saved_word, word_at, with_acc, after_epa, after_create, after_add, after_extend, after_init, after_enter, after_resume, after_exit, after_aex, after_fill, after_store, after_xadd, after_block, after_track, after_ewbstart, after_eldstart, after_ewb, after_eld, after_failed_eld}
 
 abbrev pub did_by : Actor → Action → Answer → Entry
@@ -118,7 +118,7 @@ pub record IsAdded (s : State) (g : Page) (f : ℕ) (kind : Kind) (perm : Perm) 
 -- the measurement of the enclave of the page in a frame takes in the block of EEXTEND of a chunk of the page's bytes
 pub record IsExtended (s : State) (f chunk : ℕ) (s' : State) : Type 0 where
   pub page : Page
-  pub held : page_held (s.content f) ≡ Some page
+  pub held : page_of (s.content f) ≡ Some page
   pub longer : Measure
   pub log : IsSomeAnd (s.measure page.enclave) (λ measure.
       TakesIn measure (eextend_block (4096 * page.number + 256 * chunk) (chunk_of (bytes_of (s.words f)) chunk)) longer)

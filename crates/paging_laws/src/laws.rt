@@ -3,8 +3,8 @@
 ghost use Rattle.std.specs.Prelude.{List};
 ghost use Rattle.sgx_types.specs.declared.entries.Entry.{Entry};
 ghost use Rattle.paging_laws.specs.Runs.{Run};
-ghost use Rattle.paging_laws.specs.Shape.{ShapeWithRules, making_of};
-ghost use Rattle.paging_laws.specs.State.{State};
+ghost use Rattle.paging_laws.specs.Shape.{ShapeWithRules};
+ghost use Rattle.paging_laws.specs.State.{State, making_of};
 
 /// Whatever instructions and commits take a fresh machine on, through states that are sound and guarded, as its type keeps
 /// them, its state is the one that its entries say, column by column. By these entries no processor inside has a stale

@@ -1,5 +1,6 @@
 pub mod Chunks
 pub mod CountLaws
+pub mod Goings
 pub mod Keystone
 pub mod Pages
 pub mod Rows

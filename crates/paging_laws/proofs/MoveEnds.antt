@@ -1,0 +1,150 @@
+-- The ends of starts, in the state and by the entries: which page a commit names, and when a load is refused.
+use Rattle.std.proofs.Common.{◌≡◌, ℕ, ◌==◌, not, Bool, true, false, cond, refl, sym, ap, ◌∙◌, Option, Some, None, List}
+use Rattle.std.proofs.lemmas.Bool.{false≢true, eq-eqb}
+use Rattle.std.proofs.lemmas.Slice.Eq.{bytes_eq-Decides}
+use Rattle.std.specs.Str.{bytes_eq}
+use Rattle.sgx_types.specs.declared.entries.Entry.{Entry}
+use Rattle.sgx_types.specs.declared.entries.Actor.{Actor}
+use Rattle.sgx_types.specs.declared.entries.Actor.TheVariants as actors
+use Rattle.sgx_types.specs.declared.entries.Action.{Action}
+use Rattle.sgx_types.specs.declared.entries.Action.TheVariants.{Ewb, Eld}
+use Rattle.sgx_types.specs.declared.entries.Answer.TheVariants as answers
+use Rattle.sgx_types.specs.declared.names.Frame.{Frame}
+use Rattle.sgx_types.specs.declared.names.Kind.{Kind}
+use Rattle.sgx_types.specs.declared.names.Page.{Page}
+use Rattle.sgx_types.specs.declared.names.Perm.{Perm}
+use Rattle.sgx_types.specs.declared.record.Header.{Header}
+use Rattle.sgx_types.specs.declared.refusals.Refusal.{Refusal}
+use Rattle.sgx_types.specs.declared.refusals.Refusal.TheVariants as why
+use Rattle.sgx_types.specs.Ends.{DoesNotFit, EndsIn, EndsOut, IsBack, IsNotBack}
+use Rattle.sgx_types.specs.Flat.{FlatEnclave, FlatPage, added_as, flat, header_at, header_by}
+use Rattle.sgx_types.specs.Sealed.{Sealed, header_of}
+use Rattle.sgx_types.specs.Table.{first_of_row}
+use Rattle.epcm_entry.specs.Words.{words_of}
+use Rattle.seal_record.specs.Cipher.{cipher, tag}
+use Rattle.seal_record.specs.Row.{same_header}
+use Rattle.paging_laws.specs.Columns.{HasColumns}
+use Rattle.paging_laws.specs.Guarded.{IsGuarded, WritesOut}
+use Rattle.paging_laws.specs.Stands.{Stands}
+use Rattle.paging_laws.specs.State.{State, after_eld, after_failed_eld}
+use Rattle.paging_laws.specs.Steps.{CanApply, IsComing, IsWrittenOut, commit_row, did_by, refused_by}
+use Rattle.paging_laws.proofs.ColumnLaws.{added_flat, content_is, enclave_flat, start_is}
+
+-- the ends of starts
+abbrev pub is_end : Action → Bool
+is_end (Ewb f) = true
+is_end (Eld f) = true
+is_end _ = false
+
+-- no instruction that can be applied is the end of a start
+pub no_end : (cpus : ℕ) (a : Actor) (action : Action) → CanApply cpus a action → is_end action ≡ false
+no_end cpus (actors.Cpu p) (Ewb f) can = absurd can
+no_end cpus (actors.Cpu p) (Eld f) can = absurd can
+no_end cpus a (Ewb f) can = absurd can
+no_end cpus a (Eld f) can = absurd can
+no_end cpus a _ can = refl
+
+-- ---- the ends of starts
+
+-- a page that went out ends the start of its write-out
+pub ends_out : (s t : State) (past : List Entry) (a : Actor) (f : Frame) (e : Entry) (rec : Sealed) → IsGuarded s → s.is_sealing f.0 ≡ true
+    → HasColumns s past
+    → (out : IsWrittenOut s a f e rec t) → EndsOut past f.0 (answers.Moved out.leaving.page.page out.leaving.start.version rec.tag)
+ends_out s t past a f e rec guarded sealing h out =
+    let writes : WritesOut out.leaving.start = rw out.leaving.opened at (guarded.written f.0 sealing) in
+    record {
+      page = out.leaving.page.page;
+      kind = out.leaving.page.kind;
+      perm = out.leaving.page.perm;
+      held = sym (content_is h f.0) ∙ out.leaving.page.held;
+      start = out.leaving.start;
+      opened = sym (start_is h f.0) ∙ out.leaving.opened;
+      writes = writes;
+      version = out.leaving.start.version;
+      tag = rec.tag;
+      told = refl;
+    }
+
+-- what a frame waits for is what its start loads
+ends_in : (s : State) (past : List Entry) (f : ℕ) → HasColumns s past → (coming : IsComing s f) → EndsIn past f coming.page
+ends_in s past f h coming = record { start = coming.start; opened = sym (start_is h f) ∙ coming.opened; loads = coming.loads }
+
+-- a page that is back ends the start of its load
+pub ends_back : (s : State) (past : List Entry) (f : ℕ) (coming : IsComing s f) (version : ℕ) (tag : List ℕ) → HasColumns s past
+    → IsBack past f (answers.Moved coming.page version tag)
+ends_back s past f coming version tag h =
+    record { page = coming.page; ends = ends_in s past f h coming; version = version; tag = tag; told = refl }
+
+-- two headers with the same numbers are one
+one_header : (a b : Header) → a ≡ b → same_header a b ≡ true
+one_header a b is = rw is (itself b)
+  where
+    itself : (x : Header) → same_header x x ≡ true
+    itself x = rw (eq-eqb x.enclave x.enclave refl, eq-eqb x.address x.address refl, eq-eqb x.flags x.flags refl) refl
+
+-- a value that is there is one
+pub same_value : {X : Type 0} (x y : X) → Some x ≡ Some y → x ≡ y
+same_value {X} x y e = cc
+
+-- a page's header is made of its enclave's base and of what it was added as
+header_told : (g : Page) (o : Option FlatEnclave) (x : Option FlatPage) (enclave : FlatEnclave) (kind : Kind) (perm : Perm)
+    → o ≡ Some enclave → added_as x ≡ Some (kind, perm) → header_by o g x ≡ Some (header_of enclave.base g kind perm)
+header_told g None x enclave kind perm made added = cc
+header_told g (Some y) None enclave kind perm made added = cc
+header_told g (Some y) (Some x) enclave kind perm made added =
+    let one : y ≡ enclave = same_value y enclave made in
+    let was : Kind × Perm = (x.kind, x.perm) in
+    let now : Kind × Perm = (kind, perm) in
+    let alike : was ≡ now = same_value was now added in
+    λ i. Some (header_of (one i).base g (alike i).0 (alike i).1)
+
+-- the page that a frame waits for has its header in flat memory
+pub coming_header : (s : State) (past : List Entry) (f : ℕ) → Stands s past → (coming : IsComing s f)
+    → header_at past coming.page ≡ Some coming.header
+coming_header s past f stands coming =
+    header_told coming.page ((flat past).enclaves coming.page.enclave) ((flat past).pages coming.page) coming.enclave coming.kind coming.perm
+    (sym (enclave_flat stands coming.page.enclave) ∙ coming.made) (sym (added_flat stands coming.page) ∙ coming.added)
+    ∙ ap Some (sym coming.headed)
+
+-- a load that is refused ends its start, and its record does not fit
+pub ends_refused : (s : State) (past : List Entry) (f : ℕ) (coming : IsComing s f) (rec : Sealed) (r : Refusal)
+    → HasColumns s past → Stands s past
+    → first_of_row (commit_row s f coming rec) ≡ Some r → IsNotBack past f r
+ends_refused s past f coming rec r h stands refused = record {
+  page = coming.page;
+  ends = ends_in s past f h coming;
+  unfit = by_tag (bytes_eq rec.tag computed) refl refused;
+}
+  where
+    computed : List ℕ
+    computed = tag s.key coming.start.version rec.header rec.cipher
+
+    by_header : (b : Bool) → same_header rec.header coming.header ≡ b
+        → cond (not b) (Some (why.BadHeader rec.header.enclave rec.header.address rec.header.flags)) None ≡ Some r
+        → DoesNotFit past coming.page r
+    by_header true is e = cc
+    by_header false is e =
+        let told : why.BadHeader rec.header.enclave rec.header.address rec.header.flags ≡ r = cc in
+        rw (← told) (λ (x : header_at past coming.page ≡ Some rec.header).
+        false≢true (sym is ∙ one_header rec.header coming.header
+        (same_value rec.header coming.header (sym x ∙ coming_header s past f stands coming))))
+
+    by_tag : (b : Bool) → bytes_eq rec.tag computed ≡ b
+        → cond (not b) (Some (why.MacFail rec.tag computed))
+        (cond (not (same_header rec.header coming.header)) (Some (why.BadHeader rec.header.enclave rec.header.address rec.header.flags))
+        None) ≡ Some r
+        → DoesNotFit past coming.page r
+    by_tag true is e = by_header (same_header rec.header coming.header) refl e
+    by_tag false is e =
+        let told : why.MacFail rec.tag computed ≡ r = cc in
+        rw (← told) (λ (x : rec.tag ≡ computed). false≢true (sym is ∙ (bytes_eq-Decides rec.tag computed).1 x))
+
+-- what the commit of a load does where it is done
+abbrev pub IsDoneBack : (s : State) (a : Actor) (f : Frame) (rec : Sealed) (e : Entry) (t : State) → IsComing s f.0 → Type 0
+IsDoneBack s a f rec e t coming =
+    (e ≡ did_by a (Eld f) (answers.Moved coming.page coming.start.version rec.tag))
+    × (t ≡ after_eld s f.0 coming.start coming.page coming.kind coming.perm (words_of (cipher s.key coming.start.version rec.cipher)))
+
+-- .. and where it is refused
+abbrev pub IsRefusedBack : (s : State) (a : Actor) (f : Frame) (e : Entry) (t : State) → IsComing s f.0 → Refusal → Type 0
+IsRefusedBack s a f e t coming r = (e ≡ refused_by a (Eld f) r) × (t ≡ after_failed_eld s f.0 coming.start)
