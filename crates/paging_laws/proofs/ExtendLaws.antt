@@ -21,15 +21,11 @@ use Rattle.measure_log.specs.Measure.{TakesIn}
 use Rattle.measure_log.specs.Log.{Logged, logged_chunk}
 use Rattle.measure_log.specs.Rule.{page_in, log}
 use Rattle.paging_laws.specs.State.{State, sight, is_closed, row_of, after_extend}
-use Rattle.paging_laws.specs.Stands.{Stands}
+use Rattle.paging_laws.specs.Stands.{HasEnclaves, Stands}
 use Rattle.paging_laws.proofs.TestLaws.{is_none-None}
 use Rattle.paging_laws.proofs.MeasureLaws.{goes_on}
 use Rattle.paging_laws.proofs.NextEntry.{BringsDone}
 use Rattle.paging_laws.proofs.ColumnLaws.{content_is}
-
--- the page in a frame is one of a created enclave
-abbrev pub IsMade : State → Type 0
-IsMade s = (n : ℕ) (g : Page) → page_of (s.content n) ≡ Some g → is_some (s.enclaves g.enclave) ≡ true
 
 -- ---- the entries
 
@@ -62,7 +58,7 @@ logs s past f chunk g stands is = by_content (s.content f) refl is
 pub extend_brings : (s : State) (past : List Entry) (a : Actor) (f : Frame) (chunk : ℕ) (g : Page) (longer : Measure)
     → first_of_row (row_of s a (Extend f chunk)) ≡ None → page_of (s.content f.0) ≡ Some g
     → IsSomeAnd (s.measure g.enclave) (λ m. TakesIn m
-    (eextend_block (4096 * g.number + 256 * chunk) (chunk_of (bytes_of (s.words f.0)) chunk)) longer) → IsMade s → Stands s past
+    (eextend_block (4096 * g.number + 256 * chunk) (chunk_of (bytes_of (s.words f.0)) chunk)) longer) → HasEnclaves s → Stands s past
     → BringsDone s (after_extend s g.enclave longer) past a (Extend f chunk) Plain
 extend_brings s past a f chunk g longer allowed here takes made stands =
     let none = none_holds (extend_row chunk (is_closed s (enclave_in (s.content f.0))) (sight s f.0)) allowed in

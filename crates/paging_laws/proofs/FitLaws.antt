@@ -113,7 +113,7 @@ fits_more frames past e rule next h = record {
 }
 
 -- an entry that no content and no start sees
-fits_same : (frames : ℕ) (past : List Entry) (e : Entry) → ((n : ℕ) → content (e ∷ past) n ≡ content past n)
+pub fits_same : (frames : ℕ) (past : List Entry) (e : Entry) → ((n : ℕ) → content (e ∷ past) n ≡ content past n)
     → ((n : ℕ) → open_start (e ∷ past) n ≡ open_start past n) → FitsRule frames past e
     → FitsApart frames past → FitsApart frames (e ∷ past)
 fits_same frames past e held starts rule h =
@@ -200,27 +200,6 @@ module _ (s : State) (past : List Entry) (a : Actor) (guarded : IsGuarded s) (fr
   done_fits _ answer allowed other away rule = fits_same s.frames past _ (λ n. refl) (λ n. refl) rule h
 
 -- ---- the commits
-
--- an open start is one of a frame of the EPC
-pub open_below : (frames : ℕ) (past : List Entry) (n : ℕ) → Along (FitsRule frames) past → is_some (open_start past n) ≡ true → n < frames
-open_below frames [] n rules is = absurd (false≢true is)
-open_below frames (e ∷ past) n rules is = by_event e.event rules.0 (open_below frames past n rules.1) is
-  where
-    by_start : (f : ℕ) (o : Option Start) → f < frames → (is_some (open_start past n) ≡ true → n < frames)
-        → is_some (cond (f == n) o (open_start past n)) ≡ true → n < frames
-    by_start f o below before = cond_both (f == n) o (open_start past n) (λ v. is_some v ≡ true → n < frames)
-        (λ here is. rw (← eqb-true f n here) below) (λ _ is. before is)
-
-    by_event : (v : Event) → FitsRule frames past (record { actor = e.actor; event = v })
-        → (is_some (open_start past n) ≡ true → n < frames) → is_some (opened_by v n (open_start past n)) ≡ true → n < frames
-    by_event (Did (EwbStart f slot) answer) rule before is = by_start f.0 _ rule.0.0 before is
-    by_event (Did (EldStart f page slot) answer) rule before is = by_start f.0 _ rule.0.0 before is
-    by_event (Did (Ewb f) answer) rule before is = by_start f.0 _ rule.0 before is
-    by_event (Did (Eld f) answer) rule before is = by_start f.0 _ rule.0 before is
-    by_event (Refused (Eld f) refusal) rule before is =
-        cond_both (f.0 == n) None (open_start past n) (λ v. is_some v ≡ true → n < frames) (λ _ there. absurd (false≢true there))
-        (λ _ there. before there) is
-    by_event _ rule before is = before is
 
 ewb_fits : (frames : ℕ) (past : List Entry) (a : Actor) (f : Frame) (answer : Answer) → f.0 < frames → FitsApart frames past
     → FitsApart frames (did_by a (Ewb f) answer ∷ past)

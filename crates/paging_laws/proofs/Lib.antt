@@ -22,6 +22,7 @@ pub mod GuardMoves
 pub mod PagingSound
 pub mod ShapeLaws
 pub mod ShapeRows
+pub mod FrameLaws
 pub mod ShapeSteps
 pub mod FitLaws
 pub mod MoveEnds
@@ -30,4 +31,6 @@ pub mod StepLaws
 pub mod OutsideLaws
 pub mod StepRecords
 pub mod ReloadLaws
+pub mod NoteLaws
 pub mod WholeLaws
+pub mod RunLaws

@@ -23,7 +23,7 @@ use Rattle.seal_record.specs.Cipher.{cipher}
 use Rattle.paging_laws.specs.Stands.{Stands, StandsWithRules, HasWords}
 use Rattle.paging_laws.specs.State.{State, row_of, after_block, after_eldstart, after_ewb, after_ewbstart, after_track}
 use Rattle.paging_laws.specs.Steps.{IsComing, IsReloaded, IsWrittenOut, commit_row}
-use Rattle.paging_laws.proofs.FitLaws.{open_below}
+use Rattle.paging_laws.proofs.FrameLaws.{open_below}
 use Rattle.paging_laws.specs.Guarded.{IsGuarded}
 use Rattle.paging_laws.proofs.MoveEnds.{IsDoneBack, IsRefusedBack, ends_back, ends_out, ends_refused, same_value}
 use Rattle.paging_laws.proofs.BuildLaws.{words_put}

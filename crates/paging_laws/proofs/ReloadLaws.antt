@@ -37,8 +37,8 @@ use Rattle.page_history.proofs.CopyLaws.{copy_is_last, live_copies, went_out}
 use Rattle.page_history.proofs.DrawnLaws.{drawn_once}
 use Rattle.page_history.proofs.RecordLaws.{made_once}
 use Rattle.page_history.proofs.StartLaws.{starts_apart}
-use Rattle.paging_laws.specs.Histories.{OutsideBytes, StandsWithAllRules, looked_at, looked_at_by}
-use Rattle.paging_laws.specs.State.{State, after_eld}
+use Rattle.paging_laws.specs.Histories.{BringsBack, OutsideBytes, StandsWithAllRules, looked_at, looked_at_by}
+use Rattle.paging_laws.specs.State.{State, after_eld, making_of}
 use Rattle.paging_laws.specs.Steps.{IsComing, IsReloaded, commit_row, did_by}
 use Rattle.paging_laws.proofs.ColumnLaws.{enclave_flat, start_is}
 
@@ -79,11 +79,6 @@ has_header past g header is = by_values ((flat past).enclaves g.enclave) ((flat 
     by_values (Some y) (Some x) made is =
         let told : header_of y.base g x.kind x.perm ≡ header = cc in
         record { enclave = y; made = made; kind = x.kind; perm = x.perm; headed = sym told }
-
--- a record that fits brings a page back as it went out last
-pub record BringsBack (key : List ℕ) (past : List Entry) (n : ℕ) (g : Page) (version : ℕ) (rec : Sealed) : Type 0 where
-  pub last : IsLastOut past n g version rec.tag
-  pub words : words_of (cipher key version rec.cipher) ≡ memory.words_of (flat past) g
 
 -- what the commit of a load looks at
 abbrev given_with : ℕ → ℕ → Sealed → Given
@@ -220,23 +215,19 @@ reload_back made s past records given f coming rec allowed h unforged =
     opened coming.loads headed fits all
 
 -- its entry keeps the rule on reloads
-pub reload_fresh : (made : Making) (s t : State) (past : List Entry) (records : List Made) (given : List Given) (a : Actor) (f : Frame)
-    (rec : Sealed) (e : Entry) (back : IsReloaded s a f rec e t)
-    → first_of_row (commit_row s f.0 back.coming rec) ≡ None → StandsWithAllRules made s past records
-    → Unforged made.key records (given ++ looked_at s f.0 records rec) → ReloadRule past e
-reload_fresh made s t past records given a f rec e back allowed h unforged =
+pub reload_fresh : (s t : State) (key : List ℕ) (past : List Entry) (a : Actor) (f : Frame) (rec : Sealed) (e : Entry)
+    (back : IsReloaded s a f rec e t)
+    → first_of_row (commit_row s f.0 back.coming rec) ≡ None
+    → BringsBack key past f.0 back.coming.page back.coming.start.version rec → ReloadRule past e
+reload_fresh s t key past a f rec e back allowed brings =
     let row : (e ≡ did_by a (Eld f) (answers.Moved back.coming.page back.coming.start.version rec.tag))
     × (t ≡ after_eld s f.0 back.coming.start back.coming.page back.coming.kind back.coming.perm
     (words_of (cipher s.key back.coming.start.version rec.cipher)))
     = rw allowed at back.row in
-    rw row.0 (reload_back made s past records given f.0 back.coming rec allowed h unforged).last
+    rw row.0 brings.last
 
 -- and its words are the page's flat words
-pub reload_words : (made : Making) (s : State) (past : List Entry) (records : List Made) (given : List Given) (f : ℕ)
-    (coming : IsComing s f) (rec : Sealed)
-    → first_of_row (commit_row s f coming rec) ≡ None → StandsWithAllRules made s past records
-    → Unforged made.key records (given ++ looked_at s f records rec)
-    → words_of (cipher s.key coming.start.version rec.cipher) ≡ memory.words_of (flat past) coming.page
-reload_words made s past records given f coming rec allowed h unforged =
-    ap (λ (m : Making). words_of (cipher m.key coming.start.version rec.cipher)) h.shaped.shape.making
-    ∙ (reload_back made s past records given f coming rec allowed h unforged).words
+pub reload_words : (s : State) (made : Making) (past : List Entry) (n : ℕ) (g : Page) (version : ℕ) (rec : Sealed) → making_of s ≡ made
+    → BringsBack made.key past n g version rec
+    → words_of (cipher s.key version rec.cipher) ≡ memory.words_of (flat past) g
+reload_words s made past n g version rec same brings = ap (λ (m : Making). words_of (cipher m.key version rec.cipher)) same ∙ brings.words

@@ -13,7 +13,7 @@ use Rattle.sgx_types.specs.Epochs.{epoch, noted, block_epoch, is_before, is_in, 
 use Rattle.sgx_types.specs.Eviction.{is_drained}
 use Rattle.sgx_types.specs.Frames.{content, enclave_in, is_sealing, page_at}
 use Rattle.sgx_types.specs.Processors.{Seat, Stay, stay}
-use Rattle.sgx_types.specs.Rules.{EvictRule, IsCurrent, IsUndisturbed, NoneStale, RisingRule, StaleRule}
+use Rattle.sgx_types.specs.Rules.{EvictRule, FitsRule, IsCurrent, IsUndisturbed, NoneStale, RisingRule, StaleRule}
 use Rattle.sgx_types.proofs.CountLaws.{count_below-agrees}
 use Rattle.sgx_types.proofs.Keystone.{epochs_tell}
 use Rattle.sgx_types.proofs.Pages.{same_page-at}
@@ -200,8 +200,8 @@ held_by made s past h p = IfSome_then (stay past p) (last_place NoneStale past h
 
 -- a machine that has the shape of its entries comes to that of one more
 pub shaped_more : (made : Making) (s t : State) (past : List Entry) (e : Entry) → IsSound t → IsGuarded t → ShapeWithRules made s past
-    → IsNextTo s t past e → ShapeWithRules made t (e ∷ past)
-shaped_more made s t past e sound guarded h next =
+    → FitsRule s.frames past e → IsNextTo s t past e → ShapeWithRules made t (e ∷ past)
+shaped_more made s t past e sound guarded h fits next =
     let shape = shaped_by t (e ∷ past) next.columns sound guarded in
     record {
       shape = record {
@@ -211,6 +211,7 @@ shaped_more made s t past e sound guarded h next =
         newer = shape.newer;
         busy = shape.busy;
       };
+      frames = (subst (λ (n : ℕ). FitsRule n past e) (ap (λ (m : Making). m.frames) h.shape.making) fits, h.frames);
       stale = record {
         entries = (next.access, h.stale.entries);
         places = (none_stale_by t (e ∷ past) next.columns sound next.held, h.stale.places);

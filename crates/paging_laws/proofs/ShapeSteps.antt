@@ -1,5 +1,5 @@
 -- Each step takes a machine that has the shape of its entries on to one that does, whatever records are brought.
-use Rattle.std.proofs.Common.{◌≡◌, ℕ, ◌≤◌, inl, inr, Bool, true, false, refl, sym, subst, ◌∙◌, Option, Some, None, MatchOption, is_some, unwrap_or, List, [], ◌∷◌}
+use Rattle.std.proofs.Common.{◌≡◌, ℕ, ◌≤◌, inl, inr, Bool, true, false, refl, sym, ap, subst, ◌∙◌, Option, Some, None, MatchOption, is_some, unwrap_or, List, [], ◌∷◌}
 use Rattle.std.proofs.lemmas.Bool.{false≢true}
 use Rattle.sgx_types.specs.declared.names.Page.{Page}
 use Rattle.sgx_types.specs.declared.entries.Entry.{Entry}
@@ -19,13 +19,14 @@ use Rattle.epcm_entry.specs.Words.{words_of}
 use Rattle.seal_record.specs.Cipher.{cipher}
 use Rattle.paging_laws.specs.Columns.{HasColumns}
 use Rattle.paging_laws.specs.Guarded.{IsGuarded, WritesOut}
-use Rattle.paging_laws.specs.Runs.{Run, nothing, step, written, reloaded as comes_back}
 use Rattle.paging_laws.specs.Shape.{ShapeWithRules}
 use Rattle.paging_laws.specs.Stands.{IsSound}
 use Rattle.paging_laws.specs.State.{State, fresh, after_eld, after_failed_eld, making_of}
 use Rattle.paging_laws.specs.Steps.{did_by, refused_by, CanApply, IsStep, IsDone, IsWrittenOut, IsReloaded, commit_row}
 use Rattle.paging_laws.proofs.ShapeColumns.{is_eld}
 use Rattle.paging_laws.proofs.Contents.{waits_for}
+use Rattle.paging_laws.proofs.FrameLaws.{reloaded_frames, step_frames, written_frames}
+use Rattle.sgx_types.specs.Rules.{Along, FitsRule}
 use Rattle.paging_laws.proofs.ShapeLaws.{older_agrees, newer_agrees, IsHeld, IsNextTo, held_by, shaped_more}
 use Rattle.paging_laws.proofs.ShapeRows.{add_next, aex_next, block_next, create_next, eld_next, eldstart_next, enter_next, epa_next, ewb_next, ewbstart_next, exit_next, extend_next, failed_eld_next, fill_next, init_next, load_next, outload_next, outstore_next, pf_next, plus_next, refused_next, resume_next, set_next, store_next, track_next, xadd_next}
 
@@ -127,7 +128,12 @@ pub step_shaped : (s t : State) (made : Making) (past : List Entry) (cpus : ℕ)
     → CanApply cpus a action → IsSound s → IsGuarded s → IsSound t → IsGuarded t
     → IsStep s a action e t → ShapeWithRules made s past → ShapeWithRules made t (e ∷ past)
 step_shaped s t made past cpus a action e few can sound guarded sound' guarded' k h =
-    shaped_more made s t past e sound' guarded' h (step_next s t past cpus a action e can sound h.shape.columns (held_by made s past h) k)
+    shaped_more made s t past e sound' guarded' h (step_frames s t past cpus a action e can h.shape.columns k)
+    (step_next s t past cpus a action e can sound h.shape.columns (held_by made s past h) k)
+
+-- the rule on frames, at the frames of a state
+frames_in : (made : Making) (s : State) (past : List Entry) → ShapeWithRules made s past → Along (FitsRule s.frames) past
+frames_in made s past h = subst (λ (n : ℕ). Along (FitsRule n) past) (ap (λ (m : Making). m.frames) (sym h.shape.making)) h.frames
 
 -- the commit of a write-out
 pub written_shaped : (s t : State) (made : Making) (past : List Entry) (a : Actor) (f : Frame) (e : Entry) (rec : Sealed) → IsSound s
@@ -135,7 +141,7 @@ pub written_shaped : (s t : State) (made : Making) (past : List Entry) (a : Acto
     → IsWrittenOut s a f e rec t → ShapeWithRules made s past → ShapeWithRules made t (e ∷ past)
 written_shaped s t made past a f e rec sound guarded sound' guarded' sealing out h =
     let writes : WritesOut out.leaving.start = rw out.leaving.opened at (guarded.written f.0 sealing) in
-    shaped_more made s t past e sound' guarded' h
+    shaped_more made s t past e sound' guarded' h (written_frames s t past a f e rec (frames_in made s past h) h.shape.columns out)
     (next_as s t _ past e _ out.entry out.state (ewb_next s past sound h.shape.columns (held_by made s past h) a f out.leaving.start
     out.leaving.page.page rec.tag out.leaving.opened sealing writes))
 
@@ -144,7 +150,8 @@ pub reloaded_shaped : (s t : State) (made : Making) (past : List Entry) (a : Act
     → IsGuarded s → IsSound t → IsGuarded t → is_loading (s.content f.0) ≡ true
     → IsReloaded s a f rec e t → ShapeWithRules made s past → ShapeWithRules made t (e ∷ past)
 reloaded_shaped s t made past a f e rec sound guarded sound' guarded' loading back h =
-    shaped_more made s t past e sound' guarded' h (by_row (first_of_row (commit_row s f.0 back.coming rec)) back.row)
+    shaped_more made s t past e sound' guarded' h (reloaded_frames s t past a f e rec (frames_in made s past h) h.shape.columns back)
+    (by_row (first_of_row (commit_row s f.0 back.coming rec)) back.row)
   where
     waits : (g : Page) × (s.content f.0 ≡ IsLoading g)
     waits = waits_for (s.content f.0) loading
@@ -181,6 +188,7 @@ fresh_shaped frames cpus key first_epoch first_version = record {
     newer = λ e. newer_agrees s [] columns e;
     busy = λ g. record { taken = λ is. cc; busy = λ k. absurd k.by };
   };
+  frames = tt;
   stale = record { entries = tt; places = λ p. tt };
   evict = tt;
   rising = tt;
@@ -191,22 +199,3 @@ fresh_shaped frames cpus key first_epoch first_version = record {
 
     columns : HasColumns s []
     columns = record { frames = refl; cpus = refl; slots = refl; enclaves = refl }
-
--- ---- every run
-
--- the numbers of a machine's making stay
-shaped_made : (s t : State) (past : List Entry) → ShapeWithRules (making_of s) t past → ShapeWithRules (making_of t) t past
-shaped_made s t past h = subst (λ (m : Making). ShapeWithRules m t past) (sym h.shape.making) h
-
--- whatever a fresh machine comes to has the shape of its entries
-pub every_run : (s : State) (past : List Entry) → Run s past → ShapeWithRules (making_of s) s past
-every_run x all (nothing frames cpus key first_epoch first_version) = fresh_shaped frames cpus key first_epoch first_version
-every_run x all (step s t past a action e run old new few can k) =
-    shaped_made s t (e ∷ past) (step_shaped s t (making_of s) past s.cpus a action e few can old.sound old.guarded new.sound new.guarded k
-    (every_run s past run))
-every_run x all (written s t past a f rec e run old new sealing k) =
-    shaped_made s t (e ∷ past) (written_shaped s t (making_of s) past a f e rec old.sound old.guarded new.sound new.guarded sealing k
-    (every_run s past run))
-every_run x all (comes_back s t past a f rec e run old new loading k) =
-    shaped_made s t (e ∷ past) (reloaded_shaped s t (making_of s) past a f e rec old.sound old.guarded new.sound new.guarded loading k
-    (every_run s past run))

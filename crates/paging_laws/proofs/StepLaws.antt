@@ -11,12 +11,12 @@ use Rattle.sgx_types.specs.declared.refusals.Refusal.TheVariants as why
 use Rattle.sgx_types.specs.Table.{EnclaveSight, init_row, first_of_row, perm_in}
 use Rattle.sgx_types.specs.Rules.{NoPageTwice}
 use Rattle.paging_laws.specs.State.{State, row_of, after_init}
-use Rattle.paging_laws.specs.Stands.{IsSound, Stands}
+use Rattle.paging_laws.specs.Stands.{HasEnclaves, IsSound, Stands}
 use Rattle.measure_log.specs.Rule.{log, measurement, IsExpected, IsOther}
 use Rattle.paging_laws.specs.Steps.{CanApply, IsStep, IsJudged, did_by, refused_by, IsDone}
 use Rattle.paging_laws.proofs.MeasureLaws.{finished_as}
 use Rattle.paging_laws.proofs.BuildLaws.{is_some-sight, add_brings, create_brings, epa_brings, init_brings}
-use Rattle.paging_laws.proofs.ExtendLaws.{IsMade, extend_brings}
+use Rattle.paging_laws.proofs.ExtendLaws.{extend_brings}
 use Rattle.paging_laws.proofs.ExitLaws.{aex_brings, exit_brings}
 use Rattle.paging_laws.proofs.RegisterLaws.{outload_brings, outstore_brings, pf_brings, plus_brings, set_brings}
 use Rattle.paging_laws.proofs.AccessLaws.{fill_brings, load_brings, store_brings, xadd_brings}
@@ -33,7 +33,7 @@ init_made None allowed = cc
 init_made (Some x) allowed = refl
 
 -- what each instruction brings that can be applied
-module _ (s t : State) (past : List Entry) (cpus : ℕ) (few : cpus ≤ 16) (sound : IsSound s) (made : IsMade s) (stands : Stands s past)
+module _ (s t : State) (past : List Entry) (cpus : ℕ) (few : cpus ≤ 16) (sound : IsSound s) (made : HasEnclaves s) (stands : Stands s past)
     (once : NoPageTwice past) where
   -- where its row refuses it, or allows it
   by_row : (a : Actor) (action : Action) (e : Entry) → CanApply cpus a action → IsStep s a action e t

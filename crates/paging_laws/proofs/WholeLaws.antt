@@ -19,15 +19,19 @@ use Rattle.page_history.specs.Once.{KeepsMoves}
 use Rattle.seal_record.specs.Sealing.{SealedRule, made_by}
 use Rattle.page_history.proofs.CopyLaws.{live_copies}
 use Rattle.paging_laws.specs.Guarded.{IsGuarded}
-use Rattle.paging_laws.specs.Histories.{OutsideBytes, StandsWithAllRules, given_out, looked_at}
+use Rattle.paging_laws.specs.Histories.{BringsBack, BringsIn, OutsideBytes, StandsWithAllRules, given_out, looked_at}
+use Rattle.paging_laws.specs.Notes.{IsDone, IsNote}
+use Rattle.paging_laws.proofs.NoteLaws.{noted_brings, noted_made, noted_outside, noted_reload, noted_sealed, noted_shaped}
+use Rattle.sgx_types.specs.declared.entries.Answer.TheVariants as answers
+use Rattle.epcm_entry.specs.Words.{words_of}
+use Rattle.seal_record.specs.Cipher.{cipher}
 use Rattle.paging_laws.specs.Shape.{ShapeWithRules}
-use Rattle.paging_laws.specs.Stands.{IsSound, StandsWithRules}
-use Rattle.paging_laws.specs.State.{State, after_failed_eld, fresh, making_of}
+use Rattle.paging_laws.specs.Stands.{HasEnclaves, IsSound, StandsWithRules}
+use Rattle.paging_laws.specs.State.{State, after_eld, after_failed_eld, fresh, making_of}
 use Rattle.paging_laws.specs.Steps.{CanApply, IsReloaded, IsStep, IsWrittenOut, commit_row, did_by, refused_by}
-use Rattle.paging_laws.proofs.ExtendLaws.{IsMade}
 use Rattle.paging_laws.proofs.ShapeSteps.{fresh_shaped, reloaded_shaped, step_shaped, written_shaped}
 use Rattle.paging_laws.proofs.OutsideLaws.{outside_step}
-use Rattle.paging_laws.proofs.ReloadLaws.{keeps_moves, reload_fresh, reload_words}
+use Rattle.paging_laws.proofs.ReloadLaws.{keeps_moves, reload_back, reload_fresh, reload_words}
 use Rattle.paging_laws.proofs.NextEntry.{Brings, once_before, stands_more}
 use Rattle.paging_laws.proofs.StepLaws.{step_brings}
 use Rattle.paging_laws.proofs.MoveLaws.{reloaded_brings, written_brings}
@@ -88,7 +92,7 @@ module _ (s t : State) (made : Making) (past : List Entry) (records : List Made)
 
 -- an instruction
 pub step_all : (s t : State) (made : Making) (past : List Entry) (records : List Made) (cpus : ℕ) (a : Actor) (action : Action) (e : Entry)
-    → cpus ≤ 16 → CanApply cpus a action → IsSound s → IsGuarded s → IsMade s
+    → cpus ≤ 16 → CanApply cpus a action → IsSound s → IsGuarded s → HasEnclaves s
     → IsSound t → IsGuarded t → IsStep s a action e t → StandsWithAllRules made s past records
     → StandsWithAllRules made t (e ∷ past) records
 step_all s t made past records cpus a action e few can sound guarded framed sound' guarded' k h =
@@ -124,14 +128,17 @@ written_all s t made past records a f e rec sound guarded sound' guarded' sealin
     gives : GivesRecord made.key past e rec
     gives = outside_written s t made past a f e rec out sound h.standing.stands h.shaped
 
--- the commit of a load, where no record is forged
-pub reloaded_all : (s t : State) (made : Making) (past : List Entry) (records : List Made) (a : Actor) (f : Frame) (rec : Sealed)
+-- the commit of a load, where the record that it allows brings the page back
+pub reloaded_back : (s t : State) (made : Making) (past : List Entry) (records : List Made) (a : Actor) (f : Frame) (rec : Sealed)
     (e : Entry) → IsSound s → IsGuarded s → IsSound t → IsGuarded t → is_loading (s.content f.0) ≡ true
-    → IsReloaded s a f rec e t → StandsWithAllRules made s past records → (given : List Given)
-    → Unforged made.key records (given ++ looked_at s f.0 records rec) → StandsWithAllRules made t (e ∷ past) records
-reloaded_all s t made past records a f rec e sound guarded sound' guarded' loading back h given unforged =
+    → (back : IsReloaded s a f rec e t) → StandsWithAllRules made s past records
+    → (first_of_row (commit_row s f.0 back.coming rec) ≡ None
+    → BringsBack made.key past f.0 back.coming.page back.coming.start.version rec)
+    → StandsWithAllRules made t (e ∷ past) records
+reloaded_back s t made past records a f rec e sound guarded sound' guarded' loading back h brings =
     all_more s t made past records e h shaped reload
-    (reloaded_brings s t past a f rec e back (λ allowed. reload_words made s past records given f.0 back.coming rec allowed h unforged)
+    (reloaded_brings s t past a f rec e back
+    (λ allowed. reload_words s made past f.0 back.coming.page back.coming.start.version rec h.shaped.shape.making (brings allowed))
     h.standing) records
     (sealed_quiet_eld made.key s t past a f rec e back) (outside_reloaded made.key s t past a f rec e back h.outside)
     (h.records ∙ sym (made_same_eld made.key s t past a f rec e back))
@@ -143,10 +150,45 @@ reloaded_all s t made past records a f rec e sound guarded sound' guarded' loadi
     reload = by_row (first_of_row (commit_row s f.0 back.coming rec)) refl
       where
         by_row : (o : Option Refusal) → first_of_row (commit_row s f.0 back.coming rec) ≡ o → ReloadRule past e
-        by_row None allowed = reload_fresh made s t past records given a f rec e back allowed h unforged
+        by_row None allowed = reload_fresh s t made.key past a f rec e back allowed (brings allowed)
         by_row (Some r) refused =
             let row : (e ≡ refused_by a (Eld f) r) × (t ≡ after_failed_eld s f.0 back.coming.start) = rw refused at back.row in
             subst (λ x. ReloadRule past x) (sym row.0) tt
+
+-- .. as every record does where none is forged
+pub reloaded_all : (s t : State) (made : Making) (past : List Entry) (records : List Made) (a : Actor) (f : Frame) (rec : Sealed)
+    (e : Entry) → IsSound s → IsGuarded s → IsSound t → IsGuarded t → is_loading (s.content f.0) ≡ true
+    → IsReloaded s a f rec e t → StandsWithAllRules made s past records → (given : List Given)
+    → Unforged made.key records (given ++ looked_at s f.0 records rec) → StandsWithAllRules made t (e ∷ past) records
+reloaded_all s t made past records a f rec e sound guarded sound' guarded' loading back h given unforged =
+    reloaded_back s t made past records a f rec e sound guarded sound' guarded' loading back h
+    (λ allowed. reload_back made s past records given f.0 back.coming rec allowed h unforged)
+
+-- .. or the record of the page that the frame waits for does
+pub reloaded_told : (s t : State) (made : Making) (past : List Entry) (records : List Made) (a : Actor) (f : Frame) (rec : Sealed)
+    (e : Entry) → IsSound s → IsGuarded s → IsSound t → IsGuarded t → is_loading (s.content f.0) ≡ true
+    → IsReloaded s a f rec e t → StandsWithAllRules made s past records
+    → (IsDone e.event → BringsIn made.key past s f.0 rec) → StandsWithAllRules made t (e ∷ past) records
+reloaded_told s t made past records a f rec e sound guarded sound' guarded' loading back h brings =
+    reloaded_back s t made past records a f rec e sound guarded sound' guarded' loading back h
+    (λ allowed. brings (done allowed) back.coming.start back.coming.page back.coming.opened back.coming.loads)
+  where
+    done : first_of_row (commit_row s f.0 back.coming rec) ≡ None → IsDone e.event
+    done allowed =
+        let row : (e ≡ did_by a (Eld f) (answers.Moved back.coming.page back.coming.start.version rec.tag))
+        × (t ≡ after_eld s f.0 back.coming.start back.coming.page back.coming.kind back.coming.perm
+        (words_of (cipher s.key back.coming.start.version rec.cipher)))
+        = rw allowed at back.row in
+        subst (λ (x : Entry). IsDone x.event) (sym row.0) tt
+
+-- ---- entries of no instruction
+
+pub noted_all : (s : State) (made : Making) (past : List Entry) (records : List Made) (e : Entry) → IsNote e.event → IsSound s
+    → IsGuarded s → StandsWithAllRules made s past records → StandsWithAllRules made s (e ∷ past) records
+noted_all s made past records e note sound guarded h =
+    all_more s s made past records e h (noted_shaped s made past e note sound guarded h.shaped) (noted_reload past e note)
+    (noted_brings s past e note h.standing.stands) records (noted_sealed made.key past e note)
+    (noted_outside made.key past e note h.outside) (h.records ∙ sym (noted_made made.key past e note))
 
 -- a machine that has done nothing yet
 fresh_stands : (frames cpus : ℕ) (key : List ℕ) (epoch version : ℕ) → StandsWithRules (fresh frames cpus key epoch version) []

@@ -18,7 +18,7 @@ use Rattle.epcm_entry.specs.Words as words
 use Rattle.seal_record.specs.Cipher.{cipher}
 use Rattle.seal_record.specs.Records.{Given, Made}
 use Rattle.page_history.specs.Copies.{InSlot, copy}
-use Rattle.sgx_types.specs.Fresh.{FreshRule}
+use Rattle.sgx_types.specs.Fresh.{FreshRule, IsLastOut}
 use Rattle.page_history.specs.Once.{IsMade}
 use Rattle.seal_record.specs.Sealing.{SealedRule, made_by, made_with}
 use Rattle.paging_laws.specs.Shape.{ShapeWithRules}
@@ -46,6 +46,16 @@ pub record StandsWithAllRules (made : Making) (s : State) (past : List Entry) (g
   pub sealed : Along (SealedRule made.key) past
   pub records : given ≡ made_by made.key past
   pub outside : OutsideBytes made.key past
+
+-- a record brings a page back into a frame as it went out last: with the version and the tag of its last write-out, and its flat bytes
+pub record BringsBack (key : List ℕ) (past : List Entry) (n : ℕ) (g : Page) (version : ℕ) (rec : Sealed) : Type 0 where
+  pub last : IsLastOut past n g version rec.tag
+  pub words : words.words_of (cipher key version rec.cipher) ≡ words_of (flat past) g
+
+-- .. the page that a frame of the state waits for
+abbrev pub BringsIn : List ℕ → List Entry → State → ℕ → Sealed → Type 0
+BringsIn key past s n rec = (start : Start) (g : Page) → s.start n ≡ Some start → start.loads ≡ Some g
+    → BringsBack key past n g start.version rec
 
 -- the record that a write-out gave, with the version that it tells
 abbrev pub given_out : Event → Sealed → List Made

@@ -6,3 +6,4 @@ pub mod Guarded
 pub mod Shape
 pub mod Runs
 pub mod Histories
+pub mod Notes

@@ -4,7 +4,7 @@ use Rattle.sgx_types.specs.declared.entries.Entry.{Entry}
 use Rattle.sgx_types.specs.declared.names.Page.{Page}
 use Rattle.sgx_types.specs.Enclaves.{IsTaken}
 use Rattle.sgx_types.specs.Epochs.{newer_at, older_at}
-use Rattle.sgx_types.specs.Rules.{Along, EvictRule, Fits, RisingRule, Stale}
+use Rattle.sgx_types.specs.Rules.{Along, EvictRule, Fits, FitsRule, RisingRule, Stale}
 use Rattle.sgx_types.specs.Starts.{LoadsAreApart}
 use Rattle.sgx_types.specs.Making.{Making}
 use Rattle.paging_laws.specs.Columns.{HasColumns}
@@ -23,9 +23,11 @@ pub record IsShaped (made : Making) (s : State) (past : List Entry) : Type 0 whe
   pub newer : (e : ℕ) → number_noting s e (λ m. not (nat_lt m (s.epoch e))) ≡ newer_at past e
   pub busy : (g : Page) → IsBusyBy s past g
 
--- a machine of the shape of its entries, by which no translation is stale, only drained pages go out, and versions rise
+-- a machine of the shape of its entries, by which frames are the EPC's and taken where they are free, no translation is stale, only
+-- drained pages go out, and versions rise
 pub record ShapeWithRules (made : Making) (s : State) (past : List Entry) : Type 0 where
   pub shape : IsShaped made s past
+  pub frames : Along (FitsRule made.frames) past
   pub stale : Stale past
   pub evict : Along EvictRule past
   pub rising : Along (RisingRule made.first_version) past

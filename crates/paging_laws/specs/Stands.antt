@@ -7,7 +7,7 @@ use Rattle.sgx_types.specs.declared.names.Page.{Page}
 use Rattle.sgx_types.specs.declared.names.Kind.{Kind}
 use Rattle.sgx_types.specs.declared.names.Kind.TheVariants as kinds
 use Rattle.sgx_types.specs.declared.names.Perm.{Perm}
-use Rattle.sgx_types.specs.Frames.{Content, Holds, content, enclave_in, is_page, page_at}
+use Rattle.sgx_types.specs.Frames.{Content, Holds, content, enclave_in, is_page, page_at, page_of}
 use Rattle.sgx_types.specs.Processors.{Seat, Stay, stay}
 use Rattle.sgx_types.specs.Table.{TcsSight, is_reg, is_tcs}
 use Rattle.sgx_types.specs.Flat.{FlatCpu, FlatEnclave, FlatMemory, Inside, added_as, flat, tcs_fields}
@@ -111,6 +111,10 @@ IsMeasured s = (e : ℕ) → is_some (s.enclaves e) ≡ true → is_some (s.meas
 -- each page in a frame was added to its enclave
 abbrev pub IsFramed : State → Type 0
 IsFramed s = (n : ℕ) (g : Page) (kind : Kind) (perm : Perm) → s.content n ≡ Holds g kind perm → is_some (s.added g) ≡ true
+
+-- the enclave of each page in a frame was created
+abbrev pub HasEnclaves : State → Type 0
+HasEnclaves s = (n : ℕ) (g : Page) → page_of (s.content n) ≡ Some g → is_some (s.enclaves g.enclave) ≡ true
 
 -- a state that stands for entries which keep the rules
 pub record StandsWithRules (s : State) (past : List Entry) : Type 0 where

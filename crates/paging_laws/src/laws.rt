@@ -1,15 +1,25 @@
-//! A law of the steps. It is the contract of a function without arguments, and so holds for every run.
+//! Laws of the steps. Each is the contract of a function without arguments, and so holds for every run.
 
-ghost use Rattle.std.specs.Prelude.{List};
+ghost use Rattle.std.specs.Prelude.{ℕ, ◌≤◌, List};
 ghost use Rattle.sgx_types.specs.declared.entries.Entry.{Entry};
+ghost use Rattle.seal_record.specs.Records.{Given, Made, Unforged};
+ghost use Rattle.paging_laws.specs.Histories.{StandsWithAllRules};
 ghost use Rattle.paging_laws.specs.Runs.{Run};
 ghost use Rattle.paging_laws.specs.Shape.{ShapeWithRules};
 ghost use Rattle.paging_laws.specs.State.{State, making_of};
 
 /// Whatever instructions and commits take a fresh machine on, through states that are sound and guarded, as its type keeps
-/// them, its state is the one that its entries say, column by column. By these entries no processor inside has a stale
-/// translation, only drained pages go out, and the versions that EWB draws are in order. Nothing is asked of the records
-/// that are brought, so that it holds of forged ones too.
+/// them, its state is the one that its entries say, column by column. By these entries the frames that are named are of the EPC
+/// and taken where they are free, no processor inside has a stale translation, only drained pages go out, and the versions
+/// that EWB draws are in order. Nothing is asked of the records that are brought, so that it holds of forged ones too.
 pub fn every_run_is_shaped()
-    ensures { (s : State) (past : List Entry) → Run s past → ShapeWithRules (making_of s) s past }
+    ensures { (s : State) (past : List Entry) (made : List Made) (given : List Given) → Run s past made given
+        → ShapeWithRules (making_of s) s past }
+{}
+
+/// .. and where none of the records that the loads looked at was forged, it stands in all for its entries and for the records that
+/// its write-outs gave: flat memory is what its frames and records hold, and the entries keep every rule of the machine.
+pub fn every_run_stands()
+    ensures { (s : State) (past : List Entry) (made : List Made) (given : List Given) → Run s past made given
+        → 1 ≤ s.first_version → Unforged s.key made given → StandsWithAllRules (making_of s) s past made }
 {}

@@ -1,4 +1,4 @@
-use Rattle.paging_laws.proofs.ShapeSteps.{every_run}
+use Rattle.paging_laws.proofs.RunLaws.{every_run}
 use Rattle.paging_laws.proofs.laws.every_run_is_shaped.Goals as goal
 
 pub returns : goal.returns

@@ -1,0 +1,109 @@
+-- An entry of no instruction leaves a state what it was, and keeps each rule.
+use Rattle.std.proofs.Common.{◌≡◌, ℕ, refl, List, ◌∷◌}
+use Rattle.sgx_types.specs.declared.entries.Actor.{Actor}
+use Rattle.sgx_types.specs.declared.entries.Entry.{Entry}
+use Rattle.sgx_types.specs.declared.entries.Event.{Event}
+use Rattle.sgx_types.specs.declared.entries.Event.TheVariants.{Did, Refused, Age, Kick, Bus}
+use Rattle.sgx_types.specs.declared.names.Page.{Page}
+use Rattle.sgx_types.specs.declared.names.SlotAt.{SlotAt}
+use Rattle.sgx_types.specs.Fresh.{ReloadRule}
+use Rattle.sgx_types.specs.Making.{Making}
+use Rattle.sgx_types.specs.Rules.{EvictRule, FitsRule, RisingRule, StaleRule}
+use Rattle.seal_record.specs.Sealing.{SealedRule, made_by}
+use Rattle.paging_laws.specs.Guarded.{IsGuarded}
+use Rattle.paging_laws.specs.Histories.{OutsideBytes}
+use Rattle.paging_laws.specs.Notes.{IsNote}
+use Rattle.paging_laws.specs.Shape.{FitsApart, ShapeWithRules}
+use Rattle.paging_laws.specs.Stands.{IsSound, Stands}
+use Rattle.paging_laws.specs.State.{State}
+use Rattle.paging_laws.proofs.FitLaws.{fits_same}
+use Rattle.paging_laws.proofs.NextEntry.{Brings}
+use Rattle.paging_laws.proofs.ShapeColumns.{IsQuiet}
+use Rattle.paging_laws.proofs.ShapeLaws.{IsNextTo, held_by, shaped_more}
+use Rattle.paging_laws.proofs.ShapeRows.{quiet_next}
+
+-- an entry of an actor
+abbrev entry_of : Actor → Event → Entry
+entry_of actor event = record { actor = actor; event = event }
+
+-- it changes no column
+noted_quiet : (first_epoch first_version : ℕ) (past : List Entry) (a : Actor) (event : Event) → IsNote event
+    → IsQuiet first_epoch first_version past (entry_of a event)
+noted_quiet first_epoch first_version past a (Did action answer) note = absurd note
+noted_quiet first_epoch first_version past a (Refused action why) note = absurd note
+noted_quiet first_epoch first_version past a _ note =
+    record { frames = refl; cpus = refl; slots = refl; enclaves = refl; stays = λ p. refl }
+
+-- and the rules that ask what was done have nothing to say of it
+record SaysNothing (past : List Entry) (e : Entry) : Type 0 where
+  frames : (frames : ℕ) → FitsRule frames past e
+  access : StaleRule past e
+  evict : EvictRule past e
+  rising : (first : ℕ) → RisingRule first past e
+
+noted_nothing : (past : List Entry) (a : Actor) (event : Event) → IsNote event → SaysNothing past (entry_of a event)
+noted_nothing past a (Did action answer) note = absurd note
+noted_nothing past a (Refused action why) note = absurd note
+noted_nothing past a _ note = record { frames = λ frames. tt; access = tt; evict = tt; rising = λ first. tt }
+
+pub noted_shaped : (s : State) (made : Making) (past : List Entry) (e : Entry) → IsNote e.event → IsSound s → IsGuarded s
+    → ShapeWithRules made s past → ShapeWithRules made s (e ∷ past)
+noted_shaped s made past e note sound guarded h =
+    let none = noted_nothing past e.actor e.event note in
+    shaped_more made s s past e sound guarded h (none.frames s.frames)
+    (quiet_next s s past e (noted_quiet s.first_epoch s.first_version past e.actor e.event note) refl h.shape.columns
+    (held_by made s past h) none.access none.evict (none.rising s.first_version))
+
+pub noted_fits : (frames : ℕ) (past : List Entry) (e : Entry) → IsNote e.event → FitsApart frames past → FitsApart frames (e ∷ past)
+noted_fits frames past e note h =
+    let quiet = noted_quiet 0 0 past e.actor e.event note in
+    fits_same frames past e (λ n i. (quiet.frames i).content n) (λ n i. (quiet.frames i).start n)
+    ((noted_nothing past e.actor e.event note).frames frames) h
+
+pub noted_reload : (past : List Entry) (e : Entry) → IsNote e.event → ReloadRule past e
+noted_reload past e note = by_event e.event note
+  where
+    by_event : (event : Event) → IsNote event → ReloadRule past (entry_of e.actor event)
+    by_event (Did action answer) k = absurd k
+    by_event (Refused action why) k = absurd k
+    by_event _ k = tt
+
+pub noted_sealed : (key : List ℕ) (past : List Entry) (e : Entry) → IsNote e.event → SealedRule key past e
+noted_sealed key past e note = by_event e.event note
+  where
+    by_event : (event : Event) → IsNote event → SealedRule key past (entry_of e.actor event)
+    by_event (Did action answer) k = absurd k
+    by_event (Refused action why) k = absurd k
+    by_event _ k = tt
+
+pub noted_made : (key : List ℕ) (past : List Entry) (e : Entry) → IsNote e.event → made_by key (e ∷ past) ≡ made_by key past
+noted_made key past e note = by_event e.event note
+  where
+    by_event : (event : Event) → IsNote event → made_by key (entry_of e.actor event ∷ past) ≡ made_by key past
+    by_event (Did action answer) k = absurd k
+    by_event (Refused action why) k = absurd k
+    by_event _ k = refl
+
+pub noted_outside : (key : List ℕ) (past : List Entry) (e : Entry) → IsNote e.event → OutsideBytes key past → OutsideBytes key (e ∷ past)
+noted_outside key past e note h = by_event e.event note
+  where
+    by_event : (event : Event) → IsNote event → OutsideBytes key (entry_of e.actor event ∷ past)
+    by_event (Did action answer) k = absurd k
+    by_event (Refused action why) k = absurd k
+    by_event _ k = λ g slot v there.
+        let was = h g slot v there in
+        (was.0, record { made = was.1.made; version = was.1.version; cipher = was.1.cipher; size = was.1.size; back = was.1.back })
+
+pub noted_brings : (s : State) (past : List Entry) (e : Entry) → IsNote e.event → Stands s past → Brings s s past e
+noted_brings s past e note h = by_event e.event note
+  where
+    by_event : (event : Event) → IsNote event → Brings s s past (entry_of e.actor event)
+    by_event (Did action answer) k = absurd k
+    by_event (Refused action why) k = absurd k
+    by_event _ k = record {
+      refusal = tt;
+      flat = tt;
+      fits = tt;
+      measure = tt;
+      memory = record { enclaves = h.memory.enclaves; cpus = h.memory.cpus; words = h.memory.words; measure = h.memory.measure };
+    }
