@@ -34,3 +34,4 @@ pub mod ReloadLaws
 pub mod NoteLaws
 pub mod WholeLaws
 pub mod RunLaws
+pub mod MakingLaws

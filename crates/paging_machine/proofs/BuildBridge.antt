@@ -47,7 +47,7 @@ use Rattle.paging_laws.proofs.BuildLaws.{is_free_frame}
 
 valid_held : (v : EntryView) → table.is_valid (held v) ≡ is_valid v
 valid_held views.Free = refl
-valid_held views.Loading = refl
+valid_held (views.Loading page) = refl
 valid_held (views.Valid page kinds.Secs perm blocked sealing) = refl
 valid_held (views.Valid page kinds.Tcs perm blocked sealing) = refl
 valid_held (views.Valid page kinds.Reg perm blocked sealing) = refl

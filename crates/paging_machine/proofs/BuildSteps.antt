@@ -24,7 +24,8 @@ use Rattle.secs_state.specs.Sights.{sight_of}
 use Rattle.measure_log.specs.declared.measure.Measure.{Measure}
 use Rattle.measure_log.specs.Blocks.{eextend_block, chunk_of}
 use Rattle.measure_log.specs.Measure.{HoldsLog, measurement_of}
-use Rattle.measure_log.specs.Rule.{page_held, IsOther}
+use Rattle.measure_log.specs.Rule.{IsOther}
+use Rattle.sgx_types.specs.Frames.{page_of}
 use Rattle.enclave_build.specs.Build.{Appends, with_added, with_resident, block_in, chunk_block, is_expected, measured_row, unless_measured}
 use Rattle.version_array.specs.declared.va_page.VaSlot.{VaSlot}
 use Rattle.version_array.specs.Slots.{with_page as with_va_page}
@@ -60,7 +61,7 @@ epa_leaves m h f page perm epc va k put paged =
     rw (put, paged)
     (record {
       state = epa_state (parts_of m) f page perm h.pages k;
-      kept = kept_put (state_of (parts_of m)) f IsVa (λ g kind perm at. cc at) (λ at. cc at) k.free (kept_of m h);
+      kept = kept_put (state_of (parts_of m)) f IsVa (λ g kind perm at. cc at) (λ g at. cc at) k.free (kept_of m h);
       processors = h.processors;
       places = h.places;
       table = h.table;
@@ -97,31 +98,31 @@ add_written d g f kind perm init x x' longer epc table found nine allowed put re
 -- ---- extend
 
 -- a page that a frame holds is of its enclave
-enclave_held : (c : Content) (g : Page) → page_held c ≡ Some g → enclave_in c ≡ Some g.enclave
+enclave_held : (c : Content) (g : Page) → page_of c ≡ Some g → enclave_in c ≡ Some g.enclave
 enclave_held (Holds page kind perm) g is = let same : page ≡ g = cc is in ap (λ (q : Page). Some q.enclave) same
 enclave_held Free g is = cc is
 enclave_held IsVa g is = cc is
 enclave_held (SecsOf enclave) g is = cc is
-enclave_held IsLoading g is = cc is
+enclave_held (IsLoading page) g is = cc is
 
 -- .. and its block is that of its number
-block_held : (c : Content) (bytes : List ℕ) (chunk : ℕ) (g : Page) → page_held c ≡ Some g
+block_held : (c : Content) (bytes : List ℕ) (chunk : ℕ) (g : Page) → page_of c ≡ Some g
     → block_in c bytes chunk ≡ eextend_block (4096 * g.number + 256 * chunk) (chunk_of bytes chunk)
 block_held (Holds page kind perm) bytes chunk g is =
     let same : page ≡ g = cc is in ap (λ (q : Page). eextend_block (4096 * q.number + 256 * chunk) (chunk_of bytes chunk)) same
 block_held Free bytes chunk g is = cc is
 block_held IsVa bytes chunk g is = cc is
 block_held (SecsOf enclave) bytes chunk g is = cc is
-block_held IsLoading bytes chunk g is = cc is
+block_held (IsLoading page) bytes chunk g is = cc is
 
 -- the state of the enclave of the page in a frame
-pub owner : (d : Parts) (f : ℕ) (g : Page) (x : SecsState) → IsTable d.secs → page_held (held (entry_at d.epc f)) ≡ Some g
+pub owner : (d : Parts) (f : ℕ) (g : Page) (x : SecsState) → IsTable d.secs → page_of (held (entry_at d.epc f)) ≡ Some g
     → enclave_at d.secs g.enclave ≡ Some x → IfSome (enclave_in (held (entry_at d.epc f))) (λ enclave. enclave ≡ x.enclave)
 owner d f g x table here found = rw (enclave_held (held (entry_at d.epc f)) g here) (sym (table.own g.enclave x found).number)
 
 -- the row of `extend`, of a page of an enclave that is there
 pub extend_row_at : (d : Parts) (a : Actor) (f : Frame) (chunk : ℕ) (g : Page) (x : SecsState)
-    → page_held (held (entry_at d.epc f.0)) ≡ Some g → enclave_at d.secs g.enclave ≡ Some x
+    → page_of (held (entry_at d.epc f.0)) ≡ Some g → enclave_at d.secs g.enclave ≡ Some x
     → first_of_row (row_of (state_of d) a (Extend f chunk)) ≡ first_of_row (extend_row chunk x.is_init (sight_in d.epc f.0))
 extend_row_at d a f chunk g x here found =
     ap (λ o. first_of_row (extend_row chunk (is_closed (state_of d) o) (sight_in d.epc f.0)))
@@ -130,7 +131,7 @@ extend_row_at d a f chunk g x here found =
     (sight_in d.epc f.0))) found
 
 pub extend_done : (d : Parts) (f chunk : ℕ) (g : Page) (x : SecsState) (y longer : Measure) → IsTable d.secs
-    → page_held (held (entry_at d.epc f)) ≡ Some g → enclave_at d.secs g.enclave ≡ Some x → length d.measures ≡ 9
+    → page_of (held (entry_at d.epc f)) ≡ Some g → enclave_at d.secs g.enclave ≡ Some x → length d.measures ≡ 9
     → get_or d.measures g.enclave None ≡ Some y → Appends y longer (chunk_block d.epc f chunk)
     → IsExtended (state_of d) f chunk (state_of (record d { measures = set d.measures g.enclave (Some longer) }))
 extend_done d f chunk g x y longer table here found nine there appends = record {

@@ -61,8 +61,8 @@ below d f used = by_place (cases_lt f (length d.epc))
 pub low_out : (d : Parts) (f : ℕ) → (state_of d).is_sealing f ≡ true → f < length d.epc
 low_out d f leaves = below d f (λ free. false≢true (sym (ap goes_out free) ∙ leaves))
 
-pub low_in : (d : Parts) (f : ℕ) → (state_of d).content f ≡ IsLoading → f < length d.epc
-low_in d f waits = below d f (λ free. let none : Free ≡ IsLoading = sym (ap held free) ∙ waits in cc none)
+pub low_in : (d : Parts) (f : ℕ) → table.is_loading ((state_of d).content f) ≡ true → f < length d.epc
+low_in d f waits = below d f (λ free. false≢true (sym (ap (λ v. table.is_loading (held v)) free) ∙ waits))
 
 -- an open start names a slot of the table
 pub writable : (m : Inside) → IsWhole m → (f : ℕ) (start : Start) → f < length m.epc → (state_of (parts_of m)).start f ≡ Some start
@@ -87,7 +87,7 @@ no_va Free h = refl
 no_va IsVa h = cc h
 no_va (SecsOf enclave) h = refl
 no_va (Holds page kind perm) h = refl
-no_va IsLoading h = refl
+no_va (IsLoading page) h = refl
 
 pub ewb_leaves : (m : Inside) → IsWhole m → (f : ℕ) (start : Start) (d' : Parts) → (state_of (parts_of m)).is_sealing f ≡ true
     → (state_of (parts_of m)).start f ≡ Some start → d' ≡ written_parts (parts_of m) f start
@@ -111,7 +111,7 @@ ewb_leaves m h f start d' leaves at done =
 
 page_held : (v : EntryView) (g : Page) (kind : Kind) (perm : Perm) → held v ≡ Holds g kind perm → page_of v ≡ Some g
 page_held views.Free g kind perm h = cc h
-page_held views.Loading g kind perm h = cc h
+page_held (views.Loading page) g kind perm h = cc h
 page_held (views.Valid page k p blocked sealing) g kind perm h = by_kind k h
   where
     by_kind : (k : Kind) → content_of page k p ≡ Holds g kind perm → Some page ≡ Some g
@@ -187,9 +187,17 @@ waits m h f start page at loads =
     by_state None there is kind = cc is
     by_state (Some x) there is kind = by_added x there (added_at x page.number) (ap (λ o. added_in o page.number) there) is kind
 
-waits_idle : (v : EntryView) → held v ≡ IsLoading → goes_out v ≡ false
+-- a frame that waits holds no version array page
+loading_no_va : (c : Content) → table.is_loading c ≡ true → table.is_va c ≡ false
+loading_no_va Free h = refl
+loading_no_va IsVa h = cc h
+loading_no_va (SecsOf enclave) h = refl
+loading_no_va (Holds page kind perm) h = refl
+loading_no_va (IsLoading page) h = refl
+
+waits_idle : (v : EntryView) → table.is_loading (held v) ≡ true → goes_out v ≡ false
 waits_idle views.Free h = refl
-waits_idle views.Loading h = refl
+waits_idle (views.Loading page) h = refl
 waits_idle (views.Valid page kinds.Tcs perm blocked sealing) h = cc h
 waits_idle (views.Valid page kinds.Reg perm blocked sealing) h = cc h
 waits_idle (views.Valid page kinds.Secs perm blocked sealing) h = cc h
@@ -202,7 +210,7 @@ paged_is_not_va page kinds.Secs perm h = absurd h
 paged_is_not_va page kinds.Va perm h = absurd h
 
 pub eld_leaves : (m : Inside) → IsWhole m → (f : ℕ) (start : Start) (page : Page) (kind : Kind) (perm : Perm) (words : List ℕ) (d' : Parts)
-    → (state_of (parts_of m)).content f ≡ IsLoading → (state_of (parts_of m)).start f ≡ Some start
+    → table.is_loading ((state_of (parts_of m)).content f) ≡ true → (state_of (parts_of m)).start f ≡ Some start
     → (state_of (parts_of m)).added page ≡ Some (kind, perm) → IsPaged kind → length words ≡ 512
     → d' ≡ loaded_parts (parts_of m) f start page kind perm words
     → Leaves d' (after_eld (state_of (parts_of m)) f start page kind perm words)
@@ -222,11 +230,11 @@ eld_leaves m h f start page kind perm words d' comes at added paged long done =
       slots = table_ended d.va start.slot 0 h.slots k.is_slot;
       pages = pages_ended d.va start.slot 0 h.slots k.is_slot (with_words epc f words)
           (pages-with_words epc d.va f words (pages-with_entry d.epc d.va f v h.pages k.low
-          (paged_is_not_va page kind perm paged ∙ sym (ap table.is_va comes))));
+          (paged_is_not_va page kind perm paged ∙ sym (loading_no_va (held (entry_at d.epc f)) comes))));
       start_places = length-set d.starts f _ ∙ h.start_places ∙ sym (length-with_words epc f words ∙ length-with_entry d.epc f v);
     })
 
-pub failed_leaves : (m : Inside) → IsWhole m → (f : ℕ) (start : Start) (d' : Parts) → (state_of (parts_of m)).content f ≡ IsLoading
+pub failed_leaves : (m : Inside) → IsWhole m → (f : ℕ) (start : Start) (d' : Parts) → table.is_loading ((state_of (parts_of m)).content f) ≡ true
     → (state_of (parts_of m)).start f ≡ Some start → d' ≡ failed_parts (parts_of m) f start
     → Leaves d' (after_failed_eld (state_of (parts_of m)) f start)
 failed_leaves m h f start d' comes at done =
@@ -241,7 +249,7 @@ failed_leaves m h f start d' comes at done =
       track_places = h.track_places;
       tracked = h.tracked;
       slots = slots_marked d f start.slot false h.slots k;
-      pages = pages_marked d (cleared d.epc f) f start.slot false (pages-cleared d.epc d.va f h.pages k.low (ap table.is_va comes)) k;
+      pages = pages_marked d (cleared d.epc f) f start.slot false (pages-cleared d.epc d.va f h.pages k.low (loading_no_va (held (entry_at d.epc f)) comes)) k;
       start_places = length-set d.starts f _ ∙ h.start_places ∙ sym (length-cleared d.epc f);
     })
 
@@ -276,7 +284,7 @@ pub record IsOpened (s : State) (f : ℕ) (work : UnsealedWork) (rec : Sealed) :
 
 module _ (m : Inside) (h : IsWhole m) (a : Actor) (f : Frame) (work : UnsealedWork) (rec : Sealed) (start : opened.Start) (page : Page)
     (epc : List EpcFrame) (va : List (Option (List VaSlot)))
-    (comes : (state_of (parts_of m)).content f.0 ≡ IsLoading) (is : IsOpened (state_of (parts_of m)) f.0 work rec)
+    (comes : table.is_loading ((state_of (parts_of m)).content f.0) ≡ true) (is : IsOpened (state_of (parts_of m)) f.0 work rec)
     (at : (state_of (parts_of m)).start f.0 ≡ start_of (Some start)) (loads : start.loads ≡ Some page)
   where
     abbrev d : Parts

@@ -16,7 +16,7 @@ use Rattle.paging_machine.proofs.Columns.{get_or-default}
 
 free_held : (v : EntryView) → frames.is_free (held v) ≡ is_free v
 free_held views.Free = refl
-free_held views.Loading = refl
+free_held (views.Loading page) = refl
 free_held (views.Valid page kinds.Secs perm blocked sealing) = refl
 free_held (views.Valid page kinds.Tcs perm blocked sealing) = refl
 free_held (views.Valid page kinds.Reg perm blocked sealing) = refl

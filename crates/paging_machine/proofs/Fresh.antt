@@ -24,7 +24,8 @@ use Rattle.evict_reload.proofs.PageLaws.{pages-none}
 use Rattle.paging_machine.specs.declared.starts.Start as starts
 use Rattle.paging_laws.specs.Guarded.{IsGuarded}
 use Rattle.paging_laws.specs.Histories.{StandsWithAllRules}
-use Rattle.paging_laws.specs.Shape.{making_of, ShapeWithRules}
+use Rattle.paging_laws.specs.State.{making_of}
+use Rattle.paging_laws.specs.Shape.{ShapeWithRules}
 use Rattle.paging_laws.specs.State.{fresh}
 use Rattle.paging_laws.specs.Stands.{IsSound, IsMeasured, IsFramed}
 use Rattle.paging_machine.specs.Parts.{Parts, made, idle, is_noted, state_of, enclave_of, added_in, is_busy_in, seat_of_mode, noted_by, epoch_from, start_of}
@@ -111,7 +112,7 @@ guarded_made frames cpus key epoch version =
       taken = λ g is. cc is;
       opened = λ n. tt;
       written = λ n is. cc is;
-      loaded = λ n is. cc is;
+      loaded = λ n g is. cc is;
       kinds = λ g. tt;
       goes_out = λ n is. cc is;
     })

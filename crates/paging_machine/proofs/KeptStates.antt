@@ -1,5 +1,6 @@
 -- What the rows that build, and those that move pages, keep of a state: created enclaves have measurements, pages in frames
 -- were added, translations lead to frames, processors inside stand on pages of their enclave, and only drained pages go out.
+use Rattle.paging_laws.proofs.Contents.{waits_for}
 use Rattle.std.proofs.Common.{◌≡◌, ℕ, ◌==◌, Bool, true, false, cond, refl, subst, sym, List, length, Option, Some, None, is_some}
 use Rattle.std.proofs.lemmas.Bool.{cond_both}
 use Rattle.sgx_types.specs.declared.entries.PageInit.{PageInit}
@@ -8,9 +9,9 @@ use Rattle.sgx_types.specs.declared.names.Kind.{Kind}
 use Rattle.sgx_types.specs.declared.names.Perm.{Perm}
 use Rattle.sgx_types.specs.declared.names.SlotAt.{SlotAt}
 use Rattle.sgx_types.specs.Frames.{Content, Free, SecsOf, Holds, IsLoading, same_page}
-use Rattle.sgx_types.specs.Flat.{FlatEnclave, marked}
+use Rattle.sgx_types.specs.Flat.{FlatEnclave, marked, enclave_sight_of}
 use Rattle.sgx_types.specs.Starts.{Start}
-use Rattle.sgx_types.specs.Table.{block_row, track_row, ewbstart_row, eldstart_row, first_of_row}
+use Rattle.sgx_types.specs.Table.{block_row, track_row, ewbstart_row, eldstart_row, first_of_row, is_loading}
 use Rattle.sgx_types.proofs.Pages.{same_page-at}
 use Rattle.measure_log.specs.declared.measure.Measure.{Measure}
 use Rattle.paging_laws.specs.State.{State, sight, track_sight, slot_sight, drain_sight, is_version_spent, with_content, after_create, after_add, after_extend, after_init, after_block, after_track, after_ewbstart, after_eldstart, after_ewb, after_eld, after_failed_eld}
@@ -40,7 +41,7 @@ framed_put s f c none h n g kind perm = cond_both (f == n) c (s.content n) (λ v
     (λ _ at. absurd (none g kind perm at)) (λ _. h n g kind perm)
 
 pub kept_put : (s : State) (f : ℕ) (c : Content) → ((g : Page) (kind : Kind) (perm : Perm) → c ≡ Holds g kind perm → ⊥)
-    → (c ≡ IsLoading → ⊥) → s.content f ≡ Free → IsKept s → IsKept (with_content s f c)
+    → ((g : Page) → c ≡ IsLoading g → ⊥) → s.content f ≡ Free → IsKept s → IsKept (with_content s f c)
 kept_put s f c none settled free h = record {
   measured = h.measured;
   framed = framed_put s f c none h.framed;
@@ -140,11 +141,11 @@ kept_ewbstart s f slot allowed h = record {
 }
 
 pub kept_eldstart : (s : State) (f : ℕ) (page : Page) (slot : SlotAt)
-    → first_of_row (eldstart_row (sight s f) (is_some (s.added page)) (slot_sight s slot)) ≡ None → IsKept s
+    → first_of_row (eldstart_row (sight s f) (enclave_sight_of (s.enclaves page.enclave)) (is_some (s.added page)) (slot_sight s slot)) ≡ None → IsKept s
     → IsKept (after_eldstart s f page slot)
 kept_eldstart s f page slot allowed h = record {
   measured = h.measured;
-  framed = framed_put s f IsLoading (λ g kind perm at. cc at) h.framed;
+  framed = framed_put s f (IsLoading page) (λ g kind perm at. cc at) h.framed;
   within = h.within;
   sound = sound_eldstart s f page slot allowed h.sound;
   guarded = guarded_eldstart s f page slot allowed h.guarded;
@@ -159,7 +160,8 @@ kept_ewb s f start leaving h = record {
   guarded = guarded_ewb s f start leaving h.guarded;
 }
 
-pub kept_eld : (s : State) (f : ℕ) (start : Start) (page : Page) (kind : Kind) (perm : Perm) (words : List ℕ) → s.content f ≡ IsLoading
+pub kept_eld : (s : State) (f : ℕ) (start : Start) (page : Page) (kind : Kind) (perm : Perm) (words : List ℕ)
+    → is_loading (s.content f) ≡ true
     → s.added page ≡ Some (kind, perm) → length words ≡ 512 → IsKept s
     → IsKept (after_eld s f start page kind perm words)
 kept_eld s f start page kind perm words waits added long h = record {
@@ -168,15 +170,15 @@ kept_eld s f start page kind perm words waits added long h = record {
       cond_both (f == n) (Holds page kind perm) (s.content n) (λ v. v ≡ Holds g k p → is_some (s.added g) ≡ true)
       (λ _ at. let same : page ≡ g = cc at in rw (← same, added) refl) (λ _. h.framed n g k p);
   within = h.within;
-  sound = sound_eld s f start page kind perm words waits long h.sound;
-  guarded = guarded_eld s f start page kind perm words waits h.guarded;
+  sound = let w = waits_for (s.content f) waits in sound_eld s f start page kind perm words w.0 w.1 long h.sound;
+  guarded = let w = waits_for (s.content f) waits in guarded_eld s f start page kind perm words w.0 w.1 h.guarded;
 }
 
-pub kept_failed_eld : (s : State) (f : ℕ) (start : Start) → s.content f ≡ IsLoading → IsKept s → IsKept (after_failed_eld s f start)
+pub kept_failed_eld : (s : State) (f : ℕ) (start : Start) → is_loading (s.content f) ≡ true → IsKept s → IsKept (after_failed_eld s f start)
 kept_failed_eld s f start waits h = record {
   measured = h.measured;
   framed = framed_put s f Free (λ g kind perm at. cc at) h.framed;
   within = h.within;
-  sound = sound_failed_eld s f start waits h.sound;
-  guarded = guarded_failed_eld s f start waits h.guarded;
+  sound = let w = waits_for (s.content f) waits in sound_failed_eld s f start w.0 w.1 h.sound;
+  guarded = let w = waits_for (s.content f) waits in guarded_failed_eld s f start w.0 w.1 h.guarded;
 }

@@ -1,4 +1,6 @@
 -- The machine's parts after a block, a track, a write-out or a reload, and the state that they make.
+use Rattle.std.specs.Option.{option_map}
+use Rattle.secs_state.specs.Sights.{sight_of}
 use Rattle.std.proofs.Common.{◌≡◌, ℕ, ◌+◌, ◌<◌, ◌≤◌, ◌==◌, ◌||◌, Bool, true, false, not, cond, leb, refl, sym, ap, ◌∙◌, Option, Some, None, List, length, get_or, set, is_some, length-set, arith}
 use Rattle.std.specs.Prelude.{count_by, nat_lt}
 use Rattle.std.proofs.lemmas.Bool.{eqb-true, leb-false, ltb-false, not-false}
@@ -11,7 +13,7 @@ use Rattle.sgx_types.specs.Frames.{Content, Free, IsVa, SecsOf, Holds, IsLoading
 use Rattle.sgx_types.specs.Slots.{same_slot}
 use Rattle.sgx_types.specs.Starts.{Start}
 use Rattle.sgx_types.specs.Table as table
-use Rattle.sgx_types.specs.Table.{DrainSight, first_of_row, block_row, track_row, ewbstart_row, eldstart_row}
+use Rattle.sgx_types.specs.Table.{DrainSight, first_of_row, block_row, track_row, ewbstart_row, eldstart_row, EnclaveSight}
 use Rattle.sgx_types.proofs.Rows.{none_holds}
 use Rattle.sgx_types.proofs.Truths.{neither}
 use Rattle.epcm_entry.specs.declared.entry_view.EntryView.{EntryView}
@@ -66,17 +68,17 @@ entries_with epc f v low n = entry_at-with_entry epc f n v low
 
 held-with_block : (v : EntryView) (b : ℕ) → held (with_block v b) ≡ held v
 held-with_block views.Free b = refl
-held-with_block views.Loading b = refl
+held-with_block (views.Loading page) b = refl
 held-with_block (views.Valid page kind perm blocked sealing) b = refl
 
 goes_out-with_block : (v : EntryView) (b : ℕ) → goes_out (with_block v b) ≡ goes_out v
 goes_out-with_block views.Free b = refl
-goes_out-with_block views.Loading b = refl
+goes_out-with_block (views.Loading page) b = refl
 goes_out-with_block (views.Valid page kind perm blocked sealing) b = refl
 
 block_of-with_block : (v : EntryView) (b : ℕ) → is_valid v ≡ true → block_of (with_block v b) ≡ Some b
 block_of-with_block views.Free b valid = cc valid
-block_of-with_block views.Loading b valid = cc valid
+block_of-with_block (views.Loading page) b valid = cc valid
 block_of-with_block (views.Valid page kind perm blocked sealing) b valid = refl
 
 -- a frame that is in the EPC, and holds a page
@@ -92,7 +94,7 @@ taken : (v : EntryView) → table.is_busy (record {
   is_blocked = is_some (block_of v);
 }) ≡ false → is_free (held v) ≡ false → is_valid v ≡ true
 taken views.Free idle used = cc used
-taken views.Loading idle used = cc idle
+taken (views.Loading page) idle used = cc idle
 taken (views.Valid page kind perm blocked sealing) idle used = refl
 
 pub blocks : (d : Parts) (f : ℕ) → first_of_row (block_row (sight_in d.epc f)) ≡ None → HoldsPage d.epc f
@@ -191,17 +193,17 @@ pub record IsWritable (d : Parts) (f : ℕ) (slot : SlotAt) : Type 0 where
 
 held-outgoing : (v : EntryView) → held (outgoing v) ≡ held v
 held-outgoing views.Free = refl
-held-outgoing views.Loading = refl
+held-outgoing (views.Loading page) = refl
 held-outgoing (views.Valid page kind perm blocked sealing) = refl
 
 block_of-outgoing : (v : EntryView) → block_of (outgoing v) ≡ block_of v
 block_of-outgoing views.Free = refl
-block_of-outgoing views.Loading = refl
+block_of-outgoing (views.Loading page) = refl
 block_of-outgoing (views.Valid page kind perm blocked sealing) = refl
 
 goes_out-outgoing : (v : EntryView) → is_valid v ≡ true → goes_out (outgoing v) ≡ true
 goes_out-outgoing views.Free valid = cc valid
-goes_out-outgoing views.Loading valid = cc valid
+goes_out-outgoing (views.Loading page) valid = cc valid
 goes_out-outgoing (views.Valid page kind perm blocked sealing) valid = refl
 
 abbrev pub out_parts : Parts → ℕ → SlotAt → Parts
@@ -233,7 +235,7 @@ ewbstart_state d f slot is k valid =
 
 abbrev pub in_parts : Parts → ℕ → Page → SlotAt → Parts
 in_parts d f page slot = record d {
-  epc = with_loading d.epc f;
+  epc = with_loading d.epc f page;
   va = with_busy d.va slot true;
   starts = set d.starts f (Some (record { slot = slot; version = version_in d.va slot; loads = Some page }));
 }
@@ -241,13 +243,13 @@ in_parts d f page slot = record d {
 pub eldstart_state : (d : Parts) (f : ℕ) (page : Page) (slot : SlotAt) → IsVaTable d.va → IsWritable d f slot
     → goes_out (entry_at d.epc f) ≡ false → state_of (in_parts d f page slot) ≡ after_eldstart (state_of d) f page slot
 eldstart_state d f page slot is k idle =
-    let entries = entries_with d.epc f views.Loading k.low in
+    let entries = entries_with d.epc f (views.Loading page) k.low in
     λ i. record (after_eldstart (state_of d) f page slot) {
-      frames = length-with_entry d.epc f views.Loading i;
-      content = λ n. entry_column d.epc (with_loading d.epc f) f views.Loading entries held n i;
-      blocked = λ n. entry_column d.epc (with_loading d.epc f) f views.Loading entries block_of n i;
-      is_sealing = λ n. entry_kept d.epc (with_loading d.epc f) f views.Loading entries goes_out n (sym idle) i;
-      words = λ n. words_at-with_entry d.epc f n views.Loading i;
+      frames = length-with_entry d.epc f (views.Loading page) i;
+      content = λ n. entry_column d.epc (with_loading d.epc f page) f (views.Loading page) entries held n i;
+      blocked = λ n. entry_column d.epc (with_loading d.epc f page) f (views.Loading page) entries block_of n i;
+      is_sealing = λ n. entry_kept d.epc (with_loading d.epc f page) f (views.Loading page) entries goes_out n (sym idle) i;
+      words = λ n. words_at-with_entry d.epc f n (views.Loading page) i;
       version_in = λ other. version_in-with_busy d.va slot other true is k.is_slot i;
       is_slot_busy = λ other. is_busy_at-with_busy d.va slot other true is k.is_slot i;
       start = λ n. start_column d.starts f n (Some (record { slot = slot; version = version_in d.va slot; loads = Some page })) k.there i;
@@ -347,7 +349,7 @@ block_leaves m h f epc allowed done =
     })
 
 -- an enclave that is there, by the row of a track
-there_tracked : (o : Option SecsState) (t : Option Tracking) → first_of_row (track_row (track_seen (is_some o) t)) ≡ None → is_some o ≡ true
+there_tracked : (o : Option SecsState) (t : Option Tracking) → first_of_row (track_row (track_seen (option_map sight_of o) t)) ≡ None → is_some o ≡ true
 there_tracked None None allowed = cc allowed
 there_tracked None (Some t) allowed = cc allowed
 there_tracked (Some x) t allowed = refl
@@ -471,27 +473,28 @@ not_va Free e = refl
 not_va IsVa e = cc e
 not_va (SecsOf enclave) e = refl
 not_va (Holds page kind perm) e = refl
-not_va IsLoading e = refl
+not_va (IsLoading page) e = refl
 
 pub record ComesIn (d : Parts) (f : ℕ) (slot : SlotAt) : Type 0 where
   pub found : IsFound d f slot
   pub not_va : table.is_va (held (entry_at d.epc f)) ≡ false
 
-pub comes : (d : Parts) (f : ℕ) (slot : SlotAt) (added : Bool) → AreVaPages d.epc d.va → length d.starts ≡ length d.epc
-    → first_of_row (eldstart_row (sight_in d.epc f) added (parts.slot_sight d.epc d.va slot)) ≡ None → ComesIn d f slot
-comes d f slot added pages places allowed =
-    let none = none_holds (eldstart_row (sight_in d.epc f) added (parts.slot_sight d.epc d.va slot)) allowed in
+pub comes : (d : Parts) (f : ℕ) (slot : SlotAt) (enclave : Option EnclaveSight) (added : Bool) → AreVaPages d.epc d.va → length d.starts ≡ length d.epc
+    → first_of_row (eldstart_row (sight_in d.epc f) enclave added (parts.slot_sight d.epc d.va slot)) ≡ None → ComesIn d f slot
+comes d f slot enclave added pages places allowed =
+    let none = none_holds (eldstart_row (sight_in d.epc f) enclave added (parts.slot_sight d.epc d.va slot)) allowed in
     record {
-      found = found d f slot pages places none.0 none.1.1.0 (not-false _ none.1.1.1.1.0);
-      not_va = not_va (held (entry_at d.epc f)) none.1.1.1.0;
+      found = found d f slot pages places none.0 none.1.1.1.0 (not-false _ none.1.1.1.1.1.0);
+      not_va = not_va (held (entry_at d.epc f)) none.1.1.1.1.0;
     }
 
 pub eldstart_leaves : (m : Inside) → IsWhole m → (f : ℕ) (page : Page) (slot : SlotAt) (d' : Parts)
-    → first_of_row (eldstart_row (sight_in m.epc f) (parts.is_added m.secs page) (parts.slot_sight m.epc m.va slot)) ≡ None
+    → first_of_row (eldstart_row (sight_in m.epc f) (parts.enclave_sight m.secs page.enclave) (parts.is_added m.secs page)
+    (parts.slot_sight m.epc m.va slot)) ≡ None
     → d' ≡ in_parts (parts_of m) f page slot → Leaves d' (after_eldstart (state_of (parts_of m)) f page slot)
 eldstart_leaves m h f page slot d' allowed done =
     let d = parts_of m in
-    let k = comes d f slot (parts.is_added d.secs page) h.pages h.start_places allowed in
+    let k = comes d f slot (parts.enclave_sight d.secs page.enclave) (parts.is_added d.secs page) h.pages h.start_places allowed in
     let w = k.found.writable in
     rw done (record {
       state = eldstart_state d f page slot h.slots w k.found.idle;
@@ -502,9 +505,9 @@ eldstart_leaves m h f page slot d' allowed done =
       track_places = h.track_places;
       tracked = h.tracked;
       slots = slots_marked d f slot true h.slots w;
-      pages = pages_marked d (with_loading d.epc f) f slot true (pages-with_entry d.epc d.va f views.Loading h.pages w.low (sym k.not_va))
+      pages = pages_marked d (with_loading d.epc f page) f slot true (pages-with_entry d.epc d.va f (views.Loading page) h.pages w.low (sym k.not_va))
           w;
-      start_places = length-set d.starts f _ ∙ h.start_places ∙ sym (length-with_entry d.epc f views.Loading);
+      start_places = length-set d.starts f _ ∙ h.start_places ∙ sym (length-with_entry d.epc f (views.Loading page));
     })
 
 -- ---- parts that are written as a row says
@@ -526,7 +529,7 @@ out_as d f slot epc va versions version e v q a =
     }
 
 pub in_as : (d : Parts) (f : ℕ) (page : Page) (slot : SlotAt) (epc : List EpcFrame) (va : List (Option (List VaSlot))) (version : ℕ)
-    → epc ≡ with_loading d.epc f → va ≡ with_busy d.va slot true → version ≡ version_in d.va slot
+    → epc ≡ with_loading d.epc f page → va ≡ with_busy d.va slot true → version ≡ version_in d.va slot
     → record d { epc = epc; va = va; starts = set d.starts f (Some (record { slot = slot; version = version; loads = Some page })) }
     ≡ in_parts d f page slot
 in_as d f page slot epc va version e v a =

@@ -1,7 +1,10 @@
 -- What the rows of block, track, write-out and reload see of the machine's parts is what they see of the state.
+use Rattle.paging_laws.proofs.Contents.{waits_for}
+use Rattle.secs_state.specs.Sights.{sight_of}
+use Rattle.sgx_types.specs.Flat.{enclave_sight_of}
 use Rattle.std.proofs.Common.{◌≡◌, ℕ, zero, suc, ◌+◌, ◌-◌, ◌<◌, ◌≤◌, ◌==◌, ◌&&◌, Bool, true, false, cond, refl, sym, ap, ◌∙◌, arith, Option, Some, None, IfSome, is_some, List, [], ◌∷◌, length, get_or}
 use Rattle.std.specs.Prelude.{count_by, nat_lt, nat_le, slice_get}
-use Rattle.std.specs.Option.{option_and_then, IsSomeAnd}
+use Rattle.std.specs.Option.{option_and_then, IsSomeAnd, option_map}
 use Rattle.std.proofs.lemmas.Bool.{ne_eqb, eqb-true, false≢true}
 use Rattle.std.proofs.lemmas.List.Sums.{sum_by-cons}
 use Rattle.sgx_types.specs.declared.names.Page.{Page}
@@ -14,7 +17,7 @@ use Rattle.sgx_types.specs.declared.refusals.Refusal.{Refusal}
 use Rattle.sgx_types.specs.Counts.{count_below}
 use Rattle.sgx_types.specs.Epochs.{epoch_of}
 use Rattle.sgx_types.specs.Frames.{Content, Free, IsVa, SecsOf, Holds, IsLoading, enclave_in}
-use Rattle.sgx_types.specs.Table.{DrainSight, SlotSight, first_of_row, track_row, ewbstart_row, eldstart_row}
+use Rattle.sgx_types.specs.Table.{DrainSight, SlotSight, first_of_row, track_row, ewbstart_row, eldstart_row, is_loading}
 use Rattle.sgx_types.proofs.CountLaws.{count_below-agrees}
 use Rattle.epcm_entry.specs.declared.entry_view.EntryView.{EntryView}
 use Rattle.epcm_entry.specs.declared.entry_view.EntryView.TheVariants as views
@@ -117,7 +120,7 @@ frame_numbered d f eight framed = by_content ((state_of d).content f) (framed f)
     by_content IsVa h = tt
     by_content (SecsOf enclave) h = tt
     by_content (Holds page kind perm) h = added_numbered d.secs page eight (h page kind perm refl)
-    by_content IsLoading h = tt
+    by_content (IsLoading page) h = tt
 
 -- what a page was added as, by either name
 pub added_same : (table : List (Option SecsState)) (g : Page) → parts.added_in table g ≡ added_in (enclave_at table g.enclave) g.number
@@ -143,14 +146,14 @@ pub track_row_at : (d : Parts) (e : ℕ) → length d.secs ≡ 8 → length d.tr
     → first_of_row (track_row (parts.track_sight d.secs d.tracks e)) ≡ first_of_row (track_row (track_sight (state_of d) e))
 track_row_at d e eight places few tracked = by_state (enclave_at d.secs e) refl
   where
-    absent : (o : Option Tracking) → first_of_row (track_row (parts.track_seen false o)) ≡ first_of_row
-        (track_row (record (track_sight (state_of d) e) { is_created = false }))
+    absent : (o : Option Tracking) → first_of_row (track_row (parts.track_seen None o)) ≡ first_of_row
+        (track_row (record (track_sight (state_of d) e) { enclave = None }))
     absent None = refl
     absent (Some t) = refl
 
     by_state : (o : Option SecsState) → enclave_at d.secs e ≡ o
-        → first_of_row (track_row (parts.track_seen (is_some o) (track_of d.tracks e))) ≡ first_of_row
-        (track_row (record (track_sight (state_of d) e) { is_created = is_some (enclave_of o) }))
+        → first_of_row (track_row (parts.track_seen (option_map sight_of o) (track_of d.tracks e))) ≡ first_of_row
+        (track_row (record (track_sight (state_of d) e) { enclave = enclave_sight_of (enclave_of o) }))
     by_state None at = absent (track_of d.tracks e)
     by_state (Some x) at =
         let number = numbered d.secs e x eight at in
@@ -221,16 +224,25 @@ ewbstart_row_at d f slot places few tracked numbered = by_entry (entry_at d.epc 
         (is_spent_at d.versions) ≡ ewbstart_by (nat_le (length d.epc) f) v (slot_sight (state_of d) slot) (drain_by (state_of d) v)
         (is_spent_at d.versions)
     by_entry views.Free h = refl
-    by_entry views.Loading h = refl
+    by_entry (views.Loading page) h = refl
     by_entry (views.Valid page kind perm None sealing) h = by_free page kind perm sealing
     by_entry (views.Valid page kind perm (Some b) sealing) h = by_kind page kind perm b sealing h
 
 -- the row of the start of ELDU
 pub eldstart_row_at : (d : Parts) (f : ℕ) (page : Page) (slot : SlotAt)
-    → first_of_row (eldstart_row (sight_in d.epc f) (parts.is_added d.secs page) (parts.slot_sight d.epc d.va slot)) ≡ first_of_row
-    (eldstart_row (sight (state_of d) f) (is_some ((state_of d).added page)) (slot_sight (state_of d) slot))
+    → first_of_row (eldstart_row (sight_in d.epc f) (parts.enclave_sight d.secs page.enclave) (parts.is_added d.secs page)
+    (parts.slot_sight d.epc d.va slot)) ≡ first_of_row
+    (eldstart_row (sight (state_of d) f) (enclave_sight_of ((state_of d).enclaves page.enclave)) (is_some ((state_of d).added page))
+    (slot_sight (state_of d) slot))
 eldstart_row_at d f page slot =
-    ap (λ o. first_of_row (eldstart_row (sight_in d.epc f) (is_some o) (parts.slot_sight d.epc d.va slot))) (added_same d.secs page)
+    ap (λ o. first_of_row (eldstart_row (sight_in d.epc f) (parts.enclave_sight d.secs page.enclave) (is_some o)
+    (parts.slot_sight d.epc d.va slot))) (added_same d.secs page)
+    ∙ ap (λ o. first_of_row (eldstart_row (sight_in d.epc f) o (is_some ((state_of d).added page)) (parts.slot_sight d.epc d.va slot)))
+    (same_sight (enclave_at d.secs page.enclave))
+  where
+    same_sight : (o : Option SecsState) → option_map sight_of o ≡ enclave_sight_of (enclave_of o)
+    same_sight None = refl
+    same_sight (Some x) = refl
 
 -- ---- the page that goes out of a frame
 
@@ -264,8 +276,8 @@ some_there (Some x) P h = refl
 pub start_out : (s : State) (f : ℕ) → IsGuarded s → s.is_sealing f ≡ true → is_some (s.start f) ≡ true
 start_out s f guarded leaves = some_there (s.start f) WritesOut (guarded.written f leaves)
 
-pub start_in : (s : State) (f : ℕ) → IsGuarded s → s.content f ≡ IsLoading → is_some (s.start f) ≡ true
-start_in s f guarded loads = some_there (s.start f) Loads (guarded.loaded f loads)
+pub start_in : (s : State) (f : ℕ) → IsGuarded s → is_loading (s.content f) ≡ true → is_some (s.start f) ≡ true
+start_in s f guarded loads = let w = waits_for (s.content f) loads in some_there (s.start f) (Loads w.0) (guarded.loaded f w.0 w.1)
 
 -- two headers that a test finds alike
 pub same_headers : (a b : Header) → ((a.enclave == b.enclave) && ((a.address == b.address) && (a.flags == b.flags))) ≡ true → a ≡ b

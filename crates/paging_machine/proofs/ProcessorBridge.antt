@@ -25,13 +25,13 @@ use Rattle.cached_translations.specs.Translations.{with_translation}
 use Rattle.track_epoch.specs.Tracking.{Tracking, entered, left}
 use Rattle.track_epoch.specs.Tracks.{track_of, with_track}
 use Rattle.track_epoch.proofs.TracksLaws.{track_of-with_track}
-use Rattle.measure_log.specs.Rule.{page_held}
+use Rattle.sgx_types.specs.Frames.{page_of}
 use Rattle.entry_exit.specs.Entry.{IsAdded}
 use Rattle.paging_laws.specs.State.{State, seat_enclave, is_seated_by, rewritten, with_inside, with_acc, after_exit, after_fill}
 use Rattle.paging_machine.specs.Parts.{Parts, added_in, enclave_of, epoch_from, is_busy_in, idle, cpu_at, noted_by, seat_of_mode, state_of}
 use Rattle.paging_machine.specs.Whole.{IsSecsOf, IsTable}
 use Rattle.paging_laws.specs.Stands.{IsSound, IsFramed}
-use Rattle.paging_laws.proofs.ExtendLaws.{IsMade}
+use Rattle.paging_laws.specs.Stands.{HasEnclaves}
 use Rattle.paging_machine.proofs.Columns.{get_or-set_if, get_or-default, same_at, numbered, enclave_kept, page_column}
 use Rattle.paging_laws.proofs.SoundLaws.{seat_at}
 
@@ -64,24 +64,24 @@ page_added s framed n g is = by_content (s.content n) refl is
     by_content Free e k = cc
     by_content IsVa e k = cc
     by_content (SecsOf enclave) e k = cc
-    by_content IsLoading e k = cc
+    by_content (IsLoading page) e k = cc
 
 -- .. and that enclave was created
-pub pages_made : (d : Parts) → IsFramed (state_of d) → IsMade (state_of d)
+pub pages_made : (d : Parts) → IsFramed (state_of d) → HasEnclaves (state_of d)
 pages_made d framed n g is = by_content ((state_of d).content n) refl is
   where
     by_enclave : (o : Option SecsState) (number : ℕ) → is_some (added_in o number) ≡ true → is_some (enclave_of o) ≡ true
     by_enclave None number k = cc k
     by_enclave (Some x) number k = refl
 
-    by_content : (c : Content) → (state_of d).content n ≡ c → page_held c ≡ Some g
+    by_content : (c : Content) → (state_of d).content n ≡ c → page_of c ≡ Some g
         → is_some (enclave_of (enclave_at d.secs g.enclave)) ≡ true
     by_content (Holds page kind perm) e k =
         let same : page ≡ g = cc in by_enclave (enclave_at d.secs g.enclave) g.number (rw same at (framed n page kind perm e))
     by_content Free e k = cc
     by_content IsVa e k = cc
     by_content (SecsOf enclave) e k = cc
-    by_content IsLoading e k = cc
+    by_content (IsLoading page) e k = cc
 
 -- a page that was added, by its enclave's state
 pub added_there : (table : List (Option SecsState)) (e number : ℕ) (x : SecsState) → is_some (added_in (enclave_at table e) number) ≡ true
@@ -101,7 +101,7 @@ frame_added d e n x table found framed = by_content (held (entry_at d.epc n)) (f
     by_content Free h = tt
     by_content IsVa h = tt
     by_content (SecsOf enclave) h = tt
-    by_content IsLoading h = tt
+    by_content (IsLoading page) h = tt
 
 -- the TCS page by which a processor is inside was added
 pub seat_added : (d : Parts) (p enclave tcs : ℕ) (tf sf : Frame) (epoch : ℕ) → (cpu_at d p).mode ≡ modes.Inside enclave tcs tf sf epoch

@@ -1,5 +1,6 @@
 //! One instruction, by its row.
 
+ghost use Rattle.paging_laws.specs.State.{making_of};
 ghost use Rattle.std.specs.Prelude.{◌≡◌, IfOk, OnErr, length, List, ◌∷◌};
 ghost use Rattle.sgx_types.specs.declared.entries.Entry.{Entry};
 ghost use Rattle.paging_machine.specs.Parts.{state_of};
@@ -20,9 +21,9 @@ impl Machine {
     /// One instruction but the commits of EWB and ELDU: its entry says whether it was done, with its answer, or refused,
     /// with the first case of its row in this project's instruction table that holds. A refusal changes nothing. Memory
     /// may be refused to `epa` and `create` alone.
-    pub fn apply(&mut self, alloc: Global, actor: Actor, action: Action) -> Result<Entry, Memory>
-        requires { CanApply (length self.old.cpus) actor action }
-        ensures step { IfOk result (λ e. IsStep (state_of self.old) actor action e (state_of self.new)) }
+    pub fn apply(&mut self, alloc: Global, actor: Actor, action: &Action) -> Result<Entry, Memory>
+        requires { CanApply (length self.old.cpus) actor action.now }
+        ensures step { IfOk result (λ e. IsStep (state_of self.old) actor action.now e (state_of self.new)) }
         ensures shape { IfOk result (λ e. (making : Making) (past : List Entry) → ShapeWithRules making (state_of self.old) past
             → ShapeWithRules making (state_of self.new) (e ∷ past)) }
         ensures fits { IfOk result (λ e. (making : Making) (past : List Entry) → ShapeWithRules making (state_of self.old) past
@@ -30,13 +31,14 @@ impl Machine {
             FitsApart making.frames past → FitsApart making.frames (e ∷ past)) }
         ensures history { IfOk result (λ e. (making : Making) (past : List Entry) (records : List Made) →
             StandsWithAllRules making (state_of self.old) past records → StandsWithAllRules making (state_of self.new) (e ∷ past) records) }
-        ensures memory { OnErr result (MayNeedMemory action) }
+        ensures memory { OnErr result (MayNeedMemory action.now) }
         ensures refused { OnErr result (self.new ≡ self.old) }
+        ensures making { making_of (state_of self.new) ≡ making_of (state_of self.old) }
         ensures cpus { length self.new.cpus ≡ length self.old.cpus }
     {
         // The proof takes from here what is true of every machine, before the instruction and after it.
         let _ = &self.epc;
-        let entry = self.row(alloc, actor, action)?;
+        let entry = self.row(alloc, actor, *action)?;
         let _ = &self.epc;
         Ok(entry)
     }

@@ -1,12 +1,14 @@
 //! The ends of write-outs and loads, and what is sealed and opened between a start and its commit.
 
+ghost use Rattle.paging_laws.specs.Notes.{IsDone};
+ghost use Rattle.paging_laws.specs.State.{making_of};
 ghost use Rattle.std.specs.Prelude.{◌≡◌, ◌∷◌, ◌++◌, true, Some, length, List, is_some};
 ghost use Rattle.std.specs.Option.{IsSomeAnd};
 ghost use Rattle.sgx_types.specs.declared.entries.Entry.{Entry};
-ghost use Rattle.sgx_types.specs.Frames.{IsLoading};
+ghost use Rattle.sgx_types.specs.Table.{is_loading};
 ghost use Rattle.sgx_types.specs.Making.{Making};
 ghost use Rattle.seal_record.specs.Records.{Given, Made, Unforged};
-ghost use Rattle.paging_laws.specs.Histories.{StandsWithAllRules, given_out, looked_at};
+ghost use Rattle.paging_laws.specs.Histories.{StandsWithAllRules, given_out, looked_at, BringsIn};
 ghost use Rattle.paging_machine.specs.Parts.{start_of, state_of};
 ghost use Rattle.paging_laws.specs.Shape.{ShapeWithRules, FitsApart};
 ghost use Rattle.paging_laws.specs.Steps.{IsHeaderIn, IsReloaded, IsWrittenOut, SealsPage};
@@ -53,7 +55,7 @@ impl Machine {
 
     /// Fills in under what the started ELDU of a frame opens its record: the machine's key, and the version that was found.
     pub fn unseal_input(&self, frame: Frame, work: UnsealWork) -> UnsealWork
-        requires { (state_of self.now).content frame.0 ≡ IsLoading }
+        requires { is_loading ((state_of self.now).content frame.0) ≡ true }
         ensures key { result.key ≡ (state_of self.now).key }
         ensures version { IsSomeAnd ((state_of self.now).start frame.0) (λ start. result.version ≡ start.version) }
         ensures rec { result.rec ≡ work.rec }
@@ -81,6 +83,7 @@ impl Machine {
         ensures history { (making : Making) (past : List Entry) (records : List Made)
             → StandsWithAllRules making (state_of self.old) past records →
             StandsWithAllRules making (state_of self.new) (result.0 ∷ past) (records ++ given_out result.0.event result.1) }
+        ensures making { making_of (state_of self.new) ≡ making_of (state_of self.old) }
         ensures cpus { length self.new.cpus ≡ length self.old.cpus }
     {
         let work = self.sealed(frame, work);
@@ -101,7 +104,7 @@ impl Machine {
     /// version that the start found, with both tags; and as BadHeader where its header is not the page's, with the record's
     /// numbers. After either the frame is free, and the slot keeps its version.
     pub fn eld_commit(&mut self, actor: Actor, frame: Frame, work: UnsealedWork) -> Entry
-        requires { (state_of self.old).content frame.0 ≡ IsLoading }
+        requires { is_loading ((state_of self.old).content frame.0) ≡ true }
         ensures step { IsReloaded (state_of self.old) actor frame work.rec result (state_of self.new) }
         ensures shape { (making : Making) (past : List Entry) → ShapeWithRules making (state_of self.old) past
             → ShapeWithRules making (state_of self.new) (result ∷ past) }
@@ -111,6 +114,11 @@ impl Machine {
             StandsWithAllRules making (state_of self.old) past records →
             Unforged making.key records (given ++ looked_at (state_of self.old) frame.0 records work.rec) →
             StandsWithAllRules making (state_of self.new) (result ∷ past) records }
+        ensures back { (making : Making) (past : List Entry) (records : List Made) →
+            StandsWithAllRules making (state_of self.old) past records →
+            (IsDone result.event → BringsIn making.key past (state_of self.old) frame.0 work.rec) →
+            StandsWithAllRules making (state_of self.new) (result ∷ past) records }
+        ensures making { making_of (state_of self.new) ≡ making_of (state_of self.old) }
         ensures cpus { length self.new.cpus ≡ length self.old.cpus }
     {
         let work = self.opened(frame, work);
@@ -211,7 +219,7 @@ impl Machine {
 
     // The opened work of the started ELDU of a frame.
     fn opened(&self, frame: Frame, work: UnsealedWork) -> UnsealedWork
-        requires { (state_of self.now).content frame.0 ≡ IsLoading }
+        requires { is_loading ((state_of self.now).content frame.0) ≡ true }
         ensures key { result.key ≡ (state_of self.now).key }
         ensures version { IsSomeAnd ((state_of self.now).start frame.0) (λ start. result.version ≡ start.version) }
         ensures rec { result.rec ≡ work.rec }

@@ -3,7 +3,7 @@
 ghost use Rattle.std.specs.Prelude.{◌≡◌, length};
 ghost use Rattle.sgx_types.specs.declared.entries.Action.TheVariants as actions;
 ghost use Rattle.epcm_entry.specs.Sights.{held};
-ghost use Rattle.measure_log.specs.Rule.{page_held};
+ghost use Rattle.sgx_types.specs.Frames.{page_of};
 ghost use Rattle.paging_machine.specs.Parts.{state_of};
 ghost use Rattle.paging_laws.specs.Steps.{IsStep};
 
@@ -36,7 +36,7 @@ impl Machine {
 
     /// The TCS or REG page in a frame.
     fn page_in(&self, frame: Frame) -> Option<Page>
-        ensures { result ≡ page_held ((state_of self.now).content frame.0) }
+        ensures { result ≡ page_of ((state_of self.now).content frame.0) }
     {
         if frame.0 >= self.frames() {
             return None;
@@ -47,7 +47,7 @@ impl Machine {
 
 // The TCS or REG page that an entry names.
 fn page_in(entry: EntryView) -> Option<Page>
-    ensures { result ≡ page_held (held entry) }
+    ensures { result ≡ page_of (held entry) }
 {
     match entry {
         EntryView::Valid {

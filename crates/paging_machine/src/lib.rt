@@ -9,6 +9,7 @@ mod entry;
 mod extend;
 pub mod machine;
 mod making;
+mod noting;
 mod paging;
 mod register;
 pub mod starts;

@@ -2,12 +2,13 @@
 
 ghost use Rattle.std.specs.Prelude.{◌≡◌, ◌<◌, ◌≤◌, ◌^◌, ◌%◌, ◌/◌, count_by, length, is_some, nat_le, true, IsTrue};
 ghost use Rattle.std.specs.Option.{option_map};
-ghost use Rattle.sgx_types.specs.Frames.{IsLoading, least_free, page_at};
-ghost use Rattle.sgx_types.specs.Table.{allows, is_lawful_access, is_ready};
+ghost use Rattle.sgx_types.specs.Frames.{least_free, page_at};
+ghost use Rattle.sgx_types.specs.Table.{allows, is_lawful_access, is_loading, is_ready};
 ghost use Rattle.sgx_types.specs.Flat.{enclave_sight_of};
 ghost use Rattle.epcm_entry.specs.Epc.{is_free_frame};
 ghost use Rattle.cached_translations.specs.Translations.{translation_of};
 ghost use Rattle.paging_machine.specs.Parts.{state_of, cpu_at, tcs_of};
+ghost use Rattle.sgx_types.specs.declared.names.Page.{Page as PageView};
 ghost use Rattle.paging_laws.specs.Stands.{IsSound};
 ghost use Rattle.paging_laws.specs.State.{number_noting};
 
@@ -61,8 +62,17 @@ impl Machine {
     pub fn frames(&self) -> u32
         ensures value { result ≡ (state_of self.now).frames }
         ensures sound { IsSound (state_of self.now) }
+        ensures numbered { (g : Page) → is_some ((state_of self.now).added g) ≡ true → (1 ≤ g.enclave) × (g.enclave ≤ 8) }
     {
         self.epc.frames()
+    }
+
+    /// How many processors there are, at most 16.
+    pub fn cpus(&self) -> u8
+        ensures value { result ≡ length self.now.cpus }
+        ensures few { result ≤ 16 }
+    {
+        self.cpus.len() as u8
     }
 
     /// How a processor stands: outside, or inside an enclave by a TCS page.
@@ -127,9 +137,9 @@ impl Machine {
 
     /// Whether a page has started to come into a frame, and its load has not ended.
     pub fn is_coming(&self, frame: Frame) -> bool
-        ensures { IsTrue result → (state_of self.now).content frame.0 ≡ IsLoading }
+        ensures { IsTrue result → is_loading ((state_of self.now).content frame.0) ≡ true }
     {
-        frame.0 < self.frames() && matches!(self.epc.entry(frame), EntryView::Loading)
+        frame.0 < self.frames() && matches!(self.epc.entry(frame), EntryView::Loading { .. })
     }
 
     /// The fields of the TCS page in a frame, None exactly where the frame holds no TCS.

@@ -2,7 +2,8 @@
 
 ghost use Rattle.std.specs.Prelude.{◌≡◌, ◌≤◌, [], IfOk, None, replicate};
 ghost use Rattle.paging_machine.specs.Parts.{idle, made, state_of};
-ghost use Rattle.paging_laws.specs.Shape.{ShapeWithRules, making_of};
+ghost use Rattle.paging_laws.specs.Shape.{ShapeWithRules};
+ghost use Rattle.paging_laws.specs.State.{making_of};
 ghost use Rattle.paging_laws.specs.Histories.{StandsWithAllRules};
 ghost use Rattle.sgx_types.specs.declared.names.TheConstants.{LAST_EPOCH};
 

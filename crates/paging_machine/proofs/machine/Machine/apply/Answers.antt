@@ -14,6 +14,7 @@ use Rattle.paging_laws.specs.Steps.{IsStep, CanApply}
 use Rattle.paging_machine.specs.Whole.{IsWhole, parts_of}
 use Rattle.paging_machine.proofs.ProcessorBridge.{pages_made}
 use Rattle.paging_laws.proofs.FitLaws.{step_fits}
+use Rattle.paging_laws.proofs.MakingLaws.{step_making}
 use Rattle.paging_laws.proofs.ShapeSteps.{step_shaped}
 use Rattle.paging_laws.proofs.WholeLaws.{step_all}
 use Rattle.paging_machine.proofs.machine.Machine.apply.Goals as goal
@@ -43,14 +44,18 @@ module _ (m : Inside) (now : Parts) (a : Actor) (action : Action) (e : Entry) (i
 
 pub returns-clause-shape : goal.returns-clause-shape
 returns-clause-shape c =
-    shaped c.self.inside c.args.self.now c.args.actor c.args.action c.in_ok-entry.entry c.self.view_is c.self.invariant c.requires
+    shaped c.self.inside c.args.self.now c.args.actor c.args.action.now c.in_ok-entry.entry c.self.view_is c.self.invariant c.requires
     c.self-2.inside c.row.new.self c.self-2.view_is c.self-2.invariant (c.in_ok-entry.ensures {u = tt}).step
 
 pub returns-clause-fits : goal.returns-clause-fits
-returns-clause-fits c = fits c.self.inside c.args.self.now c.args.actor c.args.action c.in_ok-entry.entry c.self.view_is c.self.invariant
+returns-clause-fits c = fits c.self.inside c.args.self.now c.args.actor c.args.action.now c.in_ok-entry.entry c.self.view_is c.self.invariant
     c.requires (state_of c.row.new.self) (c.in_ok-entry.ensures {u = tt}).step
 
 pub returns-clause-history : goal.returns-clause-history
 returns-clause-history c =
-    all c.self.inside c.args.self.now c.args.actor c.args.action c.in_ok-entry.entry c.self.view_is c.self.invariant c.requires
+    all c.self.inside c.args.self.now c.args.actor c.args.action.now c.in_ok-entry.entry c.self.view_is c.self.invariant c.requires
     c.self-2.inside c.row.new.self c.self-2.view_is c.self-2.invariant (c.in_ok-entry.ensures {u = tt}).step
+
+pub returns-clause-making : goal.returns-clause-making
+returns-clause-making c = step_making (state_of c.args.self.now) (state_of c.row.new.self) c.args.actor c.args.action.now c.in_ok-entry.entry
+    (c.in_ok-entry.ensures {u = tt}).step

@@ -1,5 +1,5 @@
-use Rattle.std.proofs.Common.{◌≡◌, ◌∙◌, ap, None, set}
-use Rattle.sgx_types.specs.Frames.{IsLoading}
+use Rattle.std.proofs.Common.{◌≡◌, ◌∙◌, true, ap, None, set}
+use Rattle.sgx_types.specs.Table.{is_loading}
 use Rattle.seal_record.specs.declared.unseal.UnsealedWork.{UnsealedWork}
 use Rattle.sgx_types.specs.declared.entries.Action.TheVariants.{Eld}
 use Rattle.sgx_types.specs.declared.entries.Answer.TheVariants.{Moved}
@@ -10,7 +10,8 @@ use Rattle.paging_machine.proofs.CommitBridge.{Ended, IsOpened, ended_back, ende
 use Rattle.paging_laws.proofs.FitLaws.{reloaded_fits}
 use Rattle.paging_laws.proofs.ShapeSteps.{reloaded_shaped}
 use Rattle.paging_machine.proofs.KeptStates.{kept_as}
-use Rattle.paging_laws.proofs.WholeLaws.{reloaded_all}
+use Rattle.paging_laws.proofs.MakingLaws.{reloaded_making}
+use Rattle.paging_laws.proofs.WholeLaws.{reloaded_all, reloaded_told}
 use Rattle.paging_machine.proofs.WholeMachines.{whole}
 use Rattle.paging_machine.proofs.machine.Machine.eld_commit.Goals as goal
 
@@ -77,7 +78,7 @@ pub returns-in-Ok-clause-fits : goal.returns-in-Ok-clause-fits
 returns-in-Ok-clause-fits c = λ making past shaped fits.
     let d = parts_of c.self.inside in
     let h = c.self.invariant in
-    let comes : (state_of d).content c.args.frame.0 ≡ IsLoading = rw (← c.self.view_is) at c.requires in
+    let comes : is_loading ((state_of d).content c.args.frame.0) ≡ true = rw (← c.self.view_is) at c.requires in
     let k = is_back c in
     reloaded_fits (state_of d) _ making past c.args.actor c.args.frame c.args.work.rec c.done.result h.sound h.guarded comes
     (low_in d c.args.frame.0 comes) k.back (rw (← c.self.view_is) at shaped) fits
@@ -109,7 +110,7 @@ pub returns-clause-fits : goal.returns-clause-fits
 returns-clause-fits c = λ making past shaped fits.
     let d = parts_of c.self.inside in
     let h = c.self.invariant in
-    let comes : (state_of d).content c.args.frame.0 ≡ IsLoading = rw (← c.self.view_is) at c.requires in
+    let comes : is_loading ((state_of d).content c.args.frame.0) ≡ true = rw (← c.self.view_is) at c.requires in
     let k = is_refused c in
     reloaded_fits (state_of d) _ making past c.args.actor c.args.frame c.args.work.rec c.refused.result h.sound h.guarded comes
     (low_in d c.args.frame.0 comes) k.back (rw (← c.self.view_is) at shaped) fits
@@ -122,3 +123,29 @@ returns-clause-history c = λ making past records given upholds unforged.
     reloaded_all (state_of (parts_of c.self.inside)) _ making past records c.args.actor c.args.frame c.args.work.rec c.refused.result
     h.sound h.guarded t.sound t.guarded (rw (← c.self.view_is) at c.requires) k.back (rw (← c.self.view_is) at upholds) given
     (rw (← c.self.view_is) at unforged)
+
+pub returns-in-Ok-clause-back : goal.returns-in-Ok-clause-back
+returns-in-Ok-clause-back c = λ making past records upholds brings.
+    let h = c.self.invariant in
+    let k = is_back c in
+    let t = kept_as _ _ k.leaves.state k.leaves.kept in
+    reloaded_told (state_of (parts_of c.self.inside)) _ making past records c.args.actor c.args.frame c.args.work.rec c.done.result h.sound
+    h.guarded t.sound t.guarded (rw (← c.self.view_is) at c.requires) k.back (rw (← c.self.view_is) at upholds)
+    (rw (← c.self.view_is) at brings)
+
+pub returns-in-Ok-clause-making : goal.returns-in-Ok-clause-making
+returns-in-Ok-clause-making c =
+    rw (← c.self.view_is) (reloaded_making _ _ c.args.actor c.args.frame c.done.result c.args.work.rec (is_back c).back)
+
+pub returns-clause-back : goal.returns-clause-back
+returns-clause-back c = λ making past records upholds brings.
+    let h = c.self.invariant in
+    let k = is_refused c in
+    let t = kept_as _ _ k.leaves.state k.leaves.kept in
+    reloaded_told (state_of (parts_of c.self.inside)) _ making past records c.args.actor c.args.frame c.args.work.rec c.refused.result h.sound
+    h.guarded t.sound t.guarded (rw (← c.self.view_is) at c.requires) k.back (rw (← c.self.view_is) at upholds)
+    (rw (← c.self.view_is) at brings)
+
+pub returns-clause-making : goal.returns-clause-making
+returns-clause-making c =
+    rw (← c.self.view_is) (reloaded_making _ _ c.args.actor c.args.frame c.refused.result c.args.work.rec (is_refused c).back)

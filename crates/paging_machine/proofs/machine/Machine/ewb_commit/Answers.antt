@@ -6,6 +6,7 @@ use Rattle.paging_laws.specs.Steps.{did_by}
 use Rattle.paging_machine.specs.Whole.{parts_of}
 use Rattle.paging_machine.specs.Parts.{state_of}
 use Rattle.paging_machine.proofs.CommitBridge.{Written, written, low_out}
+use Rattle.paging_laws.proofs.MakingLaws.{written_making}
 use Rattle.paging_laws.proofs.FitLaws.{written_fits}
 use Rattle.paging_laws.proofs.ShapeSteps.{written_shaped}
 use Rattle.paging_machine.proofs.KeptStates.{kept_as}
@@ -61,3 +62,7 @@ returns-clause-history c = λ making past records upholds.
     let t = kept_as _ _ k.leaves.state k.leaves.kept in
     written_all s _ making past records c.args.actor c.args.frame c.done.result c.sealed-work.result.rec h.sound h.guarded t.sound t.guarded
     (rw (← c.self.view_is) at c.requires) k.out (rw (← c.self.view_is) at upholds)
+
+pub returns-clause-making : goal.returns-clause-making
+returns-clause-making c =
+    rw (← c.self.view_is) (written_making _ _ c.args.actor c.args.frame c.done.result c.sealed-work.result.rec (is_written c).out)

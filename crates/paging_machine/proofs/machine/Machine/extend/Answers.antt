@@ -2,7 +2,7 @@ use Rattle.std.proofs.Common.{◌≡◌, ◌∙◌, refl, sym, ap, Some, length-
 use Rattle.epcm_entry.specs.Epc.{entry_at}
 use Rattle.epcm_entry.specs.Sights.{held}
 use Rattle.secs_state.specs.Table.{enclave_at}
-use Rattle.measure_log.specs.Rule.{page_held}
+use Rattle.sgx_types.specs.Frames.{page_of}
 use Rattle.paging_machine.specs.Whole.{parts_of}
 use Rattle.paging_machine.specs.Parts.{state_of}
 use Rattle.paging_laws.specs.State.{after_extend}
@@ -17,7 +17,7 @@ pub eextend-requires : goal.eextend-requires
 eextend-requires c =
     let d = parts_of c.self.inside in
     let g = c.in-Some.page in
-    let here : page_held (held (entry_at d.epc c.args.frame.0)) ≡ Some g = rw (← c.self.view_is) at (sym c.in-Some.ensures) in
+    let here : page_of (held (entry_at d.epc c.args.frame.0)) ≡ Some g = rw (← c.self.view_is) at (sym c.in-Some.ensures) in
     let found : enclave_at d.secs g.enclave ≡ Some c.unwrap-secs.result.now = sym (rw c.unwrap-secs.ensures at c.get.ensures.value) in
     owner d c.args.frame.0 g c.unwrap-secs.result.now c.self.invariant.table here found
 
@@ -29,7 +29,7 @@ invariant_of-self c =
     let x = c.unwrap-secs.result.now in
     let y = c.unwrap-measure.result.now in
     let h = c.self.invariant in
-    let here : page_held (held (entry_at d.epc c.args.frame.0)) ≡ Some g = rw (← c.self.view_is) at (sym c.in-Some.ensures) in
+    let here : page_of (held (entry_at d.epc c.args.frame.0)) ≡ Some g = rw (← c.self.view_is) at (sym c.in-Some.ensures) in
     let found : enclave_at d.secs g.enclave ≡ Some x = sym (rw c.unwrap-secs.ensures at c.get.ensures.value) in
     let low = measure_place d g.enclave x h.table found h.places in
     let read : Some y ≡ c.index_mut.result.now = rw c.unwrap-measure.ensures at c.as_mut.ensures.value in
@@ -51,7 +51,7 @@ returns-clause-step c =
     let x = c.unwrap-secs.result.now in
     let y = c.unwrap-measure.result.now in
     let h = c.self.invariant in
-    let here : page_held (held (entry_at d.epc c.args.frame.0)) ≡ Some g = rw (← c.self.view_is) at (sym c.in-Some.ensures) in
+    let here : page_of (held (entry_at d.epc c.args.frame.0)) ≡ Some g = rw (← c.self.view_is) at (sym c.in-Some.ensures) in
     let found : enclave_at d.secs g.enclave ≡ Some x = sym (rw c.unwrap-secs.ensures at c.get.ensures.value) in
     let low = measure_place d g.enclave x h.table found h.places in
     let read : Some y ≡ c.index_mut.result.now = rw c.unwrap-measure.ensures at c.as_mut.ensures.value in

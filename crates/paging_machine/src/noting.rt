@@ -1,0 +1,30 @@
+//! Entries of no instruction.
+
+ghost use Rattle.std.specs.Prelude.{ℕ, ◌∷◌, List};
+ghost use Rattle.sgx_types.specs.declared.entries.Entry.{Entry};
+ghost use Rattle.sgx_types.specs.Making.{Making};
+ghost use Rattle.seal_record.specs.Records.{Made};
+ghost use Rattle.paging_laws.specs.Histories.{StandsWithAllRules};
+ghost use Rattle.paging_laws.specs.Notes.{IsNote};
+ghost use Rattle.paging_laws.specs.Shape.{FitsApart, ShapeWithRules};
+ghost use Rattle.paging_machine.specs.Parts.{state_of};
+
+use crate::machine::Machine;
+use sgx_types::entries::Entry;
+
+impl Machine {
+    /// An entry of no instruction: a look at a page, a kick, or a page that could not be reloaded. The machine is what it was, and
+    /// stands for the longer list of entries.
+    pub fn note(&self, entry: &Entry)
+        requires { IsNote entry.now.event }
+        ensures shape { (making : Making) (past : List Entry) → ShapeWithRules making (state_of self.now) past
+            → ShapeWithRules making (state_of self.now) (entry.now ∷ past) }
+        ensures fits { (frames : ℕ) (past : List Entry) → FitsApart frames past → FitsApart frames (entry.now ∷ past) }
+        ensures history { (making : Making) (past : List Entry) (records : List Made) → StandsWithAllRules making (state_of self.now) past records
+            → StandsWithAllRules making (state_of self.now) (entry.now ∷ past) records }
+    {
+        // The proof takes from here what is true of every machine.
+        let _ = &self.epc;
+        let _ = entry;
+    }
+}
