@@ -279,6 +279,13 @@ start_out s f guarded leaves = some_there (s.start f) WritesOut (guarded.written
 pub start_in : (s : State) (f : ℕ) → IsGuarded s → is_loading (s.content f) ≡ true → is_some (s.start f) ≡ true
 start_in s f guarded loads = let w = waits_for (s.content f) loads in some_there (s.start f) (Loads w.0) (guarded.loaded f w.0 w.1)
 
+-- .. and it loads the page for which the frame waits
+pub loads_in : (s : State) (f : ℕ) (start : Start) → IsGuarded s → is_loading (s.content f) ≡ true → s.start f ≡ Some start
+    → is_some start.loads ≡ true
+loads_in s f start guarded loads opened =
+    let w = waits_for (s.content f) loads in
+    let told : start.loads ≡ Some w.0 = rw opened at (guarded.loaded f w.0 w.1) in ap is_some told
+
 -- two headers that a test finds alike
 pub same_headers : (a b : Header) → ((a.enclave == b.enclave) && ((a.address == b.address) && (a.flags == b.flags))) ≡ true → a ≡ b
 same_headers a b h =

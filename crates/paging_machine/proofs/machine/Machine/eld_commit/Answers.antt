@@ -12,6 +12,7 @@ use Rattle.paging_laws.proofs.ShapeSteps.{reloaded_shaped}
 use Rattle.paging_machine.proofs.KeptStates.{kept_as}
 use Rattle.paging_laws.proofs.MakingLaws.{reloaded_making}
 use Rattle.paging_laws.proofs.WholeLaws.{reloaded_all, reloaded_told}
+use Rattle.paging_machine.proofs.PagingSights.{loads_in}
 use Rattle.paging_machine.proofs.WholeMachines.{whole}
 use Rattle.paging_machine.proofs.machine.Machine.eld_commit.Goals as goal
 
@@ -59,6 +60,11 @@ is_refused c =
     c.eld_commit-ended.new.epc c.eld_commit-ended.new.va (rw (← c.self.view_is) at c.requires) is
     (rw (← c.self.view_is) at c.start-start.ensures) c.unwrap-page.ensures c.refused.result c.in-Err.refusal ends.row ends.refused.0
     ends.refused.1 c.refused.ensures
+
+pub unwrap-page-requires : goal.unwrap-page-requires
+unwrap-page-requires c =
+    loads_in (state_of (parts_of c.self.inside)) c.args.frame.0 _ c.self.invariant.guarded (rw (← c.self.view_is) at c.requires)
+    (rw (← c.self.view_is) at c.start-start.ensures)
 
 pub invariant_of-self : goal.invariant_of-self
 invariant_of-self c = let k = is_back c in whole _ _ k.leaves
