@@ -241,7 +241,7 @@ pub record HasBuilt (j : JobView) (b b' : BookView) : Type 0 where
   pub grows : Grows (build_of j) b b'
   pub placed : (e : ℕ) → All (IsPlacedLine b'.past e) (lines_at j.enclaves e)
 
-pub able_build : (j : JobView) (b : BookView) → IsCalm b.past → b.frames ≡ j.epc → b.past ≡ [] → IsSmallJob j → IsValid j
+pub able_build : (j : JobView) (b : BookView) → IsCalm b.past → b.making.frames ≡ j.epc → b.past ≡ [] → IsSmallJob j → IsValid j
     → Able (build_of j) (HasBuilt j b) b
 able_build j b calm frames past small valid =
     able_then (replicate (va_pages j) builds.Va) (enclaves_steps 1 j.enclaves)

@@ -1,5 +1,6 @@
 -- One step of the builder.
 use Rattle.std.proofs.Common.{◌≡◌, ℕ, ◌+◌, ◌==◌, ◌≤◌, Bool, true, false, refl, subst, arith, sym, ap, ◌∙◌, Option, Some, None, is_some, List, [], ◌∷◌, slice_get}
+use Rattle.sgx_types.specs.Making.{Making}
 use Rattle.std.proofs.lemmas.Bool.{cond_both, lt-leb}
 use Rattle.sgx_types.specs.declared.entries.Entry.{Entry}
 use Rattle.sgx_types.specs.declared.entries.Event.{Event}
@@ -31,7 +32,7 @@ use Rattle.paging_laws.proofs.NextEntry.{flat_done}
 use Rattle.machine_book.specs.Books.{BookView, IsCalm, IsNext, IsPlaced, GoesOn}
 use Rattle.machine_book.specs.Building.{AreNext, AreTaken, Grows, IsHere, IsUnmade, MakesOnly, count_free, frames_taken, free_frames}
 use Rattle.machine_book.proofs.OptionLaws.{some_same, taken_none}
-use Rattle.machine_book.proofs.GrowthLaws.{others_stay}
+use Rattle.machine_book.proofs.GrowthLaws.{others_stay, same_frames}
 use Rattle.machine_book.proofs.FreeLaws.{IsLeast, found_least, put_room}
 
 -- the instructions of a builder
@@ -112,7 +113,7 @@ due_step j past step ahead =
     rw same at here
 
 -- an entry of the instruction that is due, by which at most so many free frames go
-pub grow : (b b' : BookView) (step : BuildStep) (act : Action) → IsBuilders act → step_due b.frames b.past step ≡ Some act
+pub grow : (b b' : BookView) (step : BuildStep) (act : Action) → IsBuilders act → step_due b.making.frames b.past step ≡ Some act
     → IsNext actors.Builder act b b'
     → free_frames b ≤ free_frames b' + frames_taken (step ∷ []) → Grows (step ∷ []) b b'
 grow b b' step act can due next room = record {
@@ -132,15 +133,15 @@ grow b b' step act can due next room = record {
   saved = λ g. rw next.past (saved_same act next.event false g (saved b.past g) can next.is_action);
 }
   where
-    due_of : (j : JobView) → j.epc ≡ b.frames → AreNext j b.past (step ∷ [])
+    due_of : (j : JobView) → j.epc ≡ b.making.frames → AreNext j b.past (step ∷ [])
         → builder_due j b.past (slice_get (build_of j) (built b.past)) ≡ Some act
     due_of j size ahead = rw (due_step j b.past step ahead, size) due
 
-pub grow_va : (b b' : BookView) (f : Frame) → least_free b.frames (content b.past) ≡ Some f.0 → IsNext actors.Builder (Epa f) b b'
+pub grow_va : (b b' : BookView) (f : Frame) → least_free b.making.frames (content b.past) ≡ Some f.0 → IsNext actors.Builder (Epa f) b b'
     → Grows (builds.Va ∷ []) b b'
 grow_va b b' f least next =
     grow b b' builds.Va (Epa f) tt (rw least refl) next
-    (rw (next.past, next.goes.frames) (room_more b.frames b.past (Epa f) next.event tt next.is_action))
+    (rw (next.past, same_frames b b' next.goes) (room_more b.making.frames b.past (Epa f) next.event tt next.is_action))
 
 pub va_flat : (b b' : BookView) (f : Frame) → IsNext actors.Builder (Epa f) b b' → flat b'.past ≡ flat b.past
 va_flat b b' f next = rw next.past (by_event next.event next.is_action)
@@ -154,88 +155,88 @@ va_flat b b' f next = rw next.past (by_event next.event next.is_action)
 
 -- ---- steps that are done
 
-open_sight : (b : BookView) (f : ℕ) → IsCalm b.past → IsLeast (content b.past) b.frames f → sight_at b.frames b.past f ≡ open_frame
-open_sight b f calm least = rw (lt-leb b.frames f least.below, least.free, calm.settled f, calm.unblocked f) refl
+open_sight : (b : BookView) (f : ℕ) → IsCalm b.past → IsLeast (content b.past) b.making.frames f → sight_at b.making.frames b.past f ≡ open_frame
+open_sight b f calm least = rw (lt-leb b.making.frames f least.below, least.free, calm.settled f, calm.unblocked f) refl
 
 record IsDid (act : Action) (event : Event) : Type 0 where
   pub answer : Answer
   pub is : event ≡ events.Did act answer
 
 -- an instruction whose row has no case against it was done
-did_of : (frames : ℕ) (past : List Entry) (act : Action) (event : Event) → action_of event ≡ Some act
-    → KeepsRules frames (entry_of event ∷ past)
-    → ((why : Refusal) → RefusalRule frames past (entry_of (events.Refused act why))
-    → first_of_row (row_at frames past actors.Builder act) ≡ Some why)
-    → first_of_row (row_at frames past actors.Builder act) ≡ None → IsDid act event
-did_of frames past act (events.Did action ans) is rules plain allowed =
+did_of : (k : Making) (past : List Entry) (act : Action) (event : Event) → action_of event ≡ Some act
+    → KeepsRules k (entry_of event ∷ past)
+    → ((why : Refusal) → RefusalRule k past (entry_of (events.Refused act why))
+    → first_of_row (row_at k past actors.Builder act) ≡ Some why)
+    → first_of_row (row_at k past actors.Builder act) ≡ None → IsDid act event
+did_of k past act (events.Did action ans) is rules plain allowed =
     record { answer = ans; is = ap (λ a. events.Did a ans) (some_same action act is) }
-did_of frames past act (events.Refused action why) is rules plain allowed =
-    let rule : RefusalRule frames past (entry_of (events.Refused act why)) =
-    subst (λ x. RefusalRule frames past (entry_of (events.Refused x why))) (some_same action act is) rules.refusal.0 in
+did_of k past act (events.Refused action why) is rules plain allowed =
+    let rule : RefusalRule k past (entry_of (events.Refused act why)) =
+    subst (λ x. RefusalRule k past (entry_of (events.Refused x why))) (some_same action act is) rules.refusal.0 in
     cc (plain why rule, allowed)
-did_of frames past act _ is rules plain allowed = cc
+did_of k past act _ is rules plain allowed = cc
 
 one_taken : (past : List Entry) (step : BuildStep) → AreTaken past (step ∷ [])
     → accepts (flat past) actors.Builder (step_action step 0) ≡ true
 one_taken past step h = h 0 step (omega arith)
 
-create_did : (b b' : BookView) (enclave : ℕ) (f : Frame) (base size : ℕ) → IsCalm b.past → IsLeast (content b.past) b.frames f.0
+create_did : (b b' : BookView) (enclave : ℕ) (f : Frame) (base size : ℕ) → IsCalm b.past → IsLeast (content b.past) b.making.frames f.0
     → AreTaken b.past (builds.Create enclave base size ∷ [])
     → (next : IsNext actors.Builder (Create enclave f base size) b b') → IsDid (Create enclave f base size) next.event
 create_did b b' enclave f base size calm least taken next =
-    did_of b.frames b.past (Create enclave f base size) next.event next.is_action (rw (← next.goes.frames, ← next.past) next.rules)
+    did_of b.making b.past (Create enclave f base size) next.event next.is_action (rw (← next.goes.making, ← next.past) next.rules)
     (λ why refused. refused)
     (ap (λ s. first_of_row (create_row enclave base size (is_some ((flat b.past).enclaves enclave)) s)) (open_sight b f.0 calm least)
     ∙ taken_none _ (one_taken b.past (builds.Create enclave base size) taken))
 
 add_did : (b b' : BookView) (g : Page) (f : Frame) (kind : Kind) (perm : Perm) (init : PageInit) → IsCalm b.past
-    → IsLeast (content b.past) b.frames f.0
+    → IsLeast (content b.past) b.making.frames f.0
     → AreTaken b.past (builds.Add g.enclave g.number kind perm init ∷ [])
     → (next : IsNext actors.Builder (Add g.enclave g.number f kind perm init) b b')
     → IsDid (Add g.enclave g.number f kind perm init) next.event
 add_did b b' g f kind perm init calm least taken next =
-    did_of b.frames b.past (Add g.enclave g.number f kind perm init) next.event next.is_action
-    (rw (← next.goes.frames, ← next.past) next.rules) (λ why refused. refused)
+    did_of b.making b.past (Add g.enclave g.number f kind perm init) next.event next.is_action
+    (rw (← next.goes.making, ← next.past) next.rules) (λ why refused. refused)
     (rw (open_sight b f.0 calm least) (taken_none _ (one_taken b.past (builds.Add g.enclave g.number kind perm init) taken)))
 
 -- ---- the enclave
 
-pub grow_secs : (b b' : BookView) (enclave : ℕ) (f : Frame) (base size : ℕ) → least_free b.frames (content b.past) ≡ Some f.0
+pub grow_secs : (b b' : BookView) (enclave : ℕ) (f : Frame) (base size : ℕ) → least_free b.making.frames (content b.past) ≡ Some f.0
     → IsNext actors.Builder (Create enclave f base size) b b' → Grows (builds.Create enclave base size ∷ []) b b'
 grow_secs b b' enclave f base size least next =
     grow b b' (builds.Create enclave base size) (Create enclave f base size) tt (rw least refl) next
-    (rw (next.past, next.goes.frames) (room_more b.frames b.past (Create enclave f base size) next.event tt next.is_action))
+    (rw (next.past, same_frames b b' next.goes) (room_more b.making.frames b.past (Create enclave f base size) next.event tt next.is_action))
 
 pub secs_made : (b b' : BookView) (enclave : ℕ) (f : Frame) (base size : ℕ) → IsCalm b.past
-    → least_free b.frames (content b.past) ≡ Some f.0 → AreTaken b.past (builds.Create enclave base size ∷ [])
+    → least_free b.making.frames (content b.past) ≡ Some f.0 → AreTaken b.past (builds.Create enclave base size ∷ [])
     → IsNext actors.Builder (Create enclave f base size) b b'
     → flat b'.past ≡ with_enclave (flat b.past) enclave (record { base = base; size = size; is_init = false })
 secs_made b b' enclave f base size calm least taken next =
-    let did = create_did b b' enclave f base size calm (found_least (content b.past) b.frames f.0 least) taken next in
+    let did = create_did b b' enclave f base size calm (found_least (content b.past) b.making.frames f.0 least) taken next in
     rw (next.past, did.is) (flat_done (flat b.past) actors.Builder (Create enclave f base size) did.answer
     (one_taken b.past (builds.Create enclave base size) taken))
 
 -- ---- its pages
 
 pub grow_page : (b b' : BookView) (g : Page) (f : Frame) (kind : Kind) (perm : Perm) (init : PageInit)
-    → least_free b.frames (content b.past) ≡ Some f.0
+    → least_free b.making.frames (content b.past) ≡ Some f.0
     → IsNext actors.Builder (Add g.enclave g.number f kind perm init) b b' → Grows (builds.Add g.enclave g.number kind perm init ∷ []) b b'
 grow_page b b' g f kind perm init least next =
     grow b b' (builds.Add g.enclave g.number kind perm init) (Add g.enclave g.number f kind perm init) tt (rw least refl) next
-    (rw (next.past, next.goes.frames) (room_more b.frames b.past (Add g.enclave g.number f kind perm init) next.event tt next.is_action))
+    (rw (next.past, same_frames b b' next.goes) (room_more b.making.frames b.past (Add g.enclave g.number f kind perm init) next.event tt next.is_action))
 
 pub page_made : (b b' : BookView) (g : Page) (f : Frame) (kind : Kind) (perm : Perm) (init : PageInit) → IsCalm b.past
-    → least_free b.frames (content b.past) ≡ Some f.0
+    → least_free b.making.frames (content b.past) ≡ Some f.0
     → AreTaken b.past (builds.Add g.enclave g.number kind perm init ∷ [])
     → IsNext actors.Builder (Add g.enclave g.number f kind perm init) b b'
     → flat b'.past ≡ with_page (flat b.past) g (record { kind = kind; perm = perm; words = first_words init })
 page_made b b' g f kind perm init calm least taken next =
-    let did = add_did b b' g f kind perm init calm (found_least (content b.past) b.frames f.0 least) taken next in
+    let did = add_did b b' g f kind perm init calm (found_least (content b.past) b.making.frames f.0 least) taken next in
     rw (next.past, did.is) (flat_done (flat b.past) actors.Builder (Add g.enclave g.number f kind perm init) did.answer
     (one_taken b.past (builds.Add g.enclave g.number kind perm init) taken))
 
 pub page_placed : (b b' : BookView) (g : Page) (f : Frame) (kind : Kind) (perm : Perm) (init : PageInit) → IsCalm b.past
-    → least_free b.frames (content b.past) ≡ Some f.0
+    → least_free b.making.frames (content b.past) ≡ Some f.0
     → AreTaken b.past (builds.Add g.enclave g.number kind perm init ∷ [])
     → IsNext actors.Builder (Add g.enclave g.number f kind perm init) b b' → IsPlaced b'.past g kind perm
 page_placed b b' g f kind perm init calm least taken next =
@@ -246,9 +247,9 @@ page_placed b b' g f kind perm init calm least taken next =
 pub grow_chunk : (b b' : BookView) (g : Page) (f : Frame) (chunk : ℕ) → frame_of b.past g ≡ Some f.0
     → IsNext actors.Builder (Extend f chunk) b b' → Grows (builds.Extend g.enclave g.number chunk ∷ []) b b'
 grow_chunk b b' g f chunk there next =
-    let same = room_extend b.frames b.past f chunk next.event next.is_action in
+    let same = room_extend b.making.frames b.past f chunk next.event next.is_action in
     grow b b' (builds.Extend g.enclave g.number chunk) (Extend f chunk) tt (rw there refl) next
-    (rw (next.past, next.goes.frames, same) (omega arith))
+    (rw (next.past, same_frames b b' next.goes, same) (omega arith))
 
 flat_chunk : (past : List Entry) (f : Frame) (chunk : ℕ) (event : Event) → action_of event ≡ Some (Extend f chunk)
     → flat (entry_of event ∷ past) ≡ flat past
@@ -269,8 +270,8 @@ here_later b b' g goes h = record { kind = h.kind; perm = h.perm; placed = goes.
 pub grow_finish : (b b' : BookView) (enclave : ℕ) (expect : Option (List ℕ)) → IsNext actors.Builder (Init enclave expect) b b'
     → Grows (builds.Init enclave expect ∷ []) b b'
 grow_finish b b' enclave expect next =
-    let same = room_init b.frames b.past enclave expect next.event next.is_action in
-    grow b b' (builds.Init enclave expect) (Init enclave expect) tt refl next (rw (next.past, next.goes.frames, same) (omega arith))
+    let same = room_init b.making.frames b.past enclave expect next.event next.is_action in
+    grow b b' (builds.Init enclave expect) (Init enclave expect) tt refl next (rw (next.past, same_frames b b' next.goes, same) (omega arith))
 
 unmade_after : (past : List Entry) (enclave : ℕ) (expect : Option (List ℕ)) (event : Event) (e : ℕ)
     → action_of event ≡ Some (Init enclave expect) → (enclave == e) ≡ false

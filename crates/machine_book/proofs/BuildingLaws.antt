@@ -110,12 +110,12 @@ sum_frames (e ∷ es) =
     let rest = sum_frames es in
     omega (arith, frames, pages, rest)
 
-pub vas_room : (j : JobView) (b : BookView) → b.frames ≡ j.epc → b.past ≡ [] → IsSmallJob j → va_pages j ≤ free_frames b
+pub vas_room : (j : JobView) (b : BookView) → b.making.frames ≡ j.epc → b.past ≡ [] → IsSmallJob j → va_pages j ≤ free_frames b
 vas_room j b frames past form =
     let free : free_frames b ≡ j.epc = rw (past, frames) (all_free j.epc) in
     omega (arith, free, form.room)
 
-pub enclaves_room : (j : JobView) (b b' : BookView) → b.frames ≡ j.epc → b.past ≡ [] → IsSmallJob j
+pub enclaves_room : (j : JobView) (b b' : BookView) → b.making.frames ≡ j.epc → b.past ≡ [] → IsSmallJob j
     → Grows (replicate (va_pages j) builds.Va) b b' → frames_taken (enclaves_steps 1 j.enclaves) ≤ free_frames b'
 enclaves_room j b b' frames past form grown =
     let sums = sum_frames j.enclaves in

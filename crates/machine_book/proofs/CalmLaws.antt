@@ -2,6 +2,7 @@
 use Rattle.std.proofs.Common.{◌≡◌, ℕ, ◌==◌, ◌||◌, not, Bool, true, false, cond, refl, sym, ap, ◌∙◌, Option, Some, None, IfSome, List, [], ◌∷◌, is_some}
 use Rattle.std.proofs.lemmas.Bool.{cond_both, eqb-true}
 use Rattle.std.proofs.Math.Bool.{and-false}
+use Rattle.sgx_types.specs.Making.{Making}
 use Rattle.sgx_types.specs.declared.entries.Entry.{Entry}
 use Rattle.sgx_types.specs.declared.entries.Event.{Event}
 use Rattle.sgx_types.specs.declared.entries.Event.TheVariants as events
@@ -136,15 +137,15 @@ stored_enclaves : (m : FlatMemory) (o : Option Inside) (off value : ℕ) (x : �
 stored_enclaves m None off value x = refl
 stored_enclaves m (Some i) off value x = refl
 
-calm_did : (cpus frames : ℕ) (a : Actor) (action : Action) (ans : Answer) (past : List Entry) → CanAsk cpus a action
-    → KeepsRules frames (did_by a action ans ∷ past)
+calm_did : (cpus : ℕ) (making : Making) (a : Actor) (action : Action) (ans : Answer) (past : List Entry) → CanAsk cpus a action
+    → KeepsRules making (did_by a action ans ∷ past)
     → PagesStay past (did_by a action ans) → IsCalm past → IsCalm (did_by a action ans ∷ past)
-calm_did cpus frames a (Epa f) ans past can rules stay h =
+calm_did cpus making a (Epa f) ans past can rules stay h =
     calm_left past (did_by a (Epa f) ans) (record
     { settled = λ n. refl; unblocked = λ n. refl; no_init = λ x. refl; enclaves = left_did past a (Epa f) ans (λ x. refl) }) stay h
-calm_did cpus frames a (Create enclave f base size) ans past can rules stay h =
+calm_did cpus making a (Create enclave f base size) ans past can rules stay h =
     create_calm past a enclave f base size ans (rules.flat.0 refl).taken stay h
-calm_did cpus frames a (Add enclave number f kind perm init) ans past can rules stay h =
+calm_did cpus making a (Add enclave number f kind perm init) ans past can rules stay h =
     calm_left past (did_by a (Add enclave number f kind perm init) ans)
     (record {
       settled = λ n. refl;
@@ -152,7 +153,7 @@ calm_did cpus frames a (Add enclave number f kind perm init) ans past can rules 
       no_init = λ x. refl;
       enclaves = left_did past a (Add enclave number f kind perm init) ans (λ x. refl);
     }) stay h
-calm_did cpus frames a (Extend f chunk) ans past can rules stay h =
+calm_did cpus making a (Extend f chunk) ans past can rules stay h =
     calm_left past (did_by a (Extend f chunk) ans)
     (record {
       settled = λ n. refl;
@@ -160,9 +161,9 @@ calm_did cpus frames a (Extend f chunk) ans past can rules stay h =
       no_init = λ x. refl;
       enclaves = left_did past a (Extend f chunk) ans (λ x. refl);
     }) stay h
-calm_did cpus frames a (Init enclave expect) ans past can rules stay h =
+calm_did cpus making a (Init enclave expect) ans past can rules stay h =
     init_calm past a enclave expect ans (rules.flat.0 refl).taken stay h
-calm_did cpus frames (actors.Cpu p) (Enter enclave tcs tf sf) ans past can rules stay h =
+calm_did cpus making (actors.Cpu p) (Enter enclave tcs tf sf) ans past can rules stay h =
     calm_left past (did_by (actors.Cpu p) (Enter enclave tcs tf sf) ans)
     (record {
       settled = λ n. refl;
@@ -170,7 +171,7 @@ calm_did cpus frames (actors.Cpu p) (Enter enclave tcs tf sf) ans past can rules
       no_init = λ x. refl;
       enclaves = left_did past (actors.Cpu p) (Enter enclave tcs tf sf) ans (λ x. refl);
     }) stay h
-calm_did cpus frames (actors.Cpu p) (Resume enclave tcs tf sf) ans past can rules stay h =
+calm_did cpus making (actors.Cpu p) (Resume enclave tcs tf sf) ans past can rules stay h =
     calm_left past (did_by (actors.Cpu p) (Resume enclave tcs tf sf) ans)
     (record {
       settled = λ n. refl;
@@ -178,7 +179,7 @@ calm_did cpus frames (actors.Cpu p) (Resume enclave tcs tf sf) ans past can rule
       no_init = λ x. refl;
       enclaves = left_did past (actors.Cpu p) (Resume enclave tcs tf sf) ans (λ x. refl);
     }) stay h
-calm_did cpus frames (actors.Cpu p) Exit ans past can rules stay h =
+calm_did cpus making (actors.Cpu p) Exit ans past can rules stay h =
     calm_left past (did_by (actors.Cpu p) Exit ans)
     (record {
       settled = λ n. refl;
@@ -186,7 +187,7 @@ calm_did cpus frames (actors.Cpu p) Exit ans past can rules stay h =
       no_init = λ x. refl;
       enclaves = left_did past (actors.Cpu p) Exit ans (λ x. refl);
     }) stay h
-calm_did cpus frames (actors.Cpu p) (Aex cause) ans past can rules stay h =
+calm_did cpus making (actors.Cpu p) (Aex cause) ans past can rules stay h =
     calm_left past (did_by (actors.Cpu p) (Aex cause) ans)
     (record {
       settled = λ n. refl;
@@ -194,7 +195,7 @@ calm_did cpus frames (actors.Cpu p) (Aex cause) ans past can rules stay h =
       no_init = λ x. refl;
       enclaves = left_did past (actors.Cpu p) (Aex cause) ans (saved_enclaves (flat past) _ _);
     }) stay h
-calm_did cpus frames (actors.Cpu p) (Fill number f) ans past can rules stay h =
+calm_did cpus making (actors.Cpu p) (Fill number f) ans past can rules stay h =
     calm_left past (did_by (actors.Cpu p) (Fill number f) ans)
     (record {
       settled = λ n. refl;
@@ -202,7 +203,7 @@ calm_did cpus frames (actors.Cpu p) (Fill number f) ans past can rules stay h =
       no_init = λ x. refl;
       enclaves = left_did past (actors.Cpu p) (Fill number f) ans (λ x. refl);
     }) stay h
-calm_did cpus frames (actors.Cpu p) (Load off) ans past can rules stay h =
+calm_did cpus making (actors.Cpu p) (Load off) ans past can rules stay h =
     calm_left past (did_by (actors.Cpu p) (Load off) ans)
     (record {
       settled = λ n. refl;
@@ -210,7 +211,7 @@ calm_did cpus frames (actors.Cpu p) (Load off) ans past can rules stay h =
       no_init = λ x. refl;
       enclaves = left_did past (actors.Cpu p) (Load off) ans (λ x. refl);
     }) stay h
-calm_did cpus frames (actors.Cpu p) (Store off value) ans past can rules stay h =
+calm_did cpus making (actors.Cpu p) (Store off value) ans past can rules stay h =
     calm_left past (did_by (actors.Cpu p) (Store off value) ans)
     (record {
       settled = λ n. refl;
@@ -218,7 +219,7 @@ calm_did cpus frames (actors.Cpu p) (Store off value) ans past can rules stay h 
       no_init = λ x. refl;
       enclaves = left_did past (actors.Cpu p) (Store off value) ans (stored_enclaves (flat past) _ _ _);
     }) stay h
-calm_did cpus frames (actors.Cpu p) (Xadd off value) ans past can rules stay h =
+calm_did cpus making (actors.Cpu p) (Xadd off value) ans past can rules stay h =
     calm_left past (did_by (actors.Cpu p) (Xadd off value) ans)
     (record {
       settled = λ n. refl;
@@ -226,7 +227,7 @@ calm_did cpus frames (actors.Cpu p) (Xadd off value) ans past can rules stay h =
       no_init = λ x. refl;
       enclaves = left_did past (actors.Cpu p) (Xadd off value) ans (stored_enclaves (flat past) _ _ _);
     }) stay h
-calm_did cpus frames (actors.Cpu p) (Set value) ans past can rules stay h =
+calm_did cpus making (actors.Cpu p) (Set value) ans past can rules stay h =
     calm_left past (did_by (actors.Cpu p) (Set value) ans)
     (record {
       settled = λ n. refl;
@@ -234,7 +235,7 @@ calm_did cpus frames (actors.Cpu p) (Set value) ans past can rules stay h =
       no_init = λ x. refl;
       enclaves = left_did past (actors.Cpu p) (Set value) ans (λ x. refl);
     }) stay h
-calm_did cpus frames (actors.Cpu p) (Plus value) ans past can rules stay h =
+calm_did cpus making (actors.Cpu p) (Plus value) ans past can rules stay h =
     calm_left past (did_by (actors.Cpu p) (Plus value) ans)
     (record {
       settled = λ n. refl;
@@ -242,7 +243,7 @@ calm_did cpus frames (actors.Cpu p) (Plus value) ans past can rules stay h =
       no_init = λ x. refl;
       enclaves = left_did past (actors.Cpu p) (Plus value) ans (λ x. refl);
     }) stay h
-calm_did cpus frames (actors.Cpu p) (Pf op off) ans past can rules stay h =
+calm_did cpus making (actors.Cpu p) (Pf op off) ans past can rules stay h =
     calm_left past (did_by (actors.Cpu p) (Pf op off) ans)
     (record {
       settled = λ n. refl;
@@ -250,7 +251,7 @@ calm_did cpus frames (actors.Cpu p) (Pf op off) ans past can rules stay h =
       no_init = λ x. refl;
       enclaves = left_did past (actors.Cpu p) (Pf op off) ans (λ x. refl);
     }) stay h
-calm_did cpus frames (actors.Cpu p) (OutLoad enclave off) ans past can rules stay h =
+calm_did cpus making (actors.Cpu p) (OutLoad enclave off) ans past can rules stay h =
     calm_left past (did_by (actors.Cpu p) (OutLoad enclave off) ans)
     (record {
       settled = λ n. refl;
@@ -258,7 +259,7 @@ calm_did cpus frames (actors.Cpu p) (OutLoad enclave off) ans past can rules sta
       no_init = λ x. refl;
       enclaves = left_did past (actors.Cpu p) (OutLoad enclave off) ans (λ x. refl);
     }) stay h
-calm_did cpus frames (actors.Cpu p) (OutStore enclave off value) ans past can rules stay h =
+calm_did cpus making (actors.Cpu p) (OutStore enclave off value) ans past can rules stay h =
     calm_left past (did_by (actors.Cpu p) (OutStore enclave off value) ans)
     (record {
       settled = λ n. refl;
@@ -266,7 +267,7 @@ calm_did cpus frames (actors.Cpu p) (OutStore enclave off value) ans past can ru
       no_init = λ x. refl;
       enclaves = left_did past (actors.Cpu p) (OutStore enclave off value) ans (λ x. refl);
     }) stay h
-calm_did cpus frames a action ans past can rules stay h = absurd can
+calm_did cpus making a action ans past can rules stay h = absurd can
 
 calm_refused : (a : Actor) (action : Action) (why : Refusal) (past : List Entry) → PagesStay past (refused_by a action why) → IsCalm past
     → IsCalm (refused_by a action why ∷ past)
@@ -274,15 +275,15 @@ calm_refused a action why past stay h =
     calm_left past (refused_by a action why) (record
     { settled = λ n. refl; unblocked = λ n. refl; no_init = λ x. refl; enclaves = λ x. refl }) stay h
 
-pub calm_more : (cpus frames : ℕ) (a : Actor) (action : Action) (event : Event) (past : List Entry) → CanAsk cpus a action
+pub calm_more : (cpus : ℕ) (making : Making) (a : Actor) (action : Action) (event : Event) (past : List Entry) → CanAsk cpus a action
     → action_of event ≡ Some action
-    → KeepsRules frames ((let e : Entry = record { actor = a; event = event } in e) ∷ past)
+    → KeepsRules making ((let e : Entry = record { actor = a; event = event } in e) ∷ past)
     → PagesStay past (record { actor = a; event = event }) → IsCalm past
     → IsCalm ((let e : Entry = record { actor = a; event = event } in e) ∷ past)
-calm_more cpus frames a action (events.Did act ans) past can is rules stay h =
-    calm_did cpus frames a act ans past (rw (some_same act action is) can) rules stay h
-calm_more cpus frames a action (events.Refused act why) past can is rules stay h = calm_refused a act why past stay h
-calm_more cpus frames a action _ past can is rules stay h = cc
+calm_more cpus making a action (events.Did act ans) past can is rules stay h =
+    calm_did cpus making a act ans past (rw (some_same act action is) can) rules stay h
+calm_more cpus making a action (events.Refused act why) past can is rules stay h = calm_refused a act why past stay h
+calm_more cpus making a action _ past can is rules stay h = cc
 
 nothing_added : (x : Kind × Perm) → None ≡ Some x → ⊥
 nothing_added x h = cc

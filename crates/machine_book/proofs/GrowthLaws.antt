@@ -1,5 +1,6 @@
 -- Steps of the builder one after another.
 use Rattle.std.proofs.Common.{◌≡◌, ℕ, ◌+◌, refl, arith, sym, ap, ◌∙◌, false, Option, Some, List, [], ◌∷◌, ◌++◌, length, get_or, slice_get, replicate}
+use Rattle.sgx_types.specs.Making.{Making}
 use Rattle.std.specs.List.{All}
 use Rattle.std.proofs.lemmas.List.{length-append, replicate-append-replicate}
 use Rattle.std.proofs.lemmas.List.Folds.{sum_by-replicate}
@@ -22,16 +23,23 @@ ahead_rest j past past' xs ys is ahead i step h =
     let place : built past + (length xs + i) ≡ built past' + i = omega (arith, is) in
     rw (← place) (ahead (length xs + i) step (get_right xs ys i ∙ h))
 
+-- the EPC stays
+pub same_frames : (b b' : BookView) → GoesOn b b' → b'.making.frames ≡ b.making.frames
+same_frames b b' g = ap (λ (m : Making). m.frames) g.making
+
+-- .. and so do the processors
+pub same_cpus : (b b' : BookView) → GoesOn b b' → b'.making.cpus ≡ b.making.cpus
+same_cpus b b' g = ap (λ (m : Making). m.cpus) g.making
+
 pub goes_on : (b b' b'' : BookView) → GoesOn b b' → GoesOn b' b'' → GoesOn b b''
 goes_on b b' b'' g h = record {
-  frames = h.frames ∙ g.frames;
-  cpus = h.cpus ∙ g.cpus;
+  making = h.making ∙ g.making;
   calm = h.calm;
   keeps = λ page kind perm k. h.keeps page kind perm (g.keeps page kind perm k);
 }
 
 pub stays_put : (b : BookView) → IsCalm b.past → GoesOn b b
-stays_put b calm = record { frames = refl; cpus = refl; calm = calm; keeps = λ page kind perm k. k }
+stays_put b calm = record { making = refl; calm = calm; keeps = λ page kind perm k. k }
 
 -- what another actor did moves nobody
 pub others_stay : (move : Move) (past : List Entry) (before : Option Stay) → stay_after move false past before ≡ before
@@ -64,7 +72,7 @@ grows_append xs ys b b' b'' g h =
       goes = goes_on b b' b'' g.goes h.goes;
       built = omega (arith, g.built, h.built, len);
       script = λ j size ahead before.
-          h.script j (size ∙ sym g.goes.frames) (ahead_rest j b.past b'.past xs ys g.built ahead)
+          h.script j (size ∙ sym (same_frames b b' g.goes)) (ahead_rest j b.past b'.past xs ys g.built ahead)
           (g.script j size (λ i step k. ahead i step (get_left xs ys i step k)) before);
       room = omega (arith, g.room, h.room, taken);
       idle = λ p. idle_then p b b' b'' (g.idle p) (h.idle p);

@@ -5,6 +5,7 @@ use Rattle.std.specs.Option.{option_map}
 use Rattle.std.proofs.lemmas.Bool.{cond_both, le-leb, leb-true, lt-ltb, ltb-true}
 use Rattle.std.proofs.lemmas.List.{length-reverse}
 use Rattle.std.proofs.Math.Bool.{and-false}
+use Rattle.sgx_types.specs.Making.{Making}
 use Rattle.sgx_types.specs.declared.entries.Entry.{Entry}
 use Rattle.sgx_types.specs.declared.entries.Event.{Event}
 use Rattle.sgx_types.specs.declared.entries.Event.TheVariants as events
@@ -122,14 +123,14 @@ left_home p cause ans past cpu g before after (Some s) at is h =
     (frame_after page g with_more before (λ x. refl)) refl
     (λ has is_saved. rw at (saved_after page g with_more (λ n. n + 1) before (saved past g) (λ x. refl) has is_saved))
 
-homes_did : (cpus frames : ℕ) (a : Actor) (act : Action) (ans : Answer) (past : List Entry) (home home' : Page → Home) → CanAsk cpus a act
-    → KeepsRules frames (did_by a act ans ∷ past) → IsCalm past → AreHomes home past
+homes_did : (cpus : ℕ) (making : Making) (a : Actor) (act : Action) (ans : Answer) (past : List Entry) (home home' : Page → Home) → CanAsk cpus a act
+    → KeepsRules making (did_by a act ans ∷ past) → IsCalm past → AreHomes home past
     → ((g : Page) → home' g ≡ home_by (events.Did act ans) (page_left a act past) g (home g)) → AreHomes home' (did_by a act ans ∷ past)
-homes_did cpus frames a (Epa f) ans past home home' can rules calm h more g =
+homes_did cpus making a (Epa f) ans past home home' can rules calm h more g =
     same_home past (did_by a (Epa f) ans) g (home g) (home' g) (more g) (h g) refl refl
-homes_did cpus frames a (Create enclave f base size) ans past home home' can rules calm h more g =
+homes_did cpus making a (Create enclave f base size) ans past home home' can rules calm h more g =
     same_home past (did_by a (Create enclave f base size) ans) g (home g) (home' g) (more g) (h g) refl refl
-homes_did cpus frames a (Add enclave number f kind perm init) ans past home home' can rules calm h more g =
+homes_did cpus making a (Add enclave number f kind perm init) ans past home home' can rules calm h more g =
     let has = added_has_home enclave number kind perm init _ _ ((flat past).enclaves enclave) (calm.lawful enclave) rules.refusal.0.0 in
     record {
       frame = ap (λ (x : Home). x.frame) (more g) ∙ rw has (by_frame (same_page (page_at enclave number) g) (home g) (h g).frame);
@@ -145,54 +146,54 @@ homes_did cpus frames a (Add enclave number f kind perm init) ans past home home
     by_saved : (b : Bool) (x : Home) → x.saved ≡ saved past g → (cond b (with_frame f x) x).saved ≡ saved past g
     by_saved true x is = is
     by_saved false x is = is
-homes_did cpus frames a (Extend f chunk) ans past home home' can rules calm h more g =
+homes_did cpus making a (Extend f chunk) ans past home home' can rules calm h more g =
     same_home past (did_by a (Extend f chunk) ans) g (home g) (home' g) (more g) (h g) refl refl
-homes_did cpus frames a (Init enclave expect) ans past home home' can rules calm h more g =
+homes_did cpus making a (Init enclave expect) ans past home home' can rules calm h more g =
     same_home past (did_by a (Init enclave expect) ans) g (home g) (home' g) (more g) (h g) refl refl
-homes_did cpus frames (actors.Cpu p) (Enter enclave tcs tf sf) ans past home home' can rules calm h more g =
+homes_did cpus making (actors.Cpu p) (Enter enclave tcs tf sf) ans past home home' can rules calm h more g =
     same_home past (did_by (actors.Cpu p) (Enter enclave tcs tf sf) ans) g (home g) (home' g) (more g) (h g) refl refl
-homes_did cpus frames (actors.Cpu p) (Resume enclave tcs tf sf) ans past home home' can rules calm h more g =
+homes_did cpus making (actors.Cpu p) (Resume enclave tcs tf sf) ans past home home' can rules calm h more g =
     let page = page_at enclave tcs in
     more_home past (did_by (actors.Cpu p) (Resume enclave tcs tf sf) ans) g (home g) (home' g) (home_after page with_fewer g (home g))
     (more g) (h g) (frame_after page g with_fewer (home g) (λ x. refl)) refl
     (saved_after page g with_fewer (λ n. n - 1) (home g) (saved past g) (λ x. refl))
-homes_did cpus frames (actors.Cpu p) Exit ans past home home' can rules calm h more g =
+homes_did cpus making (actors.Cpu p) Exit ans past home home' can rules calm h more g =
     same_home past (did_by (actors.Cpu p) Exit ans) g (home g) (home' g) (more g) (h g) refl refl
-homes_did cpus frames (actors.Cpu p) (Aex cause) ans past home home' can rules calm h more g =
+homes_did cpus making (actors.Cpu p) (Aex cause) ans past home home' can rules calm h more g =
     left_home p.0 cause ans past p g (home g) (home' g) (stay past p.0) refl (more g) (h g)
-homes_did cpus frames (actors.Cpu p) (Fill number f) ans past home home' can rules calm h more g =
+homes_did cpus making (actors.Cpu p) (Fill number f) ans past home home' can rules calm h more g =
     same_home past (did_by (actors.Cpu p) (Fill number f) ans) g (home g) (home' g) (more g) (h g) refl refl
-homes_did cpus frames (actors.Cpu p) (Load off) ans past home home' can rules calm h more g =
+homes_did cpus making (actors.Cpu p) (Load off) ans past home home' can rules calm h more g =
     same_home past (did_by (actors.Cpu p) (Load off) ans) g (home g) (home' g) (more g) (h g) refl refl
-homes_did cpus frames (actors.Cpu p) (Store off value) ans past home home' can rules calm h more g =
+homes_did cpus making (actors.Cpu p) (Store off value) ans past home home' can rules calm h more g =
     same_home past (did_by (actors.Cpu p) (Store off value) ans) g (home g) (home' g) (more g) (h g) refl refl
-homes_did cpus frames (actors.Cpu p) (Xadd off value) ans past home home' can rules calm h more g =
+homes_did cpus making (actors.Cpu p) (Xadd off value) ans past home home' can rules calm h more g =
     same_home past (did_by (actors.Cpu p) (Xadd off value) ans) g (home g) (home' g) (more g) (h g) refl refl
-homes_did cpus frames (actors.Cpu p) (Set value) ans past home home' can rules calm h more g =
+homes_did cpus making (actors.Cpu p) (Set value) ans past home home' can rules calm h more g =
     same_home past (did_by (actors.Cpu p) (Set value) ans) g (home g) (home' g) (more g) (h g) refl refl
-homes_did cpus frames (actors.Cpu p) (Plus value) ans past home home' can rules calm h more g =
+homes_did cpus making (actors.Cpu p) (Plus value) ans past home home' can rules calm h more g =
     same_home past (did_by (actors.Cpu p) (Plus value) ans) g (home g) (home' g) (more g) (h g) refl refl
-homes_did cpus frames (actors.Cpu p) (Pf op off) ans past home home' can rules calm h more g =
+homes_did cpus making (actors.Cpu p) (Pf op off) ans past home home' can rules calm h more g =
     same_home past (did_by (actors.Cpu p) (Pf op off) ans) g (home g) (home' g) (more g) (h g) refl refl
-homes_did cpus frames (actors.Cpu p) (OutLoad enclave off) ans past home home' can rules calm h more g =
+homes_did cpus making (actors.Cpu p) (OutLoad enclave off) ans past home home' can rules calm h more g =
     same_home past (did_by (actors.Cpu p) (OutLoad enclave off) ans) g (home g) (home' g) (more g) (h g) refl refl
-homes_did cpus frames (actors.Cpu p) (OutStore enclave off value) ans past home home' can rules calm h more g =
+homes_did cpus making (actors.Cpu p) (OutStore enclave off value) ans past home home' can rules calm h more g =
     same_home past (did_by (actors.Cpu p) (OutStore enclave off value) ans) g (home g) (home' g) (more g) (h g) refl refl
-homes_did cpus frames a action ans past home home' can rules calm h more g = absurd can
+homes_did cpus making a action ans past home home' can rules calm h more g = absurd can
 
-pub homes_more : (cpus frames : ℕ) (a : Actor) (action : Action) (event : Event) (past : List Entry) (home home' : Page → Home)
+pub homes_more : (cpus : ℕ) (making : Making) (a : Actor) (action : Action) (event : Event) (past : List Entry) (home home' : Page → Home)
     → CanAsk cpus a action
-    → action_of event ≡ Some action → KeepsRules frames ((let e : Entry = record { actor = a; event = event } in e) ∷ past) → IsCalm past
+    → action_of event ≡ Some action → KeepsRules making ((let e : Entry = record { actor = a; event = event } in e) ∷ past) → IsCalm past
     → AreHomes home past
     → ((g : Page) → home' g ≡ home_by event (page_left a action past) g (home g))
     → AreHomes home' ((let e : Entry = record { actor = a; event = event } in e) ∷ past)
-homes_more cpus frames a action (events.Did act ans) past home home' can is rules calm h more =
+homes_more cpus making a action (events.Did act ans) past home home' can is rules calm h more =
     let same = some_same act action is in
-    homes_did cpus frames a act ans past home home' (rw same can) rules calm h
+    homes_did cpus making a act ans past home home' (rw same can) rules calm h
     (λ g. more g ∙ ap (λ x. home_by (events.Did act ans) (page_left a x past) g (home g)) (sym same))
-homes_more cpus frames a action (events.Refused act why) past home home' can is rules calm h more =
+homes_more cpus making a action (events.Refused act why) past home home' can is rules calm h more =
     λ g. record { frame = rw (more g) (h g).frame; saved = λ has. rw (more g) ((h g).saved has) }
-homes_more cpus frames a action _ past home home' can is rules calm h more = cc
+homes_more cpus making a action _ past home home' can is rules calm h more = cc
 
 -- ---- the count fits
 

@@ -2,6 +2,7 @@
 use Rattle.std.proofs.Common.{◌≡◌, ℕ, ◌+◌, ◌==◌, Bool, true, false, cond, refl, sym, ap, ◌∙◌, Option, Some, None, List, ◌∷◌, is_some}
 use Rattle.std.specs.Prelude.{slice_set}
 use Rattle.std.proofs.lemmas.Bool.{cond_both, eq-eqb}
+use Rattle.sgx_types.specs.Making.{Making}
 use Rattle.sgx_types.specs.declared.entries.Entry.{Entry}
 use Rattle.sgx_types.specs.declared.entries.Event.{Event}
 use Rattle.sgx_types.specs.declared.entries.Event.TheVariants as events
@@ -174,69 +175,69 @@ stored_added : (m : FlatMemory) (o : Option Inside) (off value : ℕ) (g : Page)
 stored_added m None off value g = refl
 stored_added m (Some i) off value g = added-changed m _ _ g
 
-stay_did : (cpus frames : ℕ) (a : Actor) (action : Action) (ans : Answer) (past : List Entry) → CanAsk cpus a action
-    → KeepsRules frames (did_by a action ans ∷ past) → PagesStay past (did_by a action ans)
-stay_did cpus frames a (Epa f) ans past can rules =
+stay_did : (cpus : ℕ) (making : Making) (a : Actor) (action : Action) (ans : Answer) (past : List Entry) → CanAsk cpus a action
+    → KeepsRules making (did_by a action ans ∷ past) → PagesStay past (did_by a action ans)
+stay_did cpus making a (Epa f) ans past can rules =
     stay_put past (did_by a (Epa f) ans) f.0 IsVa (record { frame_of = λ g. refl; added = added_did past a (Epa f) ans (λ g. refl) })
     rules.fits.entries.0.1 (λ n. refl)
-stay_did cpus frames a (Create enclave f base size) ans past can rules =
+stay_did cpus making a (Create enclave f base size) ans past can rules =
     stay_put past (did_by a (Create enclave f base size) ans) f.0 (SecsOf enclave)
     (record { frame_of = λ g. refl; added = added_did past a (Create enclave f base size) ans (λ g. refl) }) rules.fits.entries.0.1
     (λ n. refl)
-stay_did cpus frames a (Add enclave number f kind perm init) ans past can rules =
+stay_did cpus making a (Add enclave number f kind perm init) ans past can rules =
     stay_added past a enclave number f kind perm init ans (rules.flat.0 refl).taken rules.fits.entries.0.1
-stay_did cpus frames a (Extend f chunk) ans past can rules =
+stay_did cpus making a (Extend f chunk) ans past can rules =
     stay_same past (did_by a (Extend f chunk) ans)
     (record { frame_of = λ g. refl; added = added_did past a (Extend f chunk) ans (λ g. refl) }) (λ n. refl)
-stay_did cpus frames a (Init enclave expect) ans past can rules =
+stay_did cpus making a (Init enclave expect) ans past can rules =
     stay_same past (did_by a (Init enclave expect) ans)
     (record { frame_of = λ g. refl; added = added_did past a (Init enclave expect) ans (λ g. refl) }) (λ n. refl)
-stay_did cpus frames (actors.Cpu p) (Enter enclave tcs tf sf) ans past can rules =
+stay_did cpus making (actors.Cpu p) (Enter enclave tcs tf sf) ans past can rules =
     stay_same past (did_by (actors.Cpu p) (Enter enclave tcs tf sf) ans)
     (record { frame_of = λ g. refl; added = added_did past (actors.Cpu p) (Enter enclave tcs tf sf) ans (λ g. refl) }) (λ n. refl)
-stay_did cpus frames (actors.Cpu p) (Resume enclave tcs tf sf) ans past can rules =
+stay_did cpus making (actors.Cpu p) (Resume enclave tcs tf sf) ans past can rules =
     stay_same past (did_by (actors.Cpu p) (Resume enclave tcs tf sf) ans)
     (record {
       frame_of = λ g. refl;
       added = added_did past (actors.Cpu p) (Resume enclave tcs tf sf) ans
           (added-changed (flat past) _ _);
     }) (λ n. refl)
-stay_did cpus frames (actors.Cpu p) Exit ans past can rules =
+stay_did cpus making (actors.Cpu p) Exit ans past can rules =
     stay_same past (did_by (actors.Cpu p) Exit ans)
     (record { frame_of = λ g. refl; added = added_did past (actors.Cpu p) Exit ans (λ g. refl) }) (λ n. refl)
-stay_did cpus frames (actors.Cpu p) (Aex cause) ans past can rules =
+stay_did cpus making (actors.Cpu p) (Aex cause) ans past can rules =
     stay_same past (did_by (actors.Cpu p) (Aex cause) ans)
     (record { frame_of = λ g. refl; added = added_did past (actors.Cpu p) (Aex cause) ans (saved_added (flat past) _ _) }) (λ n. refl)
-stay_did cpus frames (actors.Cpu p) (Fill number f) ans past can rules =
+stay_did cpus making (actors.Cpu p) (Fill number f) ans past can rules =
     stay_same past (did_by (actors.Cpu p) (Fill number f) ans)
     (record { frame_of = λ g. refl; added = added_did past (actors.Cpu p) (Fill number f) ans (λ g. refl) }) (λ n. refl)
-stay_did cpus frames (actors.Cpu p) (Load off) ans past can rules =
+stay_did cpus making (actors.Cpu p) (Load off) ans past can rules =
     stay_same past (did_by (actors.Cpu p) (Load off) ans)
     (record { frame_of = λ g. refl; added = added_did past (actors.Cpu p) (Load off) ans (λ g. refl) }) (λ n. refl)
-stay_did cpus frames (actors.Cpu p) (Store off value) ans past can rules =
+stay_did cpus making (actors.Cpu p) (Store off value) ans past can rules =
     stay_same past (did_by (actors.Cpu p) (Store off value) ans)
     (record { frame_of = λ g. refl; added = added_did past (actors.Cpu p) (Store off value) ans (stored_added (flat past) _ _ _) })
     (λ n. refl)
-stay_did cpus frames (actors.Cpu p) (Xadd off value) ans past can rules =
+stay_did cpus making (actors.Cpu p) (Xadd off value) ans past can rules =
     stay_same past (did_by (actors.Cpu p) (Xadd off value) ans)
     (record { frame_of = λ g. refl; added = added_did past (actors.Cpu p) (Xadd off value) ans (stored_added (flat past) _ _ _) })
     (λ n. refl)
-stay_did cpus frames (actors.Cpu p) (Set value) ans past can rules =
+stay_did cpus making (actors.Cpu p) (Set value) ans past can rules =
     stay_same past (did_by (actors.Cpu p) (Set value) ans)
     (record { frame_of = λ g. refl; added = added_did past (actors.Cpu p) (Set value) ans (λ g. refl) }) (λ n. refl)
-stay_did cpus frames (actors.Cpu p) (Plus value) ans past can rules =
+stay_did cpus making (actors.Cpu p) (Plus value) ans past can rules =
     stay_same past (did_by (actors.Cpu p) (Plus value) ans)
     (record { frame_of = λ g. refl; added = added_did past (actors.Cpu p) (Plus value) ans (λ g. refl) }) (λ n. refl)
-stay_did cpus frames (actors.Cpu p) (Pf op off) ans past can rules =
+stay_did cpus making (actors.Cpu p) (Pf op off) ans past can rules =
     stay_same past (did_by (actors.Cpu p) (Pf op off) ans)
     (record { frame_of = λ g. refl; added = added_did past (actors.Cpu p) (Pf op off) ans (λ g. refl) }) (λ n. refl)
-stay_did cpus frames (actors.Cpu p) (OutLoad enclave off) ans past can rules =
+stay_did cpus making (actors.Cpu p) (OutLoad enclave off) ans past can rules =
     stay_same past (did_by (actors.Cpu p) (OutLoad enclave off) ans)
     (record { frame_of = λ g. refl; added = added_did past (actors.Cpu p) (OutLoad enclave off) ans (λ g. refl) }) (λ n. refl)
-stay_did cpus frames (actors.Cpu p) (OutStore enclave off value) ans past can rules =
+stay_did cpus making (actors.Cpu p) (OutStore enclave off value) ans past can rules =
     stay_same past (did_by (actors.Cpu p) (OutStore enclave off value) ans)
     (record { frame_of = λ g. refl; added = added_did past (actors.Cpu p) (OutStore enclave off value) ans (λ g. refl) }) (λ n. refl)
-stay_did cpus frames a action ans past can rules = absurd can
+stay_did cpus making a action ans past can rules = absurd can
 
 stay_refused : (cpus : ℕ) (a : Actor) (action : Action) (why : Refusal) (past : List Entry) → CanAsk cpus a action
     → PagesStay past (refused_by a action why)
@@ -264,12 +265,12 @@ stay_refused cpus a action why past can =
     by_action (actors.Cpu p) (OutStore enclave off value) can n = refl
     by_action a action can n = absurd can
 
-pub pages_stay : (cpus frames : ℕ) (a : Actor) (action : Action) (event : Event) (past : List Entry) → CanAsk cpus a action
+pub pages_stay : (cpus : ℕ) (making : Making) (a : Actor) (action : Action) (event : Event) (past : List Entry) → CanAsk cpus a action
     → action_of event ≡ Some action
-    → KeepsRules frames ((let e : Entry = record { actor = a; event = event } in e) ∷ past)
+    → KeepsRules making ((let e : Entry = record { actor = a; event = event } in e) ∷ past)
     → PagesStay past (record { actor = a; event = event })
-pages_stay cpus frames a action (events.Did act ans) past can is rules =
-    stay_did cpus frames a act ans past (rw (some_same act action is) can) rules
-pages_stay cpus frames a action (events.Refused act why) past can is rules =
+pages_stay cpus making a action (events.Did act ans) past can is rules =
+    stay_did cpus making a act ans past (rw (some_same act action is) can) rules
+pages_stay cpus making a action (events.Refused act why) past can is rules =
     stay_refused cpus a act why past (rw (some_same act action is) can)
-pages_stay cpus frames a action _ past can is rules = cc
+pages_stay cpus making a action _ past can is rules = cc

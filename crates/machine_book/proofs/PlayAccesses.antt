@@ -2,6 +2,7 @@
 use Rattle.std.proofs.Common.{◌≡◌, ℕ, ◌==◌, ◌/◌, ◌%◌, ◌^◌, ◌≤◌, ◌||◌, Bool, true, false, cond, nat_le, nat_lt, refl, sym, ◌∙◌, arith, Option, Some, None, List, [], ◌∷◌, ◌++◌, length}
 use Rattle.std.proofs.lemmas.Bool.{cond_both, eq-eqb, leb-true}
 use Rattle.std.proofs.lemmas.List.Elements.{All-head}
+use Rattle.sgx_types.specs.Making.{Making}
 use Rattle.sgx_types.specs.declared.entries.Entry.{Entry}
 use Rattle.sgx_types.specs.declared.entries.Event.{Event}
 use Rattle.sgx_types.specs.declared.entries.Event.TheVariants as events
@@ -85,18 +86,18 @@ fill_allowed frames enclave number f perm past calm beyond held =
     in
     none_refused (fill_row number (Some enclave) (sight_at frames past f)) row
 
-fill_holds : (frames : ℕ) (cpu : Cpu) (enclave number : ℕ) (f : Frame) (event : Event) (past : List Entry)
+fill_holds : (making : Making) (cpu : Cpu) (enclave number : ℕ) (f : Frame) (event : Event) (past : List Entry)
     → action_of event ≡ Some (Fill number f)
-    → first_of_row (fill_row number (enclave_of_stay (stay past cpu.0)) (sight_at frames past f.0)) ≡ None
-    → RefusalRule frames past (entry_of cpu event) → holds_number (translations_after event true (translations past cpu.0)) number ≡ true
-fill_holds frames cpu enclave number f (events.Did act ans) past is allowed rule =
+    → first_of_row (fill_row number (enclave_of_stay (stay past cpu.0)) (sight_at making.frames past f.0)) ≡ None
+    → RefusalRule making past (entry_of cpu event) → holds_number (translations_after event true (translations past cpu.0)) number ≡ true
+fill_holds making cpu enclave number f (events.Did act ans) past is allowed rule =
     rw (some_same act (Fill number f) is) (filled_held (translations past cpu.0) (record { number = number; frame = f.0 }))
-fill_holds frames cpu enclave number f (events.Refused act why) past is allowed rule =
+fill_holds making cpu enclave number f (events.Refused act why) past is allowed rule =
     absurd (refuses why (sym allowed ∙ (rw (some_same act (Fill number f) is) at rule)))
   where
     refuses : (why : Refusal) → None ≡ Some why → ⊥
     refuses why h = cc
-fill_holds frames cpu enclave number f _ past is allowed rule = cc
+fill_holds making cpu enclave number f _ past is allowed rule = cc
 
 -- ---- nobody replies, enters or leaves by a fill
 
@@ -155,9 +156,9 @@ filled_by cpu page f b b' calm missing there reg n = record {
         let frame : at.1.frame ≡ f.0 = some_same at.1.frame f.0 (sym at.1.there ∙ there) in
         let before : content b.past f.0 ≡ Holds page kinds.Reg at.0 = rw frame at at.1.held in
         let after : content b'.past f.0 ≡ content b.past f.0 = rw n.past (fill_content f.0 n.event n.is_action) in
-        let allowed = fill_allowed b'.frames page.enclave page.number f.0 at.0 b.past calm (λ le. sym after ∙ n.beyond f.0 le) before in
-        let rule = newest_refusal b'.frames b.past (entry_of cpu n.event) b'.past n.past n.rules in
-        rw (n.past, eq-eqb cpu.0 cpu.0 refl) (fill_holds b'.frames cpu page.enclave page.number f n.event b.past n.is_action
+        let allowed = fill_allowed b'.making.frames page.enclave page.number f.0 at.0 b.past calm (λ le. sym after ∙ n.beyond f.0 le) before in
+        let rule = newest_refusal b'.making b.past (entry_of cpu n.event) b'.past n.past n.rules in
+        rw (n.past, eq-eqb cpu.0 cpu.0 refl) (fill_holds b'.making cpu page.enclave page.number f n.event b.past n.is_action
         (rw inside allowed) rule)
       where
         fill_content : (k : ℕ) (event : Event) → action_of event ≡ Some (Fill page.number f)

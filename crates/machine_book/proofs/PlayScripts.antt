@@ -5,6 +5,7 @@ use Rattle.std.proofs.lemmas.Bool.{eq-eqb, eqb-false, eqb-true, le-leb, ne_eqb}
 use Rattle.std.proofs.lemmas.List.{drop_more, length-append, length-map, take-append-drop, take_more}
 use Rattle.std.proofs.lemmas.List.Elements.{All-cons, All-head, All-nil, All-tail}
 use Rattle.std.proofs.lemmas.Option.{slice_get-map, slice_get_read, unwrap_or-slice_get}
+use Rattle.sgx_types.specs.Making.{Making}
 use Rattle.sgx_types.specs.declared.entries.Entry.{Entry}
 use Rattle.sgx_types.specs.declared.entries.Event.{Event}
 use Rattle.sgx_types.specs.declared.entries.Event.TheVariants as events
@@ -115,12 +116,12 @@ outside_left : (o : Option Stay) (why : Refusal) → first_of_row (aex_row (is_s
 outside_left None why h = refl
 outside_left (Some s) why h = cc
 
-end_leaves : (frames : ℕ) (cpu : Cpu) (event : Event) (past : List Entry) → action_of event ≡ Some (Aex End)
-    → RefusalRule frames past (entry_of cpu event)
+end_leaves : (making : Making) (cpu : Cpu) (event : Event) (past : List Entry) → action_of event ≡ Some (Aex End)
+    → RefusalRule making past (entry_of cpu event)
     → stay_after (move_by event) true past (stay past cpu.0) ≡ None
-end_leaves frames cpu (events.Did act ans) past is rule = rw (some_same act (Aex End) is) refl
-end_leaves frames cpu (events.Refused act why) past is rule = outside_left (stay past cpu.0) why (rw (some_same act (Aex End) is) at rule)
-end_leaves frames cpu _ past is rule = cc
+end_leaves making cpu (events.Did act ans) past is rule = rw (some_same act (Aex End) is) refl
+end_leaves making cpu (events.Refused act why) past is rule = outside_left (stay past cpu.0) why (rw (some_same act (Aex End) is) at rule)
+end_leaves making cpu _ past is rule = cc
 
 -- who is outside has nothing more to do
 pub finishes_outside : (j : JobView) (p : ℕ) (script : List Op) (b b' : BookView) → stay b'.past p ≡ None → Plays j p script b b'
@@ -135,8 +136,8 @@ finishes_inside j cpu script b m b' inside h n = record {
   goes = goes_on b m b' h.goes n.goes;
   built = same ∙ h.built;
   others = λ q other. idle_then q b m b' (h.others q other) (idle_other cpu (Aex End) m b' n q other);
-  outside = rw (n.past, eq-eqb cpu.0 cpu.0 refl) (end_leaves b'.frames cpu n.event m.past n.is_action
-      (newest_refusal b'.frames m.past (entry_of cpu n.event) b'.past n.past n.rules));
+  outside = rw (n.past, eq-eqb cpu.0 cpu.0 refl) (end_leaves b'.making cpu n.event m.past n.is_action
+      (newest_refusal b'.making m.past (entry_of cpu n.event) b'.past n.past n.rules));
   played = λ ready all.
       (let there = h.played ready in
       record {
@@ -173,8 +174,7 @@ le_self n = omega arith
 
 -- the first so many processors played their scripts, and no other did anything
 pub record ArePlayed (j : JobView) (count : ℕ) (b b' : BookView) : Type 0 where
-  pub frames : b'.frames ≡ b.frames
-  pub cpus : b'.cpus ≡ b.cpus
+  pub making : b'.making ≡ b.making
   pub calm : IsCalm b'.past
   pub job : IsBuilt j b'.past
   pub room : (p : ℕ) → HasRoom j b'.past p
@@ -186,8 +186,7 @@ pub record ArePlayed (j : JobView) (count : ℕ) (b b' : BookView) : Type 0 wher
 
 pub none_played : (j : JobView) (b : BookView) → IsCalm b.past → IsBuilt j b.past → IsQuiet b.past → ArePlayed j 0 b b
 none_played j b calm built quiet = record {
-  frames = refl;
-  cpus = refl;
+  making = refl;
   calm = calm;
   job = built;
   room = λ p e n page ossa nssa plain is. rw (quiet.outside p, quiet.saved _) (omega arith);
@@ -214,8 +213,7 @@ ready_script j i script b m within is h = record {
 pub one_played : (j : JobView) (i : ℕ) (script : List Op) (b m b' : BookView) → i < length j.scripts → script ≡ script_of j i
     → ArePlayed j i b m → Finishes j i script m b' → ArePlayed j (i + 1) b b'
 one_played j i script b m b' within is h ends = record {
-  frames = ends.goes.frames ∙ h.frames;
-  cpus = ends.goes.cpus ∙ h.cpus;
+  making = ends.goes.making ∙ h.making;
   calm = ends.goes.calm;
   job = played.job;
   room = λ p. room_outside j i p b'.past (outside i) (outside p) played.room;

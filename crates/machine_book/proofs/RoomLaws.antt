@@ -1,6 +1,7 @@
 -- No TCS page has more state save frames in use than it has.
 use Rattle.std.proofs.Common.{◌≡◌, ◌≢◌, ℕ, ◌+◌, ◌-◌, ◌==◌, ◌<◌, ◌≤◌, Bool, true, false, cond, refl, arith, Some, None, List, ◌∷◌}
 use Rattle.std.proofs.lemmas.Bool.{cond_both, eq-eqb}
+use Rattle.sgx_types.specs.Making.{Making}
 use Rattle.sgx_types.specs.declared.entries.Entry.{Entry}
 use Rattle.sgx_types.specs.declared.entries.Event.{Event}
 use Rattle.sgx_types.specs.declared.entries.Event.TheVariants as events
@@ -69,7 +70,7 @@ saved_used past p g =
 
 module _ (frames : ℕ) (past : List Entry) (p enclave tcs : ℕ) (tf sf : Frame) where
   abbrev seen : EnterSight
-  seen = enter_sight_at frames past p (seat_of enclave tcs tf.0 sf.0)
+  seen = enter_sight_at frames past (stay past p) (seat_of enclave tcs tf.0 sf.0)
 
   -- who enters is outside before
   enter_outside : first_of_row (enter_row enclave tcs seen) ≡ None → stay past p ≡ None
@@ -89,56 +90,56 @@ module _ (frames : ℕ) (past : List Entry) (p enclave tcs : ℕ) (tf sf : Frame
       let tcs_there : is_tcs (content past tf.0) ≡ true = not_false _ e.tcs_kind in
       tcs_no_reg (content past sf.0) (rw same at tcs_there) (not_false _ e.ssa_kind))
 
-used_did : (frames : ℕ) (cpu : Cpu) (act : Action) (ans : Answer) (past : List Entry) (g : Page) (limit : ℕ) → IsOfScript act
-    → RefusalRule frames past (did_by (actors.Cpu cpu) act ans) → IsRoomy act past g limit
+used_did : (making : Making) (cpu : Cpu) (act : Action) (ans : Answer) (past : List Entry) (g : Page) (limit : ℕ) → IsOfScript act
+    → RefusalRule making past (did_by (actors.Cpu cpu) act ans) → IsRoomy act past g limit
     → 1 ≤ limit → used past cpu.0 g ≤ limit → used (did_by (actors.Cpu cpu) act ans ∷ past) cpu.0 g ≤ limit
-used_did frames cpu (Enter enclave tcs tf sf) ans past g limit of rule roomy some h =
-    let out : stay past cpu.0 ≡ None = enter_outside frames past cpu.0 enclave tcs tf sf rule.0 in
+used_did making cpu (Enter enclave tcs tf sf) ans past g limit of rule roomy some h =
+    let out : stay past cpu.0 ≡ None = enter_outside making.frames past cpu.0 enclave tcs tf sf rule.0 in
     let before : saved past g ≤ limit = rw out at h in
     rw (eq-eqb cpu.0 cpu.0 refl)
     (cond_both (same_page (page_at enclave tcs) g) (saved past g + 1) (saved past g) (λ v. v ≤ limit)
-    (λ same. (let less = roomy (enter_apart frames past cpu.0 enclave tcs tf sf rule.0) same in omega arith)) (λ _. before))
-used_did frames cpu (Resume enclave tcs tf sf) ans past g limit of rule roomy some h =
-    let out : stay past cpu.0 ≡ None = resume_outside frames past cpu.0 enclave tcs tf sf rule.0 in
+    (λ same. (let less = roomy (enter_apart making.frames past cpu.0 enclave tcs tf sf rule.0) same in omega arith)) (λ _. before))
+used_did making cpu (Resume enclave tcs tf sf) ans past g limit of rule roomy some h =
+    let out : stay past cpu.0 ≡ None = resume_outside making.frames past cpu.0 enclave tcs tf sf rule.0 in
     let before : saved past g ≤ limit = rw out at h in
     rw (eq-eqb cpu.0 cpu.0 refl) (by_test (same_page (page_at enclave tcs) g) (saved past g) before)
   where
     by_test : (b : Bool) (n : ℕ) → n ≤ limit → cond b (cond b (n - 1) n + 1) (cond b (n - 1) n) ≤ limit
     by_test true n le = omega arith
     by_test false n le = le
-used_did frames cpu Exit ans past g limit of rule roomy some h =
+used_did making cpu Exit ans past g limit of rule roomy some h =
     rw (eq-eqb cpu.0 cpu.0 refl) (let le = saved_used past cpu.0 g in omega arith)
-used_did frames cpu (Aex cause) ans past g limit of rule roomy some h = rw (eq-eqb cpu.0 cpu.0 refl) h
-used_did frames cpu (Fill number f) ans past g limit of rule roomy some h = h
-used_did frames cpu (Load off) ans past g limit of rule roomy some h = h
-used_did frames cpu (Store off value) ans past g limit of rule roomy some h = h
-used_did frames cpu (Xadd off value) ans past g limit of rule roomy some h = h
-used_did frames cpu (Set value) ans past g limit of rule roomy some h = h
-used_did frames cpu (Plus value) ans past g limit of rule roomy some h = h
-used_did frames cpu (Pf op off) ans past g limit of rule roomy some h = h
-used_did frames cpu (OutLoad enclave off) ans past g limit of rule roomy some h = h
-used_did frames cpu (OutStore enclave off value) ans past g limit of rule roomy some h = h
-used_did frames cpu act ans past g limit of rule roomy some h = absurd of
+used_did making cpu (Aex cause) ans past g limit of rule roomy some h = rw (eq-eqb cpu.0 cpu.0 refl) h
+used_did making cpu (Fill number f) ans past g limit of rule roomy some h = h
+used_did making cpu (Load off) ans past g limit of rule roomy some h = h
+used_did making cpu (Store off value) ans past g limit of rule roomy some h = h
+used_did making cpu (Xadd off value) ans past g limit of rule roomy some h = h
+used_did making cpu (Set value) ans past g limit of rule roomy some h = h
+used_did making cpu (Plus value) ans past g limit of rule roomy some h = h
+used_did making cpu (Pf op off) ans past g limit of rule roomy some h = h
+used_did making cpu (OutLoad enclave off) ans past g limit of rule roomy some h = h
+used_did making cpu (OutStore enclave off value) ans past g limit of rule roomy some h = h
+used_did making cpu act ans past g limit of rule roomy some h = absurd of
 
-used_more : (frames : ℕ) (cpu : Cpu) (action : Action) (event : Event) (past : List Entry) (g : Page) (limit : ℕ) → IsOfScript action
-    → action_of event ≡ Some action → RefusalRule frames past (entry_of cpu event)
+used_more : (making : Making) (cpu : Cpu) (action : Action) (event : Event) (past : List Entry) (g : Page) (limit : ℕ) → IsOfScript action
+    → action_of event ≡ Some action → RefusalRule making past (entry_of cpu event)
     → IsRoomy action past g limit → 1 ≤ limit → used past cpu.0 g ≤ limit → used (entry_of cpu event ∷ past) cpu.0 g ≤ limit
-used_more frames cpu action (events.Did act ans) past g limit of is rule roomy some h =
+used_more making cpu action (events.Did act ans) past g limit of is rule roomy some h =
     let same = some_same act action is in
-    used_did frames cpu act ans past g limit (rw same of) rule (rw same roomy) some h
-used_more frames cpu action (events.Refused act why) past g limit of is rule roomy some h = h
-used_more frames cpu action _ past g limit of is rule roomy some h = cc
+    used_did making cpu act ans past g limit (rw same of) rule (rw same roomy) some h
+used_more making cpu action (events.Refused act why) past g limit of is rule roomy some h = h
+used_more making cpu action _ past g limit of is rule roomy some h = cc
 
-pub newest_refusal : (frames : ℕ) (past : List Entry) (e : Entry) (whole : List Entry) → whole ≡ e ∷ past → KeepsRules frames whole
-    → RefusalRule frames past e
-newest_refusal frames past e whole is rules = (rw is at rules.refusal).0
+pub newest_refusal : (making : Making) (past : List Entry) (e : Entry) (whole : List Entry) → whole ≡ e ∷ past → KeepsRules making whole
+    → RefusalRule making past e
+newest_refusal making past e whole is rules = (rw is at rules.refusal).0
 
 pub room_more : (j : JobView) (cpu : Cpu) (action : Action) (b b' : BookView) → IsOfScript action → IsValid j
     → IsNext (actors.Cpu cpu) action b b' → IsRoomyFor j action b.past
     → HasRoom j b.past cpu.0 → HasRoom j b'.past cpu.0
 room_more j cpu action b b' of valid n roomy room = λ e k page ossa nssa plain is.
-    (let rule = newest_refusal b'.frames b.past (entry_of cpu n.event) b'.past n.past n.rules in
-    rw n.past (used_more b'.frames cpu action n.event b.past (page_at e k) nssa of n.is_action rule (roomy e k page ossa nssa plain is)
+    (let rule = newest_refusal b'.making b.past (entry_of cpu n.event) b'.past n.past n.rules in
+    rw n.past (used_more b'.making cpu action n.event b.past (page_at e k) nssa of n.is_action rule (roomy e k page ossa nssa plain is)
     (some_frames j e k page ossa nssa plain valid is) (room e k page ossa nssa plain is)))
 
 -- ---- where nobody entered or left

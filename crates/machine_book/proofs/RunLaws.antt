@@ -29,6 +29,6 @@ quiet_of j b b' none grown = record {
   saved = λ g. grown.saved g ∙ rw none refl;
 }
 
-pub build_scripted : (j : JobView) (b b' : BookView) → b.frames ≡ j.epc → b.past ≡ [] → Grows (build_of j) b b'
+pub build_scripted : (j : JobView) (b b' : BookView) → b.making.frames ≡ j.epc → b.past ≡ [] → Grows (build_of j) b b'
     → Along (ScriptRule j) b'.past
 build_scripted j b b' frames none grown = grown.script j (sym frames) (all_next j b.past none) (rw none tt)

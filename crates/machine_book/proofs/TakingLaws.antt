@@ -49,8 +49,8 @@ asks cpus frames past (builds.Extend enclave number chunk) action h = rw (with_o
 asks cpus frames past (builds.Init enclave expect) action h = rw (← some_same _ action h) tt
 
 -- a frame is there where one is free
-free_there : (b : BookView) → 1 ≤ free_frames b → (o : Option ℕ) → least_free b.frames (content b.past) ≡ o → is_some o ≡ true
-free_there b some None is = let zero_left = none_left (content b.past) b.frames is in absurd (omega (arith, zero_left, some))
+free_there : (b : BookView) → 1 ≤ free_frames b → (o : Option ℕ) → least_free b.making.frames (content b.past) ≡ o → is_some o ≡ true
+free_there b some None is = let zero_left = none_left (content b.past) b.making.frames is in absurd (omega (arith, zero_left, some))
 free_there b some (Some f) is = refl
 
 with_there : (step : BuildStep) (o : Option ℕ) → is_some o ≡ true → is_some (with_frame step o) ≡ true
@@ -122,6 +122,6 @@ module _ (b b' : BookView) where
 -- ---- the turn
 
 -- the next step of a job's build is the builder's turn
-pub builder_turn : (j : JobView) (b b' : BookView) (step : BuildStep) → j.epc ≡ b.frames → slice_get (build_of j) (built b.past) ≡ Some step
+pub builder_turn : (j : JobView) (b b' : BookView) (step : BuildStep) → j.epc ≡ b.making.frames → slice_get (build_of j) (built b.past) ≡ Some step
     → Takes step b b' → IsTurn j actors.Builder b b'
 builder_turn j b b' step size at t = record { action = t.action; is_due = rw (at, size) t.due; next = t.next }

@@ -11,13 +11,13 @@ use Rattle.sgx_types.specs.Frames.{Free, Holds, content, frame_of, is_blocked, i
 use Rattle.sgx_types.specs.Processors.{stay}
 use Rattle.sgx_types.specs.Table.{is_enclave, is_lawful, is_ready}
 use Rattle.sgx_types.specs.Flat.{FlatEnclave, added_as, flat, enclave_sight}
+use Rattle.sgx_types.specs.Making.{Making}
 use Rattle.sgx_types.specs.Rules.{KeepsRules}
 use Rattle.turn_rules.specs.Script.{action_of, is_initialised, is_interrupted, replied}
 
--- how many frames and processors the machine has, and the entries, the newest first
+-- what the machine was made with, and the entries, the newest first
 pub record BookView : Type 0 where
-  pub frames : ℕ
-  pub cpus : ℕ
+  pub making : Making
   pub past : List Entry
 
 -- ---- what every book's entries keep
@@ -47,8 +47,7 @@ pub record IsCalm (past : List Entry) : Type 0 where
 
 -- every page that was placed is so still
 pub record GoesOn (b b' : BookView) : Type 0 where
-  pub frames : b'.frames ≡ b.frames
-  pub cpus : b'.cpus ≡ b.cpus
+  pub making : b'.making ≡ b.making
   pub calm : IsCalm b'.past
   pub keeps : (g : Page) (kind : Kind) (perm : Perm) → IsPlaced b.past g kind perm → IsPlaced b'.past g kind perm
 
@@ -66,5 +65,5 @@ pub record IsNext (actor : Actor) (action : Action) (b b' : BookView) : Type 0 w
   pub event : Event
   pub past : b'.past ≡ (let e : Entry = record { actor = actor; event = event } in e) ∷ b.past
   pub is_action : action_of event ≡ Some action
-  pub rules : KeepsRules b'.frames b'.past
-  pub beyond : (n : ℕ) → b'.frames ≤ n → content b'.past n ≡ Free
+  pub rules : KeepsRules b'.making b'.past
+  pub beyond : (n : ℕ) → b'.making.frames ≤ n → content b'.past n ≡ Free

@@ -27,7 +27,7 @@ count_free held zero = 0
 count_free held (suc n) = if is_free (held n) then count_free held n + 1 else count_free held n
 
 abbrev pub free_frames : BookView → ℕ
-free_frames b = count_free (content b.past) b.frames
+free_frames b = count_free (content b.past) b.making.frames
 
 abbrev pub frame_count : BuildStep → ℕ
 frame_count (builds.Extend enclave number chunk) = 0
@@ -52,7 +52,7 @@ AreTaken past steps = All (λ step. accepts (flat past) actors.Builder (step_act
 pub record Grows (steps : List BuildStep) (b b' : BookView) : Type 0 where
   pub goes : GoesOn b b'
   pub built : built b'.past ≡ built b.past + length steps
-  pub script : (j : JobView) → j.epc ≡ b.frames → AreNext j b.past steps → Along (ScriptRule j) b.past → Along (ScriptRule j) b'.past
+  pub script : (j : JobView) → j.epc ≡ b.making.frames → AreNext j b.past steps → Along (ScriptRule j) b.past → Along (ScriptRule j) b'.past
   pub room : free_frames b ≤ free_frames b' + frames_taken steps
   pub idle : (p : ℕ) → IsIdle p b b'
   pub saved : (g : Page) → saved b'.past g ≡ saved b.past g

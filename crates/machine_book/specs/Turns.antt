@@ -20,12 +20,12 @@ pub record IsTurn (j : JobView) (actor : Actor) (b b' : BookView) : Type 0 where
 
 -- a step of the builder finds its frame
 abbrev pub IsDue : BuildStep → BookView → Type 0
-IsDue step b = is_some (step_due b.frames b.past step) ≡ true
+IsDue step b = is_some (step_due b.making.frames b.past step) ≡ true
 
 -- one entry more: the builder's, of the instruction of this step
 pub record Takes (step : BuildStep) (b b' : BookView) : Type 0 where
   pub action : Action
-  pub due : step_due b.frames b.past step ≡ Some action
+  pub due : step_due b.making.frames b.past step ≡ Some action
   pub next : IsNext actors.Builder action b b'
 
 -- ---- a processor

@@ -12,7 +12,7 @@ ghost use Rattle.sgx_types.specs.declared.names.Page.{Page};
 ghost use Rattle.turn_rules.specs.Script.{frame_at, saved};
 ghost use Rattle.paging_machine.specs.Parts.{seat_of_mode, state_of};
 ghost use Rattle.paging_laws.specs.Histories.{StandsWithAllRules};
-ghost use Rattle.paging_laws.specs.Shape.{making_of};
+ghost use Rattle.paging_laws.specs.State.{making_of};
 ghost use Rattle.paging_laws.specs.Columns.{seat_of_stay};
 ghost use Rattle.machine_book.specs.Asking.{CanAsk};
 ghost use Rattle.machine_book.specs.Books.{BookView, IsCalm, IsNext};
@@ -52,7 +52,7 @@ impl Book {
     /// The book of a machine that has done nothing yet.
     pub fn new(alloc: Global, machine: Machine) -> Result<Book, Memory>
         requires { StandsWithAllRules (making_of (state_of machine)) (state_of machine) [] [] }
-        ensures value { IfOk result (λ book. book ≡ record { frames = (state_of machine).frames; cpus = length machine.cpus; past = [] }) }
+        ensures value { IfOk result (λ book. book ≡ record { making = making_of (state_of machine); past = [] }) }
         ensures calm { IfOk result (λ book. IsCalm book.past) }
     {
         let machine = Box::new(alloc, machine)?;
@@ -66,13 +66,13 @@ impl Book {
 
     /// One instruction, and its entry.
     pub fn apply(&mut self, alloc: Global, actor: Actor, action: Action) -> Result<(), Memory>
-        requires { CanAsk self.old.cpus actor action }
+        requires { CanAsk self.old.making.cpus actor action }
         ensures done { OnOk result (IsNext actor action self.old self.new) }
         ensures refused { OnErr result (self.new ≡ self.old) }
     {
         let left = self.page_left(actor, action);
         self.entries.reserve(1)?;
-        let entry = self.machine.apply(alloc, actor, action)?;
+        let entry = self.machine.apply(alloc, actor, &action)?;
         note_home(&mut self.homes, entry.event, left);
         self.entries.push_reserved(entry);
         Ok(())
@@ -80,7 +80,7 @@ impl Book {
 
     // The TCS page by which a processor is inside that leaves asynchronously by this action, if it is done.
     fn page_left(&self, actor: Actor, action: Action) -> Option<Page>
-        requires { CanAsk self.now.cpus actor action }
+        requires { CanAsk self.now.making.cpus actor action }
         ensures { result ≡ page_left actor action self.now.past }
     {
         match (actor, action) {
@@ -91,7 +91,7 @@ impl Book {
 
     // The TCS page by which a processor is inside.
     fn page_inside(&self, cpu: Cpu) -> Option<Page>
-        requires { cpu.0 < self.now.cpus }
+        requires { cpu.0 < self.now.making.cpus }
         ensures { result ≡ page_of_stay (stay self.now.past cpu.0) }
     {
         match self.mode(cpu) {
@@ -128,14 +128,14 @@ impl Book {
 
     /// The free frame with the least number, None exactly where none is free.
     pub fn first_free(&self) -> Option<Frame>
-        ensures { result ≡ option_map frame_at (least_free self.now.frames (content self.now.past)) }
+        ensures { result ≡ option_map frame_at (least_free self.now.making.frames (content self.now.past)) }
     {
         self.machine.first_free()
     }
 
     /// How a processor stands: outside, or inside an enclave by a TCS page.
     pub fn mode(&self, cpu: Cpu) -> Mode
-        requires { cpu.0 < self.now.cpus }
+        requires { cpu.0 < self.now.making.cpus }
         ensures { seat_of_mode result ≡ seat_of_stay (stay self.now.past cpu.0) }
     {
         self.machine.mode(cpu)
@@ -143,7 +143,7 @@ impl Book {
 
     /// Whether a processor holds a translation of a page of its enclave, by the page's number.
     pub fn holds(&self, cpu: Cpu, number: u32) -> bool
-        requires { cpu.0 < self.now.cpus }
+        requires { cpu.0 < self.now.making.cpus }
         ensures { result ≡ holds_number (translations self.now.past cpu.0) number }
     {
         self.machine.holds(cpu, number)
@@ -159,7 +159,7 @@ impl Book {
     /// The entries, oldest first. They keep the rules of every trace.
     pub fn entries(&self) -> &[Entry]
         ensures value { reverse result.now ≡ self.now.past }
-        ensures rules { KeepsRules self.now.frames self.now.past }
+        ensures rules { KeepsRules self.now.making self.now.past }
         ensures measure { Along MeasureRule self.now.past }
     {
         &self.entries

@@ -16,7 +16,7 @@ use turn_rules::cursor::BuildCursor;
 
 /// The builder's part of a run: the version arrays, and then each enclave with its pages, one turn after another.
 pub fn build(alloc: Global, book: &mut Book, job: &Job) -> Result<(), Memory>
-    requires frames { book.old.frames ≡ job.now.epc }
+    requires frames { book.old.making.frames ≡ job.now.epc }
     requires past { book.old.past ≡ [] }
     requires valid { IsValid job.now }
     requires small { IsSmallJob job.now }

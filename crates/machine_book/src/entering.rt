@@ -21,7 +21,7 @@ const NO_FRAME: Frame = Frame(0);
 /// How a processor enters by a TCS page: with its frame and that of its next state save page, or with the first alone where
 /// all of those are in use. Who is inside, or enters an enclave that is not initialised, is refused whatever the frames are.
 pub fn enter_due(book: &Book, job: &Job, cpu: Cpu, enclave: u16, tcs: u32) -> Option<Action>
-    requires cpu { cpu.0 < book.now.cpus }
+    requires cpu { cpu.0 < book.now.making.cpus }
     requires calm { IsCalm book.now.past }
     ensures { HasRoom job.now book.now.past cpu.0 → result ≡ op_due job.now book.now.past cpu.0 (Op.Enter enclave tcs) }
 {
@@ -49,7 +49,7 @@ pub fn enter_due(book: &Book, job: &Job, cpu: Cpu, enclave: u16, tcs: u32) -> Op
 /// How a processor resumes by a TCS page: with its frame and that of the state save page that was used last, or with the
 /// first alone where none was.
 pub fn resume_due(book: &Book, job: &Job, cpu: Cpu, enclave: u16, tcs: u32) -> Option<Action>
-    requires cpu { cpu.0 < book.now.cpus }
+    requires cpu { cpu.0 < book.now.making.cpus }
     requires calm { IsCalm book.now.past }
     ensures { HasRoom job.now book.now.past cpu.0 → result ≡ op_due job.now book.now.past cpu.0 (Op.Resume enclave tcs) }
 {
@@ -75,7 +75,7 @@ pub fn resume_due(book: &Book, job: &Job, cpu: Cpu, enclave: u16, tcs: u32) -> O
 }
 
 fn is_turned_away(book: &Book, cpu: Cpu, enclave: u16) -> bool
-    requires cpu { cpu.0 < book.now.cpus }
+    requires cpu { cpu.0 < book.now.making.cpus }
     requires calm { IsCalm book.now.past }
     ensures { result ≡ is_turned_away book.now.past cpu.0 enclave }
 {

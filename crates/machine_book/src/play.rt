@@ -17,11 +17,11 @@ use std::alloc::Global;
 
 /// The processors' part of a run: each plays its script.
 pub fn play_all(alloc: Global, book: &mut Book, job: &Job) -> Result<(), Memory>
-    requires cpus { length job.now.scripts ≤ book.old.cpus }
+    requires cpus { length job.now.scripts ≤ book.old.making.cpus }
     requires calm { IsCalm book.old.past }
     requires built { IsBuilt job.now book.old.past }
     requires quiet { IsQuiet book.old.past }
-    ensures frames { OnOk result (book.new.frames ≡ book.old.frames) }
+    ensures making { OnOk result (book.new.making ≡ book.old.making) }
     ensures script { OnOk result (Along (ScriptRule job.now) book.old.past → Along (ScriptRule job.now) book.new.past) }
     ensures ended { OnOk result (IsEnded job.now book.new.past) }
 {
@@ -39,7 +39,7 @@ fn play_script(
     cpu: Cpu,
     script: &[Op],
 ) -> Result<(), Memory>
-    requires cpu { cpu.0 < book.old.cpus }
+    requires cpu { cpu.0 < book.old.making.cpus }
     requires calm { IsCalm book.old.past }
     requires ready { IsReady job.now cpu.0 script.now book.old.past }
     ensures { OnOk result (Finishes job.now cpu.0 script.now book.old book.new) }
@@ -52,7 +52,7 @@ fn play_script(
 
 // The turns of one operation. A turn that fills a translation replies to nothing, and the operation has its own behind it.
 fn play(alloc: Global, book: &mut Book, job: &Job, cpu: Cpu, op: Op) -> Result<(), Memory>
-    requires cpu { cpu.0 < book.old.cpus }
+    requires cpu { cpu.0 < book.old.making.cpus }
     requires calm { IsCalm book.old.past }
     requires ready { IsReady job.now cpu.0 (op ∷ []) book.old.past }
     ensures { OnOk result (Plays job.now cpu.0 (op ∷ []) book.old book.new) }
@@ -65,7 +65,7 @@ fn play(alloc: Global, book: &mut Book, job: &Job, cpu: Cpu, op: Op) -> Result<(
 
 // Who is inside at the end of its script leaves.
 fn leave(alloc: Global, book: &mut Book, cpu: Cpu) -> Result<(), Memory>
-    requires cpu { cpu.0 < book.old.cpus }
+    requires cpu { cpu.0 < book.old.making.cpus }
     requires calm { IsCalm book.old.past }
     ensures { OnOk result ((j : JobView) (ops : List Op) (b : BookView) → Plays j cpu.0 ops b book.old → Finishes j cpu.0 ops b book.new) }
 {

@@ -1,6 +1,7 @@
 //! A run of a job, from an empty machine to its last entry.
 
-ghost use Rattle.std.specs.Prelude.{◌≡◌, [], length, IfOk};
+ghost use Rattle.std.specs.Prelude.{◌≡◌, [], IfOk};
+ghost use Rattle.turn_rules.specs.Machines.{machine_of};
 ghost use Rattle.turn_rules.specs.Script.{Script};
 ghost use Rattle.job_grammar.specs.Valid.{IsSmallJob, IsValid};
 ghost use Rattle.machine_book.specs.Books.{IsCalm};
@@ -16,7 +17,7 @@ use std::alloc::Global;
 /// Runs a job: the builder makes the version arrays and then each enclave, and then each processor plays its script.
 pub fn run(alloc: Global, job: &Job) -> Result<Book, Memory>
     requires small { IsSmallJob job.now }
-    ensures frames { IfOk result (λ book. book.frames ≡ job.now.epc) }
+    ensures making { IfOk result (λ book. book.making ≡ machine_of job.now) }
     ensures script { IfOk result (λ book. Script job.now book.past) }
 {
     let mut book = opened(alloc, job)?;
@@ -27,8 +28,7 @@ pub fn run(alloc: Global, job: &Job) -> Result<Book, Memory>
 
 fn opened(alloc: Global, job: &Job) -> Result<Book, Memory>
     requires small { IsSmallJob job.now }
-    ensures frames { IfOk result (λ book. book.frames ≡ job.now.epc) }
-    ensures cpus { IfOk result (λ book. book.cpus ≡ length job.now.scripts) }
+    ensures making { IfOk result (λ book. book.making ≡ machine_of job.now) }
     ensures past { IfOk result (λ book. book.past ≡ []) }
     ensures calm { IfOk result (λ book. IsCalm book.past) }
     ensures valid { IsValid job.now }

@@ -23,7 +23,7 @@ impl Book {
     /// The instruction of a step of the builder, None where its frame is missing. A step that makes a page takes the free
     /// frame with the least number, and a measurement is of the frame of its page.
     pub fn step_due(&self, step: BuildStep) -> Option<Action>
-        ensures { result ≡ step_due self.now.frames self.now.past step }
+        ensures { result ≡ step_due self.now.making.frames self.now.past step }
     {
         match step {
             BuildStep::Va => Some(Action::Epa {
@@ -70,7 +70,7 @@ impl Book {
     pub fn take_step(&mut self, alloc: Global, step: BuildStep) -> Result<(), Memory>
         requires { IsDue step self.old }
         ensures done { OnOk result (Takes step self.old self.new) }
-        ensures turn { OnOk result ((j : JobView) → j.epc ≡ self.old.frames
+        ensures turn { OnOk result ((j : JobView) → j.epc ≡ self.old.making.frames
             → slice_get (build_of j) (built self.old.past) ≡ Some step → IsTurn j actors.Builder self.old self.new) }
         ensures refused { OnErr result (self.new ≡ self.old) }
     {
@@ -80,7 +80,7 @@ impl Book {
 
     /// The instruction that an operation of a processor's script asks for next, None where a frame is missing.
     pub fn op_due(&self, job: &Job, cpu: Cpu, op: Op) -> Option<Action>
-        requires cpu { cpu.0 < self.now.cpus }
+        requires cpu { cpu.0 < self.now.making.cpus }
         requires calm { IsCalm self.now.past }
         ensures { HasRoom job.now self.now.past cpu.0 → IsValidOp job.now op → result ≡ op_due job.now self.now.past cpu.0 op }
     {
@@ -116,7 +116,7 @@ impl Book {
     // An access outside is made, and refused. One inside that cannot succeed is told as a fault; another goes by a
     // translation, which is filled first where none is held.
     fn access_due(&self, cpu: Cpu, op: AccessOp, off: u64, access: Action) -> Option<Action>
-        requires cpu { cpu.0 < self.now.cpus }
+        requires cpu { cpu.0 < self.now.making.cpus }
         ensures { off < 2 ^ 24 → result ≡ access_due self.now.past cpu.0 (stay self.now.past cpu.0) op off access }
     {
         let Mode::Inside { enclave, .. } = self.mode(cpu) else {
@@ -138,7 +138,7 @@ impl Book {
     /// One turn of a processor: the entry that the next operation of its script asks for, which is the entry that the rule
     /// Script gives.
     pub fn take_op(&mut self, alloc: Global, job: &Job, cpu: Cpu, op: Op) -> Result<Action, Memory>
-        requires cpu { cpu.0 < self.old.cpus }
+        requires cpu { cpu.0 < self.old.making.cpus }
         requires calm { IsCalm self.old.past }
         requires ready { IsReady job.now cpu.0 (op ∷ []) self.old.past }
         ensures done { IfOk result (λ action. Asks job.now cpu op action self.old self.new) }

@@ -37,14 +37,13 @@ returns-clause-done c =
     let all = c.in_ok-entry.ensures.history c.self.invariant.making (reverse c.self.inside.entries.items) []
     (rw c.deref_mut.ensures.value c.self.invariant.stands) in
     let standing = all.standing in
-    let can : CanAsk c.args.self.now.cpus c.in_ok-entry.entry.actor c.args.action = rw step.actor_is c.requires in
-    let stay = pages_stay c.args.self.now.cpus _ c.in_ok-entry.entry.actor c.args.action c.in_ok-entry.entry.event
+    let can : CanAsk c.args.self.now.making.cpus c.in_ok-entry.entry.actor c.args.action = rw step.actor_is c.requires in
+    let stay = pages_stay c.args.self.now.making.cpus _ c.in_ok-entry.entry.actor c.args.action c.in_ok-entry.entry.event
     (reverse c.self.inside.entries.items) can step.action_is standing.rules in
     record {
       goes = record {
-        frames = rw (← c.self.view_is) step.frames_same;
-        cpus = rw (← c.self.view_is) (rw c.deref_mut.ensures.value at c.apply.ensures.cpus);
-        calm = rw past (calm_more c.args.self.now.cpus _ c.in_ok-entry.entry.actor c.args.action c.in_ok-entry.entry.event
+        making = rw (← c.self.view_is) (rw c.deref_mut.ensures.value at c.apply.ensures.making);
+        calm = rw past (calm_more c.args.self.now.making.cpus _ c.in_ok-entry.entry.actor c.args.action c.in_ok-entry.entry.event
             (reverse c.self.inside.entries.items) can step.action_is standing.rules stay c.self.invariant.calm);
         keeps = rw (past, ← c.self.view_is) stay.keeps;
       };
@@ -64,18 +63,18 @@ invariant_of-self-2 c =
     let all = c.in_ok-entry.ensures.history c.self.invariant.making (reverse c.self.inside.entries.items) []
     (rw c.deref_mut.ensures.value c.self.invariant.stands) in
     let standing = all.standing in
-    let can : CanAsk c.args.self.now.cpus c.in_ok-entry.entry.actor c.args.action = rw step.actor_is c.requires in
-    let stay = pages_stay c.args.self.now.cpus _ c.in_ok-entry.entry.actor c.args.action c.in_ok-entry.entry.event
+    let can : CanAsk c.args.self.now.making.cpus c.in_ok-entry.entry.actor c.args.action = rw step.actor_is c.requires in
+    let stay = pages_stay c.args.self.now.making.cpus _ c.in_ok-entry.entry.actor c.args.action c.in_ok-entry.entry.event
     (reverse c.self.inside.entries.items) can step.action_is standing.rules in
     let left : c.page_left-left.result ≡ page_left c.in_ok-entry.entry.actor c.args.action (reverse c.self.inside.entries.items) =
     c.page_left-left.ensures ∙ rw (step.actor_is, ← c.self.view_is) refl in
     record {
       making = c.self.invariant.making;
       stands = rw past all;
-      calm = rw past (calm_more c.args.self.now.cpus _ c.in_ok-entry.entry.actor c.args.action c.in_ok-entry.entry.event
+      calm = rw past (calm_more c.args.self.now.making.cpus _ c.in_ok-entry.entry.actor c.args.action c.in_ok-entry.entry.event
           (reverse c.self.inside.entries.items) can step.action_is standing.rules stay c.self.invariant.calm);
       homes = rw past
-          (homes_more c.args.self.now.cpus _ c.in_ok-entry.entry.actor c.args.action c.in_ok-entry.entry.event
+          (homes_more c.args.self.now.making.cpus _ c.in_ok-entry.entry.actor c.args.action c.in_ok-entry.entry.event
           (reverse c.self.inside.entries.items) _ _ can step.action_is standing.rules c.self.invariant.calm
           c.self.invariant.homes (λ g. c.note_home.ensures g
           ∙ ap (λ o. home_by c.in_ok-entry.entry.event o g (home_in c.self.inside.homes g)) left));

@@ -1,5 +1,5 @@
 use Rattle.paging_machine.specs.Parts.{state_of}
-use Rattle.paging_laws.specs.Shape.{making_of}
+use Rattle.paging_laws.specs.State.{making_of}
 use Rattle.machine_book.proofs.CalmLaws.{calm_fresh}
 use Rattle.machine_book.proofs.HomeLaws.{homes_fresh}
 use Rattle.machine_book.proofs.book.Book.new.Goals as goal

@@ -15,7 +15,7 @@ pub apply-requires : goal.apply-requires
 apply-requires c =
     let valid = first_valid c.args.job.now c.args.cpu.0 c.args.op c.args.self.now.past c.requires.ready in
     let due = sym (c.op_due.ensures c.requires.ready.room valid) ∙ c.unwrap-action.ensures in
-    op_asks c.args.job.now c.args.self.now.cpus c.args.cpu c.args.op c.args.self.now.past c.unwrap-action.result c.requires.cpu due
+    op_asks c.args.job.now c.args.self.now.making.cpus c.args.cpu c.args.op c.args.self.now.past c.unwrap-action.result c.requires.cpu due
 
 pub returns-clause-done : goal.returns-clause-done
 returns-clause-done c =

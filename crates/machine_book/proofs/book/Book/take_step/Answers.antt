@@ -7,7 +7,7 @@ pub unwrap-action-requires : goal.unwrap-action-requires
 unwrap-action-requires c = rw c.step_due.ensures c.requires
 
 pub apply-requires : goal.apply-requires
-apply-requires c = asks c.args.self.now.cpus c.args.self.now.frames c.args.self.now.past c.args.step c.unwrap-action.result
+apply-requires c = asks c.args.self.now.making.cpus c.args.self.now.making.frames c.args.self.now.past c.args.step c.unwrap-action.result
     (sym c.step_due.ensures ∙ c.unwrap-action.ensures)
 
 pub returns-clause-done : goal.returns-clause-done
