@@ -20,12 +20,12 @@ store_of (Some l) = state_of l
 abbrev pub counts_in : Page → List StoreCall → PageCounts
 counts_in page calls = record { gets = count_by (is_get_of page) calls; puts = length (records_of page calls) }
 
--- the numbers are those of the calls
-pub record Counts (calls : List StoreCall) (rooms gets puts spare : ℕ) (known : PagePlaces) : Type 0 where
-  pub rooms : rooms ≡ count_by is_room calls
-  pub gets : gets ≡ count_by is_get calls
-  pub puts : puts ≡ count_by is_put calls
-  pub spare : spare ≡ spare_of calls
+-- these many rooms, gets and puts are among the calls, there is place for so many records, and this is known by page
+pub record Counts (calls : List StoreCall) (rooms gets puts blanks : ℕ) (known : PagePlaces) : Type 0 where
+  pub are_rooms : rooms ≡ count_by is_room calls
+  pub are_gets : gets ≡ count_by is_get calls
+  pub are_puts : puts ≡ count_by is_put calls
+  pub are_spare : blanks ≡ spare_of calls
   pub counts : (page : Page) → counts_of known page ≡ counts_in page calls
   pub places : (page : Page) (n : ℕ) → place_of known page n ≡ nth n (records_of page calls)
 

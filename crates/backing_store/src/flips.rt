@@ -1,6 +1,6 @@
 //! Copies of records.
 
-ghost use Rattle.std.specs.Prelude.{◌≡◌, IfOk};
+ghost use Rattle.std.specs.Prelude.{◌≡◌, length, IfOk};
 ghost use Rattle.backing_store.specs.Flips.{flipped, record_in, invert_bit};
 ghost use Rattle.sgx_types.specs.Sealed.{record_bytes};
 
@@ -26,9 +26,26 @@ fn copy_flipped(alloc: Global, rec: &Record, bit: u32) -> Result<Record, Memory>
     ensures { IfOk result (λ made. made ≡ record_in (invert_bit bit (record_bytes rec.now))) }
 {
     let mut bytes = rec.to_bytes(alloc)?;
+    invert(&mut bytes, bit);
+    read(alloc, &bytes)
+}
+
+// The record of 4152 bytes.
+fn read(alloc: Global, bytes: &[u8]) -> Result<Record, Memory>
+    requires { length bytes.now ≡ 4152 }
+    ensures { IfOk result (λ made. made ≡ record_in bytes.now) }
+{
+    match Record::from_bytes(alloc, bytes) {
+        Ok(made) => Ok(made),
+        Err(_) => Err(Memory),
+    }
+}
+
+fn invert(bytes: &mut [u8], bit: u32)
+    ensures { bytes.new ≡ invert_bit bit bytes.old }
+{
     let at = (bit / 8) as usize;
     if at < bytes.len() {
         bytes[at] ^= 1 << (bit % 8);
     }
-    Record::from_bytes(alloc, &bytes).map_err(|_| Memory)
 }
