@@ -1,2 +1,4 @@
-pub mod KeyLaws
+pub mod AnswerLaws
+pub mod CallLaws
 pub mod Flipped
+pub mod KeyLaws

@@ -52,8 +52,8 @@ answer_of told.Failed = Err faults.Failed
 answer_of told.Nothing = Ok None
 answer_of (told.Given rec) = Ok (Some rec)
 
--- memory was refused
-abbrev pub WantsMemory : {T : Type 0} → Result T StoreFault → Type 0
-WantsMemory (Err faults.Memory) = Unit {0}
-WantsMemory (Err faults.Failed) = ⊥
-WantsMemory (Ok done) = ⊥
+-- what holds of a call that was made: one for which memory was refused counts as not made
+abbrev pub WhereMade : {T : Type 0} → Result T StoreFault → Type 0 → Type 0
+WhereMade (Ok done) P = P
+WhereMade (Err faults.Failed) P = P
+WhereMade (Err faults.Memory) P = Unit {0}

@@ -9,7 +9,7 @@ use io_edges::faults::Failed;
 use io_edges::plans::PlanLine;
 use sgx_types::names::{Memory, Page};
 use sgx_types::record::Record;
-use std::alloc::Global;
+use std::alloc::{AllocError, Global};
 
 /// Why a store did not do what was asked.
 #[derive(Clone, Copy, Debug, PartialEq, Eq)]
@@ -28,6 +28,16 @@ impl From<Memory> for StoreFault {
     ghost from_gives = { λ _ fault. fault ≡ faults.Memory };
 
     fn from(_memory: Memory) -> StoreFault {
+        StoreFault::Memory
+    }
+}
+
+impl From<AllocError> for StoreFault {
+    ghost use Rattle.backing_store.specs.declared.backing.StoreFault.TheVariants as faults;
+
+    ghost from_gives = { λ _ fault. fault ≡ faults.Memory };
+
+    fn from(_error: AllocError) -> StoreFault {
         StoreFault::Memory
     }
 }
