@@ -178,6 +178,9 @@ get_answer store page =
 
 -- ---- the store after a call
 
+abbrev pub with_plans : List PlanLine → StoreState → StoreState
+with_plans lines store = record store { plans = lines }
+
 abbrev pub with_call : StoreCall → StoreState → StoreState
 with_call call store = record store { calls = call ∷ store.calls }
 

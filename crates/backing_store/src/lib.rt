@@ -8,3 +8,4 @@ mod flips;
 mod ledger;
 mod page_places;
 mod plan_rules;
+pub mod planned_store;
