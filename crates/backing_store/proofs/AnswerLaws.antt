@@ -10,17 +10,19 @@ use Rattle.io_edges.specs.declared.plans.PlanLine.{PlanLine}
 use Rattle.std.specs.List.{list_any}
 use Rattle.sgx_types.specs.declared.names.Page.{Page}
 use Rattle.sgx_types.specs.Sealed.{Sealed}
-use Rattle.backing_store.specs.declared.calls.GetAnswer.{GetAnswer}
+use Rattle.backing_store.specs.declared.calls.StoreCall.{StoreCall}
 use Rattle.backing_store.specs.declared.calls.GetAnswer.TheVariants.{Failed, Nothing, Given}
-use Rattle.backing_store.specs.Store.{StoreState, first_of, get_fails, is_dropped, place_given, bit_flipped, get_answer}
+use Rattle.backing_store.specs.Store.{first_of, get_fails, is_dropped, place_given, bit_flipped, get_answer}
 use Rattle.backing_store.specs.Told.{record_at}
 
-pub answer_dropped : (store : StoreState) (page : Page) → get_fails store ≡ false → is_dropped store page ≡ true → Nothing ≡ get_answer store page
-answer_dropped store page goes dropped = rw (goes, dropped) refl
+pub answer_dropped : (plans : List PlanLine) (calls : List StoreCall) (page : Page) → get_fails plans calls ≡ false → is_dropped plans calls page ≡ true
+    → Nothing ≡ get_answer plans calls page
+answer_dropped plans calls page goes dropped = rw (goes, dropped) refl
 
-pub answer_given : (store : StoreState) (page : Page) (place : ℕ) (bit : Option ℕ) → get_fails store ≡ false → is_dropped store page ≡ false
-    → place_given store page ≡ Some place → bit_flipped store page ≡ bit → Given place bit ≡ get_answer store page
-answer_given store page place bit goes kept found flipped = rw (goes, kept, found, flipped) refl
+pub answer_given : (plans : List PlanLine) (calls : List StoreCall) (page : Page) (place : ℕ) (bit : Option ℕ) → get_fails plans calls ≡ false
+    → is_dropped plans calls page ≡ false
+    → place_given plans calls page ≡ Some place → bit_flipped plans calls page ≡ bit → Given place bit ≡ get_answer plans calls page
+answer_given plans calls page place bit goes kept found flipped = rw (goes, kept, found, flipped) refl
 
 pub slice_get-push : {X : Type 0} (xs : List X) (x : X) (n : ℕ) → slice_get (xs ++ x ∷ []) n ≡ (if n == length xs then Some x else slice_get xs n)
 slice_get-push [] x zero = refl

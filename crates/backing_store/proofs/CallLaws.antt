@@ -17,7 +17,7 @@ use Rattle.backing_store.specs.Store.{is_put, is_get_of, more_of, records_of, nt
 use Rattle.backing_store.specs.Kept.{Counts, counts_in}
 use Rattle.backing_store.proofs.AnswerLaws.{slice_get-push}
 
-one_put_more : (page : Page) (failed : Bool) (calls : List StoreCall) → count_by is_put (Put page failed ∷ calls) ≡ count_by is_put calls + 1
+pub one_put_more : (page : Page) (failed : Bool) (calls : List StoreCall) → count_by is_put (Put page failed ∷ calls) ≡ count_by is_put calls + 1
 one_put_more page failed calls = omega (arith, sum_by-cons (λ c. if is_put c then 1 else 0) (Put page failed) calls)
 
 -- a call adds a place to a page's records only where it is a put

@@ -2,3 +2,4 @@ pub mod AnswerLaws
 pub mod CallLaws
 pub mod Flipped
 pub mod KeyLaws
+pub mod RuleLaws

@@ -6,7 +6,7 @@ use Rattle.backing_store.specs.declared.ledger.Ledger.{Ledger}
 use Rattle.backing_store.specs.declared.page_places.PageCounts.{PageCounts}
 use Rattle.backing_store.specs.declared.page_places.PagePlaces.{PagePlaces}
 use Rattle.backing_store.specs.Places.{counts_of, place_of, room_of}
-use Rattle.backing_store.specs.Store.{StoreState, new_store, is_room, is_put, is_get, is_get_of, spare_of, records_of, nth}
+use Rattle.backing_store.specs.Store.{StoreState, new_store, is_room, is_put, is_get, is_get_of, spare_of, records_of, nth, IsStore}
 
 -- the lists are kept with their oldest first
 abbrev pub state_of : Ledger → StoreState
@@ -39,6 +39,11 @@ pub record IsKept (l : Ledger) : Type 0 where
   pub counted : Counts (reverse l.calls.items) l.rooms l.gets (vec_len l.puts) (vec_len l.blanks) l.known
   pub room : HasRoom 0 l
 
+-- .. and each of its calls was answered by the rules
+pub record IsKeptByRule (l : Ledger) : Type 0 where
+  pub kept : IsKept l
+  pub by_rule : IsStore (state_of l)
+
 abbrev pub IsKeptIn : Option Ledger → Type 0
 IsKeptIn None = Unit {0}
-IsKeptIn (Some l) = IsKept l
+IsKeptIn (Some l) = IsKeptByRule l

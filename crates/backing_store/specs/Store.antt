@@ -1,5 +1,5 @@
 -- The planned store as contracts see it, and how it answers each call: by its plan lines and by the calls made before.
-use Rattle.std.specs.Prelude.{ℕ, zero, suc, ◌+◌, ◌-◌, ◌==◌, ◌&&◌, Bool, true, false, if◌then◌else◌, List, [], ◌∷◌, ◌++◌, length, slice_get, count_by, Option, Some, None, unwrap_or, Result, Ok, Err}
+use Rattle.std.specs.Prelude.{◌≡◌, ℕ, zero, suc, ◌+◌, ◌-◌, ◌==◌, ◌&&◌, Bool, true, false, if◌then◌else◌, List, [], ◌∷◌, ◌++◌, length, slice_get, count_by, Option, Some, None, unwrap_or, Result, Ok, Err}
 use Rattle.std.specs.List.{list_any}
 use Rattle.std.specs.Option.{option_or, option_and_then}
 use Rattle.sgx_types.specs.declared.names.Page.{Page}
@@ -132,37 +132,37 @@ abbrev pub swaps : Page → PlanLine → Option Page
 swaps page (Swap one other) = if same_page one page then Some other else if same_page other page then Some one else None
 swaps page _ = None
 
--- ---- how a call is answered
+-- ---- how a call is answered, by the plan lines and the calls before it
 
 -- a room, a put or a get fails exactly where a line of its kind has its number
-abbrev pub room_fails : StoreState → Bool
-room_fails store = list_any (fails_room (next_room store.calls)) store.plans
+abbrev pub room_fails : List PlanLine → List StoreCall → Bool
+room_fails plans calls = list_any (fails_room (next_room calls)) plans
 
-abbrev pub put_fails : StoreState → Bool
-put_fails store = list_any (fails_put (next_put store.calls)) store.plans
+abbrev pub put_fails : List PlanLine → List StoreCall → Bool
+put_fails plans calls = list_any (fails_put (next_put calls)) plans
 
-abbrev pub get_fails : StoreState → Bool
-get_fails store = list_any (fails_get (next_get store.calls)) store.plans
+abbrev pub get_fails : List PlanLine → List StoreCall → Bool
+get_fails plans calls = list_any (fails_get (next_get calls)) plans
 
 -- a get of a page finds nothing where a line drops it
-abbrev pub is_dropped : StoreState → Page → Bool
-is_dropped store page = list_any (drops page (next_get_of page store.calls)) store.plans
+abbrev pub is_dropped : List PlanLine → List StoreCall → Page → Bool
+is_dropped plans calls page = list_any (drops page (next_get_of page calls)) plans
 
--- the record that a line replays, where the page has as many
-abbrev pub replayed : StoreState → Page → Option ℕ
-replayed store page = option_and_then (λ which. nth which (records_of page store.calls)) (first_of (replays page (next_get_of page store.calls)) store.plans)
+-- the place of the record that a line replays, where the page has as many
+abbrev pub replayed : List PlanLine → List StoreCall → Page → Option ℕ
+replayed plans calls page = option_and_then (λ which. nth which (records_of page calls)) (first_of (replays page (next_get_of page calls)) plans)
 
 -- the page whose newest record is given: the one that a line swaps it with, and else the page itself
 abbrev pub partner_of : List PlanLine → Page → Page
 partner_of plans page = unwrap_or (first_of (swaps page) plans) page
 
 -- the place of the record that a get gives: the replayed one, and else the newest
-abbrev pub place_given : StoreState → Page → Option ℕ
-place_given store page = option_or (replayed store page) (newest (records_of (partner_of store.plans page) store.calls))
+abbrev pub place_given : List PlanLine → List StoreCall → Page → Option ℕ
+place_given plans calls page = option_or (replayed plans calls page) (newest (records_of (partner_of plans page) calls))
 
 -- the bit of that record which is inverted
-abbrev pub bit_flipped : StoreState → Page → Option ℕ
-bit_flipped store page = first_of (flips page (next_get_of page store.calls)) store.plans
+abbrev pub bit_flipped : List PlanLine → List StoreCall → Page → Option ℕ
+bit_flipped plans calls page = first_of (flips page (next_get_of page calls)) plans
 
 -- what is given where a record was found, with this bit inverted
 abbrev pub given : Option ℕ → Option ℕ → GetAnswer
@@ -170,11 +170,26 @@ given bit None = Nothing
 given bit (Some put) = Given put bit
 
 -- what a get of a page gives: it fails, or is dropped, or gives a record
-abbrev pub get_answer : StoreState → Page → GetAnswer
-get_answer store page =
-    if get_fails store then Failed
-    else if is_dropped store page then Nothing
-    else given (bit_flipped store page) (place_given store page)
+abbrev pub get_answer : List PlanLine → List StoreCall → Page → GetAnswer
+get_answer plans calls page =
+    if get_fails plans calls then Failed
+    else if is_dropped plans calls page then Nothing
+    else given (bit_flipped plans calls page) (place_given plans calls page)
+
+-- a call was answered so
+abbrev pub IsByRule : List PlanLine → StoreCall → List StoreCall → Type 0
+IsByRule plans (Room page failed) calls = failed ≡ room_fails plans calls
+IsByRule plans (Put page failed) calls = failed ≡ put_fails plans calls
+IsByRule plans (Got page answer) calls = answer ≡ get_answer plans calls page
+
+-- .. and each of the calls
+abbrev pub AreByRule : List PlanLine → List StoreCall → Type 0
+AreByRule plans [] = Unit {0}
+AreByRule plans (call ∷ calls) = IsByRule plans call calls × AreByRule plans calls
+
+-- the store's calls were answered by the rules
+abbrev pub IsStore : StoreState → Type 0
+IsStore store = AreByRule store.plans store.calls
 
 -- ---- the store after a call
 
@@ -185,11 +200,11 @@ abbrev pub with_call : StoreCall → StoreState → StoreState
 with_call call store = record store { calls = call ∷ store.calls }
 
 abbrev pub after_room : StoreState → Page → StoreState
-after_room store page = with_call (Room page (room_fails store)) store
+after_room store page = with_call (Room page (room_fails store.plans store.calls)) store
 
 -- .. the record of a put that failed is told all the same
 abbrev pub after_put : StoreState → Page → Sealed → StoreState
-after_put store page rec = record store { calls = Put page (put_fails store) ∷ store.calls; puts = rec ∷ store.puts }
+after_put store page rec = record store { calls = Put page (put_fails store.plans store.calls) ∷ store.calls; puts = rec ∷ store.puts }
 
 abbrev pub after_get : StoreState → Page → StoreState
-after_get store page = with_call (Got page (get_answer store page)) store
+after_get store page = with_call (Got page (get_answer store.plans store.calls page)) store

@@ -1,5 +1,6 @@
 -- What the planned store tells: its calls, each with its record.
 use Rattle.std.specs.Prelude.{ℕ, ◌==◌, if◌then◌else◌, List, [], ◌∷◌, length, Option, Some, None, Result, Ok, Err, Bool}
+use Rattle.sgx_types.specs.declared.names.Page.{Page}
 use Rattle.sgx_types.specs.Sealed.{Sealed}
 use Rattle.io_edges.specs.declared.faults.Failed.{Failed as Fault}
 use Rattle.backing_store.specs.declared.backing.StoreFault.{StoreFault}
@@ -41,16 +42,19 @@ told_of (Got page answer ∷ calls) puts = told.Got page (gift_of answer puts) �
 
 -- a room that was not refused memory
 abbrev pub room_answer : StoreState → Result (Unit {0}) StoreFault
-room_answer store = if room_fails store then Err faults.Failed else Ok tt
+room_answer store = if room_fails store.plans store.calls then Err faults.Failed else Ok tt
 
 abbrev pub put_answer : StoreState → Result (Unit {0}) Fault
-put_answer store = if put_fails store then Err (record {}) else Ok tt
+put_answer store = if put_fails store.plans store.calls then Err (record {}) else Ok tt
 
 -- .. what a get answers of what it gave
 abbrev pub answer_of : Gift → Result (Option Sealed) StoreFault
 answer_of told.Failed = Err faults.Failed
 answer_of told.Nothing = Ok None
 answer_of (told.Given rec) = Ok (Some rec)
+
+abbrev pub get_answer_of : StoreState → Page → Result (Option Sealed) StoreFault
+get_answer_of store page = answer_of (gift_of (get_answer store.plans store.calls page) store.puts)
 
 -- what holds of a call that was made: one for which memory was refused counts as not made
 abbrev pub WhereMade : {T : Type 0} → Result T StoreFault → Type 0 → Type 0

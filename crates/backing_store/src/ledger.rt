@@ -32,7 +32,7 @@ pub struct Ledger {
 impl Ledger {
     ghost use Rattle.backing_store.specs.Kept.{state_of, IsKept, HasRoom};
     ghost use Rattle.backing_store.specs.Store.{new_store, spare_of, next_get_of, place_given, get_answer, after_room, after_put, after_get};
-    ghost use Rattle.backing_store.specs.Told.{room_answer, put_answer, answer_of, copy_of, gift_of, record_at, WhereMade};
+    ghost use Rattle.backing_store.specs.Told.{room_answer, put_answer, answer_of, get_answer_of, copy_of, record_at, WhereMade};
 
     /// No plan lines and no calls.
     pub fn new(alloc: Global) -> Ledger
@@ -106,7 +106,7 @@ impl Ledger {
     pub fn get(&mut self, alloc: Global, page: Page) -> Result<Option<Record>, StoreFault>
         requires { IsKept self.old }
         ensures kept { IsKept self.new }
-        ensures answer { WhereMade result (result ≡ answer_of (gift_of (get_answer (state_of self.old) page) (state_of self.old).puts)) }
+        ensures answer { WhereMade result (result ≡ get_answer_of (state_of self.old) page) }
         ensures made { WhereMade result (state_of self.new ≡ after_get (state_of self.old) page) }
         ensures memory { IsErrOf result StoreFault.Memory → state_of self.new ≡ state_of self.old }
     {
@@ -118,7 +118,7 @@ impl Ledger {
         requires kept { IsKept self.old }
         requires room { HasRoom 1 self.old }
         ensures kept { IsKept self.new }
-        ensures answer { WhereMade result (result ≡ answer_of (gift_of (get_answer (state_of self.old) page) (state_of self.old).puts)) }
+        ensures answer { WhereMade result (result ≡ get_answer_of (state_of self.old) page) }
         ensures made { WhereMade result (state_of self.new ≡ after_get (state_of self.old) page) }
         ensures memory { IsErrOf result StoreFault.Memory → state_of self.new ≡ state_of self.old }
     {
@@ -143,7 +143,7 @@ impl Ledger {
     fn note_get(&mut self, page: Page, answer: GetAnswer)
         requires kept { IsKept self.old }
         requires room { HasRoom 1 self.old }
-        requires rule { answer ≡ get_answer (state_of self.old) page }
+        requires rule { answer ≡ get_answer (state_of self.old).plans (state_of self.old).calls page }
         ensures kept { IsKept self.new }
         ensures made { state_of self.new ≡ after_get (state_of self.old) page }
     {
@@ -156,7 +156,7 @@ impl Ledger {
     fn answer(&self, page: Page) -> GetAnswer
         requires kept { IsKept self.now }
         requires room { HasRoom 1 self.now }
-        ensures { result ≡ get_answer (state_of self.now) page }
+        ensures { result ≡ get_answer (state_of self.now).plans (state_of self.now).calls page }
     {
         if get_fails(&self.plans, self.gets + 1) {
             return GetAnswer::Failed;
@@ -178,7 +178,7 @@ impl Ledger {
     fn place_given(&self, page: Page, number: u64) -> Option<u64>
         requires kept { IsKept self.now }
         requires number { number ≡ next_get_of page (state_of self.now).calls }
-        ensures { result ≡ place_given (state_of self.now) page }
+        ensures { result ≡ place_given (state_of self.now).plans (state_of self.now).calls page }
     {
         if let Some(nth) = replayed(&self.plans, page, number)
             && let Some(place) = self.known.place(page, nth)

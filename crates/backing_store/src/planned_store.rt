@@ -1,6 +1,6 @@
 //! A store that keeps records in memory, and lies by a plan.
 
-ghost use Rattle.std.specs.Prelude.{◌≡◌, ◌≤◌, [], Some, OnOk, OnErr, IsErr, IsErrOf, reverse};
+ghost use Rattle.std.specs.Prelude.{◌≡◌, ◌≤◌, [], Some, OnOk, OnErr, IsErr, IsErrOf, length, reverse, count_by};
 ghost use Rattle.io_edges.specs.Faults.{HasCause};
 
 use crate::backing::{Backing, StoreFault};
@@ -34,7 +34,7 @@ impl Model for PlannedStore {
 }
 
 impl PlannedStore {
-    ghost use Rattle.backing_store.specs.Store.{new_store};
+    ghost use Rattle.backing_store.specs.Store.{new_store, is_put, IsStore};
 
     /// No plan lines and no calls.
     pub fn new() -> PlannedStore
@@ -55,7 +55,8 @@ impl PlannedStore {
 
     /// The calls that were made, the oldest first.
     pub fn calls(&self) -> &[StoreCall]
-        ensures { result.now ≡ reverse self.now.calls }
+        ensures calls { result.now ≡ reverse self.now.calls }
+        ensures by_rule { IsStore self.now }
     {
         match &self.ledger {
             Some(ledger) => &ledger.calls,
@@ -66,7 +67,8 @@ impl PlannedStore {
     /// The records that were put, the oldest first: one for each put among the calls, in their order, whether it failed or
     /// not.
     pub fn puts(&self) -> &[Record]
-        ensures { result.now ≡ reverse self.now.puts }
+        ensures puts { result.now ≡ reverse self.now.puts }
+        ensures one_each { length self.now.puts ≡ count_by is_put self.now.calls }
     {
         match &self.ledger {
             Some(ledger) => &ledger.puts,
@@ -77,8 +79,8 @@ impl PlannedStore {
 
 impl Backing for PlannedStore {
     ghost use Rattle.backing_store.specs.Calls.{Put, with_call, told_room, told_got};
-    ghost use Rattle.backing_store.specs.Store.{spare_of, count_failed, get_answer, with_plans, after_room, after_put, after_get};
-    ghost use Rattle.backing_store.specs.Told.{told_of, room_answer, put_answer, answer_of, gift_of, WhereMade};
+    ghost use Rattle.backing_store.specs.Store.{spare_of, count_failed, with_plans, after_room, after_put, after_get};
+    ghost use Rattle.backing_store.specs.Told.{told_of, room_answer, put_answer, get_answer_of, WhereMade};
 
     ghost told = { λ s. Some (told_of s.calls s.puts) };
 
@@ -122,7 +124,7 @@ impl Backing for PlannedStore {
     }
 
     fn get(&mut self, alloc: Global, page: Page) -> Result<Option<Record>, StoreFault>
-        ensures answer { WhereMade result (result ≡ answer_of (gift_of (get_answer self.old page) self.old.puts)) }
+        ensures answer { WhereMade result (result ≡ get_answer_of self.old page) }
         ensures store { WhereMade result (self.new ≡ after_get self.old page) }
         ensures memory { IsErrOf result StoreFault.Memory → self.new ≡ self.old }
     {

@@ -1,5 +1,4 @@
 use Rattle.std.proofs.Common.{◌≡◌, ◌+◌, count_by, false, reverse, ap, sym, ◌∙◌, true}
-use Rattle.backing_store.specs.Kept.{state_of}
 use Rattle.backing_store.specs.Store.{fails_get, drops, flips, next_get, next_get_of, get_fails, is_get}
 use Rattle.backing_store.proofs.AnswerLaws.{answer_dropped, answer_given, any_line, first_line}
 use Rattle.backing_store.proofs.ledger.Ledger.answer.Goals as goal
@@ -10,7 +9,7 @@ returns-then-is_dropped c =
     let calls = reverse old.calls.items in
     let number = ap (λ n. n + 1) c.requires.kept.counted.are_gets in
     let of_page = c.next_get_of-number.ensures in
-    answer_dropped (state_of old) c.args.page
+    answer_dropped old.plans.items calls c.args.page
     (any_line fails_get (old.gets + 1) (next_get calls) c.deref.result.now old.plans.items c.get_fails.result false c.get_fails.ensures c.deref.ensures.value number c.if-get_fails.false)
     (any_line (drops c.args.page) c.next_get_of-number.result (next_get_of c.args.page calls) c.deref-2.result.now old.plans.items c.is_dropped.result true c.is_dropped.ensures c.deref-2.ensures.value of_page c.if-is_dropped.true)
 
@@ -20,7 +19,7 @@ returns-in-Some c =
     let calls = reverse old.calls.items in
     let number = ap (λ n. n + 1) c.requires.kept.counted.are_gets in
     let of_page = c.next_get_of-number.ensures in
-    answer_given (state_of old) c.args.page c.in-Some.put c.bit_flipped.result
+    answer_given old.plans.items calls c.args.page c.in-Some.put c.bit_flipped.result
     (any_line fails_get (old.gets + 1) (next_get calls) c.deref.result.now old.plans.items c.get_fails.result false c.get_fails.ensures c.deref.ensures.value number c.if-get_fails.false)
     (any_line (drops c.args.page) c.next_get_of-number.result (next_get_of c.args.page calls) c.deref-2.result.now old.plans.items c.is_dropped.result false c.is_dropped.ensures c.deref-2.ensures.value of_page c.if-is_dropped.false)
     (sym c.place_given.ensures ∙ c.in-Some.is)

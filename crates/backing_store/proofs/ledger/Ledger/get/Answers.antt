@@ -1,13 +1,13 @@
 use Rattle.std.proofs.Common.{◌≡◌, subst}
-use Rattle.backing_store.specs.Store.{StoreState, get_answer, after_get}
-use Rattle.backing_store.specs.Told.{answer_of, gift_of, WhereMade}
+use Rattle.backing_store.specs.Store.{StoreState, after_get}
+use Rattle.backing_store.specs.Told.{get_answer_of, WhereMade}
 use Rattle.backing_store.specs.Kept.{state_of}
 use Rattle.backing_store.proofs.ledger.Ledger.get.Goals as goal
 
 pub returns-clause-answer : goal.returns-clause-answer
 returns-clause-answer c =
     let r = c.get_with_room.result in
-    let P : StoreState → Type 0 = λ s. WhereMade r (r ≡ answer_of (gift_of (get_answer s c.args.page) s.puts)) in
+    let P : StoreState → Type 0 = λ s. WhereMade r (r ≡ get_answer_of s c.args.page) in
     subst P c.reserve.ensures.state c.get_with_room.ensures.answer
 
 pub returns-clause-made : goal.returns-clause-made
