@@ -187,6 +187,22 @@ abbrev pub AreByRule : List PlanLine → List StoreCall → Type 0
 AreByRule plans [] = Unit {0}
 AreByRule plans (call ∷ calls) = IsByRule plans call calls × AreByRule plans calls
 
+-- whether the put of the record at a place failed
+abbrev pub put_at : ℕ → List StoreCall → Option Bool
+put_at place [] = None
+put_at place (Room page failed ∷ calls) = put_at place calls
+put_at place (Put page failed ∷ calls) = if place == count_by is_put calls then Some failed else put_at place calls
+put_at place (Got page answer ∷ calls) = put_at place calls
+
+-- each record that a get gave is one of a put before it that did not fail
+abbrev pub GiveGoodPuts : List StoreCall → Type 0
+GiveGoodPuts [] = Unit {0}
+GiveGoodPuts (Room page failed ∷ calls) = GiveGoodPuts calls
+GiveGoodPuts (Put page failed ∷ calls) = GiveGoodPuts calls
+GiveGoodPuts (Got page Failed ∷ calls) = GiveGoodPuts calls
+GiveGoodPuts (Got page Nothing ∷ calls) = GiveGoodPuts calls
+GiveGoodPuts (Got page (Given place bit) ∷ calls) = (put_at place calls ≡ Some false) × GiveGoodPuts calls
+
 -- the store's calls were answered by the rules
 abbrev pub IsStore : StoreState → Type 0
 IsStore store = AreByRule store.plans store.calls

@@ -57,7 +57,7 @@ pub trait Backing: Drop {
     /// How often it has failed. A count that would pass 2^64 - 1 stands still.
     ghost faults: { Self → ℕ };
 
-    /// Hands the plan lines of a job over, before any other call. A store that is no hostile one may leave them aside.
+    /// Hands the plan lines of a job over, before any other call. What they are to a store is its own matter.
     fn plan(&mut self, alloc: Global, lines: &[PlanLine]) -> Result<(), Memory>
         requires { IfSome (told self.old) (λ calls. calls ≡ []) }
         ensures lines { OnOk result (OnSome (told self.new) (plans self.new ≡ lines.now)) }

@@ -34,7 +34,7 @@ impl Model for PlannedStore {
 }
 
 impl PlannedStore {
-    ghost use Rattle.backing_store.specs.Store.{new_store, is_put, IsStore};
+    ghost use Rattle.backing_store.specs.Store.{new_store, is_put, GiveGoodPuts, IsStore};
 
     /// No plan lines and no calls.
     pub fn new() -> PlannedStore
@@ -57,6 +57,7 @@ impl PlannedStore {
     pub fn calls(&self) -> &[StoreCall]
         ensures calls { result.now ≡ reverse self.now.calls }
         ensures by_rule { IsStore self.now }
+        ensures good { GiveGoodPuts self.now.calls }
     {
         match &self.ledger {
             Some(ledger) => &ledger.calls,
