@@ -1,5 +1,5 @@
 -- What a get of a page gives, case by case; and the record at a place, in a list that has its oldest first.
-use Rattle.std.proofs.Common.{◌≡◌, ℕ, zero, suc, ◌+◌, ◌==◌, Bool, true, false, if◌then◌else◌, List, [], ◌∷◌, ◌++◌, length, reverse, Option, Some, None, refl, ap, sym, ◌∙◌, Bor}
+use Rattle.std.proofs.Common.{◌≡◌, ℕ, zero, suc, ◌==◌, Bool, true, false, if◌then◌else◌, List, [], ◌∷◌, ◌++◌, length, reverse, Option, Some, None, refl, ap, sym, ◌∙◌, Bor}
 use Rattle.std.specs.List.{slice_get}
 use Rattle.std.specs.Option.{option_copied}
 use Rattle.std.specs.Slice.{IsGetResult}
@@ -11,7 +11,7 @@ use Rattle.std.specs.List.{list_any}
 use Rattle.sgx_types.specs.declared.names.Page.{Page}
 use Rattle.sgx_types.specs.Sealed.{Sealed}
 use Rattle.backing_store.specs.declared.calls.StoreCall.{StoreCall}
-use Rattle.backing_store.specs.declared.calls.GetAnswer.TheVariants.{Failed, Nothing, Given}
+use Rattle.backing_store.specs.declared.calls.GetAnswer.TheVariants.{Nothing, Given}
 use Rattle.backing_store.specs.Store.{first_of, get_fails, is_dropped, place_given, bit_flipped, get_answer}
 use Rattle.backing_store.specs.Told.{record_at}
 
@@ -35,7 +35,7 @@ record_at-newest : (place : ℕ) (puts : List Sealed) → record_at place puts �
 record_at-newest place [] = refl
 record_at-newest place (rec ∷ puts) =
     let here : slice_get (reverse puts ++ rec ∷ []) place ≡ (if place == length puts then Some rec else slice_get (reverse puts) place)
-            = slice_get-push (reverse puts) rec place ∙ ap (λ n. if place == n then Some rec else slice_get (reverse puts) place) (length-reverse puts) in
+    = slice_get-push (reverse puts) rec place ∙ ap (λ n. if place == n then Some rec else slice_get (reverse puts) place) (length-reverse puts) in
     ap (λ o. if place == length puts then Some rec else o) (record_at-newest place puts) ∙ sym here
     ∙ ap (λ xs. slice_get xs place) (sym (reverse-append (rec ∷ []) puts))
 

@@ -1,5 +1,5 @@
 -- What is known by page goes on with the calls.
-use Rattle.std.proofs.Common.{◌≡◌, ℕ, zero, suc, ◌+◌, ◌-◌, ◌≤◌, ◌==◌, ◌&&◌, Bool, true, false, if◌then◌else◌, List, [], ◌∷◌, ◌++◌, length, count_by, Option, Some, None, refl, ap, sym, ◌∙◌, arith, add-one, reverse, length-append}
+use Rattle.std.proofs.Common.{◌≡◌, ℕ, zero, suc, ◌+◌, ◌≤◌, ◌==◌, ◌&&◌, Bool, true, false, if◌then◌else◌, List, [], ◌∷◌, ◌++◌, length, count_by, Option, Some, None, refl, ap, sym, ◌∙◌, arith, add-one, reverse, length-append}
 use Rattle.std.proofs.Math.Dec.{eqb-suc-zero, eqb-suc-suc}
 use Rattle.std.proofs.lemmas.List.Sums.{sum_by-cons}
 use Rattle.sgx_types.proofs.Truths.{eqb-swap}
@@ -42,7 +42,7 @@ nth-push places place zero =
     ap (λ b. if b then Some place else None) (sym (ap (λ k. k == 0) (add-one (length places)) ∙ eqb-suc-zero (length places)))
 nth-push places place (suc n) =
     let test : (length places + 1 == suc n) ≡ (n == length places)
-            = ap (λ k. k == suc n) (add-one (length places)) ∙ eqb-suc-suc (length places) n ∙ eqb-swap (length places) n in
+    = ap (λ k. k == suc n) (add-one (length places)) ∙ eqb-suc-suc (length places) n ∙ eqb-swap (length places) n in
     slice_get-push places place n ∙ ap (λ b. if b then Some place else slice_get places n) (sym test)
 
 -- the counts of a page after a put of a page
@@ -54,7 +54,7 @@ counts-put true page g calls had now same is after =
     let xs = records_of g calls in
     let put = count_by is_put calls in
     let one : length (xs ++ (if same_page page g then put ∷ [] else [])) ≡ length xs + 1
-            = ap (λ v. length (xs ++ (if v then put ∷ [] else []))) same ∙ length-append xs (put ∷ []) in
+    = ap (λ v. length (xs ++ (if v then put ∷ [] else []))) same ∙ length-append xs (put ∷ []) in
     let more : PageCounts → PageCounts = λ k. record k { puts = k.puts + 1 } in
     let of_page : Page → PageCounts = λ p. record { gets = count_by (is_get_of p) calls; puts = length (records_of p calls) + 1 } in
     let with_puts : ℕ → PageCounts = λ n. record { gets = count_by (is_get_of g) calls; puts = n } in
@@ -63,7 +63,7 @@ counts-put false page g calls had now same is after =
     let xs = records_of g calls in
     let put = count_by is_put calls in
     let none : length (xs ++ (if same_page page g then put ∷ [] else [])) ≡ length xs
-            = ap (λ v. length (xs ++ (if v then put ∷ [] else []))) same ∙ ap length (append-nil xs) in
+    = ap (λ v. length (xs ++ (if v then put ∷ [] else []))) same ∙ ap length (append-nil xs) in
     let with_puts : ℕ → PageCounts = λ n. record { gets = count_by (is_get_of g) calls; puts = n } in
     after ∙ ap with_puts (sym none)
 
@@ -91,7 +91,7 @@ pub Counts-put : (olds news : List StoreCall) (rooms gets puts blanks puts' blan
 Counts-put olds news rooms gets puts blanks puts' blanks' known known' page failed pushed good put more less counted =
     let calls = reverse olds in
     let last : reverse news ≡ Put page false ∷ calls
-            = ap reverse pushed ∙ reverse-append olds (Put page failed ∷ []) ∙ ap (λ b. Put page b ∷ calls) good in
+    = ap reverse pushed ∙ reverse-append olds (Put page failed ∷ []) ∙ ap (λ b. Put page b ∷ calls) good in
     let is = counted.counts page in
     let after : Counts (Put page false ∷ calls) rooms gets puts' blanks' known' = record {
       are_rooms = counted.are_rooms;

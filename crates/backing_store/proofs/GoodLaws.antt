@@ -26,7 +26,7 @@ put_at-below place (Room page made ∷ calls) failed is = put_at-below place cal
 put_at-below place (Got page answer ∷ calls) failed is = put_at-below place calls failed is
 put_at-below place (Put page made ∷ calls) failed is =
     let below : place < count_by is_put calls + 1
-            = put_at_step (place == count_by is_put calls) place (count_by is_put calls) made failed (put_at place calls) refl (put_at-below place calls failed) is in
+    = put_at_step (place == count_by is_put calls) place (count_by is_put calls) made failed (put_at place calls) refl (put_at-below place calls failed) is in
     omega (arith, below, one_put_more page made calls)
 
 -- one put more leaves those before it as they were
@@ -104,5 +104,5 @@ good_puts plans (Got page Nothing ∷ calls) rule = good_puts plans calls rule.1
 good_puts plans (Got page (Given place flipped) ∷ calls) rule =
     let other = partner_of plans page in
     let found : place_given plans calls page ≡ Some place
-            = given_place (get_fails plans calls) (is_dropped plans calls page) (bit_flipped plans calls page) (place_given plans calls page) place flipped rule.0 in
+    = given_place (get_fails plans calls) (is_dropped plans calls page) (bit_flipped plans calls page) (place_given plans calls page) place flipped rule.0 in
     (good_choice calls (first_of (replays page (next_get_of page calls)) plans) page other (length (records_of other calls)) place found, good_puts plans calls rule.1)

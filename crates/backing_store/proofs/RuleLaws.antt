@@ -1,8 +1,7 @@
 -- A store that was made no call of may be handed other plan lines.
-use Rattle.std.proofs.Common.{◌≡◌, ℕ, Bool, List, [], ◌∷◌, length, count_by, arith, reverse, refl, sym, ap, ◌∙◌, subst}
+use Rattle.std.proofs.Common.{◌≡◌, List, [], ◌∷◌, length, count_by, arith, reverse, refl, sym, subst}
 use Rattle.std.proofs.lemmas.List.{length-reverse}
 use Rattle.std.specs.Global.{Vec}
-use Rattle.std.proofs.lemmas.List.Sums.{sum_by-cons}
 use Rattle.sgx_types.specs.Sealed.{Sealed}
 use Rattle.io_edges.specs.declared.plans.PlanLine.{PlanLine}
 use Rattle.backing_store.specs.declared.calls.StoreCall.{StoreCall}
@@ -25,7 +24,7 @@ pub with_plans-kept : (l : Ledger) (plans : Vec PlanLine) → IsKeptByRule l →
     → IsKeptByRule (record l { plans = plans })
 with_plans-kept l plans kept told =
     let none : reverse l.calls.items ≡ [] = none_told (reverse l.calls.items) (reverse l.puts.items) told
-            (omega (arith, length-reverse l.puts.items, l.puts.ok.0, kept.kept.counted.are_puts)) in
+    (omega (arith, length-reverse l.puts.items, l.puts.ok.0, kept.kept.counted.are_puts)) in
     let P : List StoreCall → Type 0 = λ calls. AreByRule plans.items calls in
     record {
       kept = record { counted = kept.kept.counted; room = record { calls = kept.kept.room.calls; puts = kept.kept.room.puts; known = kept.kept.room.known } };

@@ -1,6 +1,6 @@
 -- How many gets and puts of each page there were, and where its records stand. It is kept as a map from pages to counts, and
 -- one from pages and numbers of puts to places.
-use Rattle.std.specs.Prelude.{◌≡◌, ℕ, ◌+◌, ◌≤◌, ◌==◌, ◌&&◌, Bool, if◌then◌else◌, Option, Some, min, unwrap_or}
+use Rattle.std.specs.Prelude.{◌≡◌, ℕ, ◌+◌, ◌==◌, ◌&&◌, Bool, if◌then◌else◌, Option, Some, min, unwrap_or}
 use Rattle.std.specs.HashMap.{get, spare}
 use Rattle.sgx_types.specs.declared.names.Page.{Page}
 use Rattle.sgx_types.specs.Frames.{same_page}

@@ -8,7 +8,9 @@ use crate::blank::Blank;
 use crate::calls::{GetAnswer, StoreCall};
 use crate::flips::copy;
 use crate::page_places::PagePlaces;
-use crate::plan_rules::{bit_flipped, get_fails, is_dropped, partner, put_fails, replayed, room_fails};
+use crate::plan_rules::{
+    bit_flipped, get_fails, is_dropped, partner, put_fails, replayed, room_fails,
+};
 use io_edges::faults::Failed;
 use io_edges::plans::PlanLine;
 use sgx_types::names::{Memory, Page};

@@ -11,27 +11,21 @@ use sgx_types::names::Page;
 pub fn room_fails(plans: &[PlanLine], number: u64) -> bool
     ensures { result ≡ list_any (fails_room number) plans.now }
 {
-    plans
-        .iter()
-        .any(|line| matches!(line, PlanLine::FailRoom { k } if *k == number))
+    plans.iter().any(|line| matches!(line, PlanLine::FailRoom { k } if *k == number))
 }
 
 /// .. the put of this number, among all puts.
 pub fn put_fails(plans: &[PlanLine], number: u64) -> bool
     ensures { result ≡ list_any (fails_put number) plans.now }
 {
-    plans
-        .iter()
-        .any(|line| matches!(line, PlanLine::FailPut { k } if *k == number))
+    plans.iter().any(|line| matches!(line, PlanLine::FailPut { k } if *k == number))
 }
 
 /// .. the get of this number, among all gets.
 pub fn get_fails(plans: &[PlanLine], number: u64) -> bool
     ensures { result ≡ list_any (fails_get number) plans.now }
 {
-    plans
-        .iter()
-        .any(|line| matches!(line, PlanLine::FailGet { k } if *k == number))
+    plans.iter().any(|line| matches!(line, PlanLine::FailGet { k } if *k == number))
 }
 
 /// Whether a line lets the get of a page find nothing. The number counts the gets of this page from 1.

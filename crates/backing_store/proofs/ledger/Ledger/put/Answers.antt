@@ -7,8 +7,13 @@ use Rattle.backing_store.proofs.ledger.Ledger.put.Goals as goal
 pub note_put-requires-clause-few : goal.note_put-requires-clause-few
 note_put-requires-clause-few c =
     let counted = c.requires.kept.counted in
-    omega (arith, ap (λ (k : PageCounts). k.puts) (counted.counts c.args.page),
-    records-le c.args.page (reverse c.args.self.now.calls.items), counted.are_puts, c.args.self.now.puts.ok.0)
+    omega (
+      arith,
+      ap (λ (k : PageCounts). k.puts) (counted.counts c.args.page),
+      records-le c.args.page (reverse c.args.self.now.calls.items),
+      counted.are_puts,
+      c.args.self.now.puts.ok.0,
+    )
 
 pub returns-clause-kept : goal.returns-clause-kept
 returns-clause-kept c =
