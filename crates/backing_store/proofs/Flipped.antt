@@ -1,0 +1,33 @@
+-- The record that stands in 4152 bytes.
+use Rattle.std.proofs.Common.{◌≡◌, ℕ, ◌+◌, ◌^◌, ◌<◌, ◌≤◌, List, length, get_or, take, drop, arith, ⊎_elim, length-take, length-drop}
+use Rattle.std.specs.Int.{w64, from_le_bytes}
+use Rattle.std.proofs.lemmas.Bool.{cases_lt}
+use Rattle.std.proofs.lemmas.List.{get_or-take, get_or-drop, get_or_past}
+use Rattle.sgx_types.specs.Layouts.{long_at}
+use Rattle.sgx_types.specs.Sealed.{IsRecord}
+use Rattle.backing_store.specs.Flips.{record_in}
+
+-- a piece of bytes has bytes
+piece_below : (n i : ℕ) (xs : List ℕ) → ((k : ℕ) → get_or xs k 0 < 256) → (k : ℕ) → get_or (take n (drop i xs)) k 0 < 256
+piece_below n i xs small k =
+    ⊎_elim (λ (low : k < n). rw (get_or-take n (drop i xs) k 0 low, get_or-drop i xs k 0) (small (i + k)))
+    (λ (past : n ≤ k). let short : length (take n (drop i xs)) ≤ k = simp length-take (omega arith) in
+    let none : get_or (take n (drop i xs)) k 0 ≡ 0 = get_or_past (take n (drop i xs)) k 0 short in omega arith)
+    (cases_lt k n)
+
+-- eight bytes make a number of 64 bits
+below : (bytes : List ℕ) → ((k : ℕ) → get_or bytes k 0 < 256) → from_le_bytes w64 bytes < 2 ^ 64
+below bytes small = omega (arith, small 0, small 1, small 2, small 3, small 4, small 5, small 6, small 7)
+
+long_below : (i : ℕ) (bytes : List ℕ) → ((k : ℕ) → get_or bytes k 0 < 256) → long_at bytes i < 2 ^ 64
+long_below i bytes small = below (take 8 (drop i bytes)) (piece_below 8 i bytes small)
+
+-- its sizes are those of a record
+pub record_in-sizes : (bytes : List ℕ) → length bytes ≡ 4152 → ((k : ℕ) → get_or bytes k 0 < 256) → IsRecord (record_in bytes)
+record_in-sizes bytes size small = record {
+  enclave = long_below 0 bytes small;
+  address = long_below 8 bytes small;
+  flags = long_below 16 bytes small;
+  cipher = simp (length-take, length-drop) (omega arith);
+  tag = simp length-drop (omega arith);
+}

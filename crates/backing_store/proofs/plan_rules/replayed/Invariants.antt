@@ -1,0 +1,7 @@
+use Rattle.std.proofs.Common.{◌≡◌, drop}
+use Rattle.backing_store.specs.Store.{replays, first_of}
+use Rattle.backing_store.proofs.plan_rules.replayed.Given as goal
+
+-- no line so far says anything
+abbrev pub invariant-loop-line : goal.invariant-loop-line
+invariant-loop-line l = first_of (replays l.page l.number) l.plans ≡ first_of (replays l.page l.number) (drop l.line-index l.plans)

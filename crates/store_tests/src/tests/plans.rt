@@ -1,0 +1,219 @@
+use super::rows::Ask::{AsksRoom, Gets, Keeps};
+use super::rows::Outcome::{Fails, Flips, Gives, HasRoom, Kept, NoRoom, NotKept, Nothing};
+use super::rows::{A, Ask, BITS, Bit, Outcome, ROWS, Row};
+use backing_store::backing::{Backing, StoreFault};
+use backing_store::calls::{GetAnswer, StoreCall};
+use backing_store::planned_store::PlannedStore;
+use io_edges::faults::Failed;
+use io_edges::plans::PlanLine;
+use sgx_types::names::Page;
+use sgx_types::record::{Header, Record};
+use std::alloc::{AllocError, Global};
+use std::process::Abort;
+use std::test::Fail;
+
+fn record(alloc: Global, number: u8) -> Result<Record, AllocError> {
+    Ok(Record {
+        header: Header {
+            enclave: u64::from(number),
+            address: 0x10000,
+            flags: 0x0203,
+        },
+        cipher: vec![in alloc; number; 4096]?,
+        tag: [2; 32],
+    })
+}
+
+fn room<B: Backing>(alloc: Global, store: &mut B, page: Page) -> Result<Outcome, StoreFault> {
+    match store.room(alloc, page) {
+        Ok(()) => Ok(HasRoom),
+        Err(StoreFault::Failed) => Ok(NoRoom),
+        Err(StoreFault::Memory) => Err(StoreFault::Memory),
+    }
+}
+
+fn keep<B: Backing>(
+    alloc: Global,
+    store: &mut B,
+    page: Page,
+    number: u8,
+) -> Result<Outcome, StoreFault> {
+    let rec = record(alloc, number)?;
+    match store.room(alloc, page) {
+        Ok(()) => match store.put(page, &rec) {
+            Ok(()) => Ok(Kept),
+            Err(Failed) => Ok(NotKept),
+        },
+        Err(StoreFault::Failed) => Ok(NoRoom),
+        Err(StoreFault::Memory) => Err(StoreFault::Memory),
+    }
+}
+
+// Whether a get gives what is to come of it.
+fn gives<B: Backing>(
+    alloc: Global,
+    store: &mut B,
+    page: Page,
+    comes: Outcome,
+) -> Result<bool, StoreFault> {
+    match (store.get(alloc, page), comes) {
+        (Err(StoreFault::Memory), _) => Err(StoreFault::Memory),
+        (Err(StoreFault::Failed), Fails) => Ok(true),
+        (Ok(None), Nothing) => Ok(true),
+        (Ok(Some(rec)), Gives(put)) => is_record(alloc, &rec, put, None),
+        (Ok(Some(rec)), Flips(put, bit)) => is_record(alloc, &rec, put, Some(bit)),
+        _ => Ok(false),
+    }
+}
+
+// Whether this is the record that was put so many puts after the first, with a bit inverted or as it is.
+fn is_record(
+    alloc: Global,
+    rec: &Record,
+    put: u64,
+    bit: Option<u32>,
+) -> Result<bool, StoreFault> {
+    let number = u8::try_from(put.saturating_add(1)).unwrap_or(0);
+    let mut bytes = record(alloc, number)?.to_bytes(alloc)?;
+    if let Some(bit) = bit {
+        let at = (bit / 8) as usize;
+        if at < bytes.len() {
+            bytes[at] ^= 1 << (bit % 8);
+        }
+    }
+    Ok(rec.to_bytes(alloc)? == bytes)
+}
+
+fn call(ask: Ask, comes: Outcome) -> StoreCall {
+    match ask {
+        AsksRoom(page) => StoreCall::Room {
+            page,
+            failed: comes == NoRoom,
+        },
+        Keeps(page) => StoreCall::Put {
+            page,
+            failed: comes == NotKept,
+        },
+        Gets(page) => StoreCall::Got {
+            page,
+            answer: match comes {
+                Gives(put) => GetAnswer::Given { put, flipped: None },
+                Flips(put, bit) => GetAnswer::Given {
+                    put,
+                    flipped: Some(bit),
+                },
+                Nothing => GetAnswer::Nothing,
+                _ => GetAnswer::Failed,
+            },
+        },
+    }
+}
+
+// Takes a store through what is asked of it, and notes the calls that it is to tell.
+fn play<B: Backing>(
+    rt: &impl Abort,
+    alloc: Global,
+    store: &mut B,
+    row: &Row,
+    told: &mut Vec<StoreCall>,
+) -> Result<(), Fail> {
+    let mut number = 1;
+    for (ask, comes) in row.asked.iter().zip(row.comes) {
+        match *ask {
+            AsksRoom(page) => assert_eq!(rt; room(alloc, store, page)?, *comes),
+            Keeps(page) => {
+                assert_eq!(rt; keep(alloc, store, page, number)?, *comes);
+                told.push(call(AsksRoom(page), *comes))?;
+                if *comes == NoRoom {
+                    continue;
+                }
+                number = number.saturating_add(1);
+            }
+            Gets(page) => assert!(rt; gives(alloc, store, page, *comes)?),
+        }
+        told.push(call(*ask, *comes))?;
+    }
+    Ok(())
+}
+
+fn follow(
+    rt: &impl Abort,
+    alloc: Global,
+    store: &mut PlannedStore,
+    row: &Row,
+    told: &mut Vec<StoreCall>,
+) -> Result<(), Fail> {
+    store.plan(alloc, row.plans)?;
+    play(rt, alloc, store, row, told)?;
+    assert_eq!(rt; store.plans(), row.plans);
+    assert_eq!(rt; store.calls(), told.as_slice());
+    let mut number = 1u64;
+    for rec in store.puts() {
+        assert_eq!(rt; rec.header.enclave, number);
+        number = number.saturating_add(1);
+    }
+    Ok(())
+}
+
+// The bytes of the record that a get gives.
+fn got<B: Backing>(
+    rt: &impl Abort,
+    alloc: Global,
+    store: &mut B,
+    bytes: &mut Vec<u8>,
+) -> Result<(), Fail> {
+    let rec = store.get(alloc, A)?;
+    assert!(rt; rec.is_some());
+    *bytes = rec.unwrap().to_bytes(alloc)?;
+    Ok(())
+}
+
+fn invert(
+    rt: &impl Abort,
+    alloc: Global,
+    store: &mut PlannedStore,
+    row: &Bit,
+    bytes: &mut Vec<u8>,
+) -> Result<(), Fail> {
+    let line = PlanLine::Flip {
+        page: A,
+        g: 1,
+        bit: row.bit,
+    };
+    store.plan(alloc, &[line])?;
+    assert_eq!(rt; keep(alloc, store, A, 1)?, Kept);
+    got(rt, alloc, store, bytes)?;
+    assert!(rt; row.at < bytes.len());
+    assert_eq!(rt; bytes[row.at], row.is);
+    bytes[row.at] = row.was;
+    assert!(rt; is_bytes(alloc, bytes)?);
+
+    // The record that is kept is as it was.
+    got(rt, alloc, store, bytes)?;
+    assert!(rt; is_bytes(alloc, bytes)?);
+    Ok(())
+}
+
+fn is_bytes(alloc: Global, bytes: &[u8]) -> Result<bool, StoreFault> {
+    Ok(record(alloc, 1)?.to_bytes(alloc)?.as_slice() == bytes)
+}
+
+#[test]
+fn plans_are_followed(rt: HostRuntime) -> Result<(), Fail> {
+    for row in ROWS {
+        let mut told = Vec::new(rt.alloc());
+        let mut store = Box::new(rt.alloc(), PlannedStore::new())?;
+        follow(&rt, rt.alloc(), &mut store, row, &mut told)?;
+    }
+    Ok(())
+}
+
+#[test]
+fn bits_are_inverted_in_a_copy(rt: HostRuntime) -> Result<(), Fail> {
+    for row in BITS {
+        let mut bytes = Vec::new(rt.alloc());
+        let mut store = Box::new(rt.alloc(), PlannedStore::new())?;
+        invert(&rt, rt.alloc(), &mut store, row, &mut bytes)?;
+    }
+    Ok(())
+}
