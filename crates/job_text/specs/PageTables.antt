@@ -1,10 +1,7 @@
 -- The table of an enclave's pages: which line adds each page, by the page's number.
 use Rattle.std.specs.Prelude.{◌≡◌, ℕ, ◌≤◌, true, if◌then◌else◌, List, Option, Some, None, slice_index_or, count_by, find}
-use Rattle.std.specs.List.{All, AllZip}
 use Rattle.job_grammar.specs.declared.jobs.PageLine.{PageLine}
-use Rattle.job_grammar.specs.declared.page_tables.PageTable.{PageTable}
-use Rattle.job_grammar.specs.Jobs.{EnclaveView, covers}
-use Rattle.job_grammar.specs.Valid.{IsValidLine}
+use Rattle.job_grammar.specs.Jobs.{covers}
 
 -- the line that adds each page, the first at 0
 abbrev pub Table : Type 0
@@ -27,12 +24,3 @@ pub record Tells (table : Table) (lines : List PageLine) : Type 0 where
 abbrev pub AddsLine : Table → Table → PageLine → Type 0
 AddsLine old new line =
     (n : ℕ) → (line_at new n ≡ (if covers n line then Some line else line_at old n)) × (covers n line ≡ true → line_at old n ≡ None)
-
--- the lines of an enclave of so many pages are in range, and no page is added twice
-pub record AreValidPages (pages : ℕ) (lines : List PageLine) : Type 0 where
-  pub valid : All (IsValidLine pages) lines
-  pub once : (n : ℕ) → count_by (covers n) lines ≤ 1
-
--- one table for each enclave
-abbrev pub AreTablesOf : List EnclaveView → List PageTable → Type 0
-AreTablesOf enclaves tables = AllZip (λ e t. Tells t.lines.items e.lines) enclaves tables
