@@ -4,7 +4,7 @@ ghost use Rattle.epoch_words.specs.Known.{enclaves};
 use crate::seen::Seen;
 use crate::words::{HardwareSeat, Pass, Words};
 use job_grammar::jobs::Job;
-use job_grammar::reader::read_job;
+use job_text::reader::read_job;
 use sgx_types::names::{LAST_EPOCH, PROCESSORS};
 use std::alloc::Global;
 use std::process::Abort;

@@ -2,7 +2,8 @@
 
 ghost use Rattle.std.specs.Prelude.{◌≡◌, [], length, IfOk};
 ghost use Rattle.turn_rules.specs.Script.{Script};
-ghost use Rattle.job_grammar.specs.Valid.{IsSmallJob, IsValid};
+ghost use Rattle.job_grammar.specs.Valid.{IsValid};
+ghost use Rattle.turn_rules.specs.SmallJobs.{IsSmallJob};
 ghost use Rattle.machine_book.specs.Books.{IsCalm};
 
 use crate::book::Book;

@@ -1,7 +1,7 @@
 use super::texts::{NOT_YET, READ, Row, read_each, refusal_of, with};
 use job_grammar::jobs::{EnclaveJob, Job, Op, PageLine, needed};
-use job_grammar::reader::read_job;
-use job_grammar::refusals::JobRefusal;
+use job_text::reader::read_job;
+use job_text::refusals::JobRefusal;
 use sgx_types::names::Perm;
 use std::alloc::Global;
 use std::process::Abort;

@@ -1,7 +1,8 @@
 use super::texts::{NOT_YET, READ, Row, read_each};
 use job_grammar::jobs::{Job, Marks, Op, PageLine, needed};
-use job_grammar::reader::read_job;
-use job_grammar::refusals::{JobKind, JobRefusal};
+use job_text::reader::read_job;
+use job_lines::kinds::JobKind;
+use job_text::refusals::JobRefusal;
 use sgx_types::names::Perm;
 use std::process::Abort;
 use std::test::Fail;

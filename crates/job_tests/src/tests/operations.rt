@@ -1,7 +1,7 @@
 use super::jobs::FIRST;
 use super::texts::{NOT_YET, READ, Row, read_each, refusal_of, with};
 use job_grammar::jobs::{Job, Op};
-use job_grammar::reader::read_job;
+use job_text::reader::read_job;
 use std::alloc::Global;
 use std::process::Abort;
 use std::test::Fail;

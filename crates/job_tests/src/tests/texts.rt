@@ -1,5 +1,6 @@
-use job_grammar::reader::read_job;
-use job_grammar::refusals::{JobKind, JobRefusal};
+use job_text::reader::read_job;
+use job_lines::kinds::JobKind;
+use job_text::refusals::JobRefusal;
 use std::alloc::Global;
 use std::process::Abort;
 use std::test::Fail;
