@@ -1,6 +1,7 @@
 -- The words of a line, as code finds them.
-use Rattle.std.proofs.Common.{◌≡◌, ◌≢◌, ℕ, Bool, true, false, eqb, cond, List, [], ◌∷◌, ◌++◌, Option, Some, None, length, take, refl, sym, ap, ◌∙◌, arith}
+use Rattle.std.proofs.Common.{◌≡◌, ◌≢◌, ℕ, Bool, true, false, eqb, cond, List, [], ◌∷◌, ◌++◌, Option, Some, None, ◌+◌, ◌<◌, ◌≤◌, get_or, map, length, take, refl, sym, ap, ◌∙◌, arith}
 use Rattle.std.proofs.lemmas.Bool.{ne_eqb}
+use Rattle.std.proofs.lemmas.List.{map_push, take_all, take_more}
 use Rattle.text_words.specs.Words.{Words}
 use Rattle.job_lines.specs.Words.{without_return, is_skipped, keyword_of, as_plain, plan_word_of, ◌>>=◌}
 use Rattle.std.specs.Option.{ok_or}
@@ -32,6 +33,17 @@ without_return-kept line front b e is = e ∙ sym (ap without_return e ∙ witho
 pub without_return-nil : (line : List ℕ) → length line ≡ 0 → line ≡ without_return line
 without_return-nil [] e = refl
 without_return-nil (b ∷ line) e = absurd (omega arith)
+
+-- ---- words one after the other, as a loop finds them
+
+pub words-more : {A : Type 0} (now : A → List ℕ) (items more : List A) (word : A) (all : Words) (i : ℕ) → map now items ≡ take i all → more ≡ items ++ word ∷ []
+    → i < length all → now word ≡ get_or all i (now word) → map now more ≡ take (i + 1) all
+words-more now items more word all i so_far is lt here =
+    rw is (map_push now items word ∙ ap (λ (front : Words). front ++ now word ∷ []) so_far ∙ ap (λ (w : List ℕ). take i all ++ w ∷ []) here
+    ∙ sym (take_more all i (now word) lt))
+
+pub words-done : {A : Type 0} (now : A → List ℕ) (items : List A) (all : Words) (i : ℕ) → map now items ≡ take i all → length all ≤ i → map now items ≡ all
+words-done now items all i so_far le = so_far ∙ take_all i all le
 
 -- ---- the first seven words tell what a line says
 

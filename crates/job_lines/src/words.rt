@@ -7,7 +7,7 @@ ghost use Rattle.job_lines.specs.Words.{without_return, words_of, is_skipped, ke
 use crate::keywords::{CallWord, Keyword, PlanWord};
 use crate::kinds::JobKind;
 use sgx_types::names::Perm;
-use std::alloc::{AllocError, Global};
+use std::alloc::AllocError;
 use text_words::readers;
 
 /// A line without the carriage return at its end.
@@ -20,14 +20,19 @@ pub fn without_return(line: &[u8]) -> &[u8]
     if *last == b'\r' { front } else { line }
 }
 
-/// The words of a line, as many as tell what it says: no line of a job has more than six.
-pub fn words(alloc: Global, line: &[u8]) -> Result<Vec<&[u8]>, AllocError>
-    ensures { IfOk result (λ words. map (λ word. word.now) words.items ≡ take 7 (words_of line.now)) }
+/// Puts the words of a line in place of those that stand, as many as tell what it says: no line of a job has more than six.
+pub fn read_words<'a>(line: &'a [u8], words: &mut Vec<&'a [u8]>) -> Result<(), AllocError>
+    ensures { IfOk result (λ _. map (λ word. word.now) words.new.items ≡ take 7 (words_of line.now)) }
 {
-    line.split(|byte| *byte == b' ' || *byte == b'\t')
+    words.clear();
+    for word in line
+        .split(|byte| *byte == b' ' || *byte == b'\t')
         .filter(|word| !word.is_empty())
         .take(7)
-        .collect(alloc)
+    {
+        words.push(word)?;
+    }
+    Ok(())
 }
 
 /// Whether a line of these words is skipped.
