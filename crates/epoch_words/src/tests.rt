@@ -4,7 +4,7 @@ ghost use Rattle.epoch_words.specs.Known.{enclaves};
 use crate::seen::Seen;
 use crate::words::{HardwareSeat, Pass, Words};
 use job_grammar::jobs::Job;
-use job_grammar::reader::read_job;
+use job_text::reader::read_job;
 use sgx_types::names::{LAST_EPOCH, PROCESSORS};
 use std::alloc::Global;
 use std::process::Abort;
@@ -126,7 +126,6 @@ struct World {
 
 impl World {
     fn new(alloc: Global, job: &Job) -> Result<World, Fail>
-        requires { job.now.start_epoch ≤ LAST_EPOCH }
     {
         let (words, seat, mut pass) = Words::new(alloc, job)?;
         let other = words.split_pass(&mut pass);
@@ -183,7 +182,6 @@ fn each_row_holds(rt: HostRuntime) -> Result<(), Fail> {
         (TWO_ENCLAVES, ENCLAVES_ARE_APART),
     ] {
         let job = read_job(rt.alloc(), text)?;
-        assert!(rt; job.start_epoch() <= LAST_EPOCH);
         let mut world = World::new(rt.alloc(), &job)?;
         for row in rows {
             world.take(&rt, *row);
@@ -258,7 +256,6 @@ fn beside<R: Threads>(rt: &R, words: &Words, seat: HardwareSeat, pass: Pass) -> 
 #[test]
 fn a_pass_is_never_led_back(rt: HostRuntime) -> Result<(), Fail> {
     let job = read_job(rt.alloc(), ONE_ENCLAVE)?;
-    assert!(rt; job.start_epoch() <= LAST_EPOCH);
     let (words, seat, pass) = Words::new(rt.alloc(), &job)?;
     assert!(rt; !job.enclaves().is_empty());
     let (forward, done) = beside(&rt, &words, seat, pass);

@@ -75,7 +75,6 @@ impl Words {
     /// The words of a job's enclaves, each at the job's first epoch with no processor inside; the seat that writes them, and
     /// a pass that has seen this.
     pub fn new(alloc: Global, job: &Job) -> Result<(Words, HardwareSeat, Pass), Memory>
-        requires { job.now.start_epoch ≤ LAST_EPOCH }
         ensures words { IfOk result (λ made. enclaves made.0 ≡ length job.now.enclaves) }
         ensures hardware { IfOk result (λ made. made.1 ≡ known made.0
             (replicate (length job.now.enclaves) (starting_at job.now.start_epoch))) }

@@ -1,9 +1,2 @@
-pub mod LastItem
-pub mod LineLoop
-pub mod LineWords
-pub mod PageLaws
-pub mod PrintedLines
-pub mod ReadJobs
-pub mod ValidJobs
+pub mod EnclaveLaws
 pub mod ViewLaws
-pub mod WrittenJobs

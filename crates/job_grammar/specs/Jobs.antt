@@ -1,12 +1,16 @@
 -- Jobs as contracts see them, and what their lines say.
-use Rattle.std.specs.Prelude.{ℕ, zero, suc, ◌==◌, ◌+◌, ◌*◌, ◌/◌, ◌&&◌, Bool, true, false, min, List, [], Option, Some, None, length, sum_by, nat_le, nat_lt, slice_get, find}
+use Rattle.std.specs.Prelude.{ℕ, zero, suc, ◌==◌, ◌+◌, ◌*◌, ◌/◌, ◌&&◌, Bool, true, false, min, List, [], Option, Some, None, length, map, sum_by, nat_le, nat_lt, slice_get, find}
+use Rattle.std.specs.Global.{Vec}
 use Rattle.std.specs.List.{list_any}
+use Rattle.sgx_types.specs.declared.names.Page.{Page}
 use Rattle.io_edges.specs.declared.plans.PlanLine.{PlanLine}
 use Rattle.job_grammar.specs.declared.jobs.Marks.{Marks}
 use Rattle.job_grammar.specs.declared.jobs.PageLine.{PageLine}
 use Rattle.job_grammar.specs.declared.jobs.PageLine.TheVariants.{Tcs, Reg}
 use Rattle.job_grammar.specs.declared.jobs.EnclaveJob.{EnclaveJob}
 use Rattle.job_grammar.specs.declared.jobs.Op.{Op}
+use Rattle.job_grammar.specs.declared.jobs.Op.TheVariants.{Enter, Resume}
+use Rattle.job_grammar.specs.declared.jobs.JobParts.{JobParts}
 
 pub record EnclaveView : Type 0 where
   pub base : ℕ
@@ -26,6 +30,22 @@ pub record JobView : Type 0 where
 
 abbrev pub enclave_view : EnclaveJob → EnclaveView
 enclave_view e = record { base = e.base; size = e.size; lines = e.lines.items; expect = e.expect }
+
+abbrev pub script_ops : List (Vec Op) → List (List Op)
+script_ops scripts = map (λ script. script.items) scripts
+
+-- the job of these parts
+abbrev pub parts_view : JobParts → JobView
+parts_view p = record {
+  epc = p.epc;
+  marks = p.marks;
+  key = p.key;
+  start_epoch = p.start_epoch;
+  start_version = p.start_version;
+  enclaves = map enclave_view p.enclaves.items;
+  plans = p.plans.items;
+  scripts = script_ops p.scripts.items;
+}
 
 -- ---- pages
 
@@ -73,6 +93,10 @@ abbrev pub first_page : PageLine → ℕ
 first_page (Tcs page ossa nssa plain) = page
 first_page (Reg first count perm value plain) = first
 
+-- a page of an enclave is added
+abbrev pub is_added_page : List EnclaveView → Page → Bool
+is_added_page es page = list_any (covers page.number) (lines_at es page.enclave)
+
 -- how many pages a line adds
 abbrev pub page_count : PageLine → ℕ
 page_count (Tcs page ossa nssa plain) = 1
@@ -87,6 +111,18 @@ job_pages j = sum_by enclave_pages j.enclaves
 -- the line of a TCS page
 abbrev pub tcs_line : List PageLine → ℕ → Option PageLine
 tcs_line lines n = find (λ line. is_tcs_line line && covers n line) lines
+
+-- ---- operations
+
+-- an operation names the TCS page of this number of an enclave
+abbrev pub names_tcs : ℕ → ℕ → Op → Bool
+names_tcs enclave number (Enter e tcs) = (e == enclave) && (tcs == number)
+names_tcs enclave number (Resume e tcs) = (e == enclave) && (tcs == number)
+names_tcs enclave number _ = false
+
+-- an operation of a script does
+abbrev pub script_names : ℕ → ℕ → List Op → Bool
+script_names enclave number script = list_any (names_tcs enclave number) script
 
 -- ---- frames
 

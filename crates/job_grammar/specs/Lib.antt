@@ -1,9 +1,3 @@
 pub mod Jobs
-pub mod Text
 pub mod Valid
-pub mod Lines
-pub mod PageTables
-pub mod Checks
-pub mod Reading
-pub mod Drafts
 pub mod Kept

@@ -2,13 +2,11 @@
 
 ghost use Rattle.std.specs.Prelude.{◌≡◌, map};
 ghost use Rattle.job_grammar.specs.Jobs.{JobView, enclave_view, default_marks, first_page, page_count, is_tcs_line, is_reg_line};
-ghost use Rattle.job_grammar.specs.Jobs.{is_save_line, va_pages, needed};
+ghost use Rattle.job_grammar.specs.Jobs.{is_save_line, job_pages, parts_view, va_pages, needed};
 
-use crate::counts::{needed_by, va_pages_of};
-use crate::printing::push_job;
+use crate::counts::{needed_by, total_pages, va_pages_of};
 use io_edges::plans::PlanLine;
 use sgx_types::names::Perm;
-use std::alloc::{AllocError, Global};
 use std::marker::Model;
 
 /// When the reclaimer works: it begins below `low` free frames, stops at `high`, and looks at `scan` pages a pass.
@@ -21,7 +19,7 @@ pub struct Marks {
 
 impl Marks {
     /// The marks of a job that gives none: Linux's 32, 64 and 16, or less where the EPC has fewer than 128 frames.
-    pub(crate) fn of_frames(epc: u32) -> Self
+    pub fn of_frames(epc: u32) -> Self
         ensures { result ≡ default_marks epc }
     {
         Marks {
@@ -124,18 +122,24 @@ pub enum Op {
     OutStore { enclave: u16, off: u64, value: u64 },
 }
 
-/// What to run: the number of EPC frames, the reclaimer's marks, the sealing key, the first epoch and version, the
-/// enclaves from number 1 on, what the store does, and a script for each processor from 0 on. A job is always valid.
+/// The parts of a job: the number of EPC frames, the reclaimer's marks, the sealing key, the first epoch of each enclave
+/// and the first version, the enclaves from number 1 on, what the store does, and a script for each processor from 0 on.
+#[derive(Debug, Drop)]
+pub struct JobParts {
+    pub epc: u32,
+    pub marks: Marks,
+    pub key: [u8; 32],
+    pub start_epoch: u64,
+    pub start_version: u64,
+    pub enclaves: Vec<EnclaveJob>,
+    pub plans: Vec<PlanLine>,
+    pub scripts: Vec<Vec<Op>>,
+}
+
+/// What to run. A job is always valid.
 #[derive(Debug, Drop)]
 pub struct Job {
-    epc: u32,
-    marks: Marks,
-    key: [u8; 32],
-    start_epoch: u64,
-    start_version: u64,
-    enclaves: Vec<EnclaveJob>,
-    plans: Vec<PlanLine>,
-    scripts: Vec<Vec<Op>>,
+    parts: JobParts,
 }
 
 impl Model for Job {
@@ -151,31 +155,15 @@ impl Model for Job {
 }
 
 impl Job {
-    ghost use Rattle.std.specs.Prelude.{map};
+    ghost use Rattle.std.specs.Prelude.{◌+◌, ◌^◌, ◌≤◌, ◌<◌, map};
     ghost use Rattle.job_grammar.specs.Valid.{IsValid};
-    ghost use Rattle.job_grammar.specs.Drafts.{script_ops};
-    ghost use Rattle.job_grammar.specs.Checks.{default_job};
 
-    /// The job of these enclaves and scripts, with no option and no store line.
-    pub(crate) fn new(
-        alloc: Global,
-        epc: u32,
-        enclaves: Vec<EnclaveJob>,
-        scripts: Vec<Vec<Op>>,
-    ) -> Self
-        requires { IsValid (default_job epc (map enclave_view enclaves.items) (script_ops scripts.items)) }
-        ensures { result ≡ default_job epc (map enclave_view enclaves.items) (script_ops scripts.items) }
+    /// The job of these parts, which are those of a valid one.
+    pub fn new(parts: JobParts) -> Self
+        requires { IsValid (parts_view parts) }
+        ensures { result ≡ parts_view parts }
     {
-        Job {
-            epc,
-            marks: Marks::of_frames(epc),
-            key: [0; 32],
-            start_epoch: 1,
-            start_version: 1,
-            enclaves,
-            plans: Vec::new(alloc),
-            scripts,
-        }
+        Job { parts }
     }
 
     /// The number of EPC frames, from 1 to 4096.
@@ -183,35 +171,38 @@ impl Job {
         ensures value { result ≡ self.now.epc }
         ensures valid { IsValid self.now }
     {
-        self.epc
+        self.parts.epc
     }
 
     /// When the reclaimer works.
     pub fn marks(&self) -> Marks
         ensures { result ≡ self.now.marks }
     {
-        self.marks
+        self.parts.marks
     }
 
     /// The sealing key.
     pub fn key(&self) -> &[u8; 32]
         ensures { result.now ≡ self.now.key }
     {
-        &self.key
+        &self.parts.key
     }
 
     /// The first epoch of each enclave, from 1 to 2^40 - 1.
     pub fn start_epoch(&self) -> u64
-        ensures { result ≡ self.now.start_epoch }
+        ensures value { result ≡ self.now.start_epoch }
+        ensures some { 1 ≤ result }
+        ensures few { result < 2 ^ 40 }
     {
-        self.start_epoch
+        self.parts.start_epoch
     }
 
     /// The first version that is drawn, from 1.
     pub fn start_version(&self) -> u64
-        ensures { result ≡ self.now.start_version }
+        ensures value { result ≡ self.now.start_version }
+        ensures some { 1 ≤ result }
     {
-        self.start_version
+        self.parts.start_version
     }
 
     /// The enclaves, from number 1 on.
@@ -219,21 +210,21 @@ impl Job {
         ensures value { map enclave_view result.now ≡ self.now.enclaves }
         ensures valid { IsValid self.now }
     {
-        &self.enclaves
+        &self.parts.enclaves
     }
 
     /// What the store does.
     pub fn plans(&self) -> &[PlanLine]
         ensures { result.now ≡ self.now.plans }
     {
-        &self.plans
+        &self.parts.plans
     }
 
     /// The script of each processor, from number 0 on.
     pub fn scripts(&self) -> &[Vec<Op>]
         ensures { map (λ script. script.items) result.now ≡ self.now.scripts }
     {
-        &self.scripts
+        &self.parts.scripts
     }
 
     /// How many version array pages the builder makes: as many as give a slot to every page, every enclave and each of
@@ -241,29 +232,14 @@ impl Job {
     pub fn va_pages(&self) -> u32
         ensures { result ≡ va_pages self.now }
     {
-        va_pages_of(&self.enclaves)
+        va_pages_of(&self.parts.enclaves)
     }
-}
 
-impl Job {
-    ghost use Rattle.std.specs.Prelude.{IfOk, string_bytes};
-    ghost use Rattle.job_grammar.specs.Text.{job_text};
-    ghost use Rattle.job_grammar.specs.Lines.{place_at};
-
-    /// The text of the job in which the `expect` line of each enclave stands behind so many of its page lines.
-    pub(crate) fn text(&self, alloc: Global, places: &[usize]) -> Result<String, AllocError>
-        ensures { IfOk result (λ text. string_bytes text ≡ job_text (place_at places.now) self.now) }
+    /// How many pages the enclaves have, at most 4096.
+    pub fn pages(&self) -> u64
+        ensures { result ≡ job_pages self.now }
     {
-        let mut text = String::new(alloc);
-        push_job(
-            alloc,
-            &mut text,
-            self.epc,
-            &self.enclaves,
-            places,
-            &self.scripts,
-        )?;
-        Ok(text)
+        total_pages(&self.parts.enclaves)
     }
 }
 
@@ -272,5 +248,5 @@ impl Job {
 pub fn needed(job: &Job) -> u32
     ensures { result ≡ needed job.now }
 {
-    needed_by(&job.enclaves, &job.scripts)
+    needed_by(&job.parts.enclaves, &job.parts.scripts)
 }

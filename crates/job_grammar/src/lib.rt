@@ -1,15 +1,5 @@
-// Jobs: their text, and what makes one valid.
+// Jobs: what to run, and what makes a job valid.
 #![tactic(auto)]
 
 mod counts;
-mod drafts;
-mod enclaves;
 pub mod jobs;
-mod lines;
-mod page_tables;
-mod printing;
-pub mod reader;
-pub mod refusals;
-mod scripts;
-mod small_jobs;
-mod words;

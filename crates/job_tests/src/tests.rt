@@ -1,4 +1,5 @@
 mod enclaves;
+mod grammar;
 mod jobs;
 mod operations;
 mod texts;

@@ -16,7 +16,8 @@ use Rattle.sgx_types.proofs.Truths.{eqb-swap}
 use Rattle.job_grammar.specs.declared.jobs.PageLine.{PageLine}
 use Rattle.job_grammar.specs.declared.jobs.PageLine.TheVariants as lines
 use Rattle.job_grammar.specs.Jobs.{EnclaveView, JobView, lines_at, page_count, va_pages}
-use Rattle.job_grammar.specs.Valid.{IsSmallJob, IsValid, IsValidEnclave}
+use Rattle.job_grammar.specs.Valid.{IsValid, IsValidEnclave}
+use Rattle.turn_rules.specs.SmallJobs.{IsSmallJob}
 use Rattle.turn_rules.specs.declared.steps.BuildStep.{BuildStep}
 use Rattle.turn_rules.specs.declared.steps.BuildStep.TheVariants as builds
 use Rattle.turn_rules.specs.Script.{build_of, chunk_steps, enclave_steps, enclaves_steps, line_steps, numbers_from, page_steps}

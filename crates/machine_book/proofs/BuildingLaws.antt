@@ -13,7 +13,7 @@ use Rattle.job_grammar.specs.declared.jobs.EnclaveJob.{EnclaveJob}
 use Rattle.job_grammar.specs.Jobs.{EnclaveView, JobView, va_pages, enclave_pages, enclave_view, lines_at, lines_in}
 use Rattle.turn_rules.specs.declared.steps.BuildStep.TheVariants as builds
 use Rattle.turn_rules.specs.Script.{build_of, enclave_steps, enclaves_steps}
-use Rattle.job_grammar.specs.Valid.{IsSmallJob}
+use Rattle.turn_rules.specs.SmallJobs.{IsSmallJob}
 use Rattle.machine_book.specs.Books.{BookView, IsCalm}
 use Rattle.machine_book.specs.Building.{Grows, IsPlacedLine, IsUnmade, MakesOnly, frame_count, frames_taken, free_frames}
 use Rattle.machine_book.proofs.EnclaveLaws.{enclave_taken}

@@ -3,7 +3,8 @@
 ghost use Rattle.std.specs.Prelude.{ℕ, ◌≡◌, [], OnOk};
 ghost use Rattle.std.specs.List.{All};
 ghost use Rattle.job_grammar.specs.Jobs.{lines_at};
-ghost use Rattle.job_grammar.specs.Valid.{IsSmallJob, IsValid};
+ghost use Rattle.job_grammar.specs.Valid.{IsValid};
+ghost use Rattle.turn_rules.specs.SmallJobs.{IsSmallJob};
 ghost use Rattle.turn_rules.specs.Script.{build_of};
 ghost use Rattle.machine_book.specs.Books.{IsCalm};
 ghost use Rattle.machine_book.specs.Building.{Grows, IsPlacedLine};

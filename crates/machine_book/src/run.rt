@@ -3,7 +3,8 @@
 ghost use Rattle.std.specs.Prelude.{◌≡◌, [], IfOk};
 ghost use Rattle.turn_rules.specs.Machines.{machine_of};
 ghost use Rattle.turn_rules.specs.Script.{Script};
-ghost use Rattle.job_grammar.specs.Valid.{IsSmallJob, IsValid};
+ghost use Rattle.job_grammar.specs.Valid.{IsValid};
+ghost use Rattle.turn_rules.specs.SmallJobs.{IsSmallJob};
 ghost use Rattle.machine_book.specs.Books.{IsCalm};
 
 use crate::book::Book;

@@ -1,18 +1,23 @@
 -- Laws of what a command says of the bytes that it read.
-use Rattle.std.proofs.Common.{◌≡◌, ◌≢◌, ◌≤◌, ◌<◌, ◌+◌, ◌^◌, ℕ, List, length, Option, Some, None, refl, ap, sym, ◌∙◌, arith, ◌⊎◌, inl, inr}
+use Rattle.std.proofs.Common.{◌≡◌, ◌≢◌, ◌≤◌, ◌<◌, ◌+◌, ◌^◌, ℕ, List, length, Option, Some, None, Result, Ok, Err, refl, ap, sym, ◌∙◌, arith, ◌⊎◌, inl, inr}
 use Rattle.std.specs.Prelude.{IfSome, IsSomeAnd, replicate}
 use Rattle.std.proofs.Math.Seq.{drop-length}
 use Rattle.std.proofs.lemmas.List.{length-replicate}
 use Rattle.io_edges.specs.Sources.{emptied, TakesAtMost}
-use Rattle.job_grammar.specs.declared.refusals.JobKind.{JobKind}
-use Rattle.job_grammar.specs.declared.refusals.JobKind.TheVariants.{TooLong, NotYetBuilt}
+use Rattle.job_lines.specs.declared.kinds.JobKind.{JobKind}
+use Rattle.job_lines.specs.declared.kinds.JobKind.TheVariants.{TooLong}
+use Rattle.job_text.specs.declared.refusals.Fault.{Fault}
+use Rattle.job_text.specs.Reading.{at, read}
+use Rattle.job_text.proofs.ReadLaws.{read_long}
+use Rattle.turn_rules.specs.SmallJobs.{IsSmallJob}
 use Rattle.job_grammar.specs.Jobs.{JobView}
-use Rattle.job_grammar.specs.Valid.{IsJobText}
+use Rattle.sgxpage.specs.declared.job_faults.BadJob.{BadJob}
+use Rattle.sgxpage.specs.declared.job_faults.BadJob.TheVariants as bad_jobs
 use Rattle.sgxpage.specs.declared.command.Status.{Status}
 use Rattle.sgxpage.specs.declared.command.Status.TheVariants as statuses
 use Rattle.sgxpage.specs.declared.command.Unread.{Unread}
 use Rattle.sgxpage.specs.declared.command.Unread.TheVariants as unread
-use Rattle.sgxpage.specs.Runs.{HasJob, IsFaultAnd, IsFaultOf, IsNoJob, OfRead, kind_of}
+use Rattle.sgxpage.specs.Runs.{HasJob, IsFaultAnd, IsFaultOf, IsJobText, IsNoJob, OfRead, why_not}
 
 -- ---- the bytes read
 
@@ -30,32 +35,29 @@ some_longer n =
     let zero : ℕ = 0 in
     (replicate (n + 1) zero, omega (arith, length-replicate (n + 1) zero))
 
-no_job-long : (bytes : List ℕ) → 2 ^ 24 < length bytes → IsNoJob bytes
-no_job-long bytes long job text = absurd (omega (arith, text.small))
+ok-same : (a b : JobView) → ◌≡◌ {A = Result JobView Fault} (Ok a) (Ok b) → a ≡ b
+ok-same a b e = cc
 
-kind_of-long : (bytes : List ℕ) → 2 ^ 24 < length bytes → TooLong ≡ kind_of bytes
-kind_of-long bytes long = grind arith
+refused : (bytes : List ℕ) (fault : Fault) → read bytes ≡ Err fault → IsNoJob bytes × (bad_jobs.Fault fault.line fault.kind ≡ why_not (read bytes))
+refused bytes fault e = (λ job is. absurd (let two = sym e ∙ is.0 in cc), rw e refl)
 
 -- more bytes than a job may have
-pub fault-too_long : (left : Option (List ℕ)) → IfSome left (λ all. 2 ^ 24 < length all) → IsFaultOf left (unread.Fault 0 TooLong)
+pub fault-too_long : (left : Option (List ℕ)) → IfSome left (λ all. 2 ^ 24 < length all) → IsFaultOf left (unread.Bad (bad_jobs.Fault 0 TooLong))
 fault-too_long None long =
     let some = some_longer (2 ^ 24) in
-    (some.0, tt, (no_job-long some.0 some.1, refl, kind_of-long some.0 some.1))
-fault-too_long (Some all) long = (all, refl, (no_job-long all long, refl, kind_of-long all long))
+    (some.0, tt, refused some.0 (at 0 TooLong) (read_long some.0 some.1))
+fault-too_long (Some all) long = (all, refl, refused all (at 0 TooLong) (read_long all long))
 
-kind_of-short : (bytes : List ℕ) → length bytes ≤ 2 ^ 24 → NotYetBuilt ≡ kind_of bytes
-kind_of-short bytes short = grind arith
+-- no more bytes, and a line is faulty
+pub fault-read : (left : Option (List ℕ)) (bytes : List ℕ) (line : ℕ) (kind : JobKind) → IfSome left (λ all. bytes ≡ all) → read bytes ≡ Err (at line kind)
+    → IsFaultOf left (unread.Bad (bad_jobs.Fault line kind))
+fault-read left bytes line kind same e = (bytes, same, refused bytes (at line kind) e)
 
--- no more bytes, and they are refused
-pub fault-early : (left : Option (List ℕ)) (bytes : List ℕ) (line : ℕ) (kind : JobKind) → IfSome left (λ all. bytes ≡ all)
-    → length bytes ≤ 2 ^ 24
-    → (line ≡ 0) × ((kind ≡ TooLong) ⊎ (kind ≡ NotYetBuilt)) → (line ≡ 0 → kind ≡ TooLong → 2 ^ 24 < length bytes)
-    → (line ≡ 0 → kind ≡ NotYetBuilt → IsNoJob bytes) → IsFaultOf left (unread.Fault line kind)
-fault-early left bytes line kind same short early too_long not_yet = by_kind early.1
-  where
-    by_kind : (kind ≡ TooLong) ⊎ (kind ≡ NotYetBuilt) → IsFaultOf left (unread.Fault line kind)
-    by_kind (inl is) = let long = too_long early.0 is in absurd (omega (arith, long, short))
-    by_kind (inr is) = (bytes, same, (not_yet early.0 is, early.0, is ∙ kind_of-short bytes short))
+-- no line is, and the job is of a form that is not run
+pub not-built : (left : Option (List ℕ)) (bytes : List ℕ) (job : JobView) → IfSome left (λ all. bytes ≡ all) → read bytes ≡ Ok job → (IsSmallJob job → ⊥)
+    → IsFaultOf left (unread.Bad bad_jobs.NotYetBuilt)
+not-built left bytes job same e other =
+    (bytes, same, (λ (j : JobView) is. other (rw (ok-same j job (sym is.0 ∙ e)) at is.1), rw e refl))
 
 -- ---- a job that was read, or was not
 
@@ -65,14 +67,14 @@ no_job-read None job text none = none
 no_job-read (Some all) job text none = none job (rw text.1 at text.2)
 
 -- a fault was found in bytes that no job has
-job-no_fault : (left : Option (List ℕ)) (line : ℕ) (kind : JobKind) → IsSomeAnd left HasJob → IsFaultOf left (unread.Fault line kind) → ⊥
-job-no_fault None line kind some fault = some
-job-no_fault (Some all) line kind some fault = fault.2.0 some.0 (rw (sym fault.1) at some.1)
+job-no_fault : (left : Option (List ℕ)) (bad : BadJob) → IsSomeAnd left HasJob → IsFaultOf left (unread.Bad bad) → ⊥
+job-no_fault None bad some fault = some
+job-no_fault (Some all) bad some fault = fault.2.0 some.0 (rw (sym fault.1) at some.1)
 
-module _ (left : Option (List ℕ)) (given : ℕ → JobKind → Type 0) (ReadRisen WriteRisen : Type 0) (some : IsSomeAnd left HasJob)
+module _ (left : Option (List ℕ)) (given : BadJob → Type 0) (ReadRisen WriteRisen : Type 0) (some : IsSomeAnd left HasJob)
     (read : ReadRisen → ⊥) (write : WriteRisen → ⊥) where
   untold : (end : Unread) → IsFaultOf left end → IsFaultAnd end given → ⊥
-  untold (unread.Fault line kind) fault told = job-no_fault left line kind some fault
+  untold (unread.Bad bad) fault told = job-no_fault left bad some fault
   untold unread.Failed fault told = told
   untold unread.Memory fault told = told
 

@@ -1,17 +1,21 @@
 -- What a run gives: the texts of one trace that keeps the rules, or a line on what is wrong with the job.
-use Rattle.std.specs.Prelude.{ℕ, ◌≡◌, ◌^◌, ◌⊎◌, if◌then◌else◌, List, ◌++◌, Option, IfSome, codes, length, nat_lt}
+use Rattle.std.specs.Prelude.{ℕ, ◌≡◌, ◌⊎◌, List, ◌++◌, Option, Ok, Err, IfSome, codes}
 use Rattle.std.specs.Fmt.{decimal}
 use Rattle.io_edges.specs.Sinks.{followed_by, GivesPart}
 use Rattle.sgx_types.specs.declared.entries.Entry.{Entry}
 use Rattle.sgx_types.specs.Rules.{Along, KeepsRules}
 use Rattle.measure_log.specs.Rule.{MeasureRule}
-use Rattle.job_grammar.specs.declared.refusals.JobKind.{JobKind}
-use Rattle.job_grammar.specs.declared.refusals.JobKind.TheVariants as kinds
+use Rattle.job_lines.specs.declared.kinds.JobKind.{JobKind}
+use Rattle.job_lines.specs.declared.kinds.JobKind.TheVariants as kinds
+use Rattle.job_text.specs.Reading.{Read, read}
 use Rattle.job_grammar.specs.Jobs.{JobView}
+use Rattle.turn_rules.specs.Machines.{machine_of}
 use Rattle.turn_rules.specs.Script.{Script}
-use Rattle.job_grammar.specs.Valid.{IsJobText}
+use Rattle.turn_rules.specs.SmallJobs.{IsSmallJob}
+use Rattle.sgxpage.specs.declared.job_faults.BadJob.{BadJob}
+use Rattle.sgxpage.specs.declared.job_faults.BadJob.TheVariants as bad_jobs
 use Rattle.sgxpage.specs.declared.command.Unread.{Unread}
-use Rattle.sgxpage.specs.declared.command.Unread.TheVariants.{Fault}
+use Rattle.sgxpage.specs.declared.command.Unread.TheVariants.{Bad}
 use Rattle.sgxpage.specs.OutText.{out_of}
 use Rattle.trace_text.specs.TraceText.{trace_of}
 
@@ -21,22 +25,26 @@ use Rattle.trace_text.specs.TraceText.{trace_of}
 abbrev pub OfRead : Option (List ℕ) → (List ℕ → Type 0) → Type 0
 OfRead left P = (bytes : List ℕ) × IfSome left (λ all. bytes ≡ all) × P bytes
 
--- some job has this text
+-- the bytes are a text of this job, which is of a form that the program runs
+abbrev pub IsJobText : List ℕ → JobView → Type 0
+IsJobText bytes j = (read bytes ≡ Ok j) × IsSmallJob j
+
+-- some job that the program runs has this text
 abbrev pub HasJob : List ℕ → Type 0
 HasJob bytes = (j : JobView) × IsJobText bytes j
 
--- no job has it
+-- none has it
 abbrev pub IsNoJob : List ℕ → Type 0
 IsNoJob bytes = (j : JobView) → IsJobText bytes j → ⊥
 
 -- ---- what a run gives
 
--- what each sink had and has: some trace is the job's script to its end, keeps the rules of an EPC of the job's size, and
--- measures its enclaves; and the sinks got its text and its replies
+-- what each sink had and has: some trace is the job's script to its end, keeps the rules of the machine that the job is
+-- run on, and measures its enclaves; and the sinks got its text and its replies
 pub record Gave (job : JobView) (out out' trace trace' : Option (List ℕ)) : Type 0 where
   pub past : List Entry
   pub script : Script job past
-  pub rules : KeepsRules job.epc past
+  pub rules : KeepsRules (machine_of job) past
   pub measure : Along MeasureRule past
   pub trace_given : trace' ≡ followed_by trace (trace_of past)
   pub out_given : out' ≡ followed_by out (out_of job past)
@@ -46,7 +54,7 @@ pub record Gave (job : JobView) (out out' trace trace' : Option (List ℕ)) : Ty
 pub record Broke (job : JobView) (out out' trace trace' : Option (List ℕ)) : Type 0 where
   pub past : List Entry
   pub script : Script job past
-  pub rules : KeepsRules job.epc past
+  pub rules : KeepsRules (machine_of job) past
   pub measure : Along MeasureRule past
   pub given : (GivesPart trace trace' (trace_of past) × (out' ≡ out))
       ⊎ ((trace' ≡ followed_by trace (trace_of past)) × GivesPart out out' (out_of job past))
@@ -77,19 +85,27 @@ kind_text kinds.Missing = codes "Missing"
 kind_text kinds.TcsShared = codes "TcsShared"
 kind_text (kinds.EpcTooSmall needed) = codes "EpcTooSmall " ++ decimal needed
 kind_text kinds.TooLong = codes "TooLong"
-kind_text kinds.NotYetBuilt = codes "NotYetBuilt"
 
--- what is wrong with a job, by its line
+-- what is wrong with a line
 abbrev pub fault_text : ℕ → JobKind → List ℕ
-fault_text line kind = codes "job line " ++ decimal line ++ codes ": " ++ kind_text kind ++ codes "\n"
+fault_text line kind = decimal line ++ codes ": " ++ kind_text kind
 
--- what is wrong with bytes that no job has: there are too many, or no small valid job has them
-abbrev pub kind_of : List ℕ → JobKind
-kind_of bytes = if nat_lt (2 ^ 24) (length bytes) then kinds.TooLong else kinds.NotYetBuilt
+abbrev pub why_text : BadJob → List ℕ
+why_text (bad_jobs.Fault line kind) = fault_text line kind
+why_text bad_jobs.NotYetBuilt = codes "0: NotYetBuilt"
 
--- the line on it, which is said of the whole text
+-- the line on why a job is not run
+abbrev pub bad_job_text : BadJob → List ℕ
+bad_job_text bad = codes "job line " ++ why_text bad ++ codes "\n"
+
+-- why it is not, by what reading its text gives: its first faulty line, or, where it is a job, its form
+abbrev pub why_not : Read → BadJob
+why_not (Err fault) = bad_jobs.Fault fault.line fault.kind
+why_not (Ok job) = bad_jobs.NotYetBuilt
+
+-- the line on bytes that are no text of a job that the program runs
 abbrev pub refusal_text : List ℕ → List ℕ
-refusal_text bytes = fault_text 0 (kind_of bytes)
+refusal_text bytes = bad_job_text (why_not (read bytes))
 
 -- a sink got this line
 abbrev pub Told : List ℕ → Option (List ℕ) → Option (List ℕ) → Type 0
@@ -99,12 +115,12 @@ Told bytes out out' = out' ≡ followed_by out (refusal_text bytes)
 abbrev pub HalfTold : List ℕ → Option (List ℕ) → Option (List ℕ) → Type 0
 HalfTold bytes out out' = GivesPart out out' (refusal_text bytes)
 
--- the fault that a reader found, if it is one, is what is wrong with the bytes
+-- why a job is not run, if that is why there is none, is what reading its bytes gives
 abbrev pub IsFaultOf : Option (List ℕ) → Unread → Type 0
-IsFaultOf left (Fault line kind) = OfRead left (λ bytes. IsNoJob bytes × (line ≡ 0) × (kind ≡ kind_of bytes))
+IsFaultOf left (Bad bad) = OfRead left (λ bytes. IsNoJob bytes × (bad ≡ why_not (read bytes)))
 IsFaultOf left _ = Unit {0}
 
--- a fault was found, and this of its line and kind
-abbrev pub IsFaultAnd : Unread → (ℕ → JobKind → Type 0) → Type 0
-IsFaultAnd (Fault line kind) P = P line kind
+-- a job is not run, and this of why
+abbrev pub IsFaultAnd : Unread → (BadJob → Type 0) → Type 0
+IsFaultAnd (Bad bad) P = P bad
 IsFaultAnd _ P = ⊥

@@ -5,11 +5,11 @@ ghost use Rattle.std.specs.Prelude.{IfSome, IsErrOf, IsSomeAnd, OnOk};
 ghost use Rattle.io_edges.specs.Faults.{HasRisen};
 ghost use Rattle.io_edges.specs.Sinks.{GivesPart, followed_by};
 ghost use Rattle.io_edges.specs.Sources.{TakesAtMost};
-ghost use Rattle.job_grammar.specs.Valid.{IsSmallJob, IsJobText};
+ghost use Rattle.turn_rules.specs.SmallJobs.{IsSmallJob};
 ghost use Rattle.sgxpage.specs.Commands.{IsRun, MayStandIn, NoFault, number_of};
-ghost use Rattle.sgxpage.specs.Runs.{Broke, BrokeOn, Gave, HalfTold, HasJob, IsFaultAnd, IsFaultOf, IsNoJob, OfRead, Ran, Told, fault_text};
+ghost use Rattle.sgxpage.specs.Runs.{Broke, BrokeOn, Gave, HalfTold, HasJob, IsFaultAnd, IsFaultOf, IsJobText, IsNoJob, OfRead, Ran, Told, bad_job_text};
 
-use crate::job_faults::print_fault;
+use crate::job_faults::{BadJob, print_bad_job};
 use crate::replies::print_out;
 use io_edges::faults::Failed;
 use io_edges::giving::give_all;
@@ -17,12 +17,14 @@ use io_edges::reading::{ReadEnd, read_all};
 use io_edges::sinks::Sink;
 use io_edges::sources::Source;
 use job_grammar::jobs::Job;
-use job_grammar::reader::read_job;
-use job_grammar::refusals::{JobKind, JobRefusal};
+use job_lines::kinds::JobKind;
+use job_text::reader::read_job;
+use job_text::refusals::JobRefusal;
 use machine_book::run::run;
 use sgx_types::names::Memory;
 use std::alloc::Global;
 use trace_text::trace::print_trace;
+use turn_rules::small_jobs::is_small_job;
 
 const MOST_BYTES: usize = 1 << 24;
 
@@ -92,7 +94,7 @@ impl From<Failed> for Ungiven {
 
 // Why there is no job.
 enum Unread {
-    Fault { line: u32, kind: JobKind },
+    Bad(BadJob),
     Failed,
     Memory,
 }
@@ -111,7 +113,8 @@ pub fn path_of(words: &[String]) -> Option<&str>
 
 /// Does what the words of the command line say, which stand without the program's name. `run PATH` runs the job that
 /// `job` gives. The text of its trace goes to `trace`, which is the file at that path, and then its replies go to `out`.
-/// Where the job is not accepted, `out` gets the line on what is wrong with it. A job of more than 2^24 bytes is not, and
+/// Where the text is no job's, `out` gets its first faulty line and what is wrong there; a job of a form that is not run yet
+/// is refused as line 0. A job of more than 2^24 bytes is not, and
 /// is read no further than one byte past them. Other words are no command, and then nothing is read or written.
 pub fn sgxpage<J: Source, K: Sink, L: Sink>(
     alloc: Global,
@@ -195,18 +198,25 @@ fn read<J: Source>(alloc: Global, source: &mut J) -> Result<Job, Unread>
     let bytes = match read_all(alloc, source, MOST_BYTES) {
         Ok(bytes) => bytes,
         Err(ReadEnd::TooLong) => {
-            return Err(Unread::Fault {
+            return Err(Unread::Bad(BadJob::Fault {
                 line: 0,
                 kind: JobKind::TooLong,
-            });
+            }));
         }
         Err(ReadEnd::Failed) => return Err(Unread::Failed),
         Err(ReadEnd::Memory) => return Err(Unread::Memory),
     };
-    match read_job(alloc, &bytes) {
-        Ok(job) => Ok(job),
-        Err(JobRefusal::Fault { line, kind }) => Err(Unread::Fault { line, kind }),
-        Err(JobRefusal::Memory) => Err(Unread::Memory),
+    let job = match read_job(alloc, &bytes) {
+        Ok(job) => job,
+        Err(JobRefusal::Fault { line, kind }) => {
+            return Err(Unread::Bad(BadJob::Fault { line, kind }));
+        }
+        Err(JobRefusal::Memory) => return Err(Unread::Memory),
+    };
+    if is_small_job(&job) {
+        Ok(job)
+    } else {
+        Err(Unread::Bad(BadJob::NotYetBuilt))
     }
 }
 
@@ -215,15 +225,15 @@ fn tell<K: Sink>(alloc: Global, out: &mut K, unread: Unread) -> Status
     ensures not_done { result ≢ Status.Done }
     ensures not_bad_words { result ≢ Status.BadWords }
     ensures fault { result ≡ Status.BadJob →
-        IsFaultAnd unread (λ line kind. K.given out.new ≡ followed_by (K.given out.old) (fault_text line kind)) }
+        IsFaultAnd unread (λ bad. K.given out.new ≡ followed_by (K.given out.old) (bad_job_text bad)) }
     ensures failed { result ≡ Status.ReadFault → (unread ≡ Unread.Failed) × (out.new ≡ out.old) }
     ensures broke { result ≡ Status.WriteFault →
-        IsFaultAnd unread (λ line kind. GivesPart (K.given out.old) (K.given out.new) (fault_text line kind)) }
+        IsFaultAnd unread (λ bad. GivesPart (K.given out.old) (K.given out.new) (bad_job_text bad)) }
     ensures memory { result ≡ Status.Memory → out.new ≡ out.old }
     ensures ungiven { result ≡ Status.WriteFault → HasRisen (K.faults out.old) (K.faults out.new) }
 {
     match unread {
-        Unread::Fault { line, kind } => match give_fault(alloc, out, line, kind) {
+        Unread::Bad(bad) => match give_bad_job(alloc, out, bad) {
             Ok(()) => Status::BadJob,
             Err(Ungiven::Failed) => Status::WriteFault,
             Err(Ungiven::Memory) => Status::Memory,
@@ -233,13 +243,13 @@ fn tell<K: Sink>(alloc: Global, out: &mut K, unread: Unread) -> Status
     }
 }
 
-fn give_fault<K: Sink>(alloc: Global, out: &mut K, line: u32, kind: JobKind) -> Result<(), Ungiven>
-    ensures gave { OnOk result (K.given out.new ≡ followed_by (K.given out.old) (fault_text line kind)) }
+fn give_bad_job<K: Sink>(alloc: Global, out: &mut K, bad: BadJob) -> Result<(), Ungiven>
+    ensures gave { OnOk result (K.given out.new ≡ followed_by (K.given out.old) (bad_job_text bad)) }
     ensures memory { IsErrOf result Ungiven.Memory → out.new ≡ out.old }
-    ensures broke { IsErrOf result Ungiven.Failed → GivesPart (K.given out.old) (K.given out.new) (fault_text line kind) }
+    ensures broke { IsErrOf result Ungiven.Failed → GivesPart (K.given out.old) (K.given out.new) (bad_job_text bad) }
     ensures failed { IsErrOf result Ungiven.Failed → HasRisen (K.faults out.old) (K.faults out.new) }
 {
-    let text = print_fault(alloc, line, kind)?;
+    let text = print_bad_job(alloc, bad)?;
     give_all(out, &text)?;
     Ok(())
 }

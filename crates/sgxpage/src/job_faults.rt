@@ -2,25 +2,44 @@
 
 ghost use Rattle.std.specs.Prelude.{◌≡◌, ◌++◌, codes, IfOk, OnOk};
 ghost use Rattle.std.specs.Fmt.{decimal};
-ghost use Rattle.sgxpage.specs.Runs.{fault_text, kind_text};
+ghost use Rattle.sgxpage.specs.Runs.{bad_job_text, fault_text, kind_text};
 
-use job_grammar::refusals::JobKind;
+use job_lines::kinds::JobKind;
 use sgx_types::names::Memory;
 use std::alloc::Global;
 use text_words::words::Word::{Decimal, Name};
 use text_words::words::push_word;
 
-/// What is wrong with a job, by its line. Line 0 is the whole text.
-pub fn print_fault(alloc: Global, line: u32, kind: JobKind) -> Result<Vec<u8>, Memory>
-    ensures { IfOk result (λ text. text.items ≡ fault_text line kind) }
+/// Why a job is not run.
+#[derive(Clone, Copy, Debug, PartialEq, Eq)]
+pub enum BadJob {
+    /// What is wrong with a line of its text. Line 0 is the whole text.
+    Fault { line: u32, kind: JobKind },
+
+    /// It is valid, and of a form that this program does not run yet.
+    NotYetBuilt,
+}
+
+/// The line on it.
+pub fn print_bad_job(alloc: Global, bad: BadJob) -> Result<Vec<u8>, Memory>
+    ensures { IfOk result (λ text. text.items ≡ bad_job_text bad) }
 {
     let mut text = Vec::new(alloc);
     push_word(Name("job line "), &mut text)?;
-    push_word(Decimal(line.into()), &mut text)?;
-    push_word(Name(": "), &mut text)?;
-    push_kind(kind, &mut text)?;
+    match bad {
+        BadJob::Fault { line, kind } => push_fault(line, kind, &mut text)?,
+        BadJob::NotYetBuilt => push_word(Name("0: NotYetBuilt"), &mut text)?,
+    }
     text.push(b'\n')?;
     Ok(text)
+}
+
+fn push_fault(line: u32, kind: JobKind, onto: &mut Vec<u8>) -> Result<(), Memory>
+    ensures { OnOk result (onto.new.items ≡ onto.old.items ++ fault_text line kind) }
+{
+    push_word(Decimal(line.into()), onto)?;
+    push_word(Name(": "), onto)?;
+    push_kind(kind, onto)
 }
 
 fn push_kind(kind: JobKind, onto: &mut Vec<u8>) -> Result<(), Memory>
@@ -38,7 +57,6 @@ fn push_kind(kind: JobKind, onto: &mut Vec<u8>) -> Result<(), Memory>
         JobKind::TcsShared => push_word(Name("TcsShared"), onto),
         JobKind::EpcTooSmall { needed } => push_needed(needed, onto),
         JobKind::TooLong => push_word(Name("TooLong"), onto),
-        JobKind::NotYetBuilt => push_word(Name("NotYetBuilt"), onto),
     }
 }
 

@@ -23,6 +23,20 @@ const TRACE: &[u8] =
 
 const NOT_YET_BUILT: &[u8] = b"job line 0: NotYetBuilt\n";
 
+// A valid job that the program does not run yet: it has an option.
+const UNBUILT: &[u8] =
+    b"epc 6\nmarks 1 2 1\nenclave A 0x10000 0x10000\ntcs 0 1 1 plain\nreg 1 1 rw 0 plain\ncpu 0\neenter A 0\n";
+
+// Jobs that are not run, and what is told of each.
+const REFUSED: &[(&[u8], &[u8])] = &[
+    (b"", b"job line 1: Missing\n"),
+    (b"epc 6\n", b"job line 2: Missing\n"),
+    (b"epc 6\n\xff\n", b"job line 2: NotUtf8\n"),
+    (b"epc 5\nenclave A 0x0 0x2000\ncpu 0\n", b"job line 1: EpcTooSmall 6\n"),
+    (b"epc 6\nenclave A 0x0 0x2000\ncpu 0\nload 0x2004\n", b"job line 4: Range\n"),
+    (UNBUILT, NOT_YET_BUILT),
+];
+
 const TOO_LONG: &[u8] = b"job line 0: TooLong\n";
 
 fn words(alloc: Global, texts: &[&str]) -> Result<Vec<String>, Memory> {
@@ -118,14 +132,14 @@ fn the_oldest_translation_makes_room(rt: HostRuntime) -> Result<(), Fail> {
 
 #[test]
 fn a_job_that_is_not_accepted_is_told(rt: HostRuntime) -> Result<(), Fail> {
-    for job in [b"".as_slice(), b"epc 6\n", &JOB[1..], &JOB[..JOB.len() - 1]] {
+    for (job, told) in REFUSED {
         ends(
             &rt,
             job,
             7,
             [&[], &[], &[]],
             Status::BadJob,
-            NOT_YET_BUILT,
+            told,
             b"",
         )?;
     }
@@ -260,7 +274,7 @@ fn a_fault_can_break_the_line_on_a_job(rt: HostRuntime) -> Result<(), Fail> {
         let told = &NOT_YET_BUILT[..given];
         ends(
             &rt,
-            b"epc 6\n",
+            UNBUILT,
             7,
             [&[], &[failing], &[1]],
             Status::WriteFault,
@@ -270,7 +284,7 @@ fn a_fault_can_break_the_line_on_a_job(rt: HostRuntime) -> Result<(), Fail> {
     }
     ends(
         &rt,
-        b"epc 6\n",
+        UNBUILT,
         7,
         [&[], &[5], &[1]],
         Status::BadJob,
@@ -284,7 +298,7 @@ fn no_more_than_one_byte_past_the_limit_is_read(rt: HostRuntime) -> Result<(), F
     let alloc = rt.alloc();
     let run = words(alloc, &["run", "t"])?;
     let rows = [
-        (1 << 24, NOT_YET_BUILT, 0),
+        (1 << 24, b"job line 1: Word\n".as_slice(), 0),
         ((1 << 24) + 1, TOO_LONG, 0),
         ((1 << 24) + 2, TOO_LONG, 1),
         ((1 << 24) + 100_000, TOO_LONG, 99_999),

@@ -15,7 +15,7 @@ use Rattle.job_grammar.specs.declared.jobs.PageLine.{PageLine}
 use Rattle.job_grammar.specs.declared.jobs.PageLine.TheVariants as lines
 use Rattle.job_grammar.specs.Jobs.{EnclaveView, JobView, enclave_view, first_page, page_count}
 use Rattle.job_grammar.specs.Valid.{IsValidEnclave, IsValidLine}
-use Rattle.job_grammar.proofs.ValidJobs.{lawful-size}
+use Rattle.job_grammar.proofs.EnclaveLaws.{lawful-size}
 use Rattle.turn_rules.specs.declared.steps.BuildStep.{BuildStep}
 use Rattle.turn_rules.specs.declared.steps.BuildStep.TheVariants as builds
 use Rattle.turn_rules.specs.Script.{chunk_steps, enclaves_steps, line_steps, numbers_from, page_steps}

@@ -1,3 +1,4 @@
 pub mod Script
 pub mod Cursor
+pub mod SmallJobs
 pub mod Machines

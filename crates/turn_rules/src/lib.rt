@@ -4,4 +4,5 @@
 
 pub mod cursor;
 pub mod laws;
+pub mod small_jobs;
 pub mod steps;

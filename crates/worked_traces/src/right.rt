@@ -1,6 +1,7 @@
 //! The right trace of a small job: it keeps every rule.
 
 ghost use Rattle.sgx_types.specs.Rules.{Along, Fits, FlatRule, KeepsRules, RefusalRule, Stale};
+ghost use Rattle.turn_rules.specs.Machines.{machine_of};
 ghost use Rattle.turn_rules.specs.Script.{Script};
 ghost use Rattle.worked_traces.specs.Traces.{first_job, first_trace};
 
@@ -9,7 +10,7 @@ pub fn the_first_trace_keeps_the_script()
 {}
 
 pub fn the_first_trace_keeps_the_table()
-    ensures { Along (RefusalRule 6) first_trace }
+    ensures { Along (RefusalRule (machine_of first_job)) first_trace }
 {}
 
 #[tactic(auto, using(crate::proofs::TraceLaws::first_trace_flat))]
@@ -28,5 +29,5 @@ pub fn the_first_trace_has_nothing_stale()
 
 #[tactic(auto, using(crate::proofs::TraceLaws::first_size_is_lawful, crate::proofs::TraceLaws::first_trace_pages, crate::proofs::TraceLaws::first_trace_flat))]
 pub fn the_first_trace_keeps_the_rules()
-    ensures { KeepsRules 6 first_trace }
+    ensures { KeepsRules (machine_of first_job) first_trace }
 {}

@@ -1,6 +1,7 @@
 //! Traces that are wrong in the build: the rules that each breaks, and rules that it keeps.
 
 ghost use Rattle.sgx_types.specs.Rules.{Along, AtEachPlace, FitsRule, FlatRule, KeepsRules, NoPageTwice, RefusalRule};
+ghost use Rattle.turn_rules.specs.Machines.{machine_of};
 ghost use Rattle.turn_rules.specs.Script.{ScriptRule};
 ghost use Rattle.worked_traces.specs.Traces.{adds_exchanged, epa_by_reclaimer, first_job, frame_beyond, frame_twice, page_twice};
 
@@ -9,7 +10,7 @@ pub fn a_frame_beyond_the_epc_does_not_fit()
 {}
 
 pub fn a_frame_beyond_the_epc_breaks_the_table()
-    ensures { ¬ Along (RefusalRule 6) frame_beyond }
+    ensures { ¬ Along (RefusalRule (machine_of first_job)) frame_beyond }
 {}
 
 #[tactic(auto, using(crate::proofs::TraceLaws::frame_beyond_flat))]
@@ -45,7 +46,7 @@ pub fn exchanged_adds_break_the_script()
 
 #[tactic(auto, using(crate::proofs::TraceLaws::first_size_is_lawful, crate::proofs::TraceLaws::adds_exchanged_pages, crate::proofs::TraceLaws::adds_exchanged_flat))]
 pub fn exchanged_adds_keep_the_rules()
-    ensures { KeepsRules 6 adds_exchanged }
+    ensures { KeepsRules (machine_of first_job) adds_exchanged }
 {}
 
 pub fn an_epa_by_the_reclaimer_breaks_the_script()
@@ -54,5 +55,5 @@ pub fn an_epa_by_the_reclaimer_breaks_the_script()
 
 #[tactic(auto, using(crate::proofs::TraceLaws::first_size_is_lawful, crate::proofs::TraceLaws::first_trace_pages, crate::proofs::TraceLaws::epa_by_reclaimer_flat))]
 pub fn an_epa_by_the_reclaimer_keeps_the_rules()
-    ensures { KeepsRules 6 epa_by_reclaimer }
+    ensures { KeepsRules (machine_of first_job) epa_by_reclaimer }
 {}

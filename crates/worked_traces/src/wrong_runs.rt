@@ -1,11 +1,12 @@
 //! Traces that are wrong in the script of a processor: the rules that each breaks, and rules that it keeps.
 
 ghost use Rattle.sgx_types.specs.Rules.{Along, AtEachPlace, Fits, FitsRule, FlatRule, KeepsRules, NoneStale, RefusalRule, StaleRule};
+ghost use Rattle.turn_rules.specs.Machines.{machine_of};
 ghost use Rattle.turn_rules.specs.Script.{IsEnded, Script, ScriptRule};
 ghost use Rattle.worked_traces.specs.Traces.{enter_before_init, fill_from_other_frame, first_job, load_by_builder, load_by_other_cpu, no_exit, no_fill, other_cssa, other_value};
 
 pub fn an_enter_before_the_init_breaks_the_table()
-    ensures { ¬ Along (RefusalRule 6) enter_before_init }
+    ensures { ¬ Along (RefusalRule (machine_of first_job)) enter_before_init }
 {}
 
 pub fn an_enter_before_the_init_is_no_step_of_flat_memory()
@@ -21,7 +22,7 @@ pub fn another_cssa_answers_unlike_flat_memory()
 {}
 
 pub fn another_cssa_keeps_the_table()
-    ensures { Along (RefusalRule 6) other_cssa }
+    ensures { Along (RefusalRule (machine_of first_job)) other_cssa }
 {}
 
 pub fn another_cssa_keeps_the_script()
@@ -37,7 +38,7 @@ pub fn a_load_without_a_fill_has_no_translation()
 {}
 
 pub fn a_load_without_a_fill_breaks_the_table()
-    ensures { ¬ Along (RefusalRule 6) no_fill }
+    ensures { ¬ Along (RefusalRule (machine_of first_job)) no_fill }
 {}
 
 #[tactic(auto, using(crate::proofs::TraceLaws::no_fill_flat))]
@@ -46,7 +47,7 @@ pub fn a_load_without_a_fill_answers_as_flat_memory()
 {}
 
 pub fn a_fill_from_another_frame_breaks_the_table()
-    ensures { ¬ Along (RefusalRule 6) fill_from_other_frame }
+    ensures { ¬ Along (RefusalRule (machine_of first_job)) fill_from_other_frame }
 {}
 
 #[tactic(auto, using(crate::proofs::TraceLaws::fill_from_other_frame_not_stale))]
@@ -64,7 +65,7 @@ pub fn another_value_answers_unlike_flat_memory()
 {}
 
 pub fn another_value_keeps_the_table()
-    ensures { Along (RefusalRule 6) other_value }
+    ensures { Along (RefusalRule (machine_of first_job)) other_value }
 {}
 
 pub fn another_value_keeps_the_script()
@@ -76,7 +77,7 @@ pub fn a_load_by_another_processor_breaks_the_script()
 {}
 
 pub fn a_load_by_another_processor_breaks_the_table()
-    ensures { ¬ Along (RefusalRule 6) load_by_other_cpu }
+    ensures { ¬ Along (RefusalRule (machine_of first_job)) load_by_other_cpu }
 {}
 
 #[tactic(auto, using(crate::proofs::TraceLaws::first_trace_pages))]
@@ -89,7 +90,7 @@ pub fn a_load_by_the_builder_is_no_step_of_flat_memory()
 {}
 
 pub fn a_load_by_the_builder_breaks_the_table()
-    ensures { ¬ Along (RefusalRule 6) load_by_builder }
+    ensures { ¬ Along (RefusalRule (machine_of first_job)) load_by_builder }
 {}
 
 pub fn a_run_without_an_exit_is_not_ended()
@@ -102,5 +103,5 @@ pub fn a_run_without_an_exit_keeps_the_script()
 
 #[tactic(auto, using(crate::proofs::TraceLaws::first_size_is_lawful, crate::proofs::TraceLaws::first_trace_pages, crate::proofs::TraceLaws::first_trace_flat))]
 pub fn a_run_without_an_exit_keeps_the_rules()
-    ensures { KeepsRules 6 no_exit }
+    ensures { KeepsRules (machine_of first_job) no_exit }
 {}

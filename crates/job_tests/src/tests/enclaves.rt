@@ -1,7 +1,8 @@
-use super::texts::{NOT_YET, READ, Row, read_each, refusal_of, with};
+use super::texts::Want::{Faulty, Read};
+use super::texts::{Row, Want, read_each, want_of, with};
 use job_grammar::jobs::{EnclaveJob, Job, Op, PageLine, needed};
-use job_grammar::reader::read_job;
-use job_grammar::refusals::JobRefusal;
+use job_text::reader::read_job;
+use job_lines::kinds::JobKind::{EpcTooSmall, Missing, Order, Range, Twice, Word};
 use sgx_types::names::Perm;
 use std::alloc::Global;
 use std::process::Abort;
@@ -95,75 +96,48 @@ fn two_enclaves(rt: HostRuntime) -> Result<(), Fail> {
 }
 
 const PARTS: &[Row] = &[
-    ("a frame to spare", "epc 10", "epc 11", READ),
-    ("a frame too few", "epc 10", "epc 9", NOT_YET),
-    (
-        "a script that enters A",
+    ("a frame to spare",
+        "epc 10",
+        "epc 11", Read,),
+    ("a frame too few",
+        "epc 10",
+        "epc 9", Read,),
+    ("a script that enters A",
         "B 0\nload 0x5ff8\nload 0x4000",
-        "A 0\nload 0x2000",
-        READ,
-    ),
-    (
-        "a load from B of a page that only A has",
+        "A 0\nload 0x2000", Read,),
+    ("a load from B of a page that only A has",
         "load 0x4000",
-        "load 0x2000",
-        READ,
-    ),
-    (
-        "a load from outside past B, which is smaller than A",
+        "load 0x2000", Read,),
+    ("a load from outside past B, which is smaller than A",
         "load 0x4000",
-        "outload B 0x8000",
-        NOT_YET,
-    ),
-    (
-        "a load from outside of the same page of A",
+        "outload B 0x8000", Faulty(13, Range),),
+    ("a load from outside of the same page of A",
         "load 0x4000",
-        "outload A 0x8000",
-        READ,
-    ),
-    (
-        "a resumption in A by its TCS page",
+        "outload A 0x8000", Read,),
+    ("a resumption in A by its TCS page",
         "load 0x4000",
-        "eresume A 0",
-        READ,
-    ),
-    (
-        "an entry into B by a page that is a TCS page of A alone",
+        "eresume A 0", Read,),
+    ("an entry into B by a page that is a TCS page of A alone",
         "tcs 0 1 1 plain",
-        "tcs 3 1 1 plain",
-        NOT_YET,
-    ),
-    (
-        "an enclave without pages",
+        "tcs 3 1 1 plain", Faulty(11, Missing),),
+    ("an enclave without pages",
         B,
-        "enclave B 0x0 0x2000\ncpu 0\neenter A 0\n",
-        READ,
-    ),
-    (
-        "an entry into an enclave without pages",
+        "enclave B 0x0 0x2000\ncpu 0\neenter A 0\n", Read,),
+    ("an entry into an enclave without pages",
         B,
-        "enclave B 0x0 0x2000\ncpu 0\neenter B 0\n",
-        NOT_YET,
-    ),
-    ("a letter left out", "enclave B", "enclave C", NOT_YET),
-    (
-        "letters in another order",
-        "enclave A",
+        "enclave B 0x0 0x2000\ncpu 0\neenter B 0\n", Faulty(8, Missing),),
+    ("a letter left out",
         "enclave B",
-        NOT_YET,
-    ),
-    (
-        "a page line before the first enclave",
+        "enclave C", Faulty(6, Order),),
+    ("letters in another order",
         "enclave A",
-        "reg 5 1 r 0\nenclave A",
-        NOT_YET,
-    ),
-    (
-        "an entry into a second enclave",
+        "enclave B", Faulty(2, Order),),
+    ("a page line before the first enclave",
+        "enclave A",
+        "reg 5 1 r 0\nenclave A", Faulty(2, Order),),
+    ("an entry into a second enclave",
         "eexit\n",
-        "eexit\neenter A 0\neexit\n",
-        READ,
-    ),
+        "eexit\neenter A 0\neexit\n", Read,),
 ];
 
 #[test]
@@ -183,26 +157,26 @@ fn many(alloc: Global, epc: u32, letters: &str, regs: u32) -> Result<String, Fai
 }
 
 // What a row is of, the frames, the letters, how many REG pages each has, and the refusal.
-const MANY: &[(&str, u32, &str, u32, Option<JobRefusal>)] = &[
+const MANY: &[(&str, u32, &str, u32, Want)] = &[
     (
         "64 pages, 4 enclaves and a version array",
         69,
         "ABCD",
         15,
-        READ,
+        Read,
     ),
-    ("the same without a frame", 68, "ABCD", 15, NOT_YET),
-    ("64 pages in eight enclaves", 73, "ABCDEFGH", 7, READ),
-    ("65 pages in five enclaves", 71, "ABCDE", 12, READ),
-    ("eight enclaves", 25, "ABCDEFGH", 1, READ),
-    ("nine enclaves", 28, "ABCDEFGHI", 1, NOT_YET),
+    ("a frame for each page and no more", 68, "ABCD", 15, Read),
+    ("64 pages in eight enclaves", 73, "ABCDEFGH", 7, Read),
+    ("65 pages in five enclaves", 71, "ABCDE", 12, Read),
+    ("eight enclaves", 25, "ABCDEFGH", 1, Read),
+    ("nine enclaves", 28, "ABCDEFGHI", 1, Faulty(26, Word)),
 ];
 
 #[test]
 fn many_enclaves(rt: HostRuntime) -> Result<(), Fail> {
     for (what, epc, letters, regs, want) in MANY {
         let text = many(rt.alloc(), *epc, letters, *regs)?;
-        assert_eq!(rt; refusal_of(rt.alloc(), &text), *want, "{what}");
+        assert_eq!(rt; want_of(rt.alloc(), text.as_bytes())?, *want, "{what}");
     }
     Ok(())
 }
@@ -210,7 +184,7 @@ fn many_enclaves(rt: HostRuntime) -> Result<(), Fail> {
 // The numbers 0 to 31 as digits.
 const DIGITS: &str = "000102030405060708090a0b0c0d0e0f101112131415161718191a1b1c1d1e1f";
 
-const DIGEST: [u8; 32] = [
+pub const DIGEST: [u8; 32] = [
     0, 1, 2, 3, 4, 5, 6, 7, 8, 9, 10, 11, 12, 13, 14, 15, 16, 17, 18, 19, 20, 21, 22, 23, 24, 25,
     26, 27, 28, 29, 30, 31,
 ];
@@ -268,37 +242,39 @@ fn digests_of_both_enclaves(rt: HostRuntime) -> Result<(), Fail> {
 
 // Of a text with a digest within A.
 const REFUSED: &[Row] = &[
-    (
-        "twice in A",
+    ("twice in A",
         "enclave B",
-        "expect 000102030405060708090a0b0c0d0e0f101112131415161718191a1b1c1d1e1f\nenclave B",
-        NOT_YET,
-    ),
-    ("upper case", "1e1f", "1E1f", NOT_YET),
-    ("63 digits", "1e1f", "1e1", NOT_YET),
-    ("62 digits", "1e1f", "1e", NOT_YET),
-    ("66 digits", "1e1f", "1e1f20", NOT_YET),
-    ("a letter that is no digit", "1e1f", "1e1g", NOT_YET),
-    ("a prefix", "expect ", "expect 0x", NOT_YET),
-    (
-        "no digest",
+        "expect 000102030405060708090a0b0c0d0e0f101112131415161718191a1b1c1d1e1f\nenclave B", Faulty(7, Twice),),
+    ("upper case",
+        "1e1f",
+        "1E1f", Read,),
+    ("63 digits",
+        "1e1f",
+        "1e1", Faulty(5, Word),),
+    ("62 digits",
+        "1e1f",
+        "1e", Faulty(5, Word),),
+    ("66 digits",
+        "1e1f",
+        "1e1f20", Faulty(5, Word),),
+    ("a letter that is no digit",
+        "1e1f",
+        "1e1g", Faulty(5, Word),),
+    ("a prefix",
+        "expect ",
+        "expect 0x", Faulty(5, Word),),
+    ("no digest",
         "expect 000102030405060708090a0b0c0d0e0f101112131415161718191a1b1c1d1e1f",
-        "expect",
-        NOT_YET,
-    ),
-    ("a word more", "1e1f", "1e1f plain", NOT_YET),
-    (
-        "before the first enclave",
+        "expect", Faulty(5, Word),),
+    ("a word more",
+        "1e1f",
+        "1e1f plain", Faulty(5, Word),),
+    ("before the first enclave",
         "enclave A",
-        "expect 000102030405060708090a0b0c0d0e0f101112131415161718191a1b1c1d1e1f\nenclave A",
-        NOT_YET,
-    ),
-    (
-        "after the processor",
+        "expect 000102030405060708090a0b0c0d0e0f101112131415161718191a1b1c1d1e1f\nenclave A", Faulty(2, Order),),
+    ("after the processor",
         "eexit\n",
-        "eexit\nexpect 000102030405060708090a0b0c0d0e0f101112131415161718191a1b1c1d1e1f\n",
-        NOT_YET,
-    ),
+        "eexit\nexpect 000102030405060708090a0b0c0d0e0f101112131415161718191a1b1c1d1e1f\n", Faulty(16, Order),),
 ];
 
 #[test]

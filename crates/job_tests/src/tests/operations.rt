@@ -1,7 +1,9 @@
 use super::jobs::FIRST;
-use super::texts::{NOT_YET, READ, Row, read_each, refusal_of, with};
+use super::texts::Want::{Faulty, Read};
+use super::texts::{Row, read_each, want_of, with};
 use job_grammar::jobs::{Job, Op};
-use job_grammar::reader::read_job;
+use job_lines::kinds::JobKind::{Missing, Number, Range, TooMany, Word};
+use job_text::reader::read_job;
 use std::alloc::Global;
 use std::process::Abort;
 use std::test::Fail;
@@ -82,39 +84,29 @@ fn timers(alloc: Global, operations: u32) -> Result<String, Fail> {
 
 #[test]
 fn many_operations(rt: HostRuntime) -> Result<(), Fail> {
-    for (operations, want) in [(100_000, READ), (100_001, NOT_YET)] {
+    for (operations, want) in [(100_000, Read), (100_001, Faulty(100_007, TooMany))] {
         let text = timers(rt.alloc(), operations)?;
-        assert_eq!(rt; refusal_of(rt.alloc(), &text), want, "{operations}");
+        assert_eq!(rt; want_of(rt.alloc(), text.as_bytes())?, want, "{operations}");
     }
     Ok(())
 }
 
 const ACCEPTED: &[Row] = &[
-    ("a load of a TCS page", "load 0x2000", "load 0x0", READ),
-    (
-        "a load of a page that is not added",
+    ("a load of a TCS page",
         "load 0x2000",
-        "load 0x3000",
-        READ,
-    ),
-    (
-        "the last word of the largest enclave",
+        "load 0x0", Read,),
+    ("a load of a page that is not added",
         "load 0x2000",
-        "load 0xfffff8",
-        READ,
-    ),
-    (
-        "the greatest value that is stored",
+        "load 0x3000", Read,),
+    ("the last word of the largest enclave",
         "load 0x2000",
-        "store 0x2000 18446744073709551615",
-        READ,
-    ),
-    (
-        "the last word of an enclave from outside",
+        "load 0xfffff8", Read,),
+    ("the greatest value that is stored",
         "load 0x2000",
-        "outload A 0xfff8",
-        READ,
-    ),
+        "store 0x2000 18446744073709551615", Read,),
+    ("the last word of an enclave from outside",
+        "load 0x2000",
+        "outload A 0xfff8", Read,),
 ];
 
 #[test]
@@ -123,116 +115,66 @@ fn accepted_operations(rt: HostRuntime) -> Result<(), Fail> {
 }
 
 const REFUSED: &[Row] = &[
-    ("a load at an odd offset", "0x2000", "0x2001", NOT_YET),
-    (
-        "a load past the largest enclave",
+    ("a load at an odd offset",
         "0x2000",
-        "0x1000000",
-        NOT_YET,
-    ),
-    ("a load without an offset", "load 0x2000", "load", NOT_YET),
-    (
-        "a load with a value",
+        "0x2001", Faulty(8, Range),),
+    ("a load past the largest enclave",
+        "0x2000",
+        "0x1000000", Faulty(8, Range),),
+    ("a load without an offset",
         "load 0x2000",
-        "load 0x2000 1",
-        NOT_YET,
-    ),
-    (
-        "a store without a value",
+        "load", Faulty(8, Word),),
+    ("a load with a value",
         "load 0x2000",
-        "store 0x2000",
-        NOT_YET,
-    ),
-    (
-        "a store at an odd offset",
+        "load 0x2000 1", Faulty(8, Word),),
+    ("a store without a value",
         "load 0x2000",
-        "store 0x2004 1",
-        NOT_YET,
-    ),
-    (
-        "a store of more than 8 bytes",
+        "store 0x2000", Faulty(8, Word),),
+    ("a store at an odd offset",
         "load 0x2000",
-        "store 0x2000 18446744073709551616",
-        NOT_YET,
-    ),
-    (
-        "a hexadecimal value",
+        "store 0x2004 1", Faulty(8, Range),),
+    ("a store of more than 8 bytes",
         "load 0x2000",
-        "store 0x2000 0x1",
-        NOT_YET,
-    ),
-    (
-        "an addition at an odd offset",
+        "store 0x2000 18446744073709551616", Faulty(8, Number),),
+    ("a hexadecimal value",
         "load 0x2000",
-        "xadd 0x2001 1",
-        NOT_YET,
-    ),
-    (
-        "an addition of more than 8 bytes",
+        "store 0x2000 0x1", Read,),
+    ("an addition at an odd offset",
         "load 0x2000",
-        "xadd 0x2000 18446744073709551616",
-        NOT_YET,
-    ),
-    (
-        "setting more than 8 bytes",
+        "xadd 0x2001 1", Faulty(8, Range),),
+    ("an addition of more than 8 bytes",
         "load 0x2000",
-        "set 18446744073709551616",
-        NOT_YET,
-    ),
-    (
-        "adding more than 8 bytes",
+        "xadd 0x2000 18446744073709551616", Faulty(8, Number),),
+    ("setting more than 8 bytes",
         "load 0x2000",
-        "plus 18446744073709551616",
-        NOT_YET,
-    ),
-    (
-        "a timer with a word more",
+        "set 18446744073709551616", Faulty(8, Number),),
+    ("adding more than 8 bytes",
         "load 0x2000",
-        "timer 1",
-        NOT_YET,
-    ),
-    (
-        "a resumption by a REG page",
+        "plus 18446744073709551616", Faulty(8, Number),),
+    ("a timer with a word more",
+        "load 0x2000",
+        "timer 1", Faulty(8, Word),),
+    ("a resumption by a REG page",
         "eenter A 0",
-        "eresume A 1",
-        NOT_YET,
-    ),
-    (
-        "a resumption in an enclave that is not there",
+        "eresume A 1", Faulty(7, Missing),),
+    ("a resumption in an enclave that is not there",
         "eenter A",
-        "eresume B",
-        NOT_YET,
-    ),
-    (
-        "a load from outside past the enclave",
+        "eresume B", Faulty(7, Missing),),
+    ("a load from outside past the enclave",
         "load 0x2000",
-        "outload A 0x10000",
-        NOT_YET,
-    ),
-    (
-        "a load from outside at an odd offset",
+        "outload A 0x10000", Faulty(8, Range),),
+    ("a load from outside at an odd offset",
         "load 0x2000",
-        "outload A 0x2004",
-        NOT_YET,
-    ),
-    (
-        "a load from outside of an enclave that is not there",
+        "outload A 0x2004", Faulty(8, Range),),
+    ("a load from outside of an enclave that is not there",
         "load 0x2000",
-        "outload B 0x2000",
-        NOT_YET,
-    ),
-    (
-        "a store from outside past the enclave",
+        "outload B 0x2000", Faulty(8, Missing),),
+    ("a store from outside past the enclave",
         "load 0x2000",
-        "outstore A 0x10000 1",
-        NOT_YET,
-    ),
-    (
-        "a store from outside of more than 8 bytes",
+        "outstore A 0x10000 1", Faulty(8, Range),),
+    ("a store from outside of more than 8 bytes",
         "load 0x2000",
-        "outstore A 0x2000 18446744073709551616",
-        NOT_YET,
-    ),
+        "outstore A 0x2000 18446744073709551616", Faulty(8, Number),),
 ];
 
 #[test]

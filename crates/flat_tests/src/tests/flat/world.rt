@@ -5,7 +5,7 @@ ghost use Rattle.flat_machine.specs.Step.{IsItsActor};
 use super::rows::{BUILDER, Instruction, PLAIN, READ_WRITE, Row};
 use flat_machine::flat::Flat;
 use flat_machine::reply::FlatReply;
-use job_grammar::reader::read_job;
+use job_text::reader::read_job;
 use sgx_types::entries::{Action, Actor};
 use sgx_types::names::{Memory, PROCESSORS, Page};
 use std::alloc::Global;

@@ -1,5 +1,5 @@
 use Rattle.std.proofs.Common.{◌≤◌, ◌^◌, length, Err, ap, refl, ◌∙◌, arith}
-use Rattle.sgxpage.proofs.CommandLaws.{takes-all, fault-early, fault-too_long}
+use Rattle.sgxpage.proofs.CommandLaws.{takes-all, fault-read, fault-too_long, not-built}
 use Rattle.sgxpage.proofs.command.read.Goals as goal
 
 pub returns-in-Err-TooLong-clause-fault : goal.returns-in-Err-TooLong-clause-fault
@@ -18,10 +18,6 @@ returns-in-Err-Fault-clause-reads g c =
 
 pub returns-in-Err-Fault-clause-fault : goal.returns-in-Err-Fault-clause-fault
 returns-in-Err-Fault-clause-fault g c =
-    let bytes = c.in-Ok.bytes.items in
     let fault = c.in-Err-Fault in
-    let short : length bytes ≤ 2 ^ 24 = omega (arith, c.in-Ok.bytes.ok.0, c.in-Ok.ensures.within) in
-    fault-early (g.J.Source.left c.args.source.now) bytes fault.line fault.kind c.in-Ok.ensures.all short
-    (rw fault.field-0-is at fault.ensures.kinds)
-    (λ zeroth is. rw c.deref.ensures.value at fault.ensures.too_long.0 (ap Err (fault.field-0-is ∙ rw (zeroth, is) refl)))
-    (λ zeroth is. rw c.deref.ensures.value at fault.ensures.not_yet (ap Err (fault.field-0-is ∙ rw (zeroth, is) refl)))
+    let read = rw (fault.field-0-is, c.deref.ensures.value) at fault.ensures in
+    fault-read (g.J.Source.left c.args.source.now) c.in-Ok.bytes.items fault.line fault.kind c.in-Ok.ensures.all read
