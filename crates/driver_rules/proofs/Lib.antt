@@ -15,3 +15,4 @@ pub mod ThreeLaws
 pub mod TcsLaws
 pub mod AgreeLaws
 pub mod MarkLaws
+pub mod ReclaimLaws

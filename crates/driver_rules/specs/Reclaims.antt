@@ -2,6 +2,8 @@
 use Rattle.std.specs.Prelude.{ℕ, zero, suc, ◌&&◌, Bool, true, false, if◌then◌else◌, List, [], ◌∷◌, Option, Some, None, length}
 use Rattle.std.specs.List.{list_all}
 use Rattle.sgx_types.specs.declared.entries.Entry.{Entry}
+use Rattle.sgx_types.specs.declared.entries.Event.{Event}
+use Rattle.sgx_types.specs.declared.entries.Event.TheVariants.{Refused}
 use Rattle.sgx_types.specs.declared.entries.Actor.TheVariants as actors
 use Rattle.sgx_types.specs.declared.entries.Action.TheVariants as actions
 use Rattle.sgx_types.specs.declared.names.Page.{Page}
@@ -64,6 +66,11 @@ pass_due j past is_kicked (Scan left taken) = look_due j past
 pass_due j past is_kicked (Blocking [] taken) = Finished
 pass_due j past is_kicked (Blocking (g ∷ gs) taken) = leaving_due past g (λ f. Makes (actions.Block (frame_at f)))
 pass_due j past is_kicked (Tries g rest form) = form_due past g is_kicked form
+
+-- an instruction was refused
+abbrev pub is_refused : Event → Bool
+is_refused (Refused action refusal) = true
+is_refused _ = false
 
 -- ---- the first rule that applies
 
