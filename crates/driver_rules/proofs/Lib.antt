@@ -16,3 +16,5 @@ pub mod TcsLaws
 pub mod AgreeLaws
 pub mod MarkLaws
 pub mod ReclaimLaws
+pub mod StillLaws
+pub mod StageLaws

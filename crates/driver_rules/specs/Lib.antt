@@ -16,3 +16,4 @@ pub mod Kinds
 pub mod Tracks
 pub mod Driven
 pub mod Three
+pub mod Stages

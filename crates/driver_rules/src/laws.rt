@@ -23,6 +23,7 @@ ghost use Rattle.driver_rules.specs.Places.{Leaving, place};
 ghost use Rattle.driver_rules.specs.Reclaims.{is_refused, pass_due};
 ghost use Rattle.driver_rules.specs.Scripts.{IsEnded, ScriptRule};
 ghost use Rattle.driver_rules.specs.Sound.{IsSound};
+ghost use Rattle.driver_rules.specs.Stages.{KeepsPages};
 ghost use Rattle.driver_rules.specs.Three.{IsApart, TcsAreApart, three};
 ghost use Rattle.driver_rules.specs.Tracks.{IsCalm, IsTracked, IsUntracked, KeepsTracks, OwnRule, TryTells};
 
@@ -61,6 +62,14 @@ pub fn passes_keep_tracks()
         → pass j past ≡ Tries g rest First → place past g ≡ Leaving f → is_blocked past f ≡ true → is_drained past f ≡ false → IsUntracked past g }
     ensures own { (j : JobView) (past : List Entry) (e : Entry) → ScriptRule j past e → OwnRule past e }
     ensures told { (k : Making) (past : List Entry) (e : Entry) → MovesRule k past e → TryTells past e.event }
+{}
+
+/// One entry more keeps how the pages of a pass stand: those that were taken wait in their frames, each once, and are blocked in their
+/// order; a page that is here is not blocked; within a scan the list has a page for each look that is left.
+pub fn pages_stay()
+    ensures first { (j : JobView) → KeepsPages [] (pass j []) }
+    ensures more { (j : JobView) (past : List Entry) (e : Entry) → IsSound past → CanMove past e.event → OwnRule past e → AgeRule j past e
+        → KickRule j past e → KeepsPages past (pass j past) → KeepsPages (e ∷ past) (pass j (e ∷ past)) }
 {}
 
 /// Before the track of a page's tries no processor inside is older than the last one, so that it is not refused for one. The block's
