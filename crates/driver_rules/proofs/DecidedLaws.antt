@@ -66,7 +66,9 @@ head_is (Some page) g = (λ h. ap Some (same_pages page g h), λ h. (pages page 
 looks_tell : (j : JobView) (past : List Entry) (page : Page) (look : Look) → Tells (looks_at j past page look) (IsLookAt j past page look)
 looks_tell j past page look =
     let t = head_is (head_of (active past)) page in (
-      λ h. let k = both_true (is_some_page (head_of (active past)) page) (is_look (is_held j past page) (is_young past page) look) h in record { head = t.0 k.0; told = k.1 },
+      λ h. let k =
+          both_true (is_some_page (head_of (active past)) page) (is_look (is_held j past page)
+          (is_young past page) look) h in record { head = t.0 k.0; told = k.1 },
       λ h. rw (t.1 h.head, h.told) refl,
     )
 
@@ -113,7 +115,9 @@ pub age_tells : (j : JobView) (past : List Entry) (e : Entry) → Tells (keeps_a
 age_tells j past e =
     let s = looks_of_tells j past e.actor e.event in
     let t = pass_of_tells past (pass j past) e.actor e.event in (
-      λ h. let k = both_true (looks_of j past e.actor e.event) (pass_of past (pass j past) e.actor e.event) h in record { look = s.0 k.0; in_pass = t.0 k.1 },
+      λ h. let k =
+          both_true (looks_of j past e.actor e.event) (pass_of past
+          (pass j past) e.actor e.event) h in record { look = s.0 k.0; in_pass = t.0 k.1 },
       λ h. rw (s.1 h.look, t.1 h.in_pass) refl,
     )
 
@@ -171,7 +175,9 @@ pub kick_tells : (j : JobView) (past : List Entry) (e : Entry) → Tells (keeps_
 kick_tells j past e =
     let s = form_of_tells past (pass j past) e.actor e.event in
     let t = beside_of_tells (pass j past) e.actor in (
-      λ h. let k = both_true (form_of past (pass j past) e.actor e.event) (beside_of (pass j past) e.actor) h in record { form = s.0 k.0; beside = t.0 k.1 },
+      λ h. let k =
+          both_true (form_of past (pass j past) e.actor e.event) (beside_of
+          (pass j past) e.actor) h in record { form = s.0 k.0; beside = t.0 k.1 },
       λ h. rw (s.1 h.form, t.1 h.beside) refl,
     )
 
@@ -201,7 +207,8 @@ reason-true _ _ h = absurd (false≢true h)
 
 stop_tells : (page : Page) (reason : BusWhy) (ev : Event) → Tells (is_stop page reason ev) (ev ≡ Bus page reason)
 stop_tells page reason (Bus g other) = (
-  λ h. let k = both_true (same_page g page) (same_reason other reason) h in λ i. Bus (same_pages g page k.0 i) (reason-true other reason k.1 i),
+  λ h. let k =
+      both_true (same_page g page) (same_reason other reason) h in λ i. Bus (same_pages g page k.0 i) (reason-true other reason k.1 i),
   λ h. rw (page_told h, reason_told h, same_page-refl page, reason-refl reason) refl,
 )
   where
@@ -226,7 +233,9 @@ fetch_tells g slot (Some f) (Refused action refusal) = actions_same action (EldS
 fetch_tells g slot (Some f) ev = never
 
 look_of_tells : (page : Page) (held young : Bool) (ev : Event) → Tells (is_look_of page held young ev) (IsLook page held young ev)
-look_of_tells page held young (Age g look) = both (same_page g page) (is_look held young look) (g ≡ page) (is_look held young look ≡ true) (pages g page) (is_truth (is_look held young look))
+look_of_tells page held young (Age g look) =
+    both (same_page g page) (is_look held young look) (g ≡ page) (is_look held young look ≡ true) (pages g page)
+    (is_truth (is_look held young look))
 look_of_tells page held young _ = never
 
 try_of_tells : (n : ℕ) (ev : Event) → Tells (is_try_of n ev) (IsTryOf n ev)
@@ -256,7 +265,8 @@ load_tells false = (λ h. refl, λ h. refl)
 actors_tell : (j : JobView) (past : List Entry) (a : Actor) (ev : Event) → Tells (is_actors j past a ev) (IsActors j past a ev)
 actors_tell j past actors.Builder ev = next_tells (builder_due j past) ev
 actors_tell j past (actors.Cpu p) ev =
-    both (nat_lt p.0 (length j.scripts)) (is_next (cpu_due j past p.0) ev) (p.0 < length j.scripts) (IsNext (cpu_due j past p.0) ev) (below p.0 (length j.scripts)) (next_tells (cpu_due j past p.0) ev)
+    both (nat_lt p.0 (length j.scripts)) (is_next (cpu_due j past p.0) ev) (p.0 < length j.scripts) (IsNext (cpu_due j past p.0) ev)
+    (below p.0 (length j.scripts)) (next_tells (cpu_due j past p.0) ev)
 actors_tell j past actors.Reclaimer ev = load_tells (is_load ev)
 
 pub script_tells : (j : JobView) (past : List Entry) (e : Entry) → Tells (keeps_script j past e) (ScriptRule j past e)
@@ -283,14 +293,18 @@ done_tells j past p = by_bus (has_bus past p)
     outside : Tells (is_outside (stay past p)) (stay past p ≡ None)
     outside = outside_tells (stay past p)
 
-    by_bus : (b : Bool) → Tells (b || ((replied past p == length (script_of j p)) && is_outside (stay past p))) (b ≡ false → IsDone j past p)
+    by_bus : (b : Bool) → Tells (b || ((replied past p == length (script_of j p)) && is_outside (stay past p))) (b ≡ false
+        → IsDone j past p)
     by_bus true = (λ h k. cc, λ h. refl)
     by_bus false = (
-      λ h k. let both_hold = both_true (replied past p == length (script_of j p)) (is_outside (stay past p)) h in record { replied = replies.0 both_hold.0; outside = outside.0 both_hold.1 },
+      λ h k. let both_hold =
+          both_true (replied past p == length (script_of j p)) (is_outside
+          (stay past p)) h in record { replied = replies.0 both_hold.0; outside = outside.0 both_hold.1 },
       λ h. let d = h refl in rw (replies.1 d.replied, outside.1 d.outside) refl,
     )
 
-all_done : (j : JobView) (past : List Entry) (n : ℕ) → Tells (are_done j past n) ((p : ℕ) → p < n → has_bus past p ≡ false → IsDone j past p)
+all_done : (j : JobView) (past : List Entry) (n : ℕ) → Tells (are_done j past n) ((p : ℕ) → p < n → has_bus past p ≡ false
+    → IsDone j past p)
 all_done j past zero = (λ h p low. absurd (omega arith), λ h. refl)
 all_done j past (suc n) =
     let before = all_done j past n in
@@ -299,7 +313,8 @@ all_done j past (suc n) =
       λ h. rw (last.1 (h n (omega arith)), before.1 (λ p low. h p (omega (arith, low)))) refl,
     )
   where
-    by_last : (p : ℕ) → p < suc n → (b : Bool) → (p == n) ≡ b → (has_bus past n ≡ false → IsDone j past n) → ((q : ℕ) → q < n → has_bus past q ≡ false → IsDone j past q) → has_bus past p ≡ false → IsDone j past p
+    by_last : (p : ℕ) → p < suc n → (b : Bool) → (p == n) ≡ b → (has_bus past n ≡ false → IsDone j past n)
+        → ((q : ℕ) → q < n → has_bus past q ≡ false → IsDone j past q) → has_bus past p ≡ false → IsDone j past p
     by_last p low true same last before = subst (λ q. has_bus past q ≡ false → IsDone j past q) (sym (eqb-true p n same)) last
     by_last p low false other last before = before p (grind arith)
 
@@ -312,9 +327,12 @@ ended_tells j past = by_spent (is_spent past)
     cpus : Tells (are_done j past (length j.scripts)) ((p : ℕ) → p < length j.scripts → has_bus past p ≡ false → IsDone j past p)
     cpus = all_done j past (length j.scripts)
 
-    by_spent : (b : Bool) → Tells (b || ((built past == length (build_of j)) && are_done j past (length j.scripts))) (b ≡ false → IsWhole j past)
+    by_spent : (b : Bool) → Tells (b || ((built past == length (build_of j)) && are_done j past (length j.scripts))) (b ≡ false
+        → IsWhole j past)
     by_spent true = (λ h k. cc, λ h. refl)
     by_spent false = (
-      λ h k. let both_hold = both_true (built past == length (build_of j)) (are_done j past (length j.scripts)) h in record { built = builds.0 both_hold.0; cpus = cpus.0 both_hold.1 },
+      λ h k. let both_hold =
+          both_true (built past == length (build_of j)) (are_done j past
+          (length j.scripts)) h in record { built = builds.0 both_hold.0; cpus = cpus.0 both_hold.1 },
       λ h. let w = h refl in rw (builds.1 w.built, cpus.1 w.cpus) refl,
     )

@@ -37,7 +37,8 @@ map-append f (x ∷ xs) ys = ap (λ zs. f x ∷ zs) (map-append f xs ys)
 -- what is so of each page of a list
 map_same : (f h : Page → Listed) (xs : List Page) → ((g : Page) → is_among xs g ≡ true → f g ≡ h g) → map f xs ≡ map h xs
 map_same f h [] each = refl
-map_same f h (x ∷ xs) each = λ i. each x (first (same_page x x) (same_page-refl x)) i ∷ map_same f h xs (λ g k. each g (later g (same_page x g) k)) i
+map_same f h (x ∷ xs) each =
+    λ i. each x (first (same_page x x) (same_page-refl x)) i ∷ map_same f h xs (λ g k. each g (later g (same_page x g) k)) i
   where
     first : (b : Bool) → b ≡ true → (b || is_among xs x) ≡ true
     first true k = refl
@@ -56,38 +57,50 @@ none_of : (xs : List Page) (a g : Page) → times xs a ≡ 0 → is_among xs g �
 none_of [] a g h k = cc
 none_of (x ∷ xs) a g h k = by_head (same_page x a) refl h (same_page x g) refl k (none_of xs a g)
   where
-    by_head : (b : Bool) → same_page x a ≡ b → (if b then 1 else 0) + times xs a ≡ 0 → (c : Bool) → same_page x g ≡ c → (c || is_among xs g) ≡ true → (times xs a ≡ 0 → is_among xs g ≡ true → same_page a g ≡ false) → same_page a g ≡ false
+    by_head : (b : Bool) → same_page x a ≡ b → (if b then 1 else 0) + times xs a ≡ 0 → (c : Bool) → same_page x g ≡ c
+        → (c || is_among xs g) ≡ true → (times xs a ≡ 0 → is_among xs g ≡ true → same_page a g ≡ false) → same_page a g ≡ false
     by_head true is e c isc m later = absurd (omega (arith, e))
     by_head false is e true isc m later = by_test (same_page a g) refl
       where
         by_test : (d : Bool) → same_page a g ≡ d → same_page a g ≡ false
-        by_test true same = absurd (false≢true (sym is ∙ subst (λ y. same_page x y ≡ true) (same_pages x g isc ∙ sym (same_pages a g same)) (same_page-refl x)))
+        by_test true same =
+            absurd (false≢true (sym is ∙ subst (λ y. same_page x y ≡ true) (same_pages x g isc ∙ sym (same_pages a g same))
+            (same_page-refl x)))
         by_test false same = same
     by_head false is e false isc m later = later (omega (arith, e)) m
 
 -- ---- marks
 
 -- a mark is the entry's
-marked_same : (past : List Entry) (e : Entry) (g : Page) (b : Bool) → is_young (e ∷ past) g ≡ b → marked (e ∷ past) g ≡ record { page = g; young = b }
+marked_same : (past : List Entry) (e : Entry) (g : Page) (b : Bool) → is_young (e ∷ past) g ≡ b
+    → marked (e ∷ past) g ≡ record { page = g; young = b }
 marked_same past e g b is = λ i. record { page = g; young = is i }
 
 -- ---- a page comes
 
 -- a page that is not listed comes to the end, without a mark
-longer : (past : List Entry) (e : Entry) (a : Page) → active (e ∷ past) ≡ active past ++ a ∷ [] → ((g : Page) → is_young (e ∷ past) g ≡ (if same_page a g then false else is_young past g)) → times (active past) a ≡ 0
+longer : (past : List Entry) (e : Entry) (a : Page) → active (e ∷ past) ≡ active past ++ a ∷ []
+    → ((g : Page) → is_young (e ∷ past) g ≡ (if same_page a g then false else is_young past g)) → times (active past) a ≡ 0
     → listed_by (e ∷ past) ≡ listed_by past ++ record { page = a; young = false } ∷ []
 longer past e a list marks none =
     ap (map (marked (e ∷ past))) list ∙ map-append (marked (e ∷ past)) (active past) (a ∷ [])
-    ∙ λ i. map_same (marked (e ∷ past)) (marked past) (active past) (λ g k. marked_same past e g (is_young past g) (marks g ∙ ap (λ b. if b then false else is_young past g) (none_of (active past) a g none k))) i
+    ∙ λ i. map_same (marked (e ∷ past)) (marked past) (active past) (λ g k. marked_same past e g (is_young past g)
+    (marks g ∙ ap (λ b. if b then false else is_young past g) (none_of (active past) a g none k))) i
     ++ marked_same past e a false (marks a ∙ ap (λ b. if b then false else is_young past a) (same_page-refl a)) i ∷ []
 
-pub listed-add : (past : List Entry) (a : Actor) (e n : ℕ) (f : Frame) (kind : Kind) (perm : Perm) (init : PageInit) (answer : Answer) → CanMove past (Did (Add e n f kind perm init) answer) → IsSound past
-    → listed_by (entry_of a (Did (Add e n f kind perm init) answer) ∷ past) ≡ listed_by past ++ record { page = page_at e n; young = false } ∷ []
-listed-add past a e n f kind perm init answer can s = longer past (entry_of a (Did (Add e n f kind perm init) answer)) (page_at e n) refl (λ g. refl) (s.list (page_at e n) ∙ ap once_here can.1)
+pub listed-add : (past : List Entry) (a : Actor) (e n : ℕ) (f : Frame) (kind : Kind) (perm : Perm) (init : PageInit) (answer : Answer)
+    → CanMove past (Did (Add e n f kind perm init) answer) → IsSound past
+    → listed_by (entry_of a
+    (Did (Add e n f kind perm init) answer) ∷ past) ≡ listed_by past ++ record { page = page_at e n; young = false } ∷ []
+listed-add past a e n f kind perm init answer can s =
+    longer past (entry_of a (Did (Add e n f kind perm init) answer)) (page_at e n) refl (λ g. refl)
+    (s.list (page_at e n) ∙ ap once_here can.1)
 
-pub listed-eld : (past : List Entry) (a : Actor) (f : Frame) (page : Page) (version : ℕ) (tag : List ℕ) → CanMove past (Did (Eld f) (Moved page version tag)) → IsSound past
+pub listed-eld : (past : List Entry) (a : Actor) (f : Frame) (page : Page) (version : ℕ) (tag : List ℕ)
+    → CanMove past (Did (Eld f) (Moved page version tag)) → IsSound past
     → listed_by (entry_of a (Did (Eld f) (Moved page version tag)) ∷ past) ≡ listed_by past ++ record { page = page; young = false } ∷ []
-listed-eld past a f page version tag can s = longer past (entry_of a (Did (Eld f) (Moved page version tag))) page refl (λ g. refl) (s.list page ∙ ap once_here can.1)
+listed-eld past a f page version tag can s =
+    longer past (entry_of a (Did (Eld f) (Moved page version tag))) page refl (λ g. refl) (s.list page ∙ ap once_here can.1)
 
 -- ---- a page is looked at
 
@@ -103,15 +116,19 @@ once_there past a xs s list = by_place (place past a) (sym (ap (λ pages. times 
         by_here false m = absurd (omega (arith, m))
 
 -- those behind the head keep their marks
-rest_same : (past : List Entry) (by : Actor) (a : Page) (look : Look) (xs : List Page) → times xs a ≡ 0 → map (marked (entry_of by (Age a look) ∷ past)) xs ≡ map (marked past) xs
+rest_same : (past : List Entry) (by : Actor) (a : Page) (look : Look) (xs : List Page) → times xs a ≡ 0
+    → map (marked (entry_of by (Age a look) ∷ past)) xs ≡ map (marked past) xs
 rest_same past by a look xs none = map_same (marked (entry_of by (Age a look) ∷ past)) (marked past) xs
-    (λ g k. marked_same past (entry_of by (Age a look)) g (is_young past g) (ap (λ b. if b then false else is_young past g) (none_of xs a g none k)))
+    (λ g k. marked_same past (entry_of by (Age a look)) g (is_young past g)
+    (ap (λ b. if b then false else is_young past g) (none_of xs a g none k)))
 
 -- a page that is taken leaves the list
-pub listed-taken : (past : List Entry) (by : Actor) (a : Page) → head_of (active past) ≡ Some a → IsSound past → listed_by (entry_of by (Age a looks.Taken) ∷ past) ≡ drop 1 (listed_by past)
+pub listed-taken : (past : List Entry) (by : Actor) (a : Page) → head_of (active past) ≡ Some a → IsSound past
+    → listed_by (entry_of by (Age a looks.Taken) ∷ past) ≡ drop 1 (listed_by past)
 listed-taken past by a head s = by_list (active past) refl head
   where
-    by_list : (pages : List Page) → active past ≡ pages → head_of pages ≡ Some a → map (marked (entry_of by (Age a looks.Taken) ∷ past)) (drop 1 (active past)) ≡ drop 1 (map (marked past) (active past))
+    by_list : (pages : List Page) → active past ≡ pages → head_of pages ≡ Some a
+        → map (marked (entry_of by (Age a looks.Taken) ∷ past)) (drop 1 (active past)) ≡ drop 1 (map (marked past) (active past))
     by_list [] is k = cc
     by_list (x ∷ xs) is k =
         let same : x ≡ a = cc in
@@ -119,24 +136,30 @@ listed-taken past by a head s = by_list (active past) refl head
         rw list (rest_same past by a looks.Taken xs (once_there past a xs s list))
 
 -- .. and another goes to the end without its mark
-turned_by : (past : List Entry) (by : Actor) (a : Page) (look : Look) → head_of (active past) ≡ Some a → IsSound past → map (marked (entry_of by (Age a look) ∷ past)) (to_tail (active past)) ≡ turned (map (marked past) (active past))
+turned_by : (past : List Entry) (by : Actor) (a : Page) (look : Look) → head_of (active past) ≡ Some a → IsSound past
+    → map (marked (entry_of by (Age a look) ∷ past)) (to_tail (active past)) ≡ turned (map (marked past) (active past))
 turned_by past by a look head s = by_list (active past) refl head
   where
-    by_list : (pages : List Page) → active past ≡ pages → head_of pages ≡ Some a → map (marked (entry_of by (Age a look) ∷ past)) (to_tail (active past)) ≡ turned (map (marked past) (active past))
+    by_list : (pages : List Page) → active past ≡ pages → head_of pages ≡ Some a
+        → map (marked (entry_of by (Age a look) ∷ past)) (to_tail (active past)) ≡ turned (map (marked past) (active past))
     by_list [] is k = cc
     by_list (x ∷ xs) is k =
         let same : x ≡ a = cc in
         let list : active past ≡ a ∷ xs = is ∙ ap (λ y. y ∷ xs) same in
         rw list (map-append (marked (entry_of by (Age a look) ∷ past)) xs (a ∷ [])
-        ∙ λ i. rest_same past by a look xs (once_there past a xs s list) i ++ marked_same past (entry_of by (Age a look)) a false (ap (λ b. if b then false else is_young past a) (same_page-refl a)) i ∷ [])
+        ∙ λ i. rest_same past by a look xs (once_there past a xs s list) i ++ marked_same past (entry_of by (Age a look)) a false
+        (ap (λ b. if b then false else is_young past a) (same_page-refl a)) i ∷ [])
 
-pub listed-young : (past : List Entry) (by : Actor) (a : Page) → head_of (active past) ≡ Some a → IsSound past → listed_by (entry_of by (Age a looks.Young) ∷ past) ≡ turned (listed_by past)
+pub listed-young : (past : List Entry) (by : Actor) (a : Page) → head_of (active past) ≡ Some a → IsSound past
+    → listed_by (entry_of by (Age a looks.Young) ∷ past) ≡ turned (listed_by past)
 listed-young past by a head s = turned_by past by a looks.Young head s
 
-pub listed-held : (past : List Entry) (by : Actor) (a : Page) → head_of (active past) ≡ Some a → IsSound past → listed_by (entry_of by (Age a looks.Held) ∷ past) ≡ turned (listed_by past)
+pub listed-held : (past : List Entry) (by : Actor) (a : Page) → head_of (active past) ≡ Some a → IsSound past
+    → listed_by (entry_of by (Age a looks.Held) ∷ past) ≡ turned (listed_by past)
 listed-held past by a head s = turned_by past by a looks.Held head s
 
-pub listed-noroom : (past : List Entry) (by : Actor) (a : Page) → head_of (active past) ≡ Some a → IsSound past → listed_by (entry_of by (Age a looks.NoRoom) ∷ past) ≡ turned (listed_by past)
+pub listed-noroom : (past : List Entry) (by : Actor) (a : Page) → head_of (active past) ≡ Some a → IsSound past
+    → listed_by (entry_of by (Age a looks.NoRoom) ∷ past) ≡ turned (listed_by past)
 listed-noroom past by a head s = turned_by past by a looks.NoRoom head s
 
 -- ---- a page is used
@@ -152,16 +175,23 @@ is_use (Xadd off value) = true
 is_use _ = false
 
 -- one that uses a page and no other marks it
-pub listed-use : (past : List Entry) (a : Actor) (action : Action) (answer : Answer) (page : Page) → is_use action ≡ true → ((g : Page) → uses past a action g ≡ same_page page g) → listed_by (entry_of a (Did action answer) ∷ past) ≡ map (touched page) (listed_by past)
+pub listed-use : (past : List Entry) (a : Actor) (action : Action) (answer : Answer) (page : Page) → is_use action ≡ true
+    → ((g : Page) → uses past a action g ≡ same_page page g)
+    → listed_by (entry_of a (Did action answer) ∷ past) ≡ map (touched page) (listed_by past)
 listed-use past a action answer page used only = by_action action used only
   where
-    each : (x : Action) → active_after (Did x answer) (active past) ≡ active past → ((g : Page) → young_after past a (Did x answer) g (is_young past g) ≡ (uses past a x g || is_young past g)) → ((g : Page) → uses past a x g ≡ same_page page g)
+    each : (x : Action) → active_after (Did x answer) (active past) ≡ active past
+        → ((g : Page) → young_after past a (Did x answer) g (is_young past g) ≡ (uses past a x g || is_young past g))
+        → ((g : Page) → uses past a x g ≡ same_page page g)
         → listed_by (entry_of a (Did x answer) ∷ past) ≡ map (touched page) (listed_by past)
     each x list marks one = ap (map (marked (entry_of a (Did x answer) ∷ past))) list
-        ∙ map_same (marked (entry_of a (Did x answer) ∷ past)) (λ g. touched page (marked past g)) (active past) (λ g k. marked_same past (entry_of a (Did x answer)) g (same_page page g || is_young past g) (marks g ∙ ap (λ b. b || is_young past g) (one g)))
+        ∙ map_same (marked (entry_of a (Did x answer) ∷ past)) (λ g. touched page (marked past g)) (active past)
+        (λ g k. marked_same past (entry_of a (Did x answer)) g (same_page page g || is_young past g)
+        (marks g ∙ ap (λ b. b || is_young past g) (one g)))
         ∙ sym (map_map (touched page) (marked past) (active past))
 
-    by_action : (x : Action) → is_use x ≡ true → ((g : Page) → uses past a x g ≡ same_page page g) → listed_by (entry_of a (Did x answer) ∷ past) ≡ map (touched page) (listed_by past)
+    by_action : (x : Action) → is_use x ≡ true → ((g : Page) → uses past a x g ≡ same_page page g)
+        → listed_by (entry_of a (Did x answer) ∷ past) ≡ map (touched page) (listed_by past)
     by_action (Enter enclave tcs tf sf) k one = each (Enter enclave tcs tf sf) refl (λ g. refl) one
     by_action (Resume enclave tcs tf sf) k one = each (Resume enclave tcs tf sf) refl (λ g. refl) one
     by_action (Fill number f) k one = each (Fill number f) refl (λ g. refl) one
@@ -171,11 +201,13 @@ listed-use past a action answer page used only = by_action action used only
     by_action _ k one = cc
 
 -- .. and one that uses two marks both
-pub listed-uses : (past : List Entry) (a : Actor) (action : Action) (answer : Answer) (page other : Page) → is_use action ≡ true → ((g : Page) → uses past a action g ≡ (same_page page g || same_page other g))
+pub listed-uses : (past : List Entry) (a : Actor) (action : Action) (answer : Answer) (page other : Page) → is_use action ≡ true
+    → ((g : Page) → uses past a action g ≡ (same_page page g || same_page other g))
     → listed_by (entry_of a (Did action answer) ∷ past) ≡ map (touched page) (map (touched other) (listed_by past))
 listed-uses past a action answer page other used only = by_action action used only
   where
-    twice : (xs : List Page) → map (touched page) (map (touched other) (map (marked past) xs)) ≡ map (λ g. touched page (touched other (marked past g))) xs
+    twice : (xs : List Page)
+        → map (touched page) (map (touched other) (map (marked past) xs)) ≡ map (λ g. touched page (touched other (marked past g))) xs
     twice [] = refl
     twice (x ∷ xs) = ap (λ zs. touched page (touched other (marked past x)) ∷ zs) (twice xs)
 
@@ -183,14 +215,18 @@ listed-uses past a action answer page other used only = by_action action used on
     or_assoc true y z = refl
     or_assoc false y z = refl
 
-    each : (x : Action) → active_after (Did x answer) (active past) ≡ active past → ((g : Page) → young_after past a (Did x answer) g (is_young past g) ≡ (uses past a x g || is_young past g)) → ((g : Page) → uses past a x g ≡ (same_page page g || same_page other g))
+    each : (x : Action) → active_after (Did x answer) (active past) ≡ active past
+        → ((g : Page) → young_after past a (Did x answer) g (is_young past g) ≡ (uses past a x g || is_young past g))
+        → ((g : Page) → uses past a x g ≡ (same_page page g || same_page other g))
         → listed_by (entry_of a (Did x answer) ∷ past) ≡ map (touched page) (map (touched other) (listed_by past))
     each x list marks one = ap (map (marked (entry_of a (Did x answer) ∷ past))) list
         ∙ map_same (marked (entry_of a (Did x answer) ∷ past)) (λ g. touched page (touched other (marked past g))) (active past)
-        (λ g k. marked_same past (entry_of a (Did x answer)) g (same_page page g || (same_page other g || is_young past g)) (marks g ∙ ap (λ b. b || is_young past g) (one g) ∙ or_assoc (same_page page g) (same_page other g) (is_young past g)))
+        (λ g k. marked_same past (entry_of a (Did x answer)) g (same_page page g || (same_page other g || is_young past g))
+        (marks g ∙ ap (λ b. b || is_young past g) (one g) ∙ or_assoc (same_page page g) (same_page other g) (is_young past g)))
         ∙ sym (twice (active past))
 
-    by_action : (x : Action) → is_use x ≡ true → ((g : Page) → uses past a x g ≡ (same_page page g || same_page other g)) → listed_by (entry_of a (Did x answer) ∷ past) ≡ map (touched page) (map (touched other) (listed_by past))
+    by_action : (x : Action) → is_use x ≡ true → ((g : Page) → uses past a x g ≡ (same_page page g || same_page other g))
+        → listed_by (entry_of a (Did x answer) ∷ past) ≡ map (touched page) (map (touched other) (listed_by past))
     by_action (Enter enclave tcs tf sf) k one = each (Enter enclave tcs tf sf) refl (λ g. refl) one
     by_action (Resume enclave tcs tf sf) k one = each (Resume enclave tcs tf sf) refl (λ g. refl) one
     by_action (Fill number f) k one = each (Fill number f) refl (λ g. refl) one
@@ -222,8 +258,12 @@ no_uses past _ x g k = refl
 pub listed-quiet : (past : List Entry) (e : Entry) → is_markless e.event ≡ true → listed_by (e ∷ past) ≡ listed_by past
 listed-quiet past e quiet = by_event e.event quiet
   where
-    each : (ev : Event) → active_after ev (active past) ≡ active past → ((g : Page) → young_after past e.actor ev g (is_young past g) ≡ is_young past g) → listed_by (entry_of e.actor ev ∷ past) ≡ listed_by past
-    each ev list marks = ap (map (marked (entry_of e.actor ev ∷ past))) list ∙ map_same (marked (entry_of e.actor ev ∷ past)) (marked past) (active past) (λ g k. marked_same past (entry_of e.actor ev) g (is_young past g) (marks g))
+    each : (ev : Event) → active_after ev (active past) ≡ active past
+        → ((g : Page) → young_after past e.actor ev g (is_young past g) ≡ is_young past g)
+        → listed_by (entry_of e.actor ev ∷ past) ≡ listed_by past
+    each ev list marks =
+        ap (map (marked (entry_of e.actor ev ∷ past))) list ∙ map_same (marked (entry_of e.actor ev ∷ past)) (marked past) (active past)
+        (λ g k. marked_same past (entry_of e.actor ev) g (is_young past g) (marks g))
 
     not_use : (b : Bool) → not b ≡ true → b ≡ false
     not_use true k = cc
@@ -233,7 +273,8 @@ listed-quiet past e quiet = by_event e.event quiet
     by_event (Did (Add enclave number f kind perm init) answer) k = cc
     by_event (Did (Eld f) answer) k = cc
     by_event (Age page look) k = cc
-    by_event (Did x answer) k = each (Did x answer) refl (λ g. ap (λ b. b || is_young past g) (no_uses past e.actor x g (not_use (is_use x) k)))
+    by_event (Did x answer) k =
+        each (Did x answer) refl (λ g. ap (λ b. b || is_young past g) (no_uses past e.actor x g (not_use (is_use x) k)))
     by_event (Refused x refusal) k = each (Refused x refusal) refl (λ g. refl)
     by_event (Kick cpu) k = each (Kick cpu) refl (λ g. refl)
     by_event (Bus page why) k = each (Bus page why) refl (λ g. refl)

@@ -75,35 +75,45 @@ with_plain : (j : JobView) (past : List Entry) (o : Option Page) (d : Due) → P
 with_plain j past None d h = h
 with_plain j past (Some g) d h = fetch_plain j past g
 
-enter_plain : (j : JobView) (past : List Entry) (why : Why) (e t : ℕ) (tf sf : Option ℕ) → Plain j past (makes_or why (enter_with e t tf sf))
+enter_plain : (j : JobView) (past : List Entry) (why : Why) (e t : ℕ) (tf sf : Option ℕ)
+    → Plain j past (makes_or why (enter_with e t tf sf))
 enter_plain j past why e t (Some tf) (Some sf) = refl
 enter_plain j past why e t (Some tf) None = tt
 enter_plain j past why e t None sf = tt
 
-resume_plain : (j : JobView) (past : List Entry) (why : Why) (e t : ℕ) (tf sf : Option ℕ) → Plain j past (makes_or why (resume_with e t tf sf))
+resume_plain : (j : JobView) (past : List Entry) (why : Why) (e t : ℕ) (tf sf : Option ℕ)
+    → Plain j past (makes_or why (resume_with e t tf sf))
 resume_plain j past why e t (Some tf) (Some sf) = refl
 resume_plain j past why e t (Some tf) None = tt
 resume_plain j past why e t None sf = tt
 
 enters_plain : (j : JobView) (past : List Entry) (e t : ℕ) → Plain j past (enters j past e t)
-enters_plain j past e t = with_plain j past (first_away past (needs_to_enter j past e t)) _ (enter_plain j past (waits.Busy (page_at e t)) e t (frame_here (place past (page_at e t))) (save_frame past (page_at e t) (save_to_enter j past e t)))
+enters_plain j past e t =
+    with_plain j past (first_away past (needs_to_enter j past e t)) _ (enter_plain j past (waits.Busy (page_at e t)) e t
+    (frame_here (place past (page_at e t))) (save_frame past (page_at e t) (save_to_enter j past e t)))
 
 resumes_plain : (j : JobView) (past : List Entry) (e t : ℕ) (pages : List Page) → Plain j past (resumes j past e t pages)
-resumes_plain j past e t pages = with_plain j past (first_away past pages) _ (resume_plain j past (waits.Busy (page_at e t)) e t (frame_here (place past (page_at e t))) (save_frame past (page_at e t) (save_to_resume j past e t)))
+resumes_plain j past e t pages =
+    with_plain j past (first_away past pages) _ (resume_plain j past (waits.Busy (page_at e t)) e t (frame_here (place past (page_at e t)))
+    (save_frame past (page_at e t) (save_to_resume j past e t)))
 
 fills_plain : (j : JobView) (past : List Entry) (n : ℕ) (o : Option ℕ) → Plain j past (fills n o)
 fills_plain j past n None = refl
 fills_plain j past n (Some f) = refl
 
-access_plain : (j : JobView) (past : List Entry) (p : ℕ) (o : Option Stay) (op : AccessOp) (off : ℕ) (access : Action) → is_paging access ≡ false → Plain j past (accesses_by past p o op off access)
+access_plain : (j : JobView) (past : List Entry) (p : ℕ) (o : Option Stay) (op : AccessOp) (off : ℕ) (access : Action)
+    → is_paging access ≡ false → Plain j past (accesses_by past p o op off access)
 access_plain j past p None op off access h = h
 access_plain j past p (Some s) op off access h =
     either j past (not (is_lawful_access (added past (at_offset s.seat.enclave off)) op)) _ _ refl
-    (either j past (holds_number (translations past p) _) (Makes access) _ h (fills_plain j past _ (frame_here (place past (at_offset s.seat.enclave off)))))
+    (either j past (holds_number (translations past p) _) (Makes access) _ h
+    (fills_plain j past _ (frame_here (place past (at_offset s.seat.enclave off)))))
 
 op_plain : (j : JobView) (past : List Entry) (p : ℕ) (op : Op) → Plain j past (op_turn j past p op)
 op_plain j past p (ops.Enter e t) = either j past (is_turned_away past p e) _ (enters j past e t) refl (enters_plain j past e t)
-op_plain j past p (ops.Resume e t) = either j past (is_turned_away past p e) _ (resumes j past e t (needs_to_resume j past e t)) refl (resumes_plain j past e t (needs_to_resume j past e t))
+op_plain j past p (ops.Resume e t) =
+    either j past (is_turned_away past p e) _ (resumes j past e t (needs_to_resume j past e t)) refl
+    (resumes_plain j past e t (needs_to_resume j past e t))
 op_plain j past p ops.Exit = refl
 op_plain j past p ops.Timer = refl
 op_plain j past p (ops.Load off) = access_plain j past p (stay past p) accesses.Load off (actions.Load off) refl
@@ -114,7 +124,8 @@ op_plain j past p (ops.Plus v) = refl
 op_plain j past p (ops.OutLoad e off) = refl
 op_plain j past p (ops.OutStore e off v) = refl
 
-outside_plain : (j : JobView) (past : List Entry) (p : ℕ) (i : Option Interruption) (op : Option Op) → Plain j past (outside_turn j past p i op)
+outside_plain : (j : JobView) (past : List Entry) (p : ℕ) (i : Option Interruption) (op : Option Op)
+    → Plain j past (outside_turn j past p i op)
 outside_plain j past p i None = tt
 outside_plain j past p (Some i) (Some op) = resumes_plain j past i.enclave i.tcs (needs_after j past p i)
 outside_plain j past p None (Some op) = op_plain j past p op
@@ -145,7 +156,8 @@ pub due_plain : (j : JobView) (past : List Entry) (p : ℕ) → Plain j past (cp
 due_plain j past p =
     either j past (is_spent past) Stopped (due_after (last_of past p) (is_last past p) (turn_due j past p)) tt
     (after_plain j past (last_of past p) (is_last past p) (turn_due j past p)
-    (either j past (is_built j past) (stay_turn j past p (stay past p)) (early_turn (stay past p) (next_op j past p)) (stay_plain j past p (stay past p)) (early_plain j past (stay past p) (next_op j past p))))
+    (either j past (is_built j past) (stay_turn j past p (stay past p)) (early_turn (stay past p) (next_op j past p))
+    (stay_plain j past p (stay past p)) (early_plain j past (stay past p) (next_op j past p))))
 
 step_plain : (j : JobView) (past : List Entry) (step : BuildStep) (o : Option ℕ) → Plain j past (makes_or waits.NoFrame (with_frame step o))
 step_plain j past builds.Va (Some f) = refl
@@ -166,7 +178,8 @@ turn_plain j past (Some (builds.Init e x)) = refl
 -- .. nor does the builder
 pub build_plain : (j : JobView) (past : List Entry) → Plain j past (builder_due j past)
 build_plain j past =
-    either j past (is_spent past) Stopped (step_turn j past (slice_get (build_of j) (built past))) tt (turn_plain j past (slice_get (build_of j) (built past)))
+    either j past (is_spent past) Stopped (step_turn j past (slice_get (build_of j) (built past))) tt
+    (turn_plain j past (slice_get (build_of j) (built past)))
 
 -- ---- whose entries are whose
 

@@ -33,7 +33,8 @@ NoTrack ev = (n : ℕ) → is_track ev n ≡ false
 calm_all : (past : List Entry) (e : Entry) → NoTrack e.event → AllCalm past → AllCalm (e ∷ past)
 calm_all past e none calm n = calm_kept past e n (none n) (calm n)
 
-untracked_kept : (past : List Entry) (e : Entry) (g : Page) → IsSound past → CanMove past e.event → moves_out e.event ≡ false → NoTrack e.event → IsUntracked past g → IsUntracked (e ∷ past) g
+untracked_kept : (past : List Entry) (e : Entry) (g : Page) → IsSound past → CanMove past e.event → moves_out e.event ≡ false
+    → NoTrack e.event → IsUntracked past g → IsUntracked (e ∷ past) g
 untracked_kept past e g s can stays none u = record {
   frame = u.frame;
   block = u.block;
@@ -42,7 +43,8 @@ untracked_kept past e g s can stays none u = record {
   calm = calm_all past e none u.calm;
 }
 
-tracked_kept : (past : List Entry) (e : Entry) (g : Page) → IsSound past → CanMove past e.event → moves_out e.event ≡ false → NoTrack e.event → IsTracked past g → IsTracked (e ∷ past) g
+tracked_kept : (past : List Entry) (e : Entry) (g : Page) → IsSound past → CanMove past e.event → moves_out e.event ≡ false
+    → NoTrack e.event → IsTracked past g → IsTracked (e ∷ past) g
 tracked_kept past e g s can stays none t = record {
   frame = t.frame;
   block = t.block;
@@ -53,7 +55,8 @@ tracked_kept past e g s can stays none t = record {
   calm = λ n other. calm_kept past e n (none n) (t.calm n other);
 }
 
-form_kept : (past : List Entry) (e : Entry) (g : Page) (form : Form) → IsSound past → CanMove past e.event → moves_out e.event ≡ false → NoTrack e.event → InForm past g form → InForm (e ∷ past) g form
+form_kept : (past : List Entry) (e : Entry) (g : Page) (form : Form) → IsSound past → CanMove past e.event → moves_out e.event ≡ false
+    → NoTrack e.event → InForm past g form → InForm (e ∷ past) g form
 form_kept past e g First s can stays none k = calm_all past e none k
 form_kept past e g Sealing s can stays none k = calm_all past e none k
 form_kept past e g ToTrack s can stays none k = untracked_kept past e g s can stays none k
@@ -62,7 +65,8 @@ form_kept past e g ToKick s can stays none k = tracked_kept past e g s can stays
 form_kept past e g (Kicks rest) s can stays none k = tracked_kept past e g s can stays none k
 form_kept past e g Third s can stays none k = tracked_kept past e g s can stays none k
 
-pass_kept : (past : List Entry) (e : Entry) (p : Pass) → IsSound past → CanMove past e.event → moves_out e.event ≡ false → NoTrack e.event → KeepsTracks past p → KeepsTracks (e ∷ past) p
+pass_kept : (past : List Entry) (e : Entry) (p : Pass) → IsSound past → CanMove past e.event → moves_out e.event ≡ false → NoTrack e.event
+    → KeepsTracks past p → KeepsTracks (e ∷ past) p
 pass_kept past e (Between works) s can stays none k = calm_all past e none k
 pass_kept past e (Scan left taken) s can stays none k = calm_all past e none k
 pass_kept past e (Blocking due taken) s can stays none k = calm_all past e none k
@@ -103,7 +107,8 @@ tracked_kicks past g (p ∷ ps) k = k
 -- ---- the tries of a page
 
 -- all is calm once a page is drained
-all_calm : (past : List Entry) (g : Page) (f : ℕ) → IsSound past → IsFrame past g f → is_drained past f ≡ true → IsTracked past g → AllCalm past
+all_calm : (past : List Entry) (g : Page) (f : ℕ) → IsSound past → IsFrame past g f → is_drained past f ≡ true → IsTracked past g
+    → AllCalm past
 all_calm past g f s at drained t n = by_enclave (n == g.enclave) refl
   where
     same : Leaving t.frame ≡ Leaving f
@@ -113,11 +118,14 @@ all_calm past g f s at drained t n = by_enclave (n == g.enclave) refl
     frame = cc
 
     by_enclave : (b : Bool) → (n == g.enclave) ≡ b → IsCalm past n
-    by_enclave true is = subst (λ m. IsCalm past m) (sym (eqb-true n g.enclave is)) (calm_drained past g t s (subst (λ m. is_drained past m ≡ true) (sym frame) drained))
+    by_enclave true is =
+        subst (λ m. IsCalm past m) (sym (eqb-true n g.enclave is)) (calm_drained past g t s
+        (subst (λ m. is_drained past m ≡ true) (sym frame) drained))
     by_enclave false is = t.calm n is
 
 -- a first try that is refused
-untracked : (past : List Entry) (g : Page) (f : ℕ) → IsSound past → IsFrame past g f → is_blocked past f ≡ true → is_drained past f ≡ false → AllCalm past → IsUntracked past g
+untracked : (past : List Entry) (g : Page) (f : ℕ) → IsSound past → IsFrame past g f → is_blocked past f ≡ true → is_drained past f ≡ false
+    → AllCalm past → IsUntracked past g
 untracked past g f s at blocked not_drained calm = by_place (block_place past f) refl (sym (blocked_place past f) ∙ blocked)
   where
     by_place : (o : Option ℕ) → block_place past f ≡ o → is_some o ≡ true → IsUntracked past g
@@ -131,7 +139,8 @@ untracked past g f s at blocked not_drained calm = by_place (block_place past f)
     }
 
 -- the track behind it
-tracks : (past : List Entry) (a : Actor) (n : ℕ) (answer : Answer) (g : Page) → IsSound past → n ≡ g.enclave → IsUntracked past g → IsTracked (entry_of a (Did (Track n) answer) ∷ past) g
+tracks : (past : List Entry) (a : Actor) (n : ℕ) (answer : Answer) (g : Page) → IsSound past → n ≡ g.enclave → IsUntracked past g
+    → IsTracked (entry_of a (Did (Track n) answer) ∷ past) g
 tracks past a n answer g s same u = record {
   frame = u.frame;
   block = u.block;
@@ -157,50 +166,71 @@ abbrev by_reclaimer : List Entry → Event → List Entry
 by_reclaimer past ev = entry_of actors.Reclaimer ev ∷ past
 
 -- a start ends the tries: all is calm where the page is drained
-sealing : (past : List Entry) (ev : Event) (g : Page) (f : ℕ) → NoTrack ev → IsSound past → IsFrame past g f → is_drained past f ≡ true → IsTracked past g → AllCalm (by_reclaimer past ev)
+sealing : (past : List Entry) (ev : Event) (g : Page) (f : ℕ) → NoTrack ev → IsSound past → IsFrame past g f → is_drained past f ≡ true
+    → IsTracked past g → AllCalm (by_reclaimer past ev)
 sealing past ev g f none s at drained t = calm_all past (entry_of actors.Reclaimer ev) none (all_calm past g f s at drained t)
 
 -- behind the second refusal: the first kick, or the last try where nobody keeps the page back
-to_kick : (j : JobView) (past : List Entry) (g : Page) (rest : List Page) (all : List ℕ) (ev : Event) → IsSound past → CanMove past ev → TryTells past ev → ages.IsInTries past g ev → ages.IsKickOrTry all ev → IsTracked past g
+to_kick : (j : JobView) (past : List Entry) (g : Page) (rest : List Page) (all : List ℕ) (ev : Event) → IsSound past → CanMove past ev
+    → TryTells past ev → ages.IsInTries past g ev → ages.IsKickOrTry all ev → IsTracked past g
     → KeepsTracks (by_reclaimer past ev) (pass_by j past ev (Tries g rest ToKick))
-to_kick j past g rest (p ∷ ps) (Kick cpu) s can tells at kick k = tracked_kicks (by_reclaimer past (Kick cpu)) g (drop 1 (keepers past g)) (tracked_kept past (entry_of actors.Reclaimer (Kick cpu)) g s can refl (λ n. refl) k)
+to_kick j past g rest (p ∷ ps) (Kick cpu) s can tells at kick k =
+    tracked_kicks (by_reclaimer past (Kick cpu)) g (drop 1 (keepers past g))
+    (tracked_kept past (entry_of actors.Reclaimer (Kick cpu)) g s can refl (λ n. refl) k)
 to_kick j past g rest (p ∷ ps) _ s can tells at kick k = absurd kick
-to_kick j past g rest [] (Did (EwbStart f slot) answer) s can tells at kick k = sealing past (Did (EwbStart f slot) answer) g f.0 (λ n. refl) s at tells k
-to_kick j past g rest [] (Refused (EwbStart f slot) why.VersionSpent) s can tells at kick k = tracked_kept past (entry_of actors.Reclaimer (Refused (EwbStart f slot) why.VersionSpent)) g s can refl (λ n. refl) k
+to_kick j past g rest [] (Did (EwbStart f slot) answer) s can tells at kick k =
+    sealing past (Did (EwbStart f slot) answer) g f.0 (λ n. refl) s at tells k
+to_kick j past g rest [] (Refused (EwbStart f slot) why.VersionSpent) s can tells at kick k =
+    tracked_kept past (entry_of actors.Reclaimer (Refused (EwbStart f slot) why.VersionSpent)) g s can refl (λ n. refl) k
 to_kick j past g rest [] _ s can tells at kick k = absurd kick
 
-in_tries : (j : JobView) (past : List Entry) (g : Page) (rest : List Page) (form : Form) (ev : Event) → IsSound past → CanMove past ev → TryTells past ev → ages.IsInTries past g ev → ages.InForm past g form ev → InForm past g form
+in_tries : (j : JobView) (past : List Entry) (g : Page) (rest : List Page) (form : Form) (ev : Event) → IsSound past → CanMove past ev
+    → TryTells past ev → ages.IsInTries past g ev → ages.InForm past g form ev → InForm past g form
     → KeepsTracks (by_reclaimer past ev) (pass_by j past ev (Tries g rest form))
-in_tries j past g rest First (Did (EwbStart f slot) answer) s can tells at kick k = calm_all past (entry_of actors.Reclaimer (Did (EwbStart f slot) answer)) (λ n. refl) k
-in_tries j past g rest First (Refused (EwbStart f slot) why.VersionSpent) s can tells at kick k = calm_all past (entry_of actors.Reclaimer (Refused (EwbStart f slot) why.VersionSpent)) (λ n. refl) k
+in_tries j past g rest First (Did (EwbStart f slot) answer) s can tells at kick k =
+    calm_all past (entry_of actors.Reclaimer (Did (EwbStart f slot) answer)) (λ n. refl) k
+in_tries j past g rest First (Refused (EwbStart f slot) why.VersionSpent) s can tells at kick k =
+    calm_all past (entry_of actors.Reclaimer (Refused (EwbStart f slot) why.VersionSpent)) (λ n. refl) k
 in_tries j past g rest First (Refused (EwbStart f slot) (why.NotTracked epoch older)) s can tells at kick k =
-    untracked_kept past (entry_of actors.Reclaimer (Refused (EwbStart f slot) (why.NotTracked epoch older))) g s can refl (λ n. refl) (untracked past g f.0 s at tells.0 tells.1 k)
+    untracked_kept past (entry_of actors.Reclaimer (Refused (EwbStart f slot) (why.NotTracked epoch older))) g s can refl (λ n. refl)
+    (untracked past g f.0 s at tells.0 tells.1 k)
 in_tries j past g rest First _ s can tells at kick k = absurd kick
 in_tries j past g rest ToTrack (Did (Track n) answer) s can tells at kick k = tracks past actors.Reclaimer n answer g s kick k
-in_tries j past g rest ToTrack (Refused (Track n) why.EpochSpent) s can tells at kick k = untracked_kept past (entry_of actors.Reclaimer (Refused (Track n) why.EpochSpent)) g s can refl (λ m. refl) k
+in_tries j past g rest ToTrack (Refused (Track n) why.EpochSpent) s can tells at kick k =
+    untracked_kept past (entry_of actors.Reclaimer (Refused (Track n) why.EpochSpent)) g s can refl (λ m. refl) k
 in_tries j past g rest ToTrack _ s can tells at kick k = absurd kick
-in_tries j past g rest Second (Did (EwbStart f slot) answer) s can tells at kick k = sealing past (Did (EwbStart f slot) answer) g f.0 (λ n. refl) s at tells k
-in_tries j past g rest Second (Refused (EwbStart f slot) why.VersionSpent) s can tells at kick k = tracked_kept past (entry_of actors.Reclaimer (Refused (EwbStart f slot) why.VersionSpent)) g s can refl (λ n. refl) k
+in_tries j past g rest Second (Did (EwbStart f slot) answer) s can tells at kick k =
+    sealing past (Did (EwbStart f slot) answer) g f.0 (λ n. refl) s at tells k
+in_tries j past g rest Second (Refused (EwbStart f slot) why.VersionSpent) s can tells at kick k =
+    tracked_kept past (entry_of actors.Reclaimer (Refused (EwbStart f slot) why.VersionSpent)) g s can refl (λ n. refl) k
 in_tries j past g rest Second (Refused (EwbStart f slot) (why.NotTracked epoch older)) s can tells at kick k =
     tracked_kept past (entry_of actors.Reclaimer (Refused (EwbStart f slot) (why.NotTracked epoch older))) g s can refl (λ n. refl) k
 in_tries j past g rest Second _ s can tells at kick k = absurd kick
 in_tries j past g rest ToKick ev s can tells at kick k = to_kick j past g rest (keepers past g) ev s can tells at kick k
-in_tries j past g rest (Kicks (p ∷ ps)) (Kick cpu) s can tells at kick k = tracked_kicks (by_reclaimer past (Kick cpu)) g ps (tracked_kept past (entry_of actors.Reclaimer (Kick cpu)) g s can refl (λ n. refl) k)
+in_tries j past g rest (Kicks (p ∷ ps)) (Kick cpu) s can tells at kick k =
+    tracked_kicks (by_reclaimer past (Kick cpu)) g ps (tracked_kept past (entry_of actors.Reclaimer (Kick cpu)) g s can refl (λ n. refl) k)
 in_tries j past g rest (Kicks ps) _ s can tells at kick k = absurd kick
-in_tries j past g rest Third (Did (EwbStart f slot) answer) s can tells at kick k = sealing past (Did (EwbStart f slot) answer) g f.0 (λ n. refl) s at tells k
-in_tries j past g rest Third (Refused (EwbStart f slot) why.VersionSpent) s can tells at kick k = tracked_kept past (entry_of actors.Reclaimer (Refused (EwbStart f slot) why.VersionSpent)) g s can refl (λ n. refl) k
+in_tries j past g rest Third (Did (EwbStart f slot) answer) s can tells at kick k =
+    sealing past (Did (EwbStart f slot) answer) g f.0 (λ n. refl) s at tells k
+in_tries j past g rest Third (Refused (EwbStart f slot) why.VersionSpent) s can tells at kick k =
+    tracked_kept past (entry_of actors.Reclaimer (Refused (EwbStart f slot) why.VersionSpent)) g s can refl (λ n. refl) k
 in_tries j past g rest Third _ s can tells at kick k = absurd kick
-in_tries j past g rest Sealing (Did (Ewb f) answer) s can tells at kick k = calm_tries (by_reclaimer past (Did (Ewb f) answer)) rest (calm_all past (entry_of actors.Reclaimer (Did (Ewb f) answer)) (λ n. refl) k)
+in_tries j past g rest Sealing (Did (Ewb f) answer) s can tells at kick k =
+    calm_tries (by_reclaimer past (Did (Ewb f) answer)) rest (calm_all past (entry_of actors.Reclaimer (Did (Ewb f) answer)) (λ n. refl) k)
 in_tries j past g rest Sealing _ s can tells at kick k = absurd kick
 
-in_pass : (j : JobView) (past : List Entry) (p : Pass) (ev : Event) → IsSound past → CanMove past ev → TryTells past ev → InPass past p ev → FormOf past p actors.Reclaimer ev → KeepsTracks past p
+in_pass : (j : JobView) (past : List Entry) (p : Pass) (ev : Event) → IsSound past → CanMove past ev → TryTells past ev → InPass past p ev
+    → FormOf past p actors.Reclaimer ev → KeepsTracks past p
     → KeepsTracks (by_reclaimer past ev) (pass_by j past ev p)
 in_pass j past (Between works) (Age page look) s can tells at kick k =
-    calm_scan (by_reclaimer past (Age page look)) (min j.marks.scan (length (active past)) - 1) (taken_by look page) (calm_all past (entry_of actors.Reclaimer (Age page look)) (λ n. refl) k)
+    calm_scan (by_reclaimer past (Age page look)) (min j.marks.scan (length (active past)) - 1) (taken_by look page)
+    (calm_all past (entry_of actors.Reclaimer (Age page look)) (λ n. refl) k)
 in_pass j past (Scan left taken) (Age page look) s can tells at kick k =
-    calm_scan (by_reclaimer past (Age page look)) (left - 1) (taken ++ taken_by look page) (calm_all past (entry_of actors.Reclaimer (Age page look)) (λ n. refl) k)
+    calm_scan (by_reclaimer past (Age page look)) (left - 1) (taken ++ taken_by look page)
+    (calm_all past (entry_of actors.Reclaimer (Age page look)) (λ n. refl) k)
 in_pass j past (Blocking due taken) (Did (Block f) answer) s can tells at kick k =
-    calm_block (by_reclaimer past (Did (Block f) answer)) (drop 1 due) taken (calm_all past (entry_of actors.Reclaimer (Did (Block f) answer)) (λ n. refl) k)
+    calm_block (by_reclaimer past (Did (Block f) answer)) (drop 1 due) taken
+    (calm_all past (entry_of actors.Reclaimer (Did (Block f) answer)) (λ n. refl) k)
 in_pass j past (Tries g rest form) ev s can tells at kick k = in_tries j past g rest form ev s can tells at kick k
 in_pass j past _ ev s can tells at kick k = absurd at
 
@@ -212,7 +242,8 @@ decided_keeps j past free (Scan left taken) k = k
 decided_keeps j past free (Blocking due taken) k = k
 decided_keeps j past free (Tries g rest form) k = k
 
-of_actor : (j : JobView) (past : List Entry) (a : Actor) (ev : Event) → IsSound past → CanMove past ev → TryTells past ev → (is_reclaimers ev ≡ true → a ≡ actors.Reclaimer) → PassOf past (pass j past) a ev → FormOf past (pass j past) a ev
+of_actor : (j : JobView) (past : List Entry) (a : Actor) (ev : Event) → IsSound past → CanMove past ev → TryTells past ev
+    → (is_reclaimers ev ≡ true → a ≡ actors.Reclaimer) → PassOf past (pass j past) a ev → FormOf past (pass j past) a ev
     → KeepsTracks past (pass j past) → KeepsTracks (entry_of a ev ∷ past) (pass_after j past a ev (pass j past))
 of_actor j past actors.Reclaimer ev s can tells own age kick k = in_pass j past (pass j past) ev s can tells age kick k
 of_actor j past actors.Builder ev s can tells own age kick k = by_own (is_reclaimers ev) refl
@@ -227,14 +258,17 @@ of_actor j past (actors.Cpu p) ev s can tells own age kick k = by_own (is_reclai
     by_own false is = pass_kept past (entry_of (actors.Cpu p) ev) (pass j past) s can (others_stay ev is) (others_track ev is) k
 
 -- one entry more keeps what a pass says of tracks
-pub tracks_stay : (j : JobView) (past : List Entry) (e : Entry) → IsSound past → CanMove past e.event → TryTells past e.event → OwnRule past e → AgeRule j past e → KickRule j past e
+pub tracks_stay : (j : JobView) (past : List Entry) (e : Entry) → IsSound past → CanMove past e.event → TryTells past e.event
+    → OwnRule past e → AgeRule j past e → KickRule j past e
     → KeepsTracks past (pass j past) → KeepsTracks (e ∷ past) (pass j (e ∷ past))
 tracks_stay j past e s can tells own age kick k =
-    decided_keeps j (e ∷ past) (free_count j.epc (e ∷ past)) (pass_after j past e.actor e.event (pass j past)) (of_actor j past e.actor e.event s can tells own age.in_pass kick.form k)
+    decided_keeps j (e ∷ past) (free_count j.epc (e ∷ past)) (pass_after j past e.actor e.event (pass j past))
+    (of_actor j past e.actor e.event s can tells own age.in_pass kick.form k)
 
 -- ---- what it gives
 
 -- a first try that is refused for want of a track: there is no track since the block
-pub first_refusal : (j : JobView) (past : List Entry) (g : Page) (rest : List Page) (f : ℕ) → IsSound past → KeepsTracks past (pass j past) → pass j past ≡ Tries g rest First
+pub first_refusal : (j : JobView) (past : List Entry) (g : Page) (rest : List Page) (f : ℕ) → IsSound past → KeepsTracks past (pass j past)
+    → pass j past ≡ Tries g rest First
     → place past g ≡ Leaving f → is_blocked past f ≡ true → is_drained past f ≡ false → IsUntracked past g
 first_refusal j past g rest f s k is at blocked not_drained = untracked past g f s at blocked not_drained (subst (KeepsTracks past) is k)

@@ -20,7 +20,8 @@ same_page-refl a = rw (eq-eqb a.enclave a.enclave refl, eq-eqb a.number a.number
 
 -- a frame holds one page
 pub one_page : (c : Content) (a b : Page) → is_page c a ≡ true → is_page c b ≡ true → same_page a b ≡ true
-one_page (Holds page kind perm) a b h k = let same : a ≡ b = sym (same_pages page a h) ∙ same_pages page b k in subst (λ x. same_page a x ≡ true) same (same_page-refl a)
+one_page (Holds page kind perm) a b h k =
+    let same : a ≡ b = sym (same_pages page a h) ∙ same_pages page b k in subst (λ x. same_page a x ≡ true) same (same_page-refl a)
 one_page Free a b h k = cc
 one_page IsVa a b h k = cc
 one_page (SecsOf e) a b h k = cc
@@ -73,7 +74,8 @@ loads_one (Some start) a g slot h = by_loads start.loads h
     by_loads None k = cc
     by_loads (Some page) k = by_page page (same_page page a) refl k
 
-pub loads_no_other : (o : Option Start) (a g : Page) (slot : SlotAt) → load_slot o a ≡ Some slot → same_page a g ≡ false → load_slot o g ≡ None
+pub loads_no_other : (o : Option Start) (a g : Page) (slot : SlotAt) → load_slot o a ≡ Some slot → same_page a g ≡ false
+    → load_slot o g ≡ None
 loads_no_other None a g slot h other = cc
 loads_no_other (Some start) a g slot h other = rw (loads_one (Some start) a g slot h, other) refl
 
@@ -102,7 +104,8 @@ at_same of x f n here is = subst (λ m. of m ≡ x) (eqb-true f n is) here
 -- ---- entries
 
 -- a frame takes what is neither a page nor a load
-pub put_apart : (at : Page → Place) (held : ℕ → Content) (opened : ℕ → Option Start) (f : ℕ) (c : Content) → PlacesAreFrames at held opened → held f ≡ Free
+pub put_apart : (at : Page → Place) (held : ℕ → Content) (opened : ℕ → Option Start) (f : ℕ) (c : Content) → PlacesAreFrames at held opened
+    → held f ≡ Free
     → ((g : Page) → is_page c g ≡ false) → is_loading c ≡ false → PlacesAreFrames at (λ n. if f == n then c else held n) opened
 put_apart at held opened f c s free no_page no_load = record {
   frames = λ g n. grind (arith, s.frames, no_page);
@@ -112,7 +115,8 @@ put_apart at held opened f c s free no_page no_load = record {
 }
 
 -- a page is added
-pub put_added : (at : Page → Place) (held : ℕ → Content) (opened : ℕ → Option Start) (f : ℕ) (a : Page) (kind : Kind) (perm : Perm) → PlacesAreFrames at held opened → held f ≡ Free → at a ≡ Absent
+pub put_added : (at : Page → Place) (held : ℕ → Content) (opened : ℕ → Option Start) (f : ℕ) (a : Page) (kind : Kind) (perm : Perm)
+    → PlacesAreFrames at held opened → held f ≡ Free → at a ≡ Absent
     → PlacesAreFrames (λ g. if same_page a g then Here f else at g) (λ n. if f == n then Holds a kind perm else held n) opened
 put_added at held opened f a kind perm s free absent = record {
   frames = λ g n. grind (arith, s.frames, same_pages);
@@ -122,7 +126,8 @@ put_added at held opened f a kind perm s free absent = record {
 }
 
 -- a page is looked at
-pub put_looked : (at : Page → Place) (held : ℕ → Content) (opened : ℕ → Option Start) (a : Page) (look : Look) → PlacesAreFrames at held opened
+pub put_looked : (at : Page → Place) (held : ℕ → Content) (opened : ℕ → Option Start) (a : Page) (look : Look)
+    → PlacesAreFrames at held opened
     → PlacesAreFrames (λ g. if same_page a g then after_look look (at g) else at g) held opened
 put_looked at held opened a look s = record {
   frames = λ g n. by_frame (same_page a g) look g n;
@@ -147,7 +152,8 @@ put_looked at held opened a look s = record {
     by_write false l g n h = h
 
 -- the write-out of a page starts
-pub put_starting : (at : Page → Place) (held : ℕ → Content) (opened : ℕ → Option Start) (f : ℕ) (a : Page) (slot : SlotAt) (v : ℕ) → PlacesAreFrames at held opened → at a ≡ Leaving f
+pub put_starting : (at : Page → Place) (held : ℕ → Content) (opened : ℕ → Option Start) (f : ℕ) (a : Page) (slot : SlotAt) (v : ℕ)
+    → PlacesAreFrames at held opened → at a ≡ Leaving f
     → PlacesAreFrames at held (λ n. if f == n then Some (record { slot = slot; version = v; loads = None }) else opened n)
 put_starting at held opened f a slot v s leaving = record {
   frames = s.frames;
@@ -165,13 +171,17 @@ put_starting at held opened f a slot v s leaving = record {
     no_loads : (g : Page) → slot_loading (at g) f ≡ None
     no_loads g = sym (s.loads g f) ∙ no_load_slot (opened f) g (s.loading f ∙ no_load)
 
-    by_write : (n : ℕ) (b : Bool) → (f == n) ≡ b → is_write_start (if b then Some (record { slot = slot; version = v; loads = None }) else opened n) ≡ true → (g : Page) × (at g ≡ Leaving n)
+    by_write : (n : ℕ) (b : Bool) → (f == n) ≡ b
+        → is_write_start (if b then Some (record { slot = slot; version = v; loads = None }) else opened n) ≡ true
+        → (g : Page) × (at g ≡ Leaving n)
     by_write n true is h = (a, leaving ∙ ap Leaving (eqb-true f n is))
     by_write n false is h = s.writes n h
 
 -- a page went out
-pub put_out : (at : Page → Place) (held : ℕ → Content) (opened : ℕ → Option Start) (f : ℕ) (a : Page) (x : Start) → PlacesAreFrames at held opened → at a ≡ Leaving f → opened f ≡ Some x
-    → PlacesAreFrames (λ g. if same_page a g then gone_to (opened f) (at g) else at g) (λ n. if f == n then Free else held n) (λ n. if f == n then None else opened n)
+pub put_out : (at : Page → Place) (held : ℕ → Content) (opened : ℕ → Option Start) (f : ℕ) (a : Page) (x : Start)
+    → PlacesAreFrames at held opened → at a ≡ Leaving f → opened f ≡ Some x
+    → PlacesAreFrames (λ g. if same_page a g then gone_to (opened f) (at g) else at g) (λ n. if f == n then Free else held n)
+    (λ n. if f == n then None else opened n)
 put_out at held opened f a x s leaving open_now = record {
   frames = λ g n. rw open_now (by_frame g n (f == n) (same_page a g) refl refl);
   loads = λ g n. rw open_now (by_load g n (f == n) (same_page a g) refl refl);
@@ -195,13 +205,15 @@ put_out at held opened f a x s leaving open_now = record {
         by_page true is = absurd (false≢true (sym other ∙ one_page (held f) a g here is))
         by_page false is = sym (s.frames g f) ∙ is
 
-    by_frame : (g : Page) (n : ℕ) (b c : Bool) → (f == n) ≡ b → same_page a g ≡ c → is_page (if b then Free else held n) g ≡ stands_in (if c then gone_to (Some x) (at g) else at g) n
+    by_frame : (g : Page) (n : ℕ) (b c : Bool) → (f == n) ≡ b → same_page a g ≡ c
+        → is_page (if b then Free else held n) g ≡ stands_in (if c then gone_to (Some x) (at g) else at g) n
     by_frame g n true true is it = refl
     by_frame g n true false is it = sym (at_same (stands_in (at g)) false f n (others g it) is)
     by_frame g n false true is it = s.frames g n ∙ ap (λ y. stands_in y n) (of_same at (Leaving f) a g leaving it) ∙ is
     by_frame g n false false is it = s.frames g n
 
-    by_load : (g : Page) (n : ℕ) (b c : Bool) → (f == n) ≡ b → same_page a g ≡ c → load_slot (if b then None else opened n) g ≡ slot_loading (if c then gone_to (Some x) (at g) else at g) n
+    by_load : (g : Page) (n : ℕ) (b c : Bool) → (f == n) ≡ b → same_page a g ≡ c
+        → load_slot (if b then None else opened n) g ≡ slot_loading (if c then gone_to (Some x) (at g) else at g) n
     by_load g n true true is it = refl
     by_load g n true false is it = sym (at_same (slot_loading (at g)) None f n (no_loads g) is)
     by_load g n false true is it = s.loads g n ∙ ap (λ y. slot_loading y n) (of_same at (Leaving f) a g leaving it)
@@ -213,8 +225,10 @@ put_out at held opened f a x s leaving open_now = record {
     by_write n false is h = let w = s.writes n h in (w.0, grind (arith, same_pages))
 
 -- a load starts
-pub put_loading : (at : Page → Place) (held : ℕ → Content) (opened : ℕ → Option Start) (f : ℕ) (a : Page) (before slot : SlotAt) (v : ℕ) → PlacesAreFrames at held opened → held f ≡ Free → at a ≡ Away before
-    → PlacesAreFrames (λ g. if same_page a g then Loading f slot else at g) (λ n. if f == n then IsLoading else held n) (λ n. if f == n then Some (record { slot = slot; version = v; loads = Some a }) else opened n)
+pub put_loading : (at : Page → Place) (held : ℕ → Content) (opened : ℕ → Option Start) (f : ℕ) (a : Page) (before slot : SlotAt) (v : ℕ)
+    → PlacesAreFrames at held opened → held f ≡ Free → at a ≡ Away before
+    → PlacesAreFrames (λ g. if same_page a g then Loading f slot else at g) (λ n. if f == n then IsLoading else held n)
+    (λ n. if f == n then Some (record { slot = slot; version = v; loads = Some a }) else opened n)
 put_loading at held opened f a before slot v s free away = record {
   frames = λ g n. grind (arith, s.frames, same_pages);
   loads = λ g n. grind (arith, s.loads, no_loads, same_pages);
@@ -225,14 +239,17 @@ put_loading at held opened f a before slot v s free away = record {
     no_loads : (g : Page) → slot_loading (at g) f ≡ None
     no_loads g = sym (s.loads g f) ∙ no_load_slot (opened f) g (s.loading f ∙ ap is_loading free)
 
-    by_write : (n : ℕ) (b : Bool) → (f == n) ≡ b → is_write_start (if b then Some (record { slot = slot; version = v; loads = Some a }) else opened n) ≡ true
+    by_write : (n : ℕ) (b : Bool) → (f == n) ≡ b
+        → is_write_start (if b then Some (record { slot = slot; version = v; loads = Some a }) else opened n) ≡ true
         → (g : Page) × ((if same_page a g then Loading f slot else at g) ≡ Leaving n)
     by_write n true is h = cc
     by_write n false is h = let w = s.writes n h in (w.0, grind (arith, same_pages))
 
 -- a page came back
-pub put_back : (at : Page → Place) (held : ℕ → Content) (opened : ℕ → Option Start) (f : ℕ) (a : Page) (slot : SlotAt) (kind : Kind) (perm : Perm) → PlacesAreFrames at held opened → at a ≡ Loading f slot
-    → PlacesAreFrames (λ g. if same_page a g then Here f else at g) (λ n. if f == n then Holds a kind perm else held n) (λ n. if f == n then None else opened n)
+pub put_back : (at : Page → Place) (held : ℕ → Content) (opened : ℕ
+    → Option Start) (f : ℕ) (a : Page) (slot : SlotAt) (kind : Kind) (perm : Perm) → PlacesAreFrames at held opened → at a ≡ Loading f slot
+    → PlacesAreFrames (λ g. if same_page a g then Here f else at g) (λ n. if f == n then Holds a kind perm else held n)
+    (λ n. if f == n then None else opened n)
 put_back at held opened f a slot kind perm s loading = record {
   frames = λ g n. by_frame g n (f == n) (same_page a g) refl refl;
   loads = λ g n. by_load g n (f == n) (same_page a g) refl refl;
@@ -249,25 +266,30 @@ put_back at held opened f a slot kind perm s loading = record {
     no_loads : (g : Page) → same_page a g ≡ false → slot_loading (at g) f ≡ None
     no_loads g other = sym (s.loads g f) ∙ loads_no_other (opened f) a g slot load other
 
-    by_frame : (g : Page) (n : ℕ) (b c : Bool) → (f == n) ≡ b → same_page a g ≡ c → is_page (if b then Holds a kind perm else held n) g ≡ stands_in (if c then Here f else at g) n
+    by_frame : (g : Page) (n : ℕ) (b c : Bool) → (f == n) ≡ b → same_page a g ≡ c
+        → is_page (if b then Holds a kind perm else held n) g ≡ stands_in (if c then Here f else at g) n
     by_frame g n true true is it = it ∙ sym is
     by_frame g n true false is it = it ∙ sym (at_same (stands_in (at g)) false f n (no_pages g) is)
     by_frame g n false true is it = s.frames g n ∙ ap (λ y. stands_in y n) (of_same at (Loading f slot) a g loading it) ∙ sym is
     by_frame g n false false is it = s.frames g n
 
-    by_load : (g : Page) (n : ℕ) (b c : Bool) → (f == n) ≡ b → same_page a g ≡ c → load_slot (if b then None else opened n) g ≡ slot_loading (if c then Here f else at g) n
+    by_load : (g : Page) (n : ℕ) (b c : Bool) → (f == n) ≡ b → same_page a g ≡ c
+        → load_slot (if b then None else opened n) g ≡ slot_loading (if c then Here f else at g) n
     by_load g n true true is it = refl
     by_load g n true false is it = sym (at_same (slot_loading (at g)) None f n (no_loads g it) is)
     by_load g n false true is it = s.loads g n ∙ ap (λ y. slot_loading y n) (of_same at (Loading f slot) a g loading it) ∙ rw is refl
     by_load g n false false is it = s.loads g n
 
-    by_write : (n : ℕ) (b : Bool) → (f == n) ≡ b → is_write_start (if b then None else opened n) ≡ true → (g : Page) × ((if same_page a g then Here f else at g) ≡ Leaving n)
+    by_write : (n : ℕ) (b : Bool) → (f == n) ≡ b → is_write_start (if b then None else opened n) ≡ true
+        → (g : Page) × ((if same_page a g then Here f else at g) ≡ Leaving n)
     by_write n true is h = cc
     by_write n false is h = let w = s.writes n h in (w.0, grind (arith, same_pages))
 
 -- a reload was refused
-pub put_refused : (at : Page → Place) (held : ℕ → Content) (opened : ℕ → Option Start) (f : ℕ) (a : Page) (slot : SlotAt) → PlacesAreFrames at held opened → at a ≡ Loading f slot
-    → PlacesAreFrames (λ g. if is_load_of (opened f) g then back_to (at g) else at g) (λ n. if f == n then Free else held n) (λ n. if f == n then None else opened n)
+pub put_refused : (at : Page → Place) (held : ℕ → Content) (opened : ℕ → Option Start) (f : ℕ) (a : Page) (slot : SlotAt)
+    → PlacesAreFrames at held opened → at a ≡ Loading f slot
+    → PlacesAreFrames (λ g. if is_load_of (opened f) g then back_to (at g) else at g) (λ n. if f == n then Free else held n)
+    (λ n. if f == n then None else opened n)
 put_refused at held opened f a slot s loading = record {
   frames = λ g n. rw (loads_one (opened f) a g slot load) (by_frame g n (f == n) (same_page a g) refl refl);
   loads = λ g n. rw (loads_one (opened f) a g slot load) (by_load g n (f == n) (same_page a g) refl refl);
@@ -284,16 +306,22 @@ put_refused at held opened f a slot s loading = record {
     no_loads : (g : Page) → same_page a g ≡ false → slot_loading (at g) f ≡ None
     no_loads g other = sym (s.loads g f) ∙ loads_no_other (opened f) a g slot load other
 
-    by_frame : (g : Page) (n : ℕ) (b c : Bool) → (f == n) ≡ b → same_page a g ≡ c → is_page (if b then Free else held n) g ≡ stands_in (if c then back_to (at g) else at g) n
+    by_frame : (g : Page) (n : ℕ) (b c : Bool) → (f == n) ≡ b → same_page a g ≡ c
+        → is_page (if b then Free else held n) g ≡ stands_in (if c then back_to (at g) else at g) n
     by_frame g n true true is it = sym (ap (λ y. stands_in (back_to y) n) (of_same at (Loading f slot) a g loading it))
     by_frame g n true false is it = sym (at_same (stands_in (at g)) false f n (no_pages g) is)
-    by_frame g n false true is it = s.frames g n ∙ ap (λ y. stands_in y n) (of_same at (Loading f slot) a g loading it) ∙ sym (ap (λ y. stands_in (back_to y) n) (of_same at (Loading f slot) a g loading it))
+    by_frame g n false true is it =
+        s.frames g n ∙ ap (λ y. stands_in y n) (of_same at (Loading f slot) a g loading it) ∙ sym
+        (ap (λ y. stands_in (back_to y) n) (of_same at (Loading f slot) a g loading it))
     by_frame g n false false is it = s.frames g n
 
-    by_load : (g : Page) (n : ℕ) (b c : Bool) → (f == n) ≡ b → same_page a g ≡ c → load_slot (if b then None else opened n) g ≡ slot_loading (if c then back_to (at g) else at g) n
+    by_load : (g : Page) (n : ℕ) (b c : Bool) → (f == n) ≡ b → same_page a g ≡ c
+        → load_slot (if b then None else opened n) g ≡ slot_loading (if c then back_to (at g) else at g) n
     by_load g n true true is it = sym (ap (λ y. slot_loading (back_to y) n) (of_same at (Loading f slot) a g loading it))
     by_load g n true false is it = sym (at_same (slot_loading (at g)) None f n (no_loads g it) is)
-    by_load g n false true is it = s.loads g n ∙ ap (λ y. slot_loading y n) (of_same at (Loading f slot) a g loading it) ∙ rw is refl ∙ sym (ap (λ y. slot_loading (back_to y) n) (of_same at (Loading f slot) a g loading it))
+    by_load g n false true is it =
+        s.loads g n ∙ ap (λ y. slot_loading y n) (of_same at (Loading f slot) a g loading it) ∙ rw is refl ∙ sym
+        (ap (λ y. slot_loading (back_to y) n) (of_same at (Loading f slot) a g loading it))
     by_load g n false false is it = s.loads g n
 
     by_write : (n : ℕ) (b : Bool) → (f == n) ≡ b → is_write_start (if b then None else opened n) ≡ true

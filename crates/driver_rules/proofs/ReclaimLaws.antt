@@ -45,7 +45,8 @@ leaving_next : (past : List Entry) (g : Page) (f : ℕ) (to : ℕ → Due) (ev :
 leaving_next past g f to ev at next = subst (λ p. IsNext (in_frame g (frame_leaving p) to) ev) (sym at) next
 
 try_next : (past : List Entry) (g : Page) (ev : Event) → IsInTries past g ev → IsTry ev → IsNext (leaving_due past g TriesOut) ev
-try_next past g (Did (actions.EwbStart f slot) answer) at kick = leaving_next past g f.0 TriesOut (Did (actions.EwbStart f slot) answer) at refl
+try_next past g (Did (actions.EwbStart f slot) answer) at kick =
+    leaving_next past g f.0 TriesOut (Did (actions.EwbStart f slot) answer) at refl
 try_next past g (Refused (actions.EwbStart f slot) why.VersionSpent) at kick =
     leaving_next past g f.0 TriesOut (Refused (actions.EwbStart f slot) why.VersionSpent) at refl
 try_next past g (Refused (actions.EwbStart f slot) (why.NotTracked epoch older)) at kick =
@@ -53,7 +54,8 @@ try_next past g (Refused (actions.EwbStart f slot) (why.NotTracked epoch older))
 try_next past g _ at kick = absurd kick
 
 last_next : (past : List Entry) (g : Page) (ev : Event) → IsInTries past g ev → IsLastTry ev → IsNext (leaving_due past g TriesOut) ev
-last_next past g (Did (actions.EwbStart f slot) answer) at kick = leaving_next past g f.0 TriesOut (Did (actions.EwbStart f slot) answer) at refl
+last_next past g (Did (actions.EwbStart f slot) answer) at kick =
+    leaving_next past g f.0 TriesOut (Did (actions.EwbStart f slot) answer) at refl
 last_next past g (Refused (actions.EwbStart f slot) why.VersionSpent) at kick =
     leaving_next past g f.0 TriesOut (Refused (actions.EwbStart f slot) why.VersionSpent) at refl
 last_next past g _ at kick = absurd kick
@@ -64,7 +66,8 @@ kick_next : (past : List Entry) (g : Page) (all : List ℕ) (ev : Event) → IsI
 kick_next past g [] ev at kick = (true, inl (last_next past g ev at kick))
 kick_next past g (p ∷ ps) ev at kick = (false, inl kick)
 
-third_next : (past : List Entry) (g : Page) (all : List ℕ) (ev : Event) → IsInTries past g ev → IsLastTry ev → Allowed (third_due past g all) ev
+third_next : (past : List Entry) (g : Page) (all : List ℕ) (ev : Event) → IsInTries past g ev → IsLastTry ev
+    → Allowed (third_due past g all) ev
 third_next past g [] ev at kick = inl (last_next past g ev at kick)
 third_next past g (p ∷ ps) ev at kick = inr (waits.Older g.enclave (length (p ∷ ps)), refl)
 
@@ -90,7 +93,8 @@ pass_next j past (Between true) (Age page look) at within kick = (false, by_held
     by_held true = inr (waits.AllHeld, refl)
     by_held false = inl (look_next j past (head_of (active past)) page look at.head at.told)
 pass_next j past (Between false) (Age page look) at within kick = cc
-pass_next j past (Scan left taken) (Age page look) at within kick = (false, inl (look_next j past (head_of (active past)) page look at.head at.told))
+pass_next j past (Scan left taken) (Age page look) at within kick =
+    (false, inl (look_next j past (head_of (active past)) page look at.head at.told))
 pass_next j past (Blocking [] taken) (Did (actions.Block f) answer) at within kick = absurd within
 pass_next j past (Blocking (g ∷ gs) taken) (Did (actions.Block f) answer) at within kick =
     (false, inl (leaving_next past g f.0 (λ n. Makes (actions.Block (frame_at n))) (Did (actions.Block f) answer) within refl))
@@ -99,7 +103,8 @@ pass_next j past _ ev at within kick = absurd within
 
 pub due_of_rules : (j : JobView) (past : List Entry) (ev : Event) → AgeRule j past (record { actor = actors.Reclaimer; event = ev })
     → KickRule j past (record { actor = actors.Reclaimer; event = ev })
-    → (is_kicked : Bool) × (IsNext (pass_due j past is_kicked (pass j past)) ev ⊎ (reason : Why) × (pass_due j past is_kicked (pass j past) ≡ Waits reason))
+    → (is_kicked : Bool) × (IsNext (pass_due j past is_kicked (pass j past)) ev ⊎ (reason : Why) ×
+    (pass_due j past is_kicked (pass j past) ≡ Waits reason))
 due_of_rules j past ev age kick = pass_next j past (pass j past) ev age.look age.in_pass kick.form
 
 -- ---- an entry that is due keeps the rules
@@ -110,10 +115,15 @@ Keeps j past p ev = LookOf j past actors.Reclaimer ev × InPass past p ev × For
 look_keeps : (j : JobView) (past : List Entry) (o : Option Page) (ev : Event) → head_of (active past) ≡ o → IsNext (look_at j past o) ev
     → (page : Page) × (look : Look) × (ev ≡ Age page look) × IsLookAt j past page look
 look_keeps j past None ev is next = absurd next
-look_keeps j past (Some g) (Age page look) is next = (page, look, refl, record {
-  head = is ∙ ap Some (sym next.0);
-  told = subst (λ x. is_look (is_held j past x) (is_young past x) look ≡ true) (sym next.0) next.1;
-})
+look_keeps j past (Some g) (Age page look) is next = (
+  page,
+  look,
+  refl,
+  record {
+    head = is ∙ ap Some (sym next.0);
+    told = subst (λ x. is_look (is_held j past x) (is_young past x) look ≡ true) (sym next.0) next.1;
+  },
+)
 look_keeps j past (Some g) (Did action answer) is next = absurd next
 look_keeps j past (Some g) (Refused action refusal) is next = absurd next
 look_keeps j past (Some g) (Kick cpu) is next = absurd next
@@ -135,7 +145,8 @@ record IsStarted (past : List Entry) (g : Page) (ev : Event) : Type 0 where
   is : ev ≡ Did (actions.EwbStart frame slot) answer
   leaving : place past g ≡ Leaving frame.0
 
-try_starts : (past : List Entry) (g : Page) (ev : Event) → is_refused ev ≡ false → IsNext (leaving_due past g TriesOut) ev → IsStarted past g ev
+try_starts : (past : List Entry) (g : Page) (ev : Event) → is_refused ev ≡ false → IsNext (leaving_due past g TriesOut) ev
+    → IsStarted past g ev
 try_starts past g ev taken next = by_event ev taken (leaving_is g (place past g) TriesOut ev next)
   where
     by_event : (x : Event) → is_refused x ≡ false → (f : ℕ) × (place past g ≡ Leaving f) × IsNext (TriesOut f) x → IsStarted past g x
@@ -153,7 +164,8 @@ done_is action (Kick cpu) fine same = cc
 done_is action (Bus page reason) fine same = cc
 
 started_keeps : (j : JobView) (past : List Entry) (g : Page) (rest : List Page) (form : Form) (ev : Event)
-    → ((frame : Frame) (slot : SlotAt) (answer : Answer) → InForm past g form (Did (actions.EwbStart frame slot) answer)) → IsStarted past g ev
+    → ((frame : Frame) (slot : SlotAt) (answer : Answer) → InForm past g form (Did (actions.EwbStart frame slot) answer))
+    → IsStarted past g ev
     → Keeps j past (Tries g rest form) ev
 started_keeps j past g rest form ev fits s =
     subst (Keeps j past (Tries g rest form)) (sym s.is) (tt, s.leaving, fits s.frame s.slot s.answer)
@@ -167,7 +179,8 @@ kicks_keep j past g rest form (p ∷ ps) (Refused action refusal) fits next = ab
 kicks_keep j past g rest form (p ∷ ps) (Age page look) fits next = absurd next
 kicks_keep j past g rest form (p ∷ ps) (Bus page reason) fits next = absurd next
 
-to_kick_keeps : (j : JobView) (past : List Entry) (g : Page) (rest : List Page) (is_kicked : Bool) (all : List ℕ) (ev : Event) → keepers past g ≡ all
+to_kick_keeps : (j : JobView) (past : List Entry) (g : Page) (rest : List Page) (is_kicked : Bool) (all : List ℕ) (ev : Event)
+    → keepers past g ≡ all
     → is_refused ev ≡ false → IsNext (if is_kicked then third_due past g all else KicksAll all) ev → Keeps j past (Tries g rest ToKick) ev
 to_kick_keeps j past g rest true [] ev is fine next =
     started_keeps j past g rest ToKick ev (λ frame slot answer. rw is tt) (try_starts past g ev fine next)
@@ -183,7 +196,8 @@ third_keeps : (j : JobView) (past : List Entry) (g : Page) (rest : List Page) (a
 third_keeps j past g rest [] ev fine next = started_keeps j past g rest Third ev (λ frame slot answer. tt) (try_starts past g ev fine next)
 third_keeps j past g rest (p ∷ ps) ev fine next = absurd next
 
-form_keeps : (j : JobView) (past : List Entry) (g : Page) (rest : List Page) (is_kicked : Bool) (form : Form) (ev : Event) → is_refused ev ≡ false
+form_keeps : (j : JobView) (past : List Entry) (g : Page) (rest : List Page) (is_kicked : Bool) (form : Form) (ev : Event)
+    → is_refused ev ≡ false
     → IsNext (form_due past g is_kicked form) ev → Keeps j past (Tries g rest form) ev
 form_keeps j past g rest is_kicked First ev fine next =
     started_keeps j past g rest First ev (λ frame slot answer. tt) (try_starts past g ev fine next)

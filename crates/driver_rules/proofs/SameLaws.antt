@@ -125,7 +125,8 @@ kind-true _ _ h = absurd (false≢true h)
 
 init-true : (a b : PageInit) → same_init a b ≡ true → a ≡ b
 init-true (inits.Words v) (inits.Words w) h = ap inits.Words (eqb-true v w h)
-init-true (inits.Tcs o n) (inits.Tcs p m) h = let k = both_true (o == p) (n == m) h in λ i. inits.Tcs (eqb-true o p k.0 i) (eqb-true n m k.1 i)
+init-true (inits.Tcs o n) (inits.Tcs p m) h =
+    let k = both_true (o == p) (n == m) h in λ i. inits.Tcs (eqb-true o p k.0 i) (eqb-true n m k.1 i)
 init-true (inits.Words v) (inits.Tcs p m) h = cc
 init-true (inits.Tcs o n) (inits.Words w) h = cc
 
@@ -153,14 +154,18 @@ action-true (Create e f base size) (Create e' f' base' size') h =
     let m = both_true (base == base') (size == size') l.1 in
     λ i. Create (eqb-true e e' k.0 i) (frame-true f f' l.0 i) (eqb-true base base' m.0 i) (eqb-true size size' m.1 i)
 action-true (Add e n f kind perm init) (Add e' n' f' kind' perm' init') h =
-    let k = both_true (e == e') ((n == n') && ((f.0 == f'.0) && (same_kind kind kind' && (same_perm perm perm' && same_init init init')))) h in
+    let k = both_true (e == e') ((n == n') &&
+    ((f.0 == f'.0) && (same_kind kind kind' && (same_perm perm perm' && same_init init init')))) h in
     let l = both_true (n == n') ((f.0 == f'.0) && (same_kind kind kind' && (same_perm perm perm' && same_init init init'))) k.1 in
     let m = both_true (f.0 == f'.0) (same_kind kind kind' && (same_perm perm perm' && same_init init init')) l.1 in
     let o = both_true (same_kind kind kind') (same_perm perm perm' && same_init init init') m.1 in
     let p = both_true (same_perm perm perm') (same_init init init') o.1 in
-    λ i. Add (eqb-true e e' k.0 i) (eqb-true n n' l.0 i) (frame-true f f' m.0 i) (kind-true kind kind' o.0 i) (perm-true perm perm' p.0 i) (init-true init init' p.1 i)
-action-true (Extend f c) (Extend f' c') h = let k = both_true (f.0 == f'.0) (c == c') h in λ i. Extend (frame-true f f' k.0 i) (eqb-true c c' k.1 i)
-action-true (Init e x) (Init e' x') h = let k = both_true (e == e') (same_digest x x') h in λ i. Init (eqb-true e e' k.0 i) (digest-true x x' k.1 i)
+    λ i. Add (eqb-true e e' k.0 i) (eqb-true n n' l.0 i) (frame-true f f' m.0 i) (kind-true kind kind' o.0 i) (perm-true perm perm' p.0 i)
+    (init-true init init' p.1 i)
+action-true (Extend f c) (Extend f' c') h =
+    let k = both_true (f.0 == f'.0) (c == c') h in λ i. Extend (frame-true f f' k.0 i) (eqb-true c c' k.1 i)
+action-true (Init e x) (Init e' x') h =
+    let k = both_true (e == e') (same_digest x x') h in λ i. Init (eqb-true e e' k.0 i) (digest-true x x' k.1 i)
 action-true (Enter e t tf sf) (Enter e' t' tf' sf') h =
     let k = both_true (e == e') ((t == t') && ((tf.0 == tf'.0) && (sf.0 == sf'.0))) h in
     let l = both_true (t == t') ((tf.0 == tf'.0) && (sf.0 == sf'.0)) k.1 in
@@ -173,21 +178,27 @@ action-true (Resume e t tf sf) (Resume e' t' tf' sf') h =
     λ i. Resume (eqb-true e e' k.0 i) (eqb-true t t' l.0 i) (frame-true tf tf' m.0 i) (frame-true sf sf' m.1 i)
 action-true Exit Exit h = refl
 action-true (Aex c) (Aex c') h = ap Aex (cause-true c c' h)
-action-true (Fill n f) (Fill n' f') h = let k = both_true (n == n') (f.0 == f'.0) h in λ i. Fill (eqb-true n n' k.0 i) (frame-true f f' k.1 i)
+action-true (Fill n f) (Fill n' f') h =
+    let k = both_true (n == n') (f.0 == f'.0) h in λ i. Fill (eqb-true n n' k.0 i) (frame-true f f' k.1 i)
 action-true (Load off) (Load off') h = ap Load (eqb-true off off' h)
-action-true (Store off v) (Store off' v') h = let k = both_true (off == off') (v == v') h in λ i. Store (eqb-true off off' k.0 i) (eqb-true v v' k.1 i)
-action-true (Xadd off v) (Xadd off' v') h = let k = both_true (off == off') (v == v') h in λ i. Xadd (eqb-true off off' k.0 i) (eqb-true v v' k.1 i)
+action-true (Store off v) (Store off' v') h =
+    let k = both_true (off == off') (v == v') h in λ i. Store (eqb-true off off' k.0 i) (eqb-true v v' k.1 i)
+action-true (Xadd off v) (Xadd off' v') h =
+    let k = both_true (off == off') (v == v') h in λ i. Xadd (eqb-true off off' k.0 i) (eqb-true v v' k.1 i)
 action-true (Set v) (Set v') h = ap Set (eqb-true v v' h)
 action-true (Plus v) (Plus v') h = ap Plus (eqb-true v v' h)
-action-true (Pf op off) (Pf op' off') h = let k = both_true (same_access op op') (off == off') h in λ i. Pf (access-true op op' k.0 i) (eqb-true off off' k.1 i)
-action-true (OutLoad e off) (OutLoad e' off') h = let k = both_true (e == e') (off == off') h in λ i. OutLoad (eqb-true e e' k.0 i) (eqb-true off off' k.1 i)
+action-true (Pf op off) (Pf op' off') h =
+    let k = both_true (same_access op op') (off == off') h in λ i. Pf (access-true op op' k.0 i) (eqb-true off off' k.1 i)
+action-true (OutLoad e off) (OutLoad e' off') h =
+    let k = both_true (e == e') (off == off') h in λ i. OutLoad (eqb-true e e' k.0 i) (eqb-true off off' k.1 i)
 action-true (OutStore e off v) (OutStore e' off' v') h =
     let k = both_true (e == e') ((off == off') && (v == v')) h in
     let l = both_true (off == off') (v == v') k.1 in
     λ i. OutStore (eqb-true e e' k.0 i) (eqb-true off off' l.0 i) (eqb-true v v' l.1 i)
 action-true (Block f) (Block f') h = ap Block (frame-true f f' h)
 action-true (Track e) (Track e') h = ap Track (eqb-true e e' h)
-action-true (EwbStart f slot) (EwbStart f' slot') h = let k = both_true (f.0 == f'.0) (same_slot slot slot') h in λ i. EwbStart (frame-true f f' k.0 i) (same_slots slot slot' k.1 i)
+action-true (EwbStart f slot) (EwbStart f' slot') h =
+    let k = both_true (f.0 == f'.0) (same_slot slot slot') h in λ i. EwbStart (frame-true f f' k.0 i) (same_slots slot slot' k.1 i)
 action-true (Ewb f) (Ewb f') h = ap Ewb (frame-true f f' h)
 action-true (EldStart f page slot) (EldStart f' page' slot') h =
     let k = both_true (f.0 == f'.0) (same_page page page' && same_slot slot slot') h in

@@ -36,7 +36,8 @@ entry_of actor event = record { actor = actor; event = event }
 
 -- ---- entries that take a frame for something else than a page
 
-pub sound_epa : (past : List Entry) (a : Actor) (f : Frame) (answer : Answer) → CanMove past (Did (Epa f) answer) → IsSound past → IsSound (entry_of a (Did (Epa f) answer) ∷ past)
+pub sound_epa : (past : List Entry) (a : Actor) (f : Frame) (answer : Answer) → CanMove past (Did (Epa f) answer) → IsSound past
+    → IsSound (entry_of a (Did (Epa f) answer) ∷ past)
 sound_epa past a f answer free s = record {
   places = put_apart (place past) (content past) (open_start past) f.0 IsVa s.places free (λ g. refl) refl;
   list = s.list;
@@ -45,7 +46,8 @@ sound_epa past a f answer free s = record {
   added = s.added;
 }
 
-pub sound_create : (past : List Entry) (a : Actor) (e : ℕ) (f : Frame) (base size : ℕ) (answer : Answer) → CanMove past (Did (Create e f base size) answer) → IsSound past → IsSound (entry_of a (Did (Create e f base size) answer) ∷ past)
+pub sound_create : (past : List Entry) (a : Actor) (e : ℕ) (f : Frame) (base size : ℕ) (answer : Answer)
+    → CanMove past (Did (Create e f base size) answer) → IsSound past → IsSound (entry_of a (Did (Create e f base size) answer) ∷ past)
 sound_create past a e f base size answer free s = record {
   places = put_apart (place past) (content past) (open_start past) f.0 (SecsOf e) s.places free (λ g. refl) refl;
   list = s.list;
@@ -56,17 +58,21 @@ sound_create past a e f base size answer free s = record {
 
 -- ---- a page is added
 
-pub sound_add : (past : List Entry) (a : Actor) (e n : ℕ) (f : Frame) (kind : Kind) (perm : Perm) (init : PageInit) (answer : Answer) → CanMove past (Did (Add e n f kind perm init) answer) → IsSound past
+pub sound_add : (past : List Entry) (a : Actor) (e n : ℕ) (f : Frame) (kind : Kind) (perm : Perm) (init : PageInit) (answer : Answer)
+    → CanMove past (Did (Add e n f kind perm init) answer) → IsSound past
     → IsSound (entry_of a (Did (Add e n f kind perm init) answer) ∷ past)
 sound_add past a e n f kind perm init answer can s = record {
   places = put_added (place past) (content past) (open_start past) f.0 (page_at e n) kind perm s.places can.0 can.1;
   list = list_longer (active past) (place past) (page_at e n) f.0 s.list (ap is_here can.1);
   apart = apart_here (place past) (open_start past) (page_at e n) f.0 s.apart;
-  versions = versions_less (place past) (λ g. if same_page (page_at e n) g then Here f.0 else place past g) (last_out past) (version_in past) s.versions (outside_here (place past) (page_at e n) f.0);
+  versions =
+      versions_less (place past) (λ g. if same_page (page_at e n) g then Here f.0 else place past g) (last_out past)
+      (version_in past) s.versions (outside_here (place past) (page_at e n) f.0);
   added = λ g. by_page g (same_page (page_at e n) g);
 }
   where
-    by_page : (g : Page) (b : Bool) → is_some (if b then Some (kind, perm) else added past g) ≡ not (is_absent (if b then Here f.0 else place past g))
+    by_page : (g : Page) (b : Bool)
+        → is_some (if b then Some (kind, perm) else added past g) ≡ not (is_absent (if b then Here f.0 else place past g))
     by_page g true = refl
     by_page g false = s.added g
 
@@ -81,9 +87,11 @@ frame_of_here (Loading f slot) h = cc
 frame_of_here (Away slot) h = cc
 
 -- the head of the list is here
-pub head_here : (pages : List Page) (at : Page → Place) (a : Page) → ListIsHere pages at → head_of pages ≡ Some a → (f : ℕ) × (at a ≡ Here f)
+pub head_here : (pages : List Page) (at : Page → Place) (a : Page) → ListIsHere pages at → head_of pages ≡ Some a
+    → (f : ℕ) × (at a ≡ Here f)
 head_here [] at a h head = cc
-head_here (x ∷ xs) at a h head = frame_of_here (at a) (here (is_here (at a)) (subst (λ y. (if same_page y a then 1 else 0) + times xs a ≡ once_here (at a)) same (h a)))
+head_here (x ∷ xs) at a h head =
+    frame_of_here (at a) (here (is_here (at a)) (subst (λ y. (if same_page y a then 1 else 0) + times xs a ≡ once_here (at a)) same (h a)))
   where
     same : x ≡ a
     same = cc
@@ -103,14 +111,19 @@ same_either : {X : Type 0} (b : Bool) (x : X) → (if b then x else x) ≡ x
 same_either true x = refl
 same_either false x = refl
 
-sound_taken : (past : List Entry) (a : Actor) (page : Page) → head_of (active past) ≡ Some page → IsSound past → IsSound (entry_of a (Age page looks.Taken) ∷ past)
+sound_taken : (past : List Entry) (a : Actor) (page : Page) → head_of (active past) ≡ Some page → IsSound past
+    → IsSound (entry_of a (Age page looks.Taken) ∷ past)
 sound_taken past a page head s =
     let here = head_here (active past) (place past) page s.list head in
     record {
       places = put_looked (place past) (content past) (open_start past) page looks.Taken s.places;
       list = list_shorter (active past) (place past) page s.list head;
-      apart = apart_taken (place past) (open_start past) page here.0 s.apart here.1 (none_open (place past) (content past) (open_start past) page here.0 s.places here.1);
-      versions = versions_less (place past) (λ g. if same_page page g then leaves (place past g) else place past g) (last_out past) (version_in past) s.versions (outside_taken (place past) page);
+      apart =
+          apart_taken (place past) (open_start past) page here.0 s.apart here.1
+          (none_open (place past) (content past) (open_start past) page here.0 s.places here.1);
+      versions =
+          versions_less (place past) (λ g. if same_page page g then leaves (place past g) else place past g) (last_out past)
+          (version_in past) s.versions (outside_taken (place past) page);
       added = λ g. by_page g (same_page page g);
     }
   where
@@ -119,12 +132,15 @@ sound_taken past a page head s =
     by_page g false = s.added g
 
 -- another look leaves places as they are
-sound_turned : (past : List Entry) (a : Actor) (page : Page) (look : Look) → ((p : Place) → after_look look p ≡ p) → active (entry_of a (Age page look) ∷ past) ≡ to_tail (active past) → IsSound past
+sound_turned : (past : List Entry) (a : Actor) (page : Page) (look : Look) → ((p : Place) → after_look look p ≡ p)
+    → active (entry_of a (Age page look) ∷ past) ≡ to_tail (active past) → IsSound past
     → IsSound (entry_of a (Age page look) ∷ past)
 sound_turned past a page look keeps turned s = record {
   places = put_looked (place past) (content past) (open_start past) page look s.places;
   list = λ g. ap (λ pages. times pages g) turned ∙ list_turned (active past) (place past) s.list g ∙ ap once_here (sym (same g));
-  apart = λ g h slot at_g at_h. s.apart g h slot (sym (ap (slot_at (open_start past)) (same g)) ∙ at_g) (sym (ap (slot_at (open_start past)) (same h)) ∙ at_h);
+  apart =
+      λ g h slot at_g at_h. s.apart g h slot (sym (ap (slot_at (open_start past)) (same g)) ∙ at_g)
+      (sym (ap (slot_at (open_start past)) (same h)) ∙ at_h);
   versions = λ g slot k. s.versions g slot (sym (ap slot_outside (same g)) ∙ k);
   added = λ g. s.added g ∙ ap (λ p. not (is_absent p)) (sym (same g));
 }
@@ -136,7 +152,8 @@ sound_turned past a page look keeps turned s = record {
         by_page true = keeps (place past g)
         by_page false = refl
 
-pub sound_age : (past : List Entry) (a : Actor) (page : Page) (look : Look) → CanMove past (Age page look) → IsSound past → IsSound (entry_of a (Age page look) ∷ past)
+pub sound_age : (past : List Entry) (a : Actor) (page : Page) (look : Look) → CanMove past (Age page look) → IsSound past
+    → IsSound (entry_of a (Age page look) ∷ past)
 sound_age past a page looks.Taken head s = sound_taken past a page head s
 sound_age past a page looks.Young head s = sound_turned past a page looks.Young (λ p. refl) refl s
 sound_age past a page looks.Held head s = sound_turned past a page looks.Held (λ p. refl) refl s
@@ -144,17 +161,20 @@ sound_age past a page looks.NoRoom head s = sound_turned past a page looks.NoRoo
 
 -- ---- a page goes out
 
-pub sound_ewbstart : (past : List Entry) (a : Actor) (f : Frame) (slot : SlotAt) (answer : Answer) → CanMove past (Did (EwbStart f slot) answer) → IsSound past → IsSound (entry_of a (Did (EwbStart f slot) answer) ∷ past)
+pub sound_ewbstart : (past : List Entry) (a : Actor) (f : Frame) (slot : SlotAt) (answer : Answer)
+    → CanMove past (Did (EwbStart f slot) answer) → IsSound past → IsSound (entry_of a (Did (EwbStart f slot) answer) ∷ past)
 sound_ewbstart past a f slot answer can s = record {
   places = put_starting (place past) (content past) (open_start past) f.0 can.0.0 slot (version_told answer) s.places can.0.1;
   list = s.list;
-  apart = apart_starting (place past) (content past) (open_start past) f.0 can.0.0 slot (version_told answer) s.places can.0.1 can.1 s.apart;
+  apart =
+      apart_starting (place past) (content past) (open_start past) f.0 can.0.0 slot (version_told answer) s.places can.0.1 can.1 s.apart;
   versions = s.versions;
   added = s.added;
 }
 
 -- what is so of a page and of where it goes is so of each page
-by_same : (at : Page → Place) (to : Place → Place) (a : Page) (p : Place) {X : Type 0} (of : Place → X) → at a ≡ p → of (to p) ≡ of p → (g : Page) → of (if same_page a g then to (at g) else at g) ≡ of (at g)
+by_same : (at : Page → Place) (to : Place → Place) (a : Page) (p : Place) {X : Type 0} (of : Place → X) → at a ≡ p → of (to p) ≡ of p
+    → (g : Page) → of (if same_page a g then to (at g) else at g) ≡ of (at g)
 by_same at to a p of here kept g = by_page (same_page a g) refl
   where
     by_page : (b : Bool) → same_page a g ≡ b → of (if b then to (at g) else at g) ≡ of (at g)
@@ -165,34 +185,49 @@ by_same at to a p of here kept g = by_page (same_page a g) refl
 pub named : (past : List Entry) (n : ℕ) (x : Start) → open_start past n ≡ Some x → open_slot past n ≡ Some x.slot
 named past n x now = ap slot_of_start now
 
-pub sound_ewb : (past : List Entry) (a : Actor) (f : Frame) (page : Page) (version : ℕ) (tag : List ℕ) → CanMove past (Did (Ewb f) (Moved page version tag)) → IsSound past
+pub sound_ewb : (past : List Entry) (a : Actor) (f : Frame) (page : Page) (version : ℕ) (tag : List ℕ)
+    → CanMove past (Did (Ewb f) (Moved page version tag)) → IsSound past
     → IsSound (entry_of a (Did (Ewb f) (Moved page version tag)) ∷ past)
 sound_ewb past a f page version tag can s =
     let x = can.1.0 in
     let now = can.1.1 in
     record {
       places = put_out (place past) (content past) (open_start past) f.0 page x s.places can.0 now;
-      list = list_same (active past) (place past) (λ g. if same_page page g then gone_to (open_start past f.0) (place past g) else place past g) s.list
-          (by_same (place past) (gone_to (open_start past f.0)) page (Leaving f.0) is_here can.0 (ap (λ o. is_here (gone_to o (Leaving f.0))) now));
+      list =
+          list_same (active past) (place past) (λ g. if same_page page g then gone_to (open_start past f.0)
+          (place past g) else place past g) s.list
+          (by_same (place past) (gone_to (open_start past f.0)) page (Leaving f.0) is_here can.0
+          (ap (λ o. is_here (gone_to o (Leaving f.0))) now));
       apart = apart_out (place past) (open_start past) f.0 page x can.0 now s.apart;
-      versions = versions_out (place past) (open_start past) (last_out past) (version_in past) f.0 page x (open_slot past f.0) version tag can.0 now (named past f.0 x now) s.apart s.versions;
-      added = λ g. s.added g ∙ ap not (sym (by_same (place past) (gone_to (open_start past f.0)) page (Leaving f.0) is_absent can.0 (ap (λ o. is_absent (gone_to o (Leaving f.0))) now) g));
+      versions =
+          versions_out (place past) (open_start past) (last_out past) (version_in past) f.0 page x
+          (open_slot past f.0) version tag can.0 now (named past f.0 x now) s.apart s.versions;
+      added =
+          λ g. s.added g ∙ ap not (sym
+          (by_same (place past) (gone_to (open_start past f.0)) page (Leaving f.0) is_absent can.0
+          (ap (λ o. is_absent (gone_to o (Leaving f.0))) now) g));
     }
 
 -- ---- a page comes back
 
-pub sound_eldstart : (past : List Entry) (a : Actor) (f : Frame) (page : Page) (slot : SlotAt) (answer : Answer) → CanMove past (Did (EldStart f page slot) answer) → IsSound past
+pub sound_eldstart : (past : List Entry) (a : Actor) (f : Frame) (page : Page) (slot : SlotAt) (answer : Answer)
+    → CanMove past (Did (EldStart f page slot) answer) → IsSound past
     → IsSound (entry_of a (Did (EldStart f page slot) answer) ∷ past)
 sound_eldstart past a f page slot answer can s = record {
   places = put_loading (place past) (content past) (open_start past) f.0 page slot slot (version_told answer) s.places can.0 can.1;
-  list = list_same (active past) (place past) (λ g. if same_page page g then Loading f.0 slot else place past g) s.list (by_same (place past) (λ p. Loading f.0 slot) page (Away slot) is_here can.1 refl);
+  list =
+      list_same (active past) (place past) (λ g. if same_page page g then Loading f.0 slot else place past g) s.list
+      (by_same (place past) (λ p. Loading f.0 slot) page (Away slot) is_here can.1 refl);
   apart = apart_loading (place past) (content past) (open_start past) f.0 page slot (version_told answer) s.places can.0 can.1 s.apart;
-  versions = versions_less (place past) (λ g. if same_page page g then Loading f.0 slot else place past g) (last_out past) (version_in past) s.versions (outside_loading (place past) page f.0 slot can.1);
+  versions =
+      versions_less (place past) (λ g. if same_page page g then Loading f.0 slot else place past g) (last_out past)
+      (version_in past) s.versions (outside_loading (place past) page f.0 slot can.1);
   added = λ g. s.added g ∙ ap not (sym (by_same (place past) (λ p. Loading f.0 slot) page (Away slot) is_absent can.1 refl g));
 }
 
 -- the start of a page that is loading
-pub load_start : (past : List Entry) (f : ℕ) (page : Page) (slot : SlotAt) → IsSound past → place past page ≡ Loading f slot → (x : Start) × (open_start past f ≡ Some x) × (x.slot ≡ slot)
+pub load_start : (past : List Entry) (f : ℕ) (page : Page) (slot : SlotAt) → IsSound past → place past page ≡ Loading f slot
+    → (x : Start) × (open_start past f ≡ Some x) × (x.slot ≡ slot)
 load_start past f page slot s loading = by_start (open_start past f) refl load
   where
     load : load_slot (open_start past f) page ≡ Some slot
@@ -202,7 +237,8 @@ load_start past f page slot s loading = by_start (open_start past f) refl load
     told true x k = cc
     told false x k = cc
 
-    by_start : (o : Option Start) → open_start past f ≡ o → load_slot o page ≡ Some slot → (x : Start) × (open_start past f ≡ Some x) × (x.slot ≡ slot)
+    by_start : (o : Option Start) → open_start past f ≡ o → load_slot o page ≡ Some slot
+        → (x : Start) × (open_start past f ≡ Some x) × (x.slot ≡ slot)
     by_start None now k = cc
     by_start (Some x) now k = (x, now, told (is_load_of (Some x) page) x k)
 
@@ -214,21 +250,27 @@ loaded past page h = by_kind (added past page) refl h
     by_kind None is k = cc
     by_kind (Some k) is h = (k, is)
 
-pub sound_eld : (past : List Entry) (a : Actor) (f : Frame) (page : Page) (version : ℕ) (tag : List ℕ) → CanMove past (Did (Eld f) (Moved page version tag)) → IsSound past
+pub sound_eld : (past : List Entry) (a : Actor) (f : Frame) (page : Page) (version : ℕ) (tag : List ℕ)
+    → CanMove past (Did (Eld f) (Moved page version tag)) → IsSound past
     → IsSound (entry_of a (Did (Eld f) (Moved page version tag)) ∷ past)
 sound_eld past a f page version tag can s =
     let slot = can.0 in
     let loading = can.1 in
     let start = load_start past f.0 page slot s loading in
     let kind = loaded past page (s.added page ∙ ap (λ p. not (is_absent p)) loading) in
-    let same : (λ n. if f.0 == n then Holds page kind.0.0 kind.0.1 else content past n) ≡ (λ n. if f.0 == n then reloaded page (added past page) else content past n)
+    let same : (λ n. if f.0 == n then Holds page kind.0.0 kind.0.1 else content past n) ≡
+    (λ n. if f.0 == n then reloaded page (added past page) else content past n)
     = λ i n. if f.0 == n then reloaded page (sym kind.1 i) else content past n in
     record {
-      places = subst (λ held. PlacesAreFrames (λ g. if same_page page g then Here f.0 else place past g) held (λ n. if f.0 == n then None else open_start past n)) same
+      places =
+          subst (λ held. PlacesAreFrames (λ g. if same_page page g then Here f.0 else place past g) held
+          (λ n. if f.0 == n then None else open_start past n)) same
           (put_back (place past) (content past) (open_start past) f.0 page slot kind.0.0 kind.0.1 s.places loading);
       list = list_longer (active past) (place past) page f.0 s.list (ap is_here loading);
       apart = apart_back (place past) (open_start past) f.0 page s.apart;
-      versions = versions_back (place past) (open_start past) (last_out past) (version_in past) f.0 page slot (open_slot past f.0) (ap (slot_at (open_start past)) loading)
+      versions =
+          versions_back (place past) (open_start past) (last_out past) (version_in past) f.0 page slot (open_slot past f.0)
+          (ap (slot_at (open_start past)) loading)
           (named past f.0 start.0 start.1 ∙ ap Some start.2) s.apart s.versions;
       added = λ g. s.added g ∙ ap not (sym (by_same (place past) (λ p. Here f.0) page (Loading f.0 slot) is_absent loading refl g));
     }
@@ -247,17 +289,22 @@ here-back (Leaving n) = refl
 here-back (Loading n slot) = refl
 here-back (Away slot) = refl
 
-by_either : {X : Type 0} (of : Place → X) (to : Place → Place) (b : Bool) (p : Place) → ((q : Place) → of (to q) ≡ of q) → of (if b then to p else p) ≡ of p
+by_either : {X : Type 0} (of : Place → X) (to : Place → Place) (b : Bool) (p : Place) → ((q : Place) → of (to q) ≡ of q)
+    → of (if b then to p else p) ≡ of p
 by_either of to true p kept = kept p
 by_either of to false p kept = refl
 
-pub sound_refused : (past : List Entry) (a : Actor) (f : Frame) (refusal : Refusal) → CanMove past (Refused (Eld f) refusal) → IsSound past → IsSound (entry_of a (Refused (Eld f) refusal) ∷ past)
+pub sound_refused : (past : List Entry) (a : Actor) (f : Frame) (refusal : Refusal) → CanMove past (Refused (Eld f) refusal) → IsSound past
+    → IsSound (entry_of a (Refused (Eld f) refusal) ∷ past)
 sound_refused past a f refusal can s = record {
   places = put_refused (place past) (content past) (open_start past) f.0 can.0 can.1 s.places can.2;
-  list = list_same (active past) (place past) (λ g. if is_load_of (open_start past f.0) g then back_to (place past g) else place past g) s.list
+  list =
+      list_same (active past) (place past) (λ g. if is_load_of (open_start past f.0) g then back_to (place past g) else place past g) s.list
       (λ g. by_either is_here back_to (is_load_of (open_start past f.0) g) (place past g) here-back);
   apart = apart_refused (place past) (open_start past) f.0 s.apart;
-  versions = versions_less (place past) (λ g. if is_load_of (open_start past f.0) g then back_to (place past g) else place past g) (last_out past) (version_in past) s.versions
+  versions =
+      versions_less (place past) (λ g. if is_load_of (open_start past f.0) g then back_to (place past g) else place past g) (last_out past)
+      (version_in past) s.versions
       (outside_refused (place past) (open_start past) f.0);
   added = λ g. s.added g ∙ ap not (sym (by_either is_absent back_to (is_load_of (open_start past f.0) g) (place past g) absent-back));
 }

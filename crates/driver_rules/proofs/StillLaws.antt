@@ -22,7 +22,8 @@ use Rattle.driver_rules.specs.Stages.{touches}
 -- ---- frames
 
 -- a frame holds the page that stands in it
-pub holds_here : (past : List Entry) (g : Page) (p : Place) (f : ℕ) → IsSound past → place past g ≡ p → stands_in p f ≡ true → is_page (content past f) g ≡ true
+pub holds_here : (past : List Entry) (g : Page) (p : Place) (f : ℕ) → IsSound past → place past g ≡ p → stands_in p f ≡ true
+    → is_page (content past f) g ≡ true
 holds_here past g p f s at stands = s.places.frames g f ∙ ap (λ y. stands_in y f) at ∙ stands
 
 self_eq : (f : ℕ) → (f == f) ≡ true
@@ -37,13 +38,16 @@ free_apart past g f n holds free = by_test (n == f) refl
     by_test false is = is
 
 -- the start of a page that is loading is a load's
-pub load_open : (past : List Entry) (page : Page) (n : ℕ) (slot : SlotAt) → IsSound past → place past page ≡ Loading n slot → is_load_start (open_start past n) ≡ true
+pub load_open : (past : List Entry) (page : Page) (n : ℕ) (slot : SlotAt) → IsSound past → place past page ≡ Loading n slot
+    → is_load_start (open_start past n) ≡ true
 load_open past page n slot s loading =
-    let load : load_slot (open_start past n) page ≡ Some slot = s.places.loads page n ∙ ap (λ y. slot_loading y n) loading ∙ rw (self_eq n) refl in
+    let load : load_slot (open_start past n) page ≡ Some slot =
+    s.places.loads page n ∙ ap (λ y. slot_loading y n) loading ∙ rw (self_eq n) refl in
     load_slot_is (open_start past n) page slot load
 
 -- .. and so is one that loads
-pub load_apart : (past : List Entry) (g page : Page) (f n : ℕ) (slot : SlotAt) → IsSound past → is_page (content past f) g ≡ true → place past page ≡ Loading n slot → (n == f) ≡ false
+pub load_apart : (past : List Entry) (g page : Page) (f n : ℕ) (slot : SlotAt) → IsSound past → is_page (content past f) g ≡ true
+    → place past page ≡ Loading n slot → (n == f) ≡ false
 load_apart past g page f n slot s holds loading = by_test (n == f) refl
   where
     none : is_page (content past n) g ≡ false
@@ -54,7 +58,8 @@ load_apart past g page f n slot s holds loading = by_test (n == f) refl
     by_test false is = is
 
 -- two pages that stand in frames stand in two
-pub frames_apart : (past : List Entry) (g h : Page) (p q : Place) (n m : ℕ) → IsSound past → place past g ≡ p → stands_in p n ≡ true → place past h ≡ q → stands_in q m ≡ true → same_page g h ≡ false → (n == m) ≡ false
+pub frames_apart : (past : List Entry) (g h : Page) (p q : Place) (n m : ℕ) → IsSound past → place past g ≡ p → stands_in p n ≡ true
+    → place past h ≡ q → stands_in q m ≡ true → same_page g h ≡ false → (n == m) ≡ false
 frames_apart past g h p q n m s at_g in_n at_h in_m other = by_test (n == m) refl
   where
     by_test : (b : Bool) → (n == m) ≡ b → (n == m) ≡ false
@@ -65,7 +70,8 @@ frames_apart past g h p q n m s at_g in_n at_h in_m other = by_test (n == m) ref
     by_test false is = is
 
 -- a page elsewhere is another page
-pub place_apart : (past : List Entry) (page g : Page) (p q : Place) → place past page ≡ p → place past g ≡ q → (p ≡ q → ⊥) → same_page page g ≡ false
+pub place_apart : (past : List Entry) (page g : Page) (p q : Place) → place past page ≡ p → place past g ≡ q → (p ≡ q → ⊥)
+    → same_page page g ≡ false
 place_apart past page g p q at at_g apart = by_test (same_page page g) refl
   where
     by_test : (b : Bool) → same_page page g ≡ b → same_page page g ≡ false
@@ -80,7 +86,8 @@ pub record Still (past : List Entry) (e : Entry) (g : Page) (f : ℕ) : Type 0 w
   pub block : is_blocked (e ∷ past) f ≡ is_blocked past f
   pub start : open_start (e ∷ past) f ≡ open_start past f
 
-pub still : (past : List Entry) (e : Entry) (g : Page) (f : ℕ) → IsSound past → CanMove past e.event → touches e.event f ≡ false → place past g ≡ Leaving f → Still past e g f
+pub still : (past : List Entry) (e : Entry) (g : Page) (f : ℕ) → IsSound past → CanMove past e.event → touches e.event f ≡ false
+    → place past g ≡ Leaving f → Still past e g f
 still past e g f s can calm at = by_event e.event can calm
   where
     holds : is_page (content past f) g ≡ true
@@ -110,11 +117,22 @@ still past e g f s can calm at = by_event e.event can calm
 
     by_event : (ev : Event) → CanMove past ev → touches ev f ≡ false → Still past (entry_of e.actor ev) g f
     by_event (Did (Epa n) answer) k m = record { leaving = at; block = rw (free_apart past g f n.0 holds k) refl; start = refl }
-    by_event (Did (Create enclave n base size) answer) k m = record { leaving = at; block = rw (free_apart past g f n.0 holds k) refl; start = refl }
+    by_event (Did (Create enclave n base size) answer) k m =
+        record { leaving = at; block = rw (free_apart past g f n.0 holds k) refl; start = refl }
     by_event (Did (Add enclave number n kind perm init) answer) k m =
-        record { leaving = rw (place_apart past _ g Absent (Leaving f) k.1 at absent) at; block = rw (free_apart past g f n.0 holds k.0) refl; start = refl }
+        record {
+          leaving = rw (place_apart past _ g Absent (Leaving f) k.1 at absent) at;
+          block = rw
+              (free_apart past g f n.0 holds k.0) refl;
+          start = refl;
+        }
     by_event (Did (EldStart n page slot) answer) k m =
-        record { leaving = rw (place_apart past page g (Away slot) (Leaving f) k.1 at (away slot)) at; block = rw (free_apart past g f n.0 holds k.0) refl; start = rw (free_apart past g f n.0 holds k.0) refl }
+        record {
+          leaving = rw (place_apart past page g (Away slot) (Leaving f) k.1 at (away slot)) at;
+          block = rw
+              (free_apart past g f n.0 holds k.0) refl;
+          start = rw (free_apart past g f n.0 holds k.0) refl;
+        }
     by_event (Did (Eld n) (Moved page version tag)) k m =
         record {
           leaving = rw (place_apart past page g (Loading n.0 k.0) (Leaving f) k.1 at (loads n.0 k.0)) at;
@@ -127,9 +145,20 @@ still past e g f s can calm at = by_event e.event can calm
           block = rw (load_apart past g k.0 f n.0 k.1 s holds k.2) refl;
           start = rw (load_apart past g k.0 f n.0 k.1 s holds k.2) refl;
         }
-    by_event (Age page look) k m = record { leaving = either (same_page page g) (after_look look (place past g)) (looked look (place past g) at) at; block = refl; start = refl }
+    by_event (Age page look) k m =
+        record {
+          leaving = either (same_page page g) (after_look look (place past g))
+              (looked look (place past g) at) at;
+          block = refl;
+          start = refl;
+        }
     by_event (Did (Ewb n) (Moved page version tag)) k m =
-        record { leaving = rw (place_apart past page g (Leaving n.0) (Leaving f) k.0 at (leaves n.0 m)) at; block = rw m refl; start = rw m refl }
+        record {
+          leaving = rw (place_apart past page g (Leaving n.0) (Leaving f) k.0 at
+              (leaves n.0 m)) at;
+          block = rw m refl;
+          start = rw m refl;
+        }
     by_event (Did (Block n) answer) k m = record { leaving = at; block = rw m refl; start = refl }
     by_event (Did (EwbStart n slot) answer) k m = record { leaving = at; block = refl; start = rw m refl }
     by_event (Did (Ewb n) answer) k m = absurd k

@@ -45,7 +45,7 @@ use Rattle.driver_rules.specs.declared.waits.Why.TheVariants as waits
 use Rattle.driver_rules.specs.Dues.{Due, Ends, Fetches, Finished, IsFetch, IsNext, KicksAll, LooksAt, Makes, Reports, Stopped, TriesOut, Waits, makes_or}
 use Rattle.driver_rules.specs.Stops.{is_spent}
 use Rattle.driver_rules.specs.Turns.{Fails, Last, Loads, Other, WasEnded, accesses_by, builder_due, cpu_due, due_after, early_turn, enters, fetches, fills, first_away, inside_turn, is_built, is_kicked, is_last, last_of, op_turn, outside_turn, resumes, save_frame, stay_turn, step_turn, turn_due, with_pages}
-use Rattle.driver_rules.proofs.HistoryLaws.{driven_sound}
+use Rattle.driver_rules.proofs.HistoryLaws.{driven_before, driven_sound}
 use Rattle.driver_rules.proofs.PlaceLaws.{same_page-refl}
 use Rattle.driver_rules.proofs.SoundLaws.{entry_of}
 use Rattle.driver_rules.proofs.ThreeLaws.{three_first, three_others, three_own}
@@ -53,9 +53,11 @@ use Rattle.driver_rules.proofs.ThreeLaws.{three_first, three_others, three_own}
 -- ---- an operation of a script names its page
 
 found_op : (test : Op → Bool) (ops : List Op) (n : ℕ) (op : Op) → slice_get ops n ≡ Some op → test op ≡ true → list_any test ops ≡ true
-found_op test ops n op at is = list_any_at test ops n op (slice_get_within ops n op at) (ap test (get_or_from_slice_get ops n op op at) ∙ is)
+found_op test ops n op at is =
+    list_any_at test ops n op (slice_get_within ops n op at) (ap test (get_or_from_slice_get ops n op op at) ∙ is)
 
-named_next : (j : JobView) (past : List Entry) (p : ℕ) (op : Op) (g : Page) → next_op j past p ≡ Some op → is_tcs_of op g ≡ true → names_tcs j p g ≡ true
+named_next : (j : JobView) (past : List Entry) (p : ℕ) (op : Op) (g : Page) → next_op j past p ≡ Some op → is_tcs_of op g ≡ true
+    → names_tcs j p g ≡ true
 named_next j past p op g next is = found_op (λ o. is_tcs_of o g) (script_of j p) (replied past p) op next is
 
 -- ---- what is due enters and resumes by a page that the script names
@@ -86,12 +88,14 @@ named_with : (j : JobView) (past : List Entry) (p : ℕ) (o : Option Page) (d : 
 named_with j past p None d h = h
 named_with j past p (Some g) d h = named_fetch j past p g (place past g)
 
-named_enter : (j : JobView) (p : ℕ) (why : Why) (e t : ℕ) (tf sf : Option ℕ) → names_tcs j p (page_at e t) ≡ true → Named j p (makes_or why (enter_with e t tf sf))
+named_enter : (j : JobView) (p : ℕ) (why : Why) (e t : ℕ) (tf sf : Option ℕ) → names_tcs j p (page_at e t) ≡ true
+    → Named j p (makes_or why (enter_with e t tf sf))
 named_enter j p why e t (Some tf) (Some sf) h = h
 named_enter j p why e t (Some tf) None h = tt
 named_enter j p why e t None sf h = tt
 
-named_resume : (j : JobView) (p : ℕ) (why : Why) (e t : ℕ) (tf sf : Option ℕ) → names_tcs j p (page_at e t) ≡ true → Named j p (makes_or why (resume_with e t tf sf))
+named_resume : (j : JobView) (p : ℕ) (why : Why) (e t : ℕ) (tf sf : Option ℕ) → names_tcs j p (page_at e t) ≡ true
+    → Named j p (makes_or why (resume_with e t tf sf))
 named_resume j p why e t (Some tf) (Some sf) h = h
 named_resume j p why e t (Some tf) None h = tt
 named_resume j p why e t None sf h = tt
@@ -100,25 +104,35 @@ named_fills : (j : JobView) (p n : ℕ) (o : Option ℕ) → Named j p (fills n 
 named_fills j p n None = tt
 named_fills j p n (Some f) = tt
 
-named_access : (j : JobView) (past : List Entry) (p : ℕ) (o : Option Stay) (kind : AccessOp) (off : ℕ) (access : Action) → Own j p access → Named j p (accesses_by past p o kind off access)
+named_access : (j : JobView) (past : List Entry) (p : ℕ) (o : Option Stay) (kind : AccessOp) (off : ℕ) (access : Action) → Own j p access
+    → Named j p (accesses_by past p o kind off access)
 named_access j past p None kind off access h = h
 named_access j past p (Some s) kind off access h =
     named_either j p (not (is_lawful_access (added past (at_offset s.seat.enclave off)) kind)) (Makes (actions.Pf kind off))
-    (if holds_number (translations past p) (off / 4096) then Makes access else fills (off / 4096) (frame_here (place past (at_offset s.seat.enclave off)))) tt
-    (named_either j p (holds_number (translations past p) (off / 4096)) (Makes access) (fills (off / 4096) (frame_here (place past (at_offset s.seat.enclave off)))) h
+    (if holds_number (translations past p) (off / 4096) then Makes access else fills (off / 4096)
+    (frame_here (place past (at_offset s.seat.enclave off)))) tt
+    (named_either j p (holds_number (translations past p) (off / 4096)) (Makes access)
+    (fills (off / 4096) (frame_here (place past (at_offset s.seat.enclave off)))) h
     (named_fills j p (off / 4096) (frame_here (place past (at_offset s.seat.enclave off)))))
 
 named_op : (j : JobView) (past : List Entry) (p : ℕ) (op : Op) → next_op j past p ≡ Some op → Named j p (op_turn j past p op)
 named_op j past p (ops.Enter e t) next =
     let own = named_next j past p (ops.Enter e t) (page_at e t) next (same_page-refl (page_at e t)) in
     named_either j p (is_turned_away past p e) (Makes (actions.Enter e t (frame_at 0) (frame_at 0))) (enters j past e t) own
-    (named_with j past p (first_away past (needs_to_enter j past e t)) (makes_or (waits.Busy (page_at e t)) (enter_with e t (frame_here (place past (page_at e t))) (save_frame past (page_at e t) (save_to_enter j past e t))))
-    (named_enter j p (waits.Busy (page_at e t)) e t (frame_here (place past (page_at e t))) (save_frame past (page_at e t) (save_to_enter j past e t)) own))
+    (named_with j past p (first_away past (needs_to_enter j past e t))
+    (makes_or (waits.Busy (page_at e t)) (enter_with e t (frame_here (place past (page_at e t)))
+    (save_frame past (page_at e t) (save_to_enter j past e t))))
+    (named_enter j p (waits.Busy (page_at e t)) e t (frame_here (place past (page_at e t)))
+    (save_frame past (page_at e t) (save_to_enter j past e t)) own))
 named_op j past p (ops.Resume e t) next =
     let own = named_next j past p (ops.Resume e t) (page_at e t) next (same_page-refl (page_at e t)) in
-    named_either j p (is_turned_away past p e) (Makes (actions.Resume e t (frame_at 0) (frame_at 0))) (resumes j past e t (needs_to_resume j past e t)) own
-    (named_with j past p (first_away past (needs_to_resume j past e t)) (makes_or (waits.Busy (page_at e t)) (resume_with e t (frame_here (place past (page_at e t))) (save_frame past (page_at e t) (save_to_resume j past e t))))
-    (named_resume j p (waits.Busy (page_at e t)) e t (frame_here (place past (page_at e t))) (save_frame past (page_at e t) (save_to_resume j past e t)) own))
+    named_either j p (is_turned_away past p e) (Makes (actions.Resume e t (frame_at 0) (frame_at 0)))
+    (resumes j past e t (needs_to_resume j past e t)) own
+    (named_with j past p (first_away past (needs_to_resume j past e t))
+    (makes_or (waits.Busy (page_at e t)) (resume_with e t (frame_here (place past (page_at e t)))
+    (save_frame past (page_at e t) (save_to_resume j past e t))))
+    (named_resume j p (waits.Busy (page_at e t)) e t (frame_here (place past (page_at e t)))
+    (save_frame past (page_at e t) (save_to_resume j past e t)) own))
 named_op j past p ops.Exit next = tt
 named_op j past p ops.Timer next = tt
 named_op j past p (ops.Load off) next = named_access j past p (stay past p) accesses.Load off (actions.Load off) tt
@@ -129,14 +143,19 @@ named_op j past p (ops.Plus v) next = tt
 named_op j past p (ops.OutLoad e off) next = tt
 named_op j past p (ops.OutStore e off v) next = tt
 
-named_outside : (j : JobView) (past : List Entry) (p : ℕ) (i : Option Interruption) (op : Option Op) → NamesOwn j past p → interruption past p ≡ i → next_op j past p ≡ op → Named j p (outside_turn j past p i op)
+named_outside : (j : JobView) (past : List Entry) (p : ℕ) (i : Option Interruption) (op : Option Op) → NamesOwn j past p
+    → interruption past p ≡ i → next_op j past p ≡ op → Named j p (outside_turn j past p i op)
 named_outside j past p i None own broken next = tt
 named_outside j past p None (Some op) own broken next = named_op j past p op next
 named_outside j past p (Some i) (Some op) own broken next =
-    named_with j past p (first_away past (needs_after j past p i)) (makes_or (waits.Busy (page_at i.enclave i.tcs)) (resume_with i.enclave i.tcs (frame_here (place past (page_at i.enclave i.tcs))) (save_frame past (page_at i.enclave i.tcs) (save_to_resume j past i.enclave i.tcs))))
-    (named_resume j p (waits.Busy (page_at i.enclave i.tcs)) i.enclave i.tcs (frame_here (place past (page_at i.enclave i.tcs))) (save_frame past (page_at i.enclave i.tcs) (save_to_resume j past i.enclave i.tcs)) (own.broken i broken))
+    named_with j past p (first_away past (needs_after j past p i)) (makes_or (waits.Busy (page_at i.enclave i.tcs))
+    (resume_with i.enclave i.tcs (frame_here (place past (page_at i.enclave i.tcs)))
+    (save_frame past (page_at i.enclave i.tcs) (save_to_resume j past i.enclave i.tcs))))
+    (named_resume j p (waits.Busy (page_at i.enclave i.tcs)) i.enclave i.tcs (frame_here (place past (page_at i.enclave i.tcs)))
+    (save_frame past (page_at i.enclave i.tcs) (save_to_resume j past i.enclave i.tcs)) (own.broken i broken))
 
-named_inside : (j : JobView) (past : List Entry) (p : ℕ) (is_kicked : Bool) (op : Option Op) → next_op j past p ≡ op → Named j p (inside_turn j past p is_kicked op)
+named_inside : (j : JobView) (past : List Entry) (p : ℕ) (is_kicked : Bool) (op : Option Op) → next_op j past p ≡ op
+    → Named j p (inside_turn j past p is_kicked op)
 named_inside j past p true op next = tt
 named_inside j past p false None next = tt
 named_inside j past p false (Some op) next = named_op j past p op next
@@ -160,9 +179,11 @@ named_early j p (Some s) op = tt
 named_due : (j : JobView) (past : List Entry) (p : ℕ) → NamesOwn j past p → Named j p (cpu_due j past p)
 named_due j past p own = named_either j p (is_spent past) Stopped (due_after (last_of past p) (is_last past p) (turn_due j past p)) tt
     (named_after j p (last_of past p) (is_last past p) (turn_due j past p)
-    (named_either j p (is_built j past) (stay_turn j past p (stay past p)) (early_turn (stay past p) (next_op j past p)) (named_stay j past p (stay past p) own) (named_early j p (stay past p) (next_op j past p))))
+    (named_either j p (is_built j past) (stay_turn j past p (stay past p)) (early_turn (stay past p) (next_op j past p))
+    (named_stay j past p (stay past p) own) (named_early j p (stay past p) (next_op j past p))))
 
-own_fetched : (j : JobView) (p : ℕ) (g : Page) (slot : SlotAt) (o : Option ℕ) (a : Action) (answer : Answer) → IsFetch g slot o (Did a answer) → Own j p a
+own_fetched : (j : JobView) (p : ℕ) (g : Page) (slot : SlotAt) (o : Option ℕ) (a : Action) (answer : Answer)
+    → IsFetch g slot o (Did a answer) → Own j p a
 own_fetched j p g slot None a answer k = absurd k
 own_fetched j p g slot (Some f) a answer k = subst (Own j p) (sym k) tt
 
@@ -190,7 +211,9 @@ own_is : (p : ℕ) → (p == p) ≡ true
 own_is p = eq-eqb p p refl
 
 -- who was inside or enters now
-own_seat : (j : JobView) (past : List Entry) (p : ℕ) (ev : Event) → NamesOwn j past p → ((a : Action) (answer : Answer) → ev ≡ Did a answer → Own j p a) → (s : Stay) → stay_after (move_by ev) true past (stay past p) ≡ Some s
+own_seat : (j : JobView) (past : List Entry) (p : ℕ) (ev : Event) → NamesOwn j past p
+    → ((a : Action) (answer : Answer) → ev ≡ Did a answer → Own j p a) → (s : Stay)
+    → stay_after (move_by ev) true past (stay past p) ≡ Some s
     → names_tcs j p (page_at s.seat.enclave s.seat.tcs) ≡ true
 own_seat j past p (Did (actions.Enter e t tf sf) answer) own does s at =
     let same : stay_from past (record { enclave = e; tcs = t; tcs_frame = tf.0; ssa_frame = sf.0 }) ≡ s = cc in
@@ -203,33 +226,40 @@ own_seat j past p (Did (actions.Aex cause) answer) own does s at = cc
 own_seat j past p _ own does s at = own.seat s at
 
 -- who has still to resume, or is taken out now
-own_broken : (j : JobView) (past : List Entry) (p : ℕ) (ev : Event) → NamesOwn j past p → (i : Interruption) → interruption_after ev (stay past p) (interruption past p) ≡ Some i → names_tcs j p (page_at i.enclave i.tcs) ≡ true
+own_broken : (j : JobView) (past : List Entry) (p : ℕ) (ev : Event) → NamesOwn j past p → (i : Interruption)
+    → interruption_after ev (stay past p) (interruption past p) ≡ Some i → names_tcs j p (page_at i.enclave i.tcs) ≡ true
 own_broken j past p (Did (actions.Enter e t tf sf) answer) own i at = cc
 own_broken j past p (Did (actions.Resume e t tf sf) answer) own i at = cc
 own_broken j past p (Did actions.Exit answer) own i at = cc
 own_broken j past p (Did (actions.Aex cause) answer) own i at = by_cause cause (stay past p) refl at
   where
-    from : (for_page : Bool) (o : Option Stay) → stay past p ≡ o → interrupted_in o for_page ≡ Some i → names_tcs j p (page_at i.enclave i.tcs) ≡ true
+    from : (for_page : Bool) (o : Option Stay) → stay past p ≡ o → interrupted_in o for_page ≡ Some i
+        → names_tcs j p (page_at i.enclave i.tcs) ≡ true
     from for_page None is k = cc
     from for_page (Some s) is k =
         let same : record { enclave = s.seat.enclave; tcs = s.seat.tcs; for_page = for_page } ≡ i = cc in
         subst (λ (x : Interruption). names_tcs j p (page_at x.enclave x.tcs) ≡ true) same (own.seat s is)
 
-    by_cause : (k : Cause) (o : Option Stay) → stay past p ≡ o → interrupted_by k o ≡ Some i → names_tcs j p (page_at i.enclave i.tcs) ≡ true
+    by_cause : (k : Cause) (o : Option Stay) → stay past p ≡ o → interrupted_by k o ≡ Some i
+        → names_tcs j p (page_at i.enclave i.tcs) ≡ true
     by_cause causes.Fault o is k = from true o is k
     by_cause causes.Kick o is k = from false o is k
     by_cause causes.Timer o is k = cc
     by_cause causes.End o is k = cc
 own_broken j past p _ own i at = own.broken i at
 
-names_stay : (j : JobView) (past : List Entry) (c : Cpu) (ev : Event) → ScriptRule j past (entry_of (actors.Cpu c) ev) → NamesOwn j past c.0 → NamesOwn j (entry_of (actors.Cpu c) ev ∷ past) c.0
+names_stay : (j : JobView) (past : List Entry) (c : Cpu) (ev : Event) → ScriptRule j past (entry_of (actors.Cpu c) ev) → NamesOwn j past c.0
+    → NamesOwn j (entry_of (actors.Cpu c) ev ∷ past) c.0
 names_stay j past c ev script own = record {
   seat = λ s at. own_seat j past c.0 ev own does s (subst (λ b. stay_after (move_by ev) b past (stay past c.0) ≡ Some s) (own_is c.0) at);
-  broken = λ i at. own_broken j past c.0 ev own i (subst (λ b. (if b then interruption_after ev (stay past c.0) (interruption past c.0) else interruption past c.0) ≡ Some i) (own_is c.0) at);
+  broken =
+      λ i at. own_broken j past c.0 ev own i (subst
+      (λ b. (if b then interruption_after ev (stay past c.0) (interruption past c.0) else interruption past c.0) ≡ Some i) (own_is c.0) at);
 }
   where
     does : (a : Action) (answer : Answer) → ev ≡ Did a answer → Own j c.0 a
-    does a answer is = own_done j c.0 (cpu_due j past c.0) a answer (named_due j past c.0 own) (subst (IsNext (cpu_due j past c.0)) is script.next.1)
+    does a answer is =
+        own_done j c.0 (cpu_due j past c.0) a answer (named_due j past c.0 own) (subst (IsNext (cpu_due j past c.0)) is script.next.1)
 
 -- ---- entries of others
 
@@ -240,24 +270,38 @@ other_stay Keeps past s = refl
 
 names_others : (j : JobView) (past : List Entry) (e : Entry) (p : ℕ) → is_by p e.actor ≡ false → NamesOwn j past p → NamesOwn j (e ∷ past) p
 names_others j past e p other own = record {
-  seat = λ s at. own.seat s (sym (other_stay (move_by e.event) past (stay past p)) ∙ subst (λ b. stay_after (move_by e.event) b past (stay past p) ≡ Some s) other at);
-  broken = λ i at. own.broken i (subst (λ b. (if b then interruption_after e.event (stay past p) (interruption past p) else interruption past p) ≡ Some i) other at);
+  seat =
+      λ s at. own.seat s (sym (other_stay (move_by e.event) past (stay past p)) ∙ subst
+      (λ b. stay_after (move_by e.event) b past (stay past p) ≡ Some s) other at);
+  broken =
+      λ i at. own.broken i (subst
+      (λ b. (if b then interruption_after e.event (stay past p) (interruption past p) else interruption past p) ≡ Some i) other at);
 }
 
 -- the page at stake is named by the script
 tcs_own : (j : JobView) (past : List Entry) (p : ℕ) → NamesOwn j past p → (g : Page) → tcs_of j past p ≡ Some g → names_tcs j p g ≡ true
 tcs_own j past p own g at = by_state (stay past p) (interruption past p) (next_op j past p) refl refl refl at
   where
-    by_state : (s : Option Stay) (i : Option Interruption) (op : Option Op) → stay past p ≡ s → interruption past p ≡ i → next_op j past p ≡ op → tcs_by s i op ≡ Some g → names_tcs j p g ≡ true
-    by_state (Some s) i op is broken next k = let same : page_at s.seat.enclave s.seat.tcs ≡ g = cc in subst (λ x. names_tcs j p x ≡ true) same (own.seat s is)
-    by_state None (Some i) op is broken next k = let same : page_at i.enclave i.tcs ≡ g = cc in subst (λ x. names_tcs j p x ≡ true) same (own.broken i broken)
-    by_state None None (Some (ops.Enter e t)) is broken next k = let same : page_at e t ≡ g = cc in subst (λ x. names_tcs j p x ≡ true) same (named_next j past p (ops.Enter e t) (page_at e t) next (same_page-refl (page_at e t)))
-    by_state None None (Some (ops.Resume e t)) is broken next k = let same : page_at e t ≡ g = cc in subst (λ x. names_tcs j p x ≡ true) same (named_next j past p (ops.Resume e t) (page_at e t) next (same_page-refl (page_at e t)))
+    by_state : (s : Option Stay) (i : Option Interruption) (op : Option Op) → stay past p ≡ s → interruption past p ≡ i
+        → next_op j past p ≡ op → tcs_by s i op ≡ Some g → names_tcs j p g ≡ true
+    by_state (Some s) i op is broken next k =
+        let same : page_at s.seat.enclave s.seat.tcs ≡ g = cc in subst (λ x. names_tcs j p x ≡ true) same (own.seat s is)
+    by_state None (Some i) op is broken next k =
+        let same : page_at i.enclave i.tcs ≡ g = cc in subst (λ x. names_tcs j p x ≡ true) same (own.broken i broken)
+    by_state None None (Some (ops.Enter e t)) is broken next k =
+        let same : page_at e t ≡ g =
+        cc in subst (λ x. names_tcs j p x ≡ true) same (named_next j past p (ops.Enter e t) (page_at e t) next
+        (same_page-refl (page_at e t)))
+    by_state None None (Some (ops.Resume e t)) is broken next k =
+        let same : page_at e t ≡ g =
+        cc in subst (λ x. names_tcs j p x ≡ true) same (named_next j past p (ops.Resume e t) (page_at e t) next
+        (same_page-refl (page_at e t)))
     by_state None None (Some _) is broken next k = cc
     by_state None None None is broken next k = cc
 
 -- a page is not another's
-apart_page : (j : JobView) (p q : ℕ) (g h : Page) → TcsAreApart j → names_tcs j p g ≡ true → names_tcs j q h ≡ true → (q == p) ≡ false → same_page h g ≡ false
+apart_page : (j : JobView) (p q : ℕ) (g h : Page) → TcsAreApart j → names_tcs j p g ≡ true → names_tcs j q h ≡ true → (q == p) ≡ false
+    → same_page h g ≡ false
 apart_page j p q g h apart mine other differ = by_test (same_page h g) refl
   where
     by_test : (b : Bool) → same_page h g ≡ b → same_page h g ≡ false
@@ -267,7 +311,8 @@ apart_page j p q g h apart mine other differ = by_test (same_page h g) refl
     by_test false is = is
 
 -- by the rule Age the reclaimer resumes nothing
-no_resume : (j : JobView) (past : List Entry) (p : Pass) (e t : ℕ) (tf sf : Frame) (answer : Answer) → InPass past p (Did (actions.Resume e t tf sf) answer) → ⊥
+no_resume : (j : JobView) (past : List Entry) (p : Pass) (e t : ℕ) (tf sf : Frame) (answer : Answer)
+    → InPass past p (Did (actions.Resume e t tf sf) answer) → ⊥
 no_resume j past (Between works) e t tf sf answer h = h
 no_resume j past (Scan left taken) e t tf sf answer h = h
 no_resume j past (Blocking todo taken) e t tf sf answer h = h
@@ -318,7 +363,8 @@ next_no_resume (TriesOut f) e t tf sf answer h n = h
 next_no_resume (KicksAll cpus) e t tf sf answer h n = h
 
 -- an entry of another actor leaves the count of the page at stake
-counted : (j : JobView) (past : List Entry) (e : Entry) (p : ℕ) → TcsAreApart j → ((q : ℕ) → NamesOwn j past q) → ScriptRule j past e → AgeRule j past e → is_by p e.actor ≡ false → (g : Page) → tcs_of j past p ≡ Some g → saved (e ∷ past) g ≡ saved past g
+counted : (j : JobView) (past : List Entry) (e : Entry) (p : ℕ) → TcsAreApart j → ((q : ℕ) → NamesOwn j past q) → ScriptRule j past e
+    → AgeRule j past e → is_by p e.actor ≡ false → (g : Page) → tcs_of j past p ≡ Some g → saved (e ∷ past) g ≡ saved past g
 counted j past e p apart own script age other g at = by_event e.actor e.event other script.next age.in_pass
   where
     mine : names_tcs j p g ≡ true
@@ -333,33 +379,45 @@ counted j past e p apart own script age other g at = by_event e.actor e.event ot
         by_stay None is = refl
         by_stay (Some s) is = apart_page j p c.0 g (page_at s.seat.enclave s.seat.tcs) apart mine ((own c.0).seat s is) k
 
-    by_resume : (a : Actor) (n t : ℕ) (tf sf : Frame) (answer : Answer) → is_by p a ≡ false → IsActors j past a (Did (actions.Resume n t tf sf) answer) → PassOf past (pass j past) a (Did (actions.Resume n t tf sf) answer) → same_page (page_at n t) g ≡ false
-    by_resume actors.Builder n t tf sf answer k next ag = absurd (next_no_resume (builder_due j past) n t tf sf answer (build_no_resume j past) next)
+    by_resume : (a : Actor) (n t : ℕ) (tf sf : Frame) (answer : Answer) → is_by p a ≡ false
+        → IsActors j past a (Did (actions.Resume n t tf sf) answer) → PassOf past (pass j past) a (Did (actions.Resume n t tf sf) answer)
+        → same_page (page_at n t) g ≡ false
+    by_resume actors.Builder n t tf sf answer k next ag =
+        absurd (next_no_resume (builder_due j past) n t tf sf answer (build_no_resume j past) next)
     by_resume actors.Reclaimer n t tf sf answer k next ag = absurd (no_resume j past (pass j past) n t tf sf answer ag)
-    by_resume (actors.Cpu c) n t tf sf answer k next ag = apart_page j p c.0 g (page_at n t) apart mine (own_done j c.0 (cpu_due j past c.0) (actions.Resume n t tf sf) answer (named_due j past c.0 (own c.0)) next.1) k
+    by_resume (actors.Cpu c) n t tf sf answer k next ag =
+        apart_page j p c.0 g (page_at n t) apart mine (own_done j c.0 (cpu_due j past c.0) (actions.Resume n t tf sf) answer
+        (named_due j past c.0 (own c.0)) next.1) k
 
-    by_event : (a : Actor) (ev : Event) → is_by p a ≡ false → IsActors j past a ev → PassOf past (pass j past) a ev → saved_after ev (leaves_by a past g) g (saved past g) ≡ saved past g
+    by_event : (a : Actor) (ev : Event) → is_by p a ≡ false → IsActors j past a ev → PassOf past (pass j past) a ev
+        → saved_after ev (leaves_by a past g) g (saved past g) ≡ saved past g
     by_event a (Did (actions.Aex cause) answer) k next ag = rw (by_left a k) refl
     by_event a (Did (actions.Resume n t tf sf) answer) k next ag = rw (by_resume a n t tf sf answer k next ag) refl
     by_event a _ k next ag = refl
 
 -- ---- everyone's entries
 
-pub apart_stay : (j : JobView) (past : List Entry) (e : Entry) → TcsAreApart j → IsSound past → ScriptRule j past e → AgeRule j past e → ((p : ℕ) → IsApart j past p) → (p : ℕ) → IsApart j (e ∷ past) p
+pub apart_stay : (j : JobView) (past : List Entry) (e : Entry) → TcsAreApart j → IsSound past → ScriptRule j past e → AgeRule j past e
+    → ((p : ℕ) → IsApart j past p) → (p : ℕ) → IsApart j (e ∷ past) p
 apart_stay j past e apart s script age before p = by_actor e.actor script age
   where
-    others : (a : Actor) → ScriptRule j past (entry_of a e.event) → AgeRule j past (entry_of a e.event) → is_by p a ≡ false → IsApart j (entry_of a e.event ∷ past) p
+    others : (a : Actor) → ScriptRule j past (entry_of a e.event) → AgeRule j past (entry_of a e.event) → is_by p a ≡ false
+        → IsApart j (entry_of a e.event ∷ past) p
     others a sc ag other = record {
-      three = three_others j past (entry_of a e.event) p other (counted j past (entry_of a e.event) p apart (λ q. (before q).own) sc ag other) (before p).three;
+      three =
+          three_others j past (entry_of a e.event) p other (counted j past (entry_of a e.event) p apart (λ q. (before q).own) sc ag other)
+          (before p).three;
       own = names_others j past (entry_of a e.event) p other (before p).own;
     }
 
-    by_cpu : (c : Cpu) (b : Bool) → (c.0 == p) ≡ b → ScriptRule j past (entry_of (actors.Cpu c) e.event) → AgeRule j past (entry_of (actors.Cpu c) e.event) → IsApart j (entry_of (actors.Cpu c) e.event ∷ past) p
+    by_cpu : (c : Cpu) (b : Bool) → (c.0 == p) ≡ b → ScriptRule j past (entry_of (actors.Cpu c) e.event)
+        → AgeRule j past (entry_of (actors.Cpu c) e.event) → IsApart j (entry_of (actors.Cpu c) e.event ∷ past) p
     by_cpu c true is sc ag = subst (IsApart j (entry_of (actors.Cpu c) e.event ∷ past)) (eqb-true c.0 p is)
         (record { three = three_own j past c e.event s sc (before c.0).three; own = names_stay j past c e.event sc (before c.0).own })
     by_cpu c false is sc ag = others (actors.Cpu c) sc ag is
 
-    by_actor : (a : Actor) → ScriptRule j past (entry_of a e.event) → AgeRule j past (entry_of a e.event) → IsApart j (entry_of a e.event ∷ past) p
+    by_actor : (a : Actor) → ScriptRule j past (entry_of a e.event) → AgeRule j past (entry_of a e.event)
+        → IsApart j (entry_of a e.event ∷ past) p
     by_actor actors.Builder sc ag = others actors.Builder sc ag refl
     by_actor actors.Reclaimer sc ag = others actors.Reclaimer sc ag refl
     by_actor (actors.Cpu c) sc ag = by_cpu c (c.0 == p) refl sc ag
@@ -368,14 +426,9 @@ pub apart_first : (j : JobView) (p : ℕ) → IsApart j [] p
 apart_first j p = record { three = three_first j p; own = record { seat = λ s at. cc; broken = λ i at. cc } }
 
 -- in a history in which no two scripts name one TCS page each processor holds at most three pages
-pub driven_apart : (k : Making) (j : JobView) (past : List Entry) → 1 ≤ k.first_version → TcsAreApart j → IsDriven k j past → (p : ℕ) → IsApart j past p
+pub driven_apart : (k : Making) (j : JobView) (past : List Entry) → 1 ≤ k.first_version → TcsAreApart j → IsDriven k j past → (p : ℕ)
+    → IsApart j past p
 driven_apart k j [] positive apart d = apart_first j
 driven_apart k j (e ∷ past) positive apart d =
-    let before : IsDriven k j past = record {
-      moves = record { refusal = d.moves.refusal.1; flat = d.moves.flat.1; moves = d.moves.moves.1; evict = d.moves.evict.1; fresh = d.moves.fresh.1 };
-      fits = d.fits.1;
-      script = d.script.1;
-      age = d.age.1;
-      kick = d.kick.1;
-    } in
+    let before = driven_before k j e past d in
     apart_stay j past e apart (driven_sound k j past positive before).0 d.script.0 d.age.0 (driven_apart k j past positive apart before)

@@ -31,7 +31,8 @@ unfolding count_below
 none_counted test zero h p low = absurd (omega arith)
 none_counted test (suc n) h p low = by_last (test n) refl h (p == n) refl (λ k under. none_counted test n k p under)
   where
-    by_last : (b : Bool) → test n ≡ b → (if b then 1 else 0) + count_below test n ≡ 0 → (c : Bool) → (p == n) ≡ c → (count_below test n ≡ 0 → p < n → test p ≡ false) → test p ≡ false
+    by_last : (b : Bool) → test n ≡ b → (if b then 1 else 0) + count_below test n ≡ 0 → (c : Bool) → (p == n) ≡ c
+        → (count_below test n ≡ 0 → p < n → test p ≡ false) → test p ≡ false
     by_last true is k c q before = absurd (omega (arith, k))
     by_last false is k true q before = ap test (eqb-true p n q) ∙ is
     by_last false is k false q before = before (omega (arith, k)) (grind arith)
@@ -48,7 +49,8 @@ pub last_low : (past : List Entry) (n k : ℕ) → last_track past n ≡ Some k 
 last_low [] n k h = cc
 last_low (e ∷ past) n k h = by_track (is_track e.event n) h (last_low past n k)
   where
-    by_track : (b : Bool) → (if b then Some (length past) else last_track past n) ≡ Some k → (last_track past n ≡ Some k → k < length past) → k < length (e ∷ past)
+    by_track : (b : Bool) → (if b then Some (length past) else last_track past n) ≡ Some k → (last_track past n ≡ Some k → k < length past)
+        → k < length (e ∷ past)
     by_track true is before = let same : length past ≡ k = cc in omega (arith, same)
     by_track false is before = let low = before is in omega (arith, low)
 
@@ -57,17 +59,21 @@ pub first_last : (past : List Entry) (n from k : ℕ) → track_behind past n fr
 first_last [] n from k h = cc
 first_last (e ∷ past) n from k h = by_earlier (track_behind past n from) refl (is_track e.event n) h (first_last past n from k)
   where
-    later : (b : Bool) (l : ℕ) → last_track past n ≡ Some l → k ≤ l → (m : ℕ) × ((if b then Some (length past) else last_track past n) ≡ Some m) × (k ≤ m)
+    later : (b : Bool) (l : ℕ) → last_track past n ≡ Some l → k ≤ l
+        → (m : ℕ) × ((if b then Some (length past) else last_track past n) ≡ Some m) × (k ≤ m)
     later true l is low = let under = last_low past n l is in (length past, refl, omega (arith, low, under))
     later false l is low = (l, is, low)
 
-    at_end : (b c : Bool) → (if b && c then Some (length past) else None) ≡ Some k → (m : ℕ) × ((if b then Some (length past) else last_track past n) ≡ Some m) × (k ≤ m)
+    at_end : (b c : Bool) → (if b && c then Some (length past) else None) ≡ Some k
+        → (m : ℕ) × ((if b then Some (length past) else last_track past n) ≡ Some m) × (k ≤ m)
     at_end true true is = let same : length past ≡ k = cc in (length past, refl, omega (arith, same))
     at_end true false is = cc
     at_end false c is = cc
 
-    by_earlier : (o : Option ℕ) → track_behind past n from ≡ o → (b : Bool) → earlier_or o (b && nat_lt from (length past)) (length past) ≡ Some k
-        → (track_behind past n from ≡ Some k → (l : ℕ) × (last_track past n ≡ Some l) × (k ≤ l)) → (m : ℕ) × ((if b then Some (length past) else last_track past n) ≡ Some m) × (k ≤ m)
+    by_earlier : (o : Option ℕ) → track_behind past n from ≡ o → (b : Bool)
+        → earlier_or o (b && nat_lt from (length past)) (length past) ≡ Some k
+        → (track_behind past n from ≡ Some k → (l : ℕ) × (last_track past n ≡ Some l) × (k ≤ l))
+        → (m : ℕ) × ((if b then Some (length past) else last_track past n) ≡ Some m) × (k ≤ m)
     by_earlier (Some j) is b got more = let before = more (is ∙ got) in later b before.0 before.1 before.2
     by_earlier None is b got more = at_end b (nat_lt from (length past)) got
 
@@ -76,7 +82,8 @@ pub block_low : (past : List Entry) (f b : ℕ) → block_place past f ≡ Some 
 block_low [] f b h = cc
 block_low (e ∷ past) f b h = by_cases (is_block e.event f) (is_put (put_by e.event (added past)) f) h (block_low past f b)
   where
-    by_cases : (x y : Bool) → (if x then Some (length past) else if y then None else block_place past f) ≡ Some b → (block_place past f ≡ Some b → b < length past) → b < length (e ∷ past)
+    by_cases : (x y : Bool) → (if x then Some (length past) else if y then None else block_place past f) ≡ Some b
+        → (block_place past f ≡ Some b → b < length past) → b < length (e ∷ past)
     by_cases true y is before = let same : length past ≡ b = cc in omega (arith, same)
     by_cases false true is before = cc
     by_cases false false is before = let low = before is in omega (arith, low)
@@ -86,7 +93,8 @@ pub blocked_place : (past : List Entry) (f : ℕ) → is_blocked past f ≡ is_s
 blocked_place [] f = refl
 blocked_place (e ∷ past) f = by_cases (is_block e.event f) (is_put (put_by e.event (added past)) f) (blocked_place past f)
   where
-    by_cases : (x y : Bool) → is_blocked past f ≡ is_some (block_place past f) → (x || (not y && is_blocked past f)) ≡ is_some (if x then Some (length past) else if y then None else block_place past f)
+    by_cases : (x y : Bool) → is_blocked past f ≡ is_some (block_place past f)
+        → (x || (not y && is_blocked past f)) ≡ is_some (if x then Some (length past) else if y then None else block_place past f)
     by_cases true y before = refl
     by_cases false true before = refl
     by_cases false false before = before
@@ -97,7 +105,8 @@ blocked_place (e ∷ past) f = by_cases (is_block e.event f) (is_put (put_by e.e
 pub last_kept : (past : List Entry) (e : Entry) (n : ℕ) → is_track e.event n ≡ false → last_track (e ∷ past) n ≡ last_track past n
 last_kept past e n none = rw none refl
 
-pub behind_kept : (past : List Entry) (e : Entry) (n from : ℕ) → is_track e.event n ≡ false → track_behind (e ∷ past) n from ≡ track_behind past n from
+pub behind_kept : (past : List Entry) (e : Entry) (n from : ℕ) → is_track e.event n ≡ false
+    → track_behind (e ∷ past) n from ≡ track_behind past n from
 behind_kept past e n from none = rw none (by_earlier (track_behind past n from))
   where
     by_earlier : (o : Option ℕ) → earlier_or o false (length past) ≡ o
@@ -138,7 +147,8 @@ free_apart past g f n holds free = by_test (n == f) refl
     by_test false is = is
 
 -- .. and so is one that loads
-load_apart : (past : List Entry) (g page : Page) (f n : ℕ) (slot : SlotAt) → IsSound past → is_page (content past f) g ≡ true → place past page ≡ Loading n slot → (n == f) ≡ false
+load_apart : (past : List Entry) (g page : Page) (f n : ℕ) (slot : SlotAt) → IsSound past → is_page (content past f) g ≡ true
+    → place past page ≡ Loading n slot → (n == f) ≡ false
 load_apart past g page f n slot s holds loading = by_test (n == f) refl
   where
     load : load_slot (open_start past n) page ≡ Some slot
@@ -152,7 +162,8 @@ load_apart past g page f n slot s holds loading = by_test (n == f) refl
     by_test false is = is
 
 -- a page elsewhere is another page
-place_apart : (past : List Entry) (page g : Page) (p : Place) (f : ℕ) → place past page ≡ p → place past g ≡ Leaving f → (p ≡ Leaving f → ⊥) → same_page page g ≡ false
+place_apart : (past : List Entry) (page g : Page) (p : Place) (f : ℕ) → place past page ≡ p → place past g ≡ Leaving f → (p ≡ Leaving f → ⊥)
+    → same_page page g ≡ false
 place_apart past page g p f at leaving apart = by_test (same_page page g) refl
   where
     by_test : (b : Bool) → same_page page g ≡ b → same_page page g ≡ false
@@ -160,7 +171,8 @@ place_apart past page g p f at leaving apart = by_test (same_page page g) refl
     by_test false is = is
 
 -- a page that is leaving stays so as long as it has not gone out
-pub waiting_kept : (past : List Entry) (e : Entry) (g : Page) (f b : ℕ) → IsSound past → CanMove past e.event → moves_out e.event ≡ false → IsWaiting past g f b → IsWaiting (e ∷ past) g f b
+pub waiting_kept : (past : List Entry) (e : Entry) (g : Page) (f b : ℕ) → IsSound past → CanMove past e.event → moves_out e.event ≡ false
+    → IsWaiting past g f b → IsWaiting (e ∷ past) g f b
 waiting_kept past e g f b s can stays w = by_event e.event can stays
   where
     holds : is_page (content past f) g ≡ true
@@ -187,16 +199,38 @@ waiting_kept past e g f b s can stays w = by_event e.event can stays
 
     by_event : (ev : Event) → CanMove past ev → moves_out ev ≡ false → IsWaiting (entry_of e.actor ev ∷ past) g f b
     by_event (Did (Epa n) answer) k m = record { leaving = w.leaving; blocked = rw (free_apart past g f n.0 holds k) w.blocked }
-    by_event (Did (Create enclave n base size) answer) k m = record { leaving = w.leaving; blocked = rw (free_apart past g f n.0 holds k) w.blocked }
+    by_event (Did (Create enclave n base size) answer) k m =
+        record { leaving = w.leaving; blocked = rw (free_apart past g f n.0 holds k) w.blocked }
     by_event (Did (Add enclave number n kind perm init) answer) k m =
-        record { leaving = rw (place_apart past _ g Absent f k.1 w.leaving absent) w.leaving; blocked = rw (free_apart past g f n.0 holds k.0) w.blocked }
+        record {
+          leaving = rw (place_apart past _ g Absent f k.1 w.leaving absent) w.leaving;
+          blocked = rw
+              (free_apart past g f n.0 holds k.0) w.blocked;
+        }
     by_event (Did (EldStart n page slot) answer) k m =
-        record { leaving = rw (place_apart past page g (Away slot) f k.1 w.leaving (away slot)) w.leaving; blocked = rw (free_apart past g f n.0 holds k.0) w.blocked }
+        record {
+          leaving = rw (place_apart past page g (Away slot) f k.1 w.leaving (away slot)) w.leaving;
+          blocked = rw
+              (free_apart past g f n.0 holds k.0) w.blocked;
+        }
     by_event (Did (Eld n) (Moved page version tag)) k m =
-        record { leaving = rw (place_apart past page g (Loading n.0 k.0) f k.1 w.leaving (loads n.0 k.0)) w.leaving; blocked = rw (load_apart past g page f n.0 k.0 s holds k.1) w.blocked }
+        record {
+          leaving = rw (place_apart past page g (Loading n.0 k.0) f k.1 w.leaving (loads n.0 k.0)) w.leaving;
+          blocked = rw
+              (load_apart past g page f n.0 k.0 s holds k.1) w.blocked;
+        }
     by_event (Refused (Eld n) refusal) k m =
-        record { leaving = either (is_load_of (open_start past n.0) g) (back_to (place past g)) (ap back_to w.leaving) w.leaving; blocked = rw (load_apart past g k.0 f n.0 k.1 s holds k.2) w.blocked }
-    by_event (Age page look) k m = record { leaving = either (same_page page g) (after_look look (place past g)) (looked look (place past g) w.leaving) w.leaving; blocked = w.blocked }
+        record {
+          leaving = either (is_load_of (open_start past n.0) g) (back_to (place past g))
+              (ap back_to w.leaving) w.leaving;
+          blocked = rw (load_apart past g k.0 f n.0 k.1 s holds k.2) w.blocked;
+        }
+    by_event (Age page look) k m =
+        record {
+          leaving = either (same_page page g) (after_look look (place past g))
+              (looked look (place past g) w.leaving) w.leaving;
+          blocked = w.blocked;
+        }
     by_event (Did (Ewb n) answer) k m = absurd (false≢true (sym m))
     by_event (Did (Block n) answer) k m = absurd (false≢true (sym m))
     by_event (Did (Eld n) answer) k m = absurd k
@@ -205,14 +239,16 @@ waiting_kept past e g f b s can stays w = by_event e.event can stays
 -- ---- drained
 
 pub page_enclave : (c : Content) (g : Page) → is_page c g ≡ true → enclave_in c ≡ Some g.enclave
-page_enclave (Holds page kind perm) g h = ap Some (eqb-true page.enclave g.enclave (both_true (page.enclave == g.enclave) (page.number == g.number) h).0)
+page_enclave (Holds page kind perm) g h =
+    ap Some (eqb-true page.enclave g.enclave (both_true (page.enclave == g.enclave) (page.number == g.number) h).0)
 page_enclave Free g h = cc
 page_enclave IsVa g h = cc
 page_enclave (SecsOf e) g h = cc
 page_enclave IsLoading g h = cc
 
 -- what is asked of the frame of a waiting page
-pub drained_waiting : (past : List Entry) (g : Page) (f b : ℕ) → IsSound past → IsWaiting past g f b → is_drained past f ≡ (is_some (track_behind past g.enclave b) && (number_kept_back past g.enclave b == 0))
+pub drained_waiting : (past : List Entry) (g : Page) (f b : ℕ) → IsSound past → IsWaiting past g f b
+    → is_drained past f ≡ (is_some (track_behind past g.enclave b) && (number_kept_back past g.enclave b == 0))
 drained_waiting past g f b s w =
     ap (λ e. is_drained_from past e (block_place past f)) (page_enclave (content past f) g (waiting_holds past g f b s w))
     ∙ ap (is_drained_from past (Some g.enclave)) w.blocked
@@ -223,7 +259,8 @@ keeps_before n k None = refl
 keeps_before n k (Some s) = refl
 
 -- a page that is not drained though nobody is inside since before the last track: there is no track since its block
-pub none_since : (past : List Entry) (g : Page) (f b : ℕ) → IsSound past → IsCalm past g.enclave → IsWaiting past g f b → is_drained past f ≡ false → track_behind past g.enclave b ≡ None
+pub none_since : (past : List Entry) (g : Page) (f b : ℕ) → IsSound past → IsCalm past g.enclave → IsWaiting past g f b
+    → is_drained past f ≡ false → track_behind past g.enclave b ≡ None
 none_since past g f b s calm w not_drained = by_track (track_behind past g.enclave b) refl
   where
     gone : (n k l : ℕ) (o : Option Stay) → k ≤ l → is_in_before n (Some l) o ≡ false → is_in_before n (Some k) o ≡ false
@@ -238,14 +275,19 @@ none_since past g f b s calm w not_drained = by_track (track_behind past g.encla
     by_track None is = is
     by_track (Some k) is =
         let later = first_last past g.enclave b k is in
-        let none : number_kept_back past g.enclave b ≡ 0 = count_none (λ p. keeps_back g.enclave (track_behind past g.enclave b) (stay past p)) 16
+        let none : number_kept_back past g.enclave b ≡ 0 =
+        count_none (λ p. keeps_back g.enclave (track_behind past g.enclave b) (stay past p)) 16
         (λ p low. ap (λ t. keeps_back g.enclave t (stay past p)) is ∙ keeps_before g.enclave k (stay past p)
         ∙ gone g.enclave k later.0 (stay past p) later.2 (sym (ap (λ t. is_in_before g.enclave t (stay past p)) later.1) ∙ calm p low)) in
         absurd (false≢true (sym not_drained ∙ drained_waiting past g f b s w ∙ rw (none, is) refl))
 
 -- where the one track since its block drained a page, nobody is inside since before it
-pub calm_drained : (past : List Entry) (g : Page) (t : IsTracked past g) → IsSound past → is_drained past t.frame ≡ true → IsCalm past g.enclave
+pub calm_drained : (past : List Entry) (g : Page) (t : IsTracked past g) → IsSound past → is_drained past t.frame ≡ true
+    → IsCalm past g.enclave
 calm_drained past g t s drained p low =
-    let asked = both_true (is_some (track_behind past g.enclave t.block)) (number_kept_back past g.enclave t.block == 0) (sym (drained_waiting past g t.frame t.block s t.waiting) ∙ drained) in
-    let none = none_counted (λ q. keeps_back g.enclave (track_behind past g.enclave t.block) (stay past q)) 16 (eqb-true (number_kept_back past g.enclave t.block) 0 asked.1) p low in
-    ap (λ k. is_in_before g.enclave k (stay past p)) t.last ∙ sym (keeps_before g.enclave t.track (stay past p)) ∙ sym (ap (λ k. keeps_back g.enclave k (stay past p)) t.first) ∙ none
+    let asked = both_true (is_some (track_behind past g.enclave t.block)) (number_kept_back past g.enclave t.block == 0)
+    (sym (drained_waiting past g t.frame t.block s t.waiting) ∙ drained) in
+    let none = none_counted (λ q. keeps_back g.enclave (track_behind past g.enclave t.block) (stay past q)) 16
+    (eqb-true (number_kept_back past g.enclave t.block) 0 asked.1) p low in
+    ap (λ k. is_in_before g.enclave k (stay past p)) t.last ∙ sym (keeps_before g.enclave t.track (stay past p)) ∙ sym
+    (ap (λ k. keeps_back g.enclave k (stay past p)) t.first) ∙ none

@@ -90,7 +90,8 @@ needs_to_resume j past enclave tcs = page_at enclave tcs ∷ listed (save_to_res
 
 -- the TCS page, the state save page that was used last, and behind a fault the page of the access
 abbrev pub needs_after : JobView → List Entry → ℕ → Interruption → List Page
-needs_after j past p i = needs_to_resume j past i.enclave i.tcs ++ (if i.for_page then listed (access_page i.enclave (next_op j past p)) else [])
+needs_after j past p i =
+    needs_to_resume j past i.enclave i.tcs ++ (if i.for_page then listed (access_page i.enclave (next_op j past p)) else [])
 
 abbrev pub needs_of : JobView → List Entry → Option Op → List Page
 needs_of j past (Some (ops.Enter enclave tcs)) = needs_to_enter j past enclave tcs

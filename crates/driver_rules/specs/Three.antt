@@ -14,7 +14,9 @@ use Rattle.driver_rules.specs.Needs.{Interruption, access_page, interruption, la
 
 -- the TCS page, the state save page that was used last where so many are in use, and the page of the access
 abbrev pub pages_by : JobView → ℕ → ℕ → ℕ → Op → List Page
-pages_by j enclave tcs n op = page_at enclave tcs ∷ listed (last_save enclave n (tcs_line (lines_at j.enclaves enclave) tcs)) ++ listed (access_page enclave (Some op))
+pages_by j enclave tcs n op =
+    page_at enclave tcs ∷ listed (last_save enclave n (tcs_line (lines_at j.enclaves enclave) tcs)) ++ listed
+    (access_page enclave (Some op))
 
 -- inside, the state save page is the one that an exit uses
 abbrev pub three_by : JobView → List Entry → Option Stay → Option Interruption → Option Op → List Page

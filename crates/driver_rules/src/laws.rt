@@ -44,7 +44,8 @@ pub fn dues_agree_with_rules()
         ⊎ (reason : Why) × (pass_due j past is_kicked (pass j past) ≡ Waits reason)) }
     ensures rules { (j : JobView) (past : List Entry) (is_kicked : Bool) (ev : Event) → is_refused ev ≡ false
         → IsNext (pass_due j past is_kicked (pass j past)) ev
-        → AgeRule j past (record { actor = actors.Reclaimer; event = ev }) × KickRule j past (record { actor = actors.Reclaimer; event = ev }) }
+        → AgeRule j past (record { actor = actors.Reclaimer; event = ev }) × KickRule j past
+        (record { actor = actors.Reclaimer; event = ev }) }
 {}
 
 /// One entry more, of any kind, keeps places, the list and the slots sound, where it can move its page.
@@ -56,10 +57,12 @@ pub fn entries_stay_sound()
 /// One entry more keeps what a pass says of tracks. So a first try that is refused for want of a track tells that there was none since
 /// the block.
 pub fn passes_keep_tracks()
-    ensures more { (j : JobView) (past : List Entry) (e : Entry) → IsSound past → CanMove past e.event → TryTells past e.event → OwnRule past e
+    ensures more { (j : JobView) (past : List Entry) (e : Entry) → IsSound past → CanMove past e.event → TryTells past e.event
+        → OwnRule past e
         → AgeRule j past e → KickRule j past e → KeepsTracks past (pass j past) → KeepsTracks (e ∷ past) (pass j (e ∷ past)) }
     ensures first { (j : JobView) (past : List Entry) (g : Page) (rest : List Page) (f : ℕ) → IsSound past → KeepsTracks past (pass j past)
-        → pass j past ≡ Tries g rest First → place past g ≡ Leaving f → is_blocked past f ≡ true → is_drained past f ≡ false → IsUntracked past g }
+        → pass j past ≡ Tries g rest First → place past g ≡ Leaving f → is_blocked past f ≡ true → is_drained past f ≡ false
+        → IsUntracked past g }
     ensures own { (j : JobView) (past : List Entry) (e : Entry) → ScriptRule j past e → OwnRule past e }
     ensures told { (k : Making) (past : List Entry) (e : Entry) → MovesRule k past e → TryTells past e.event }
 {}
@@ -76,10 +79,12 @@ pub fn pages_stay()
 /// epoch is then the enclave's, and behind the track it is the one before. Once nobody keeps the page back it is drained.
 pub fn tries_end()
     ensures older { (past : List Entry) (e : ℕ) → IsCalm past e → older_at past e ≡ 0 }
-    ensures now { (first : ℕ) (past : List Entry) (g : Page) (u : IsUntracked past g) → IsSound past → block_epoch first past u.frame ≡ Some (epoch first past g.enclave) }
+    ensures now { (first : ℕ) (past : List Entry) (g : Page) (u : IsUntracked past g) → IsSound past
+        → block_epoch first past u.frame ≡ Some (epoch first past g.enclave) }
     ensures before { (first : ℕ) (past : List Entry) (g : Page) (t : IsTracked past g) → IsSound past
         → (b : ℕ) × (block_epoch first past t.frame ≡ Some b) × (b + 1 ≡ epoch first past g.enclave) }
-    ensures drained { (past : List Entry) (g : Page) (t : IsTracked past g) → IsSound past → keepers past g ≡ [] → is_drained past t.frame ≡ true }
+    ensures drained { (past : List Entry) (g : Page) (t : IsTracked past g) → IsSound past → keepers past g ≡ []
+        → is_drained past t.frame ≡ true }
 {}
 
 /// Those whom the reclaimer kicks are the processors inside whose noted epoch is at or below the block's.
@@ -88,11 +93,15 @@ pub fn kicks_go_by_epochs()
         → keepers past g ≡ processors_noting first past g.enclave b }
 {}
 
-/// In a history places, the list and the slots are sound, a pass keeps what it says of tracks, and three holds suffice.
+/// In a history places, the list and the slots are sound, a pass keeps what it says of tracks and of its pages, and three holds suffice.
 pub fn histories_are_sound()
     ensures sound { (k : Making) (j : JobView) (past : List Entry) → 1 ≤ k.first_version → IsDriven k j past → IsSound past }
-    ensures tracks { (k : Making) (j : JobView) (past : List Entry) → 1 ≤ k.first_version → IsDriven k j past → KeepsTracks past (pass j past) }
-    ensures three { (k : Making) (j : JobView) (past : List Entry) → 1 ≤ k.first_version → TcsAreApart j → IsDriven k j past → (p : ℕ) → IsApart j past p }
+    ensures tracks { (k : Making) (j : JobView) (past : List Entry) → 1 ≤ k.first_version → IsDriven k j past
+        → KeepsTracks past (pass j past) }
+    ensures pages { (k : Making) (j : JobView) (past : List Entry) → 1 ≤ k.first_version → IsDriven k j past
+        → KeepsPages past (pass j past) }
+    ensures three { (k : Making) (j : JobView) (past : List Entry) → 1 ≤ k.first_version → TcsAreApart j → IsDriven k j past → (p : ℕ)
+        → IsApart j past p }
 {}
 
 /// What a processor holds until its next reply is of three pages: the TCS page, the state save page beside it, and the page of its

@@ -6,9 +6,10 @@ use Rattle.job_grammar.specs.Jobs.{JobView}
 use Rattle.driver_rules.specs.Driven.{IsDriven}
 use Rattle.driver_rules.specs.Passes.{pass}
 use Rattle.driver_rules.specs.Sound.{IsSound}
+use Rattle.driver_rules.specs.Stages.{KeepsPages}
 use Rattle.driver_rules.specs.Three.{IsApart, TcsAreApart}
 use Rattle.driver_rules.specs.Tracks.{KeepsTracks}
-use Rattle.driver_rules.proofs.HistoryLaws.{driven_sound}
+use Rattle.driver_rules.proofs.HistoryLaws.{driven_pages, driven_sound}
 use Rattle.driver_rules.proofs.TcsLaws.{driven_apart}
 use Rattle.run_history.specs.declared.rules.Rule.{Rule}
 use Rattle.run_history.specs.declared.rules.Rule.TheVariants as rules
@@ -120,6 +121,9 @@ sound j past positive h = (driven_sound (making_of j) j past positive (driven j 
 
 pub tracks : (j : JobView) (past : List Entry) → 1 ≤ j.start_version → GoesOn j past → KeepsTracks past (pass j past)
 tracks j past positive h = (driven_sound (making_of j) j past positive (driven j past h)).1
+
+pub pages : (j : JobView) (past : List Entry) → 1 ≤ j.start_version → GoesOn j past → KeepsPages past (pass j past)
+pages j past positive h = driven_pages (making_of j) j past positive (driven j past h)
 
 pub three : (j : JobView) (past : List Entry) → 1 ≤ j.start_version → TcsAreApart j → GoesOn j past → (p : ℕ) → IsApart j past p
 three j past positive apart h = driven_apart (making_of j) j past positive apart (driven j past h)

@@ -6,6 +6,7 @@ ghost use Rattle.job_grammar.specs.Jobs.{JobView};
 ghost use Rattle.driver_rules.specs.Driven.{IsDriven};
 ghost use Rattle.driver_rules.specs.Passes.{pass};
 ghost use Rattle.driver_rules.specs.Sound.{IsSound};
+ghost use Rattle.driver_rules.specs.Stages.{KeepsPages};
 ghost use Rattle.driver_rules.specs.Three.{IsApart, TcsAreApart};
 ghost use Rattle.driver_rules.specs.Tracks.{KeepsTracks};
 ghost use Rattle.run_history.specs.Calls.{Call, before};
@@ -22,11 +23,13 @@ pub fn histories_fail_nowhere()
     ensures shorter { (j : JobView) (e : Entry) (past : List Entry) → GoesOn j (e ∷ past) → GoesOn j past }
 {}
 
-/// In a history that goes on places, the list and the slots are sound, a pass keeps what it says of tracks, and three holds suffice.
+/// In a history that goes on places, the list and the slots are sound, a pass keeps what it says of tracks and of its pages, and three
+/// holds suffice.
 pub fn histories_are_driven()
     ensures driven { (j : JobView) (past : List Entry) → GoesOn j past → IsDriven (making_of j) j past }
     ensures sound { (j : JobView) (past : List Entry) → 1 ≤ j.start_version → GoesOn j past → IsSound past }
     ensures tracks { (j : JobView) (past : List Entry) → 1 ≤ j.start_version → GoesOn j past → KeepsTracks past (pass j past) }
+    ensures pages { (j : JobView) (past : List Entry) → 1 ≤ j.start_version → GoesOn j past → KeepsPages past (pass j past) }
     ensures three { (j : JobView) (past : List Entry) → 1 ≤ j.start_version → TcsAreApart j → GoesOn j past → (p : ℕ) → IsApart j past p }
 {}
 
