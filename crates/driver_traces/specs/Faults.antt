@@ -1,8 +1,8 @@
 -- Which of the rules Script, Age and Kick an entry breaks first.
-use Rattle.std.specs.Prelude.{ℕ, ◌-◌, ◌&&◌, Bool, true, false, not, if◌then◌else◌, List, [], ◌∷◌, drop, length}
+use Rattle.std.specs.Prelude.{ℕ, ◌-◌, ◌&&◌, Bool, true, not, if◌then◌else◌, List, [], ◌∷◌, drop, length}
 use Rattle.sgx_types.specs.declared.entries.Entry.{Entry}
 use Rattle.job_grammar.specs.Jobs.{JobView}
-use Rattle.driver_rules.specs.Decided.{is_ended, keeps_age, keeps_kick, keeps_script}
+use Rattle.driver_rules.specs.Decided.{keeps_age, keeps_kick, keeps_script}
 
 pub data Broken : Type 0 where
   NoRule : Broken

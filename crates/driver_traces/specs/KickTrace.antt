@@ -24,7 +24,8 @@ kick_job = record {
     expect = None;
   } ∷ [];
   plans = [];
-  scripts = (ops.Enter 1 0 ∷ ops.Load 0x2000 ∷ ops.Load 0x3000 ∷ ops.Load 0x4000 ∷ ops.Load 0x5000 ∷ ops.Load 0x6000 ∷ ops.Load 0x2000 ∷ ops.Exit ∷ []) ∷ [];
+  scripts = (ops.Enter 1 0 ∷ ops.Load 0x2000 ∷ ops.Load 0x3000 ∷ ops.Load 0x4000 ∷ ops.Load 0x5000
+      ∷ ops.Load 0x6000 ∷ ops.Load 0x2000 ∷ ops.Exit ∷ []) ∷ [];
 }
 
 -- its trace

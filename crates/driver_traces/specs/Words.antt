@@ -14,6 +14,7 @@ use Rattle.sgx_types.specs.declared.entries.Entry.{Entry}
 use Rattle.sgx_types.specs.declared.entries.Event.TheVariants as events
 use Rattle.sgx_types.specs.declared.entries.Look.{Look}
 use Rattle.sgx_types.specs.declared.entries.PageInit.TheVariants as inits
+use Rattle.sgx_types.specs.declared.entries.PfWhy.{PfWhy}
 use Rattle.sgx_types.specs.declared.names.Kind.TheVariants as kinds
 use Rattle.sgx_types.specs.declared.names.Perm.{Perm}
 use Rattle.sgx_types.specs.declared.names.SlotAt.{SlotAt}
@@ -87,6 +88,18 @@ load actor off value = did actor (actions.Load off) (answers.Value value)
 abbrev pub xadd : Actor → ℕ → ℕ → ℕ → Entry
 xadd actor off value old = did actor (actions.Xadd off value) (answers.Value old)
 
+abbrev pub store : Actor → ℕ → ℕ → Entry
+store actor off value = did actor (actions.Store off value) answers.Plain
+
+abbrev pub pf : Actor → AccessOp → ℕ → PfWhy → Entry
+pf actor op off reason = did actor (actions.Pf op off) (answers.Pf reason)
+
+abbrev pub plus : Actor → ℕ → ℕ → Entry
+plus actor value acc = did actor (actions.Plus value) (answers.Value acc)
+
+abbrev pub outload : Actor → ℕ → Entry
+outload actor off = did actor (actions.OutLoad 1 off) (answers.Value 18446744073709551615)
+
 abbrev pub set : Actor → ℕ → Entry
 set actor value = did actor (actions.Set value) answers.Plain
 
@@ -132,6 +145,10 @@ start_out actor f i version = did actor (actions.EwbStart (frame_at f) (slot_at 
 -- .. is refused, at this epoch, so many processors keeping the page back
 abbrev pub try_refused : Actor → ℕ → ℕ → ℕ → ℕ → Entry
 try_refused actor f i epoch older = refused actor (actions.EwbStart (frame_at f) (slot_at i)) (why.NotTracked epoch older)
+
+-- .. or is refused, since the last version was drawn
+abbrev pub last_version : Actor → ℕ → ℕ → Entry
+last_version actor f i = refused actor (actions.EwbStart (frame_at f) (slot_at i)) why.VersionSpent
 
 -- .. and ends
 abbrev pub out : Actor → ℕ → ℕ → ℕ → Entry

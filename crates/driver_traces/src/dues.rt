@@ -39,7 +39,8 @@ pub fn a_processor_waits_and_why()
 {}
 
 pub fn the_reclaimer_waits_and_why()
-    ensures all_held { reclaimer_due (record crowd_job { marks = record { low = 8; high = 9; scan = 1 } }) (first_of 2 crowd_trace) false ≡ Waits waits.AllHeld }
+    ensures all_held { reclaimer_due
+        (record crowd_job { marks = record { low = 8; high = 9; scan = 1 } }) (first_of 2 crowd_trace) false ≡ Waits waits.AllHeld }
     ensures enough { reclaimer_due kick_job (first_of 3 kick_trace) false ≡ Waits (waits.Enough 4) }
     ensures looks { reclaimer_due kick_job (first_of 7 kick_trace) false ≡ LooksAt (page_at 1 0) false false }
     ensures blocks { reclaimer_due kick_job (first_of 9 kick_trace) false ≡ Makes (actions.Block (frame_at 2)) }

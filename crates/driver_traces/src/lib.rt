@@ -3,6 +3,7 @@
 // fact, or some of one kind.
 #![tactic(auto)]
 
+pub mod calls;
 pub mod dues;
 pub mod right;
 pub mod wrong_ages;
