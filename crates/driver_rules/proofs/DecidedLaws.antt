@@ -29,7 +29,7 @@ use Rattle.driver_rules.specs.Scripts.{IsActors, ScriptRule, is_load, IsDone, Is
 use Rattle.driver_rules.specs.Stops.{has_bus, is_spent}
 use Rattle.driver_rules.specs.Dues.{Due, Ends, Fetches, Finished, IsFetch, IsKickOf, IsLook, IsNext, IsTryOf, KicksAll, LooksAt, Makes, Reports, Stopped, TriesOut, Waits, is_look}
 use Rattle.driver_rules.specs.Turns.{builder_due, cpu_due}
-use Rattle.driver_rules.proofs.PlaceLaws.{same_page-refl}
+use Rattle.sgx_types.proofs.Pages.{same_page-refl}
 use Rattle.driver_rules.proofs.SameLaws.{action-refl, action-true}
 use Rattle.sgx_types.specs.Processors.{Stay, stay}
 

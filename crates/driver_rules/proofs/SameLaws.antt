@@ -19,7 +19,7 @@ use Rattle.sgx_types.specs.declared.names.SlotAt.{SlotAt}
 use Rattle.sgx_types.specs.Frames.{same_page}
 use Rattle.sgx_types.specs.Slots.{same_slot}
 use Rattle.driver_rules.specs.Same.{same_access, same_action, same_bool, same_cause, same_digest, same_init, same_kind, same_numbers, same_perm}
-use Rattle.driver_rules.proofs.PlaceLaws.{same_page-refl}
+use Rattle.sgx_types.proofs.Pages.{same_page-refl}
 
 -- ---- what is equal is found the same
 

@@ -10,10 +10,3 @@ pub mod Reclaims
 pub mod Scripts
 pub mod Same
 pub mod Decided
-pub mod Sound
-pub mod Agrees
-pub mod Kinds
-pub mod Tracks
-pub mod Driven
-pub mod Three
-pub mod Stages

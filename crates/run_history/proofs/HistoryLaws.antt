@@ -3,14 +3,14 @@ use Rattle.std.proofs.Common.{◌≡◌, ◌≤◌, ℕ, subst, List, [], ◌∷
 use Rattle.sgx_types.specs.declared.entries.Entry.{Entry}
 use Rattle.sgx_types.specs.Rules.{Along}
 use Rattle.job_grammar.specs.Jobs.{JobView}
-use Rattle.driver_rules.specs.Driven.{IsDriven}
+use Rattle.driver_laws.specs.Driven.{IsDriven}
 use Rattle.driver_rules.specs.Passes.{pass}
-use Rattle.driver_rules.specs.Sound.{IsSound}
-use Rattle.driver_rules.specs.Stages.{KeepsPages}
-use Rattle.driver_rules.specs.Three.{IsApart, TcsAreApart}
-use Rattle.driver_rules.specs.Tracks.{KeepsTracks}
-use Rattle.driver_rules.proofs.HistoryLaws.{driven_pages, driven_sound}
-use Rattle.driver_rules.proofs.TcsLaws.{driven_apart}
+use Rattle.driver_laws.specs.Sound.{IsSound}
+use Rattle.driver_laws.specs.Stages.{KeepsPages}
+use Rattle.driver_laws.specs.Three.{IsApart, TcsAreApart}
+use Rattle.driver_laws.specs.Tracks.{KeepsTracks}
+use Rattle.driver_laws.proofs.HistoryLaws.{driven_pages, driven_sound}
+use Rattle.driver_laws.proofs.TcsLaws.{driven_apart}
 use Rattle.run_history.specs.declared.rules.Rule.{Rule}
 use Rattle.run_history.specs.declared.rules.Rule.TheVariants as rules
 use Rattle.run_history.specs.Histories.{AtEntry, Before, FailsFirst, GoesOn, History, IsPlace, Keeps, Says, Throughout, making_of}

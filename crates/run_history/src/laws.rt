@@ -3,12 +3,12 @@
 ghost use Rattle.std.specs.Prelude.{ℕ, ◌≡◌, ◌≤◌, List, ◌∷◌};
 ghost use Rattle.sgx_types.specs.declared.entries.Entry.{Entry};
 ghost use Rattle.job_grammar.specs.Jobs.{JobView};
-ghost use Rattle.driver_rules.specs.Driven.{IsDriven};
+ghost use Rattle.driver_laws.specs.Driven.{IsDriven};
 ghost use Rattle.driver_rules.specs.Passes.{pass};
-ghost use Rattle.driver_rules.specs.Sound.{IsSound};
-ghost use Rattle.driver_rules.specs.Stages.{KeepsPages};
-ghost use Rattle.driver_rules.specs.Three.{IsApart, TcsAreApart};
-ghost use Rattle.driver_rules.specs.Tracks.{KeepsTracks};
+ghost use Rattle.driver_laws.specs.Sound.{IsSound};
+ghost use Rattle.driver_laws.specs.Stages.{KeepsPages};
+ghost use Rattle.driver_laws.specs.Three.{IsApart, TcsAreApart};
+ghost use Rattle.driver_laws.specs.Tracks.{KeepsTracks};
 ghost use Rattle.run_history.specs.Calls.{Call, before};
 ghost use Rattle.run_history.specs.declared.rules.Rule.{Rule};
 ghost use Rattle.run_history.specs.Given.{UnforgedRun};

@@ -1,0 +1,17 @@
+pub mod PlaceLaws
+pub mod ListLaws
+pub mod SlotLaws
+pub mod SoundLaws
+pub mod MoveLaws
+pub mod KickLaws
+pub mod TrackLaws
+pub mod PassLaws
+pub mod EpochLaws
+pub mod OwnLaws
+pub mod HistoryLaws
+pub mod ThreeLaws
+pub mod TcsLaws
+pub mod AgreeLaws
+pub mod MarkLaws
+pub mod StillLaws
+pub mod StageLaws
