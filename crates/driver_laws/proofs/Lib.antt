@@ -15,3 +15,4 @@ pub mod AgreeLaws
 pub mod MarkLaws
 pub mod StillLaws
 pub mod StageLaws
+pub mod SmallLaws
