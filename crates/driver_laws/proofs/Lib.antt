@@ -15,4 +15,5 @@ pub mod AgreeLaws
 pub mod MarkLaws
 pub mod StillLaws
 pub mod StageLaws
+pub mod SpentLaws
 pub mod SmallLaws

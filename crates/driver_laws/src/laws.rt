@@ -10,7 +10,7 @@ ghost use Rattle.sgx_types.specs.Epochs.{block_epoch, epoch, older_at};
 ghost use Rattle.sgx_types.specs.Eviction.{is_drained};
 ghost use Rattle.sgx_types.specs.Frames.{is_blocked};
 ghost use Rattle.job_grammar.specs.Jobs.{JobView};
-ghost use Rattle.sgx_types.specs.Rules.{Along, FlatRule};
+ghost use Rattle.sgx_types.specs.Rules.{Along, FlatRule, RefusalRule};
 ghost use Rattle.turn_rules.specs.Script.{IsEnded as SmallEnded, ScriptRule as SmallRule};
 ghost use Rattle.driver_rules.specs.Ages.{AgeRule, KickRule};
 ghost use Rattle.driver_laws.specs.Driven.{IsDriven};
@@ -18,7 +18,6 @@ ghost use Rattle.driver_laws.specs.Kinds.{CanMove};
 ghost use Rattle.driver_rules.specs.Passes.{First, Tries, keepers, pass, processors_noting};
 ghost use Rattle.driver_rules.specs.Places.{Leaving, place};
 ghost use Rattle.driver_rules.specs.Scripts.{IsEnded, ScriptRule};
-ghost use Rattle.driver_rules.specs.Stops.{is_spent};
 ghost use Rattle.driver_laws.specs.Sound.{IsSound};
 ghost use Rattle.driver_laws.specs.Stages.{KeepsPages};
 ghost use Rattle.driver_laws.specs.Three.{IsApart, TcsAreApart, three};
@@ -89,14 +88,14 @@ pub fn three_holds_suffice()
     ensures most { (j : JobView) (past : List Entry) (p : ℕ) → length (three j past p) ≤ 3 }
 {}
 
-/// For a job whose pages all fit, the rule Script of `turn_rules` is what the whole rule says: a trace that keeps it, that answers as flat
-/// memory and in which no epoch and no version was spent, keeps the whole rule, and Age and Kick. At its end the whole rule's end is there.
+/// For a job whose pages all fit, the rule Script of `turn_rules` is what the whole rule says: a trace that keeps it, Refusal and Flat
+/// keeps the whole rule, and Age and Kick. At its end the whole rule's end is there.
 pub fn small_scripts_are_scripts()
-    ensures script { (j : JobView) (past : List Entry) → Along (SmallRule j) past → Along FlatRule past → is_spent past ≡ false
-        → Along (ScriptRule j) past }
-    ensures age { (j : JobView) (past : List Entry) → Along (SmallRule j) past → Along FlatRule past → is_spent past ≡ false
-        → Along (AgeRule j) past }
-    ensures kick { (j : JobView) (past : List Entry) → Along (SmallRule j) past → Along FlatRule past → is_spent past ≡ false
-        → Along (KickRule j) past }
+    ensures script { (frames : ℕ) (j : JobView) (past : List Entry) → Along (SmallRule j) past → Along (RefusalRule frames) past
+        → Along FlatRule past → Along (ScriptRule j) past }
+    ensures age { (frames : ℕ) (j : JobView) (past : List Entry) → Along (SmallRule j) past → Along (RefusalRule frames) past
+        → Along FlatRule past → Along (AgeRule j) past }
+    ensures kick { (frames : ℕ) (j : JobView) (past : List Entry) → Along (SmallRule j) past → Along (RefusalRule frames) past
+        → Along FlatRule past → Along (KickRule j) past }
     ensures ended { (j : JobView) (past : List Entry) → SmallEnded j past → IsEnded j past }
 {}
