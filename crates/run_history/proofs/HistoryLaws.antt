@@ -83,7 +83,8 @@ along : (rule : List Entry → Entry → Type 0) (past : List Entry) → Before 
 along rule [] h = tt
 along rule (e ∷ past) h = (h.0, along rule past h.1)
 
-first_along : (rule other : List Entry → Entry → Type 0) (past : List Entry) → Before (AtEntry (λ p e. rule p e × other p e)) past → Along rule past
+first_along : (rule other : List Entry → Entry → Type 0) (past : List Entry) → Before (AtEntry (λ p e. rule p e × other p e)) past
+    → Along rule past
 first_along rule other [] h = tt
 first_along rule other (e ∷ past) h = (h.0.0, first_along rule other past h.1)
 
@@ -92,7 +93,8 @@ second_along : (rule other : List Entry → Entry → Type 0) (past : List Entry
 second_along rule other [] h = tt
 second_along rule other (e ∷ past) h = (h.0.1, second_along rule other past h.1)
 
-placed_along : (rule : List Entry → Entry → Type 0) (P : List Entry → Type 0) (past : List Entry) → Before (λ p next. AtEntry rule p next × P p) past
+placed_along : (rule : List Entry → Entry → Type 0) (P : List Entry → Type 0) (past : List Entry)
+    → Before (λ p next. AtEntry rule p next × P p) past
     → Along rule past
 placed_along rule P [] h = tt
 placed_along rule P (e ∷ past) h = (h.0.0, placed_along rule P past h.1)

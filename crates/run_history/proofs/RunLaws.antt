@@ -32,7 +32,8 @@ more_early (Refused (Eld f) why) opened records gifts = looked_early (opened f.0
 more_early event opened records gifts = All-nil _
 
 -- .. and still does when more are made
-still_early : (records more : List Made) (given : List GivenRecord) → All (TellsUpTo records) given → All (TellsUpTo (records ++ more)) given
+still_early : (records more : List Made) (given : List GivenRecord) → All (TellsUpTo records) given
+    → All (TellsUpTo (records ++ more)) given
 still_early records more given h =
     λ k d low. (let early : (get_or given k d).made ≤ length records = h k d low in omega (arith, length-append records more))
 

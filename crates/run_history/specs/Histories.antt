@@ -1,6 +1,8 @@
 -- The rules of a trace together: what each says of a place, and when a trace keeps them, goes on, or fails. Entries stand newest first.
-use Rattle.std.specs.Prelude.{ℕ, ◌≡◌, ◌<◌, List, [], ◌∷◌, ◌++◌, Option, Some, None, length}
+use Rattle.std.specs.Prelude.{ℕ, ◌≡◌, ◌<◌, Bool, true, false, List, [], ◌∷◌, ◌++◌, Option, Some, None, length}
 use Rattle.sgx_types.specs.declared.entries.Entry.{Entry}
+use Rattle.sgx_types.specs.declared.entries.Event.{Event}
+use Rattle.sgx_types.specs.declared.entries.Event.TheVariants.{Age, Kick, Bus}
 use Rattle.sgx_types.specs.Making.{Making}
 use Rattle.sgx_types.specs.Rules.{EvictRule, FitsRule, FlatRule, NoneStale, NoPageTwice, RefusalRule, StaleRule}
 use Rattle.page_history.specs.Fresh.{FreshRule}
@@ -26,6 +28,20 @@ rank rules.Sealed = 7
 rank rules.Measure = 8
 rank rules.Age = 9
 rank rules.Kick = 10
+
+-- the rules that say nothing of a driver
+abbrev pub is_machines : Rule → Bool
+is_machines rules.Script = false
+is_machines rules.Age = false
+is_machines rules.Kick = false
+is_machines _ = true
+
+-- an entry of no instruction: a look, a kick, or why a page did not come back
+abbrev pub is_note : Event → Bool
+is_note (Age page look) = true
+is_note (Kick cpu) = true
+is_note (Bus page reason) = true
+is_note _ = false
 
 -- the machine that a job is run on
 abbrev pub making_of : JobView → Making

@@ -44,7 +44,8 @@ IsUnfit key start _ rec = ⊥
 abbrev pub Tells : List ℕ → List Entry → (ℕ → Option Sealed) → Event → List Call → Type 0
 Tells key past gifts (Did (Ewb f) (Moved page version told)) calls = PutsSealed key past page version calls
 Tells key past gifts (Did (Eld f) (Moved page version told)) calls = IsSomeAnd (gifts f.0) (IsBackBy past page told)
-Tells key past gifts (Refused (Eld f) refusal) calls = IsSomeAnd (open_start past f.0) (λ start. IsSomeAnd (gifts f.0) (IsUnfit key start refusal))
+Tells key past gifts (Refused (Eld f) refusal) calls =
+    IsSomeAnd (open_start past f.0) (λ start. IsSomeAnd (gifts f.0) (IsUnfit key start refusal))
 Tells key past gifts _ calls = Unit {0}
 
 -- each entry tells what is so of the record of its call

@@ -1,18 +1,22 @@
 //! Laws of the definitions. Each is the contract of a function without arguments, and so holds for every list of entries.
 
-ghost use Rattle.std.specs.Prelude.{ℕ, ◌≡◌, ◌≤◌, List, ◌∷◌};
+ghost use Rattle.std.specs.Prelude.{ℕ, ◌≡◌, ◌≤◌, true, List, ◌∷◌, None, Some};
+ghost use Rattle.sgx_types.specs.declared.entries.Actor.{Actor};
 ghost use Rattle.sgx_types.specs.declared.entries.Entry.{Entry};
+ghost use Rattle.sgx_types.specs.declared.entries.Event.{Event};
 ghost use Rattle.job_grammar.specs.Jobs.{JobView};
 ghost use Rattle.driver_laws.specs.Driven.{IsDriven};
+ghost use Rattle.driver_rules.specs.Ages.{AgeRule, KickRule};
 ghost use Rattle.driver_rules.specs.Passes.{pass};
 ghost use Rattle.driver_laws.specs.Sound.{IsSound};
 ghost use Rattle.driver_laws.specs.Stages.{KeepsPages};
 ghost use Rattle.driver_laws.specs.Three.{IsApart, TcsAreApart};
 ghost use Rattle.driver_laws.specs.Tracks.{KeepsTracks};
+ghost use Rattle.driver_rules.specs.Scripts.{ScriptRule};
 ghost use Rattle.run_history.specs.Calls.{Call, before};
 ghost use Rattle.run_history.specs.declared.rules.Rule.{Rule};
 ghost use Rattle.run_history.specs.Given.{UnforgedRun};
-ghost use Rattle.run_history.specs.Histories.{FailsFirst, GoesOn, History, Keeps, making_of};
+ghost use Rattle.run_history.specs.Histories.{FailsFirst, GoesOn, History, Keeps, Says, is_machines, is_note, making_of};
 ghost use Rattle.run_history.specs.Stored.{StoreCalls};
 
 /// A history keeps each rule, so a trace that fails somewhere is none. A history is one that goes on.
@@ -39,4 +43,14 @@ pub fn runs_without_their_last_entry()
         → UnforgedRun key past (before e.event calls) }
     ensures stored { (key : List ℕ) (e : Entry) (past : List Entry) (calls : List Call) → StoreCalls key (e ∷ past) calls
         → StoreCalls key past (before e.event calls) }
+{}
+
+/// Of a look, of a kick, and of why a page did not come back, the rules but Script, Age and Kick say nothing. So a history goes on with one
+/// that keeps these three.
+pub fn entries_of_no_instruction()
+    ensures says { (j : JobView) (past : List Entry) (a : Actor) (ev : Event) (rule : Rule) → is_note ev ≡ true → is_machines rule ≡ true
+        → Says j rule past None → Says j rule past (Some (record { actor = a; event = ev })) }
+    ensures goes_on { (j : JobView) (past : List Entry) (a : Actor) (ev : Event) → is_note ev ≡ true
+        → ScriptRule j past (record { actor = a; event = ev }) → AgeRule j past (record { actor = a; event = ev })
+        → KickRule j past (record { actor = a; event = ev }) → GoesOn j past → GoesOn j (record { actor = a; event = ev } ∷ past) }
 {}
