@@ -50,7 +50,7 @@ use Rattle.driver_laws.proofs.SpentLaws.{refused_fine}
 -- ---- what is due there moves no page
 
 -- an instruction that moves no page out or back, and is no exit for a page or a kick
-abbrev is_tame : Action → Bool
+abbrev pub is_tame : Action → Bool
 is_tame (actions.Block f) = false
 is_tame (actions.Track enclave) = false
 is_tame (actions.EwbStart f slot) = false
@@ -148,7 +148,7 @@ due_tame j past (actors.Cpu p) = cpu_tame j past p.0
 due_tame j past actors.Reclaimer = tt
 
 -- an event of such an instruction
-abbrev TameEvent : Event → Type 0
+abbrev pub TameEvent : Event → Type 0
 TameEvent (Did action answer) = is_tame action ≡ true
 TameEvent (Refused action refusal) = is_tame action ≡ true
 TameEvent _ = ⊥
@@ -550,6 +550,12 @@ kept_all j (e ∷ past) small flat_rule fresh =
     kick_of actors.Builder is s = record { form = rw s.between tt; beside = rw s.between tt }
     kick_of (actors.Cpu p) is s = record { form = rw s.between tt; beside = rw s.between tt }
     kick_of actors.Reclaimer is s = cc
+
+-- each entry is of an instruction that moves no page out or back
+pub small_tame : (j : JobView) (past : List Entry) (e : Entry) → SmallRule j past e → TameEvent e.event
+small_tame j past e small =
+    let made = some_action (action_of e.event) small.is_instruction in
+    tame_event e.event (small_due j past e.actor) made.0 (due_tame j past e.actor) (sym small.is_due ∙ made.1) made.1
 
 -- the entries are refused by their rows, so the run was not stopped
 fresh_all : (frames : ℕ) (j : JobView) (past : List Entry) → Along (SmallRule j) past → Along (RefusalRule frames) past

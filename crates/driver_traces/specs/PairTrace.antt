@@ -24,7 +24,8 @@ pair_job = record {
     expect = None;
   } ∷ [];
   plans = [];
-  scripts = (ops.Enter 1 0 ∷ ops.Xadd 0x4000 1 ∷ ops.Load 0x8000 ∷ ops.Exit ∷ []) ∷ (ops.Enter 1 1 ∷ ops.Xadd 0x4000 1 ∷ ops.Load 0x7000 ∷ ops.Exit ∷ []) ∷ [];
+  scripts = (ops.Enter 1 0 ∷ ops.Xadd 0x4000 1 ∷ ops.Load 0x8000 ∷ ops.Exit ∷ [])
+      ∷ (ops.Enter 1 1 ∷ ops.Xadd 0x4000 1 ∷ ops.Load 0x7000 ∷ ops.Exit ∷ []) ∷ [];
 }
 
 -- its trace
