@@ -17,3 +17,4 @@ pub mod StillLaws
 pub mod StageLaws
 pub mod SpentLaws
 pub mod SmallLaws
+pub mod StartedLaws

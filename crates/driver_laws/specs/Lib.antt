@@ -5,3 +5,4 @@ pub mod Stages
 pub mod Three
 pub mod Agrees
 pub mod Driven
+pub mod Started

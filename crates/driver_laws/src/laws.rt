@@ -4,7 +4,9 @@ ghost use Rattle.std.specs.Prelude.{ℕ, ◌≡◌, ◌≤◌, ◌+◌, true, fa
 ghost use Rattle.sgx_types.specs.Making.{Making};
 ghost use Rattle.page_history.specs.Moves.{MovesRule};
 ghost use Rattle.sgx_types.specs.ByEpochs.{IsTrackedBlock};
+ghost use Rattle.sgx_types.specs.declared.entries.Actor.TheVariants as actors;
 ghost use Rattle.sgx_types.specs.declared.entries.Entry.{Entry};
+ghost use Rattle.sgx_types.specs.declared.names.Cpu.{Cpu};
 ghost use Rattle.sgx_types.specs.declared.names.Page.{Page};
 ghost use Rattle.sgx_types.specs.Epochs.{block_epoch, epoch, older_at};
 ghost use Rattle.sgx_types.specs.Eviction.{is_drained};
@@ -18,6 +20,9 @@ ghost use Rattle.driver_laws.specs.Kinds.{CanMove};
 ghost use Rattle.driver_rules.specs.Passes.{First, Tries, keepers, pass, processors_noting};
 ghost use Rattle.driver_rules.specs.Places.{Leaving, place};
 ghost use Rattle.driver_rules.specs.Scripts.{IsEnded, ScriptRule};
+ghost use Rattle.driver_rules.specs.Stops.{frame_started, last_event};
+ghost use Rattle.driver_rules.specs.Turns.{last_of};
+ghost use Rattle.driver_laws.specs.Started.{frame_loaded};
 ghost use Rattle.driver_laws.specs.Sound.{IsSound};
 ghost use Rattle.driver_laws.specs.Stages.{KeepsPages};
 ghost use Rattle.driver_laws.specs.Three.{IsApart, TcsAreApart, three};
@@ -86,6 +91,12 @@ pub fn three_holds_suffice()
     ensures more { (j : JobView) (past : List Entry) (e : Entry) → TcsAreApart j → IsSound past → ScriptRule j past e → AgeRule j past e
         → ((p : ℕ) → IsApart j past p) → (p : ℕ) → IsApart j (e ∷ past) p }
     ensures most { (j : JobView) (past : List Entry) (p : ℕ) → length (three j past p) ≤ 3 }
+{}
+
+/// A processor has an open start exactly where its turn is to end a load, which is that of the start's frame.
+pub fn open_starts_are_ended()
+    ensures { (j : JobView) (past : List Entry) (c : Cpu) → Along (ScriptRule j) past
+        → frame_started (last_event past (actors.Cpu c)) ≡ frame_loaded (last_of past c.0) }
 {}
 
 /// For a job whose pages all fit, the rule Script of `turn_rules` is what the whole rule says: a trace that keeps it, Refusal and Flat

@@ -8,11 +8,13 @@ ghost use Rattle.sgx_types.specs.Frames.{page_at};
 ghost use Rattle.turn_rules.specs.Script.{frame_at};
 ghost use Rattle.driver_rules.specs.declared.waits.Why.TheVariants as waits;
 ghost use Rattle.driver_rules.specs.Dues.{Ends, Fetches, Finished, KicksAll, LooksAt, Makes, Reports, Stopped, TriesOut, Waits};
+ghost use Rattle.driver_rules.specs.Holds.{is_held};
 ghost use Rattle.driver_rules.specs.Reclaims.{reclaimer_due};
 ghost use Rattle.driver_rules.specs.Turns.{builder_due, cpu_due};
 ghost use Rattle.driver_traces.specs.BusTrace.{bus_job, bus_trace};
 ghost use Rattle.driver_traces.specs.CrowdTrace.{crowd_job, crowd_trace};
 ghost use Rattle.driver_traces.specs.KickTrace.{kick_job, kick_trace};
+ghost use Rattle.driver_traces.specs.MeasuredTrace.{measured_job, measured_trace};
 ghost use Rattle.driver_traces.specs.SpentTrace.{spent_job, spent_trace};
 ghost use Rattle.driver_traces.specs.Faults.{first_of};
 ghost use Rattle.driver_traces.specs.Words.{aex, cpu, slot_at};
@@ -54,4 +56,17 @@ pub fn the_reclaimer_waits_and_why()
     ensures older_two { reclaimer_due crowd_job (first_of 21 crowd_trace) true ≡ Waits (waits.Older 1 2) }
     ensures finished { reclaimer_due kick_job (first_of 131 kick_trace) false ≡ Finished }
     ensures stopped { reclaimer_due spent_job (first_of 13 spent_trace) false ≡ Stopped }
+{}
+
+/// A page is held from the entry that needs it to its processor's next reply; one that is measured from its `add` to its last `extend`.
+pub fn pages_are_held()
+    ensures not_yet { is_held measured_job (first_of 4 measured_trace) (page_at 1 2) ≡ false }
+    ensures added { is_held measured_job (first_of 5 measured_trace) (page_at 1 2) ≡ true }
+    ensures measured { is_held measured_job (first_of 20 measured_trace) (page_at 1 2) ≡ true }
+    ensures done { is_held measured_job (first_of 21 measured_trace) (page_at 1 2) ≡ false }
+    ensures target { is_held kick_job (first_of 33 kick_trace) (page_at 1 1) ≡ true }
+    ensures before { is_held kick_job (first_of 33 kick_trace) (page_at 1 0) ≡ true }
+    ensures later { is_held kick_job (first_of 31 kick_trace) (page_at 1 1) ≡ false }
+    ensures replied { is_held kick_job (first_of 36 kick_trace) (page_at 1 0) ≡ false }
+    ensures fault { is_held kick_job (first_of 37 kick_trace) (page_at 1 2) ≡ true }
 {}

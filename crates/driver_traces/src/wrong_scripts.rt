@@ -10,7 +10,7 @@ ghost use Rattle.driver_traces.specs.KickTrace.{kick_job, kick_trace};
 ghost use Rattle.driver_traces.specs.MeasuredTrace.{measured_job, measured_trace};
 ghost use Rattle.driver_traces.specs.PairTrace.{pair_job, pair_trace};
 ghost use Rattle.driver_traces.specs.SpentTrace.{spent_job, spent_trace};
-ghost use Rattle.driver_traces.specs.Faults.{ByScript, broken_by, first_of};
+ghost use Rattle.driver_traces.specs.Faults.{ByScript, NoRule, broken_by, first_of};
 ghost use Rattle.driver_traces.specs.Words.{add_reg, add_tcs, aex, back, block, bus, cpu, enter, epa, exit, extend, fill, init, load, out, refused, resume, set, start_back, track, try_refused, xadd};
 
 pub fn the_builder_takes_its_steps_in_order()
@@ -49,6 +49,15 @@ pub fn a_bus_tells_what_was()
     ensures why { broken_by bus_job (first_of 55 bus_trace) (bus 0 2 reasons.PutFailed) ≡ ByScript }
     ensures page { broken_by bus_job (first_of 55 bus_trace) (bus 0 3 reasons.Mac) ≡ ByScript }
     ensures early { broken_by bus_job (first_of 42 bus_trace) (bus 0 2 reasons.Mac) ≡ ByScript }
+{}
+
+/// Written by hand: page 2 is outside and no frame is free, so nothing is asked of the store; it may have been lost before.
+pub fn without_a_frame_nothing_is_fetched()
+    ensures start { broken_by kick_job (first_of 37 kick_trace) (start_back (cpu 0) 6 2 2 3) ≡ ByScript }
+    ensures get { broken_by kick_job (first_of 37 kick_trace) (bus 0 2 reasons.GetFailed) ≡ ByScript }
+    ensures none { broken_by kick_job (first_of 37 kick_trace) (bus 0 2 reasons.NoRecord) ≡ ByScript }
+    ensures lost { broken_by kick_job (first_of 37 kick_trace) (bus 0 2 reasons.PutFailed) ≡ NoRule }
+    ensures other { broken_by kick_job (first_of 37 kick_trace) (bus 0 1 reasons.PutFailed) ≡ ByScript }
 {}
 
 pub fn nothing_follows_a_bus()
