@@ -1,0 +1,508 @@
+-- The keeper of the version slots agrees with the entries, one entry longer.
+use Rattle.std.proofs.Common.{◌≡◌, ℕ, ◌==◌, ◌&&◌, ◌||◌, not, Bool, true, false, if◌then◌else◌, refl, sym, ◌∙◌, ap, subst, List, [], ◌∷◌, Option, Some, None, length}
+use Rattle.std.specs.List.{list_any}
+use Rattle.std.proofs.lemmas.Bool.{eqb-true, eq-eqb, false≢true}
+use Rattle.std.proofs.lemmas.List.Folds.{list_any-append}
+use Rattle.sgx_types.proofs.Pages.{same_pages, same_slots}
+use Rattle.sgx_types.specs.declared.entries.Action.TheVariants.{Epa, Create, Add, EwbStart, Ewb, EldStart, Eld}
+use Rattle.sgx_types.specs.declared.entries.Actor.{Actor}
+use Rattle.sgx_types.specs.declared.entries.Answer.{Answer}
+use Rattle.sgx_types.specs.declared.entries.Answer.TheVariants.{Moved}
+use Rattle.sgx_types.specs.declared.entries.Entry.{Entry}
+use Rattle.sgx_types.specs.declared.entries.Event.{Event}
+use Rattle.sgx_types.specs.declared.entries.Event.TheVariants.{Did, Refused, Age}
+use Rattle.sgx_types.specs.declared.entries.Look.{Look}
+use Rattle.sgx_types.specs.declared.entries.Look.TheVariants as looks
+use Rattle.sgx_types.specs.declared.entries.PageInit.{PageInit}
+use Rattle.sgx_types.specs.declared.names.Frame.{Frame}
+use Rattle.sgx_types.specs.declared.names.Kind.{Kind}
+use Rattle.sgx_types.specs.declared.names.Perm.{Perm}
+use Rattle.sgx_types.specs.declared.names.Page.{Page}
+use Rattle.sgx_types.specs.declared.names.SlotAt.{SlotAt}
+use Rattle.sgx_types.specs.declared.refusals.Refusal.{Refusal}
+use Rattle.sgx_types.specs.Frames.{Content, Free, Holds, IsLoading, IsVa, SecsOf, added, content, is_page, page_at, reloaded, same_page}
+use Rattle.sgx_types.specs.Slots.{is_slot_busy, names_slot, open_slot, same_slot, version_in}
+use Rattle.sgx_types.specs.Starts.{Start, is_load_of, open_start, version_told}
+use Rattle.version_array.specs.Keeper.{Adds, Gives, Keeper, Takes, is_added, is_out}
+use Rattle.job_grammar.specs.Jobs.{JobView, va_pages}
+use Rattle.driver_laws.specs.Agrees.{ShowsSlots, has_pages, is_va}
+use Rattle.driver_laws.specs.Kinds.{CanMove, is_quiet}
+use Rattle.driver_rules.specs.Places.{Absent, Away, Here, Leaving, Loading, Place, after_look, back_to, gone_to, place}
+use Rattle.sgx_types.specs.Slots.{slot_of as starts_slot}
+use Rattle.driver_laws.specs.Sound.{IsSound, is_loading, load_slot, slot_at, slot_loading, slot_of, stands_in}
+use Rattle.driver_laws.proofs.PlaceLaws.{load_no_page, load_slot_is, one_page, same_page-refl}
+use Rattle.driver_laws.proofs.SlotLaws.{none_open}
+use Rattle.driver_laws.proofs.ThreeLaws.{or_left, or_right}
+use Rattle.driver_laws.proofs.SoundLaws.{entry_of, load_start, named}
+
+-- a slot that is not out is no page's, so a write-out may begin with it
+pub kept_is_free : (j : JobView) (keeper : Keeper) (past : List Entry) (slot : SlotAt) → ShowsSlots j keeper past
+    → is_out keeper slot ≡ false → (g : Page) → slot_of past g ≡ Some slot → ⊥
+kept_is_free j keeper past slot s free g at = false≢true (sym free ∙ s.used g slot at)
+
+-- ---- in general
+
+same_slot-refl : (slot : SlotAt) → same_slot slot slot ≡ true
+same_slot-refl slot = rw (eq-eqb slot.frame.0 slot.frame.0 refl, eq-eqb slot.index slot.index refl) refl
+
+-- each page has the slot that it had
+abbrev SameSlots : List Entry → Entry → Type 0
+SameSlots past e = (g : Page) → slot_of (e ∷ past) g ≡ slot_of past g
+
+-- an entry that leaves the pages' slots, what stands in slots, and the version array pages
+shows_same : (j : JobView) (keeper : Keeper) (past : List Entry) (e : Entry) → ShowsSlots j keeper past
+    → ((n : ℕ) → is_va (content (e ∷ past) n) ≡ is_va (content past n)) → (has_pages (e ∷ past) ≡ true → length keeper.frames ≡ va_pages j)
+    → SameSlots past e
+    → ((slot : SlotAt) → is_out keeper slot ≡ false
+    → (version_in (e ∷ past) slot ≡ version_in past slot) × (is_slot_busy (e ∷ past) slot ≡ is_slot_busy past slot))
+    → ShowsSlots j keeper (e ∷ past)
+shows_same j keeper past e s arrays made same kept = record {
+  frames = λ n. s.frames n ∙ sym (arrays n);
+  made = made;
+  out = λ slot is_out_now. let owner = s.out slot is_out_now in (owner.0, same owner.0 ∙ owner.1);
+  used = λ g slot at. s.used g slot (sym (same g) ∙ at);
+  empty = λ slot free. let old = s.empty slot free in let stays = kept slot free in (stays.0 ∙ old.0, stays.1 ∙ old.1);
+}
+
+-- a free frame takes something that is no version array page
+not_array : (past : List Entry) (f n : ℕ) (c : Content) → content past f ≡ Free → is_va c ≡ false
+    → is_va (if f == n then c else content past n) ≡ is_va (content past n)
+not_array past f n c free other = by_frame (f == n) refl
+  where
+    by_frame : (b : Bool) → (f == n) ≡ b → is_va (if b then c else content past n) ≡ is_va (content past n)
+    by_frame true is = other ∙ sym (ap is_va (subst (λ m. content past m ≡ Free) (eqb-true f n is) free))
+    by_frame false is = refl
+
+-- a slot that is out is not one that is not
+out_apart : (keeper : Keeper) (mine slot : SlotAt) → is_out keeper mine ≡ true → is_out keeper slot ≡ false → same_slot mine slot ≡ false
+out_apart keeper mine slot out free = by_test (same_slot mine slot) refl
+  where
+    by_test : (b : Bool) → same_slot mine slot ≡ b → same_slot mine slot ≡ false
+    by_test true is = absurd (false≢true (sym free ∙ ap (is_out keeper) (sym (same_slots mine slot is)) ∙ out))
+    by_test false is = is
+
+-- ---- entries
+
+-- a page's place by a test on the page
+by_page : (past now : List Entry) (opened : ℕ → Option Start) (a g : Page) (to : Place) (slot : Option SlotAt) → slot_of past a ≡ slot
+    → slot_at opened to ≡ slot → ((h : Page) → same_page a h ≡ false → slot_at opened (place past h) ≡ slot_of past h)
+    → slot_at opened (if same_page a g then to else place past g) ≡ slot_of past g
+by_page past now opened a g to slot before after others = by_test (same_page a g) refl
+  where
+    by_test : (b : Bool) → same_page a g ≡ b → slot_at opened (if b then to else place past g) ≡ slot_of past g
+    by_test true is = after ∙ sym before ∙ ap (slot_of past) (same_pages a g is)
+    by_test false is = others g is
+
+-- a page is added, once all version array pages are made
+pub shows_add : (j : JobView) (keeper : Keeper) (past : List Entry) (a : Actor) (e n : ℕ) (f : Frame) (kind : Kind) (perm : Perm)
+    (init : PageInit) (answer : Answer) → CanMove past (Did (Add e n f kind perm init) answer)
+    → length keeper.frames ≡ va_pages j → ShowsSlots j keeper past
+    → ShowsSlots j keeper (entry_of a (Did (Add e n f kind perm init) answer) ∷ past)
+shows_add j keeper past a e n f kind perm init answer can made s =
+    shows_same j keeper past (entry_of a (Did (Add e n f kind perm init) answer)) s
+    (λ m. not_array past f.0 m (Holds (page_at e n) kind perm) can.0 refl) (λ h. made)
+    (λ g. by_page past past (open_start past) (page_at e n) g (Here f.0) None (ap (slot_at (open_start past)) can.1) refl (λ h other. refl))
+    (λ slot free. (refl, refl))
+
+-- a load starts
+pub shows_eldstart : (j : JobView) (keeper : Keeper) (past : List Entry) (a : Actor) (f : Frame) (page : Page) (slot : SlotAt)
+    (answer : Answer) → CanMove past (Did (EldStart f page slot) answer) → IsSound past
+    → ShowsSlots j keeper past → ShowsSlots j keeper (entry_of a (Did (EldStart f page slot) answer) ∷ past)
+shows_eldstart j keeper past a f page slot answer can sound s =
+    shows_same j keeper past (entry_of a (Did (EldStart f page slot) answer)) s (λ m. not_array past f.0 m IsLoading can.0 refl) s.made
+    (λ g. by_page past past now page g (Loading f.0 slot) (Some slot) (ap (slot_at (open_start past)) can.1) refl
+    (λ h other. kept h (place past h) refl))
+    (λ t free. (refl, rw (out_apart keeper slot t (s.used page slot (ap (slot_at (open_start past)) can.1)) free) refl))
+  where
+    now : ℕ → Option Start
+    now n = if f.0 == n then Some (record { slot = slot; version = version_told answer; loads = Some page }) else open_start past n
+
+    kept : (h : Page) (p : Place) → place past h ≡ p → slot_at now p ≡ slot_at (open_start past) p
+    kept h (Leaving n) at = ap slot_of_open (other_frame n (f.0 == n) refl at)
+      where
+        slot_of_open : Option Start → Option SlotAt
+        slot_of_open o = slot_at (λ m. o) (Leaving n)
+
+        other_frame : (m : ℕ) (b : Bool) → (f.0 == m) ≡ b → place past h ≡ Leaving m
+            → (if b then Some
+            (record { slot = slot; version = version_told answer; loads = Some page }) else open_start past m) ≡ open_start past m
+        other_frame m true is here =
+            let holds : is_page (content past f.0) h ≡ true =
+            sound.places.frames h f.0 ∙ ap (λ q. stands_in q f.0) here ∙ rw (eqb-true f.0 m is) (eq-eqb m m refl) in
+            absurd (false≢true (sym (ap (λ c. is_page c h) can.0) ∙ holds))
+        other_frame m false is here = refl
+    kept h (Away t) at = refl
+    kept h (Loading n t) at = refl
+    kept h (Here n) at = refl
+    kept h Absent at = refl
+
+-- the frame of a page is no version array page
+page_no_array : (c : Content) (g : Page) → is_page c g ≡ true → is_va c ≡ false
+page_no_array (Holds page kind perm) g h = refl
+page_no_array Free g h = cc
+page_no_array IsVa g h = cc
+page_no_array (SecsOf e) g h = cc
+page_no_array IsLoading g h = cc
+
+-- a page that leaves from a frame is the one that stands there
+same_leaving : (past : List Entry) (g h : Page) (f : ℕ) → IsSound past → place past g ≡ Leaving f → place past h ≡ Leaving f
+    → same_page g h ≡ true
+same_leaving past g h f s at_g at_h = one_page (content past f) g h (stood g at_g) (stood h at_h)
+  where
+    stood : (x : Page) → place past x ≡ Leaving f → is_page (content past f) x ≡ true
+    stood x at = s.places.frames x f ∙ ap (λ q. stands_in q f) at ∙ eq-eqb f f refl
+
+-- the slot of a page of another frame is by another start
+frame_apart : (past : List Entry) (now : ℕ → Option Start) (f : ℕ) (h : Page) → ((n : ℕ) → (f == n) ≡ false → now n ≡ open_start past n)
+    → (place past h ≡ Leaving f → ⊥) → slot_at now (place past h) ≡ slot_of past h
+frame_apart past now f h kept other = by_place (place past h) refl
+  where
+    by_frame : (n : ℕ) (b : Bool) → (f == n) ≡ b → place past h ≡ Leaving n → starts_slot (now n) ≡ starts_slot (open_start past n)
+    by_frame n true is at = absurd (other (at ∙ ap Leaving (sym (eqb-true f n is))))
+    by_frame n false is at = ap starts_slot (kept n is)
+
+    by_place : (p : Place) → place past h ≡ p → slot_at now p ≡ slot_at (open_start past) p
+    by_place (Leaving n) at = by_frame n (f == n) refl at
+    by_place (Away t) at = refl
+    by_place (Loading n t) at = refl
+    by_place (Here n) at = refl
+    by_place Absent at = refl
+
+-- ---- a page goes out
+
+-- a start takes a slot of the keeper
+pub shows_ewbstart : (j : JobView) (old new : Keeper) (past : List Entry) (a : Actor) (f : Frame) (slot : SlotAt) (answer : Answer)
+    (page : Page) → place past page ≡ Leaving f.0 → open_start past f.0 ≡ None → IsSound past → Takes old slot new
+    → ShowsSlots j old past → ShowsSlots j new (entry_of a (Did (EwbStart f slot) answer) ∷ past)
+shows_ewbstart j old new past a f slot answer page at none sound takes s = record {
+  frames = λ n. ap (λ fs. list_any (λ (x : Frame). x.0 == n) fs) takes.frames ∙ s.frames n;
+  made = λ h. ap (λ fs. length fs) takes.frames ∙ s.made h;
+  out = λ t k. by_out t (same_slot slot t) refl (sym (takes.out t) ∙ k);
+  used = λ g t k. takes.out t ∙ by_used g t (place past g) refl k;
+  empty = λ t k. by_empty t (same_slot slot t) refl (is_out old t) refl (sym (takes.out t) ∙ k);
+}
+  where
+    now : ℕ → Option Start
+    now n = if f.0 == n then Some (record { slot = slot; version = version_told answer; loads = None }) else open_start past n
+
+    kept : (n : ℕ) → (f.0 == n) ≡ false → now n ≡ open_start past n
+    kept n other = rw other refl
+
+    mine : slot_at now (place past page) ≡ Some slot
+    mine = rw (at, eq-eqb f.0 f.0 refl) refl
+
+    apart : (h : Page) (t : SlotAt) → slot_of past h ≡ Some t → place past h ≡ Leaving f.0 → ⊥
+    apart h t k here = none_some (sym (ap (slot_at (open_start past)) here ∙ ap starts_slot none) ∙ k)
+      where
+        none_some : None ≡ Some t → ⊥
+        none_some e = cc
+
+    by_out : (t : SlotAt) (b : Bool) → same_slot slot t ≡ b → (b || is_out old t) ≡ true
+        → (g : Page) × (slot_at now (place past g) ≡ Some t)
+    by_out t true is k = (page, mine ∙ ap Some (same_slots slot t is))
+    by_out t false is k = let owner = s.out t k in (owner.0, frame_apart past now f.0 owner.0 kept (apart owner.0 t owner.1) ∙ owner.1)
+
+    by_frame : (g : Page) (t : SlotAt) (n : ℕ) (b : Bool) → (f.0 == n) ≡ b → place past g ≡ Leaving n
+        → starts_slot (if b then Some (record { slot = slot; version = version_told answer; loads = None }) else open_start past n) ≡ Some t
+        → (same_slot slot t || is_out old t) ≡ true
+    by_frame g t n true is here k =
+        let same : slot ≡ t =
+        cc in or_left (same_slot slot t) (is_out old t) (subst (λ u. same_slot slot u ≡ true) same (same_slot-refl slot))
+    by_frame g t n false is here k = or_right (same_slot slot t) (is_out old t) (s.used g t (ap (slot_at (open_start past)) here ∙ k))
+
+    by_used : (g : Page) (t : SlotAt) (p : Place) → place past g ≡ p → slot_at now (place past g) ≡ Some t
+        → (same_slot slot t || is_out old t) ≡ true
+    by_used g t (Leaving n) here k = by_frame g t n (f.0 == n) refl here (sym (ap (slot_at now) here) ∙ k)
+    by_used g t (Away u) here k =
+        or_right (same_slot slot t) (is_out old t) (s.used g t (ap (slot_at (open_start past)) here ∙ sym (ap (slot_at now) here) ∙ k))
+    by_used g t (Loading n u) here k =
+        or_right (same_slot slot t) (is_out old t) (s.used g t (ap (slot_at (open_start past)) here ∙ sym (ap (slot_at now) here) ∙ k))
+    by_used g t (Here n) here k =
+        or_right (same_slot slot t) (is_out old t) (s.used g t (ap (slot_at (open_start past)) here ∙ sym (ap (slot_at now) here) ∙ k))
+    by_used g t Absent here k =
+        or_right (same_slot slot t) (is_out old t) (s.used g t (ap (slot_at (open_start past)) here ∙ sym (ap (slot_at now) here) ∙ k))
+
+    by_empty : (t : SlotAt) (b : Bool) → same_slot slot t ≡ b → (c : Bool) → is_out old t ≡ c → (b || c) ≡ false
+        → (version_in past t ≡ 0) × ((if same_slot slot t then true else is_slot_busy past t) ≡ false)
+    by_empty t true is c free k = cc
+    by_empty t false is true free k = cc
+    by_empty t false is false free k = let before = s.empty t free in (before.0, rw is before.1)
+
+-- its end leaves the slot with the page
+pub shows_ewb : (j : JobView) (keeper : Keeper) (past : List Entry) (a : Actor) (f : Frame) (page : Page) (version : ℕ) (tag : List ℕ)
+    → CanMove past (Did (Ewb f) (Moved page version tag)) → IsSound past → ShowsSlots j keeper past
+    → ShowsSlots j keeper (entry_of a (Did (Ewb f) (Moved page version tag)) ∷ past)
+shows_ewb j keeper past a f page version tag can sound s =
+    shows_same j keeper past (entry_of a (Did (Ewb f) (Moved page version tag))) s (λ n. arrays n (f.0 == n) refl) s.made
+    (λ g. slots g (same_page page g) refl)
+    (λ t free. (
+      rw (named past f.0 x can.1.1, out_apart keeper x.slot t mine free) refl,
+      rw
+          (named past f.0 x can.1.1, out_apart keeper x.slot t mine free) refl,
+    ))
+  where
+    x : Start
+    x = can.1.0
+
+    before : slot_of past page ≡ Some x.slot
+    before = ap (slot_at (open_start past)) can.0 ∙ ap starts_slot can.1.1
+
+    mine : is_out keeper x.slot ≡ true
+    mine = s.used page x.slot before
+
+    arrays : (n : ℕ) (b : Bool) → (f.0 == n) ≡ b → is_va (if b then Free else content past n) ≡ is_va (content past n)
+    arrays n true is = sym (page_no_array (content past n) page (sound.places.frames page n ∙ ap (λ q. stands_in q n) can.0 ∙ is))
+    arrays n false is = refl
+
+    now : ℕ → Option Start
+    now n = if f.0 == n then None else open_start past n
+
+    slots : (g : Page) (b : Bool) → same_page page g ≡ b
+        → slot_at now (if b then gone_to (open_start past f.0) (place past g) else place past g) ≡ slot_of past g
+    slots g true is = ap (λ o. slot_at now (gone_to o (place past g))) can.1.1 ∙ sym before ∙ ap (slot_of past) (same_pages page g is)
+    slots g false is =
+        frame_apart past now f.0 g (λ n other. rw other refl) (λ here. false≢true (sym is ∙ same_leaving past page g f.0 sound can.0 here))
+
+-- ---- a page comes back
+
+-- its slot goes back to the keeper
+pub shows_eld : (j : JobView) (old new : Keeper) (past : List Entry) (a : Actor) (f : Frame) (page : Page) (version : ℕ) (tag : List ℕ)
+    (slot : SlotAt) → place past page ≡ Loading f.0 slot → IsSound past → Gives old slot new
+    → ShowsSlots j old past → ShowsSlots j new (entry_of a (Did (Eld f) (Moved page version tag)) ∷ past)
+shows_eld j old new past a f page version tag slot loading sound gives s = record {
+  frames = λ n. ap (λ fs. list_any (λ (x : Frame). x.0 == n) fs) gives.frames ∙ s.frames n ∙ sym (arrays n (f.0 == n) refl);
+  made = λ h. ap (λ fs. length fs) gives.frames ∙ s.made h;
+  out = λ t k. by_out t (same_slot slot t) refl (sym (gives.out t) ∙ k);
+  used = λ g t k. gives.out t ∙ by_used g t (same_page page g) refl k;
+  empty = λ t k. by_empty t (same_slot slot t) refl (sym (gives.out t) ∙ k);
+}
+  where
+    start : (x : Start) × (open_start past f.0 ≡ Some x) × (x.slot ≡ slot)
+    start = load_start past f.0 page slot sound loading
+
+    names : open_slot past f.0 ≡ Some slot
+    names = named past f.0 start.0 start.1 ∙ ap Some start.2
+
+    mine : slot_of past page ≡ Some slot
+    mine = ap (slot_at (open_start past)) loading
+
+    now : ℕ → Option Start
+    now n = if f.0 == n then None else open_start past n
+
+    leaving_apart : (h : Page) → place past h ≡ Leaving f.0 → ⊥
+    leaving_apart h here =
+        let holds : is_page (content past f.0) h ≡ true =
+        sound.places.frames h f.0 ∙ ap (λ q. stands_in q f.0) here ∙ eq-eqb f.0 f.0 refl in
+        let load : load_slot (open_start past f.0) page ≡ Some slot =
+        sound.places.loads page f.0 ∙ ap (λ q. slot_loading q f.0) loading ∙ rw (eq-eqb f.0 f.0 refl) refl in
+        false≢true (sym
+        (load_no_page (content past f.0) h (sym (sound.places.loading f.0) ∙ load_slot_is (open_start past f.0) page slot load)) ∙ holds)
+
+    kept : (h : Page) → slot_at now (place past h) ≡ slot_of past h
+    kept h = frame_apart past now f.0 h (λ n other. rw other refl) (leaving_apart h)
+
+    arrays : (n : ℕ) (b : Bool) → (f.0 == n) ≡ b
+        → is_va (if b then reloaded page (added past page) else content past n) ≡ is_va (content past n)
+    arrays n true is =
+        by_kind (added past page) ∙ sym (ap is_va
+        (subst (λ m. content past m ≡ IsLoading) (eqb-true f.0 n is) (loading_content (content past f.0) held)))
+      where
+        held : is_loading (content past f.0) ≡ true
+        held =
+            sym (sound.places.loading f.0) ∙ load_slot_is (open_start past f.0) page slot
+            (sound.places.loads page f.0 ∙ ap (λ q. slot_loading q f.0) loading ∙ rw (eq-eqb f.0 f.0 refl) refl)
+
+        loading_content : (c : Content) → is_loading c ≡ true → c ≡ IsLoading
+        loading_content IsLoading k = refl
+        loading_content Free k = cc
+        loading_content IsVa k = cc
+        loading_content (SecsOf e) k = cc
+        loading_content (Holds g kind perm) k = cc
+
+        by_kind : (o : Option (Kind × Perm)) → is_va (reloaded page o) ≡ false
+        by_kind None = refl
+        by_kind (Some k) = refl
+    arrays n false is = refl
+
+    by_out : (t : SlotAt) (b : Bool) → same_slot slot t ≡ b → (not b && is_out old t) ≡ true
+        → (g : Page) × (slot_at now (if same_page page g then Here f.0 else place past g) ≡ Some t)
+    by_out t true is k = cc
+    by_out t false is k =
+        let owner = s.out t k in
+        (owner.0, by_owner owner.0 owner.1 (same_page page owner.0) refl)
+      where
+        by_owner : (g : Page) → slot_of past g ≡ Some t → (b : Bool) → same_page page g ≡ b
+            → slot_at now (if b then Here f.0 else place past g) ≡ Some t
+        by_owner g has true same =
+            let equal : slot ≡ t = some_same (sym mine ∙ ap (slot_of past) (same_pages page g same) ∙ has) in
+            absurd (false≢true (sym is ∙ subst (λ u. same_slot slot u ≡ true) equal (same_slot-refl slot)))
+          where
+            some_same : Some slot ≡ Some t → slot ≡ t
+            some_same e = cc
+        by_owner g has false same = kept g ∙ has
+
+    by_used : (g : Page) (t : SlotAt) (b : Bool) → same_page page g ≡ b → slot_at now (if b then Here f.0 else place past g) ≡ Some t
+        → (not (same_slot slot t) && is_out old t) ≡ true
+    by_used g t true same k = cc
+    by_used g t false same k =
+        let before : slot_of past g ≡ Some t = sym (kept g) ∙ k in
+        both_are (not (same_slot slot t)) (is_out old t) (ap not (by_slot before (same_slot slot t) refl)) (s.used g t before)
+      where
+        both_are : (x y : Bool) → x ≡ true → y ≡ true → (x && y) ≡ true
+        both_are true y h l = l
+        both_are false y h l = cc
+
+        by_slot : slot_of past g ≡ Some t → (c : Bool) → same_slot slot t ≡ c → same_slot slot t ≡ false
+        by_slot has true is =
+            let owner : page ≡ g = sound.apart page g t (mine ∙ ap Some (same_slots slot t is)) has in
+            absurd (false≢true (sym same ∙ subst (λ h. same_page page h ≡ true) owner (same_page-refl page)))
+        by_slot has false is = is
+
+    by_empty : (t : SlotAt) (b : Bool) → same_slot slot t ≡ b → (not b && is_out old t) ≡ false
+        → ((if names_slot (open_slot past f.0) t then 0 else version_in past t) ≡ 0) ×
+        ((if names_slot (open_slot past f.0) t then false else is_slot_busy past t) ≡ false)
+    by_empty t true is k = (rw (names, is) refl, rw (names, is) refl)
+    by_empty t false is k = let before = s.empty t k in (rw (names, is) before.0, rw (names, is) before.1)
+
+-- a refused load leaves the slot with the page
+pub shows_refused : (j : JobView) (keeper : Keeper) (past : List Entry) (a : Actor) (f : Frame) (refusal : Refusal)
+    → CanMove past (Refused (Eld f) refusal) → IsSound past → ShowsSlots j keeper past
+    → ShowsSlots j keeper (entry_of a (Refused (Eld f) refusal) ∷ past)
+shows_refused j keeper past a f refusal can sound s =
+    shows_same j keeper past (entry_of a (Refused (Eld f) refusal)) s (λ n. arrays n (f.0 == n) refl) s.made
+    (λ g. slots g (is_load_of (open_start past f.0) g))
+    (λ t free. (refl, rw (names, out_apart keeper slot t mine free) refl))
+  where
+    page : Page
+    page = can.0
+
+    slot : SlotAt
+    slot = can.1
+
+    start : (x : Start) × (open_start past f.0 ≡ Some x) × (x.slot ≡ slot)
+    start = load_start past f.0 page slot sound can.2
+
+    names : open_slot past f.0 ≡ Some slot
+    names = named past f.0 start.0 start.1 ∙ ap Some start.2
+
+    mine : is_out keeper slot ≡ true
+    mine = s.used page slot (ap (slot_at (open_start past)) can.2)
+
+    load : load_slot (open_start past f.0) page ≡ Some slot
+    load = sound.places.loads page f.0 ∙ ap (λ q. slot_loading q f.0) can.2 ∙ rw (eq-eqb f.0 f.0 refl) refl
+
+    held : is_loading (content past f.0) ≡ true
+    held = sym (sound.places.loading f.0) ∙ load_slot_is (open_start past f.0) page slot load
+
+    loading_no_array : (c : Content) → is_loading c ≡ true → is_va c ≡ false
+    loading_no_array IsLoading k = refl
+    loading_no_array Free k = cc
+    loading_no_array IsVa k = cc
+    loading_no_array (SecsOf e) k = cc
+    loading_no_array (Holds g kind perm) k = cc
+
+    arrays : (n : ℕ) (b : Bool) → (f.0 == n) ≡ b → is_va (if b then Free else content past n) ≡ is_va (content past n)
+    arrays n true is = sym (subst (λ m. is_va (content past m) ≡ false) (eqb-true f.0 n is) (loading_no_array (content past f.0) held))
+    arrays n false is = refl
+
+    now : ℕ → Option Start
+    now n = if f.0 == n then None else open_start past n
+
+    leaving_apart : (h : Page) → place past h ≡ Leaving f.0 → ⊥
+    leaving_apart h here =
+        let holds : is_page (content past f.0) h ≡ true =
+        sound.places.frames h f.0 ∙ ap (λ q. stands_in q f.0) here ∙ eq-eqb f.0 f.0 refl in
+        false≢true (sym (load_no_page (content past f.0) h held) ∙ holds)
+
+    kept : (h : Page) → slot_at now (place past h) ≡ slot_of past h
+    kept h = frame_apart past now f.0 h (λ n other. rw other refl) (leaving_apart h)
+
+    back : (p : Place) → slot_at now (back_to p) ≡ slot_at now p
+    back Absent = refl
+    back (Here n) = refl
+    back (Leaving n) = refl
+    back (Loading n t) = refl
+    back (Away t) = refl
+
+    slots : (g : Page) (b : Bool) → slot_at now (if b then back_to (place past g) else place past g) ≡ slot_of past g
+    slots g true = back (place past g) ∙ kept g
+    slots g false = kept g
+
+-- ---- the version array pages
+
+-- one more is made, before the first page is added
+pub shows_epa : (j : JobView) (old new : Keeper) (past : List Entry) (a : Actor) (f : Frame) (answer : Answer)
+    → CanMove past (Did (Epa f) answer) → has_pages past ≡ false → Adds old f new → ShowsSlots j old past
+    → ShowsSlots j new (entry_of a (Did (Epa f) answer) ∷ past)
+shows_epa j old new past a f answer free none adds s = record {
+  frames =
+      λ n. ap (λ fs. list_any (λ (x : Frame). x.0 == n) fs) adds.frames ∙ list_any-append (λ (x : Frame). x.0 == n) old.frames (f ∷ [])
+      ∙ by_frame n (f.0 == n) refl;
+  made = λ h. absurd (false≢true (sym none ∙ h));
+  out = λ t k. s.out t (sym (adds.out t) ∙ k);
+  used = λ g t k. adds.out t ∙ s.used g t k;
+  empty = λ t k. s.empty t (sym (adds.out t) ∙ k);
+}
+  where
+    or_false : (x : Bool) → (x || false) ≡ x
+    or_false true = refl
+    or_false false = refl
+
+    or_end : (x : Bool) → (x || (true || false)) ≡ true
+    or_end true = refl
+    or_end false = refl
+
+    by_frame : (n : ℕ) (b : Bool) → (f.0 == n) ≡ b → (is_added old n || ((f.0 == n) || false)) ≡ is_va (if b then IsVa else content past n)
+    by_frame n true is = rw is (or_end (is_added old n))
+    by_frame n false is = rw is (or_false (is_added old n) ∙ s.frames n)
+
+-- ---- entries that move no page into or out of a slot
+
+pub shows_create : (j : JobView) (keeper : Keeper) (past : List Entry) (a : Actor) (e : ℕ) (f : Frame) (base size : ℕ) (answer : Answer)
+    → CanMove past (Did (Create e f base size) answer) → ShowsSlots j keeper past
+    → ShowsSlots j keeper (entry_of a (Did (Create e f base size) answer) ∷ past)
+shows_create j keeper past a e f base size answer free s =
+    shows_same j keeper past (entry_of a (Did (Create e f base size) answer)) s (λ n. not_array past f.0 n (SecsOf e) free refl) s.made
+    (λ g. refl) (λ t k. (refl, refl))
+
+pub shows_age : (j : JobView) (keeper : Keeper) (past : List Entry) (a : Actor) (page : Page) (look : Look) → IsSound past
+    → ShowsSlots j keeper past → ShowsSlots j keeper (entry_of a (Age page look) ∷ past)
+shows_age j keeper past a page look sound s =
+    shows_same j keeper past (entry_of a (Age page look)) s (λ n. refl) s.made (λ g. slots g (same_page page g)) (λ t k. (refl, refl))
+  where
+    looked : (l : Look) (g : Page) (p : Place) → place past g ≡ p → slot_at (open_start past) (after_look l p) ≡ slot_at (open_start past) p
+    looked looks.Taken g (Here n) at = ap starts_slot (none_open (place past) (content past) (open_start past) g n sound.places at)
+    looked looks.Taken g Absent at = refl
+    looked looks.Taken g (Leaving n) at = refl
+    looked looks.Taken g (Loading n t) at = refl
+    looked looks.Taken g (Away t) at = refl
+    looked looks.Young g p at = refl
+    looked looks.Held g p at = refl
+    looked looks.NoRoom g p at = refl
+
+    slots : (g : Page) (b : Bool) → slot_at (open_start past) (if b then after_look look (place past g) else place past g) ≡ slot_of past g
+    slots g true = looked look g (place past g) refl
+    slots g false = refl
+
+-- an entry that moves no page, takes no frame and starts nothing
+abbrev pub is_slotless : Event → Bool
+is_slotless (Did (Epa f) answer) = false
+is_slotless (Did (Create e f base size) answer) = false
+is_slotless (Did (EwbStart f slot) answer) = false
+is_slotless event = is_quiet event
+
+pub shows_quiet : (j : JobView) (keeper : Keeper) (past : List Entry) (e : Entry) → is_slotless e.event ≡ true → ShowsSlots j keeper past
+    → ShowsSlots j keeper (e ∷ past)
+shows_quiet j keeper past e quiet s = by_event e.event quiet
+  where
+    by_event : (ev : Event) → is_slotless ev ≡ true → ShowsSlots j keeper (entry_of e.actor ev ∷ past)
+    by_event (Did (Epa f) answer) k = cc
+    by_event (Did (Create n f base size) answer) k = cc
+    by_event (Did (Add n number f kind perm init) answer) k = cc
+    by_event (Did (EwbStart f slot) answer) k = cc
+    by_event (Did (Ewb f) answer) k = cc
+    by_event (Did (EldStart f page slot) answer) k = cc
+    by_event (Did (Eld f) answer) k = cc
+    by_event (Refused (Eld f) refusal) k = cc
+    by_event (Age page look) k = cc
+    by_event _ k = record { frames = s.frames; made = s.made; out = s.out; used = s.used; empty = s.empty }

@@ -1,0 +1,247 @@
+-- By the rule Script looks, kicks, blocks, tracks and write-outs are the reclaimer's alone, and a load is begun for a page that is away.
+use Rattle.std.proofs.Common.{◌≡◌, ℕ, not, Bool, true, false, if◌then◌else◌, refl, sym, ◌∙◌, ap, List, Option, Some, None, length, nat_le, slice_get}
+use Rattle.std.proofs.lemmas.Bool.{false≢true}
+use Rattle.sgx_types.specs.declared.entries.AccessOp.{AccessOp}
+use Rattle.sgx_types.specs.declared.entries.AccessOp.TheVariants as accesses
+use Rattle.sgx_types.specs.declared.entries.Action.{Action}
+use Rattle.sgx_types.specs.declared.entries.Action.TheVariants as actions
+use Rattle.sgx_types.specs.declared.entries.Actor.{Actor}
+use Rattle.sgx_types.specs.declared.entries.Actor.TheVariants as actors
+use Rattle.sgx_types.specs.declared.entries.Answer.{Answer}
+use Rattle.sgx_types.specs.declared.entries.Entry.{Entry}
+use Rattle.sgx_types.specs.declared.entries.Event.{Event}
+use Rattle.sgx_types.specs.declared.entries.Event.TheVariants.{Did, Refused, Age, Kick, Bus}
+use Rattle.sgx_types.specs.declared.names.Page.{Page}
+use Rattle.sgx_types.specs.declared.names.SlotAt.{SlotAt}
+use Rattle.sgx_types.specs.declared.refusals.Refusal.{Refusal}
+use Rattle.sgx_types.specs.Flat.{at_offset}
+use Rattle.sgx_types.specs.declared.names.Frame.{Frame}
+use Rattle.sgx_types.specs.Frames.{added, content, frame_of, least_free, page_at}
+use Rattle.sgx_types.specs.Processors.{Stay, holds_number, stay, translations}
+use Rattle.sgx_types.specs.Table.{is_lawful_access}
+use Rattle.job_grammar.specs.declared.jobs.Op.{Op}
+use Rattle.job_grammar.specs.declared.jobs.Op.TheVariants as ops
+use Rattle.job_grammar.specs.Jobs.{JobView}
+use Rattle.turn_rules.specs.declared.steps.BuildStep.{BuildStep}
+use Rattle.turn_rules.specs.declared.steps.BuildStep.TheVariants as builds
+use Rattle.turn_rules.specs.Script.{action_of, build_of, built, enter_with, frame_at, is_turned_away, resume_with, with_frame}
+use Rattle.driver_rules.specs.Needs.{Interruption, interruption, needs_after, needs_to_enter, needs_to_resume, next_op, save_to_enter, save_to_resume}
+use Rattle.driver_rules.specs.Places.{Absent, Away, Here, Leaving, Loading, Place, frame_here, place}
+use Rattle.driver_rules.specs.Scripts.{IsActors, ScriptRule}
+use Rattle.driver_laws.specs.Tracks.{OwnRule, is_reclaimers}
+use Rattle.driver_rules.specs.declared.waits.Why.{Why}
+use Rattle.driver_rules.specs.declared.waits.Why.TheVariants as waits
+use Rattle.driver_rules.specs.Dues.{Due, Ends, Fetches, Finished, IsFetch, IsNext, KicksAll, LooksAt, Makes, Reports, Stopped, TriesOut, Waits, makes_or}
+use Rattle.driver_rules.specs.Stops.{is_spent}
+use Rattle.driver_rules.specs.Turns.{Fails, Last, Loads, Other, WasEnded, accesses_by, builder_due, cpu_due, due_after, early_turn, enters, fetches, fills, first_away, inside_turn, is_built, is_kicked, is_last, last_of, op_turn, outside_turn, resumes, save_frame, stay_turn, step_turn, turn_due, with_pages}
+
+-- ---- what is due moves no page but by a load
+
+-- an instruction that moves pages
+abbrev pub is_paging : Action → Bool
+is_paging (actions.Block f) = true
+is_paging (actions.Track enclave) = true
+is_paging (actions.EwbStart f slot) = true
+is_paging (actions.Ewb f) = true
+is_paging (actions.EldStart f page slot) = true
+is_paging (actions.Eld f) = true
+is_paging _ = false
+
+-- .. and a load is begun only for a page that is away, by its slot, into the least free frame
+abbrev pub Plain : JobView → List Entry → Due → Type 0
+Plain j past (Makes action) = is_paging action ≡ false
+Plain j past (Ends action) = (f : Frame) × (action ≡ actions.Eld f)
+Plain j past (Fetches g slot free) = (place past g ≡ Away slot) × (free ≡ least_free j.epc (content past))
+Plain j past (LooksAt page held young) = ⊥
+Plain j past (TriesOut n) = ⊥
+Plain j past (KicksAll cpus) = ⊥
+Plain j past _ = Unit {0}
+
+either : (j : JobView) (past : List Entry) (b : Bool) (x y : Due) → Plain j past x → Plain j past y → Plain j past (if b then x else y)
+either j past true x y h k = h
+either j past false x y h k = k
+
+fetch_plain : (j : JobView) (past : List Entry) (g : Page) → Plain j past (fetches j.epc past g (place past g))
+fetch_plain j past g = by_place (place past g) refl
+  where
+    by_place : (at : Place) → place past g ≡ at → Plain j past (fetches j.epc past g at)
+    by_place (Away slot) is = (is, refl)
+    by_place Absent is = tt
+    by_place (Here f) is = tt
+    by_place (Leaving f) is = tt
+    by_place (Loading f slot) is = tt
+
+with_plain : (j : JobView) (past : List Entry) (o : Option Page) (d : Due) → Plain j past d → Plain j past (with_pages j past o d)
+with_plain j past None d h = h
+with_plain j past (Some g) d h = fetch_plain j past g
+
+enter_plain : (j : JobView) (past : List Entry) (why : Why) (e t : ℕ) (tf sf : Option ℕ)
+    → Plain j past (makes_or why (enter_with e t tf sf))
+enter_plain j past why e t (Some tf) (Some sf) = refl
+enter_plain j past why e t (Some tf) None = tt
+enter_plain j past why e t None sf = tt
+
+resume_plain : (j : JobView) (past : List Entry) (why : Why) (e t : ℕ) (tf sf : Option ℕ)
+    → Plain j past (makes_or why (resume_with e t tf sf))
+resume_plain j past why e t (Some tf) (Some sf) = refl
+resume_plain j past why e t (Some tf) None = tt
+resume_plain j past why e t None sf = tt
+
+enters_plain : (j : JobView) (past : List Entry) (e t : ℕ) → Plain j past (enters j past e t)
+enters_plain j past e t =
+    with_plain j past (first_away past (needs_to_enter j past e t)) _ (enter_plain j past (waits.Busy (page_at e t)) e t
+    (frame_here (place past (page_at e t))) (save_frame past (page_at e t) (save_to_enter j past e t)))
+
+resumes_plain : (j : JobView) (past : List Entry) (e t : ℕ) (pages : List Page) → Plain j past (resumes j past e t pages)
+resumes_plain j past e t pages =
+    with_plain j past (first_away past pages) _ (resume_plain j past (waits.Busy (page_at e t)) e t (frame_here (place past (page_at e t)))
+    (save_frame past (page_at e t) (save_to_resume j past e t)))
+
+fills_plain : (j : JobView) (past : List Entry) (n : ℕ) (o : Option ℕ) → Plain j past (fills n o)
+fills_plain j past n None = refl
+fills_plain j past n (Some f) = refl
+
+access_plain : (j : JobView) (past : List Entry) (p : ℕ) (o : Option Stay) (op : AccessOp) (off : ℕ) (access : Action)
+    → is_paging access ≡ false → Plain j past (accesses_by past p o op off access)
+access_plain j past p None op off access h = h
+access_plain j past p (Some s) op off access h =
+    either j past (not (is_lawful_access (added past (at_offset s.seat.enclave off)) op)) _ _ refl
+    (either j past (holds_number (translations past p) _) (Makes access) _ h
+    (fills_plain j past _ (frame_here (place past (at_offset s.seat.enclave off)))))
+
+op_plain : (j : JobView) (past : List Entry) (p : ℕ) (op : Op) → Plain j past (op_turn j past p op)
+op_plain j past p (ops.Enter e t) = either j past (is_turned_away past p e) _ (enters j past e t) refl (enters_plain j past e t)
+op_plain j past p (ops.Resume e t) =
+    either j past (is_turned_away past p e) _ (resumes j past e t (needs_to_resume j past e t)) refl
+    (resumes_plain j past e t (needs_to_resume j past e t))
+op_plain j past p ops.Exit = refl
+op_plain j past p ops.Timer = refl
+op_plain j past p (ops.Load off) = access_plain j past p (stay past p) accesses.Load off (actions.Load off) refl
+op_plain j past p (ops.Store off v) = access_plain j past p (stay past p) accesses.Store off (actions.Store off v) refl
+op_plain j past p (ops.Xadd off v) = access_plain j past p (stay past p) accesses.Xadd off (actions.Xadd off v) refl
+op_plain j past p (ops.Set v) = refl
+op_plain j past p (ops.Plus v) = refl
+op_plain j past p (ops.OutLoad e off) = refl
+op_plain j past p (ops.OutStore e off v) = refl
+
+outside_plain : (j : JobView) (past : List Entry) (p : ℕ) (i : Option Interruption) (op : Option Op)
+    → Plain j past (outside_turn j past p i op)
+outside_plain j past p i None = tt
+outside_plain j past p (Some i) (Some op) = resumes_plain j past i.enclave i.tcs (needs_after j past p i)
+outside_plain j past p None (Some op) = op_plain j past p op
+
+inside_plain : (j : JobView) (past : List Entry) (p : ℕ) (b : Bool) (op : Option Op) → Plain j past (inside_turn j past p b op)
+inside_plain j past p true op = refl
+inside_plain j past p false None = refl
+inside_plain j past p false (Some op) = op_plain j past p op
+
+stay_plain : (j : JobView) (past : List Entry) (p : ℕ) (o : Option Stay) → Plain j past (stay_turn j past p o)
+stay_plain j past p None = outside_plain j past p (interruption past p) (next_op j past p)
+stay_plain j past p (Some s) = inside_plain j past p (is_kicked past p) (next_op j past p)
+
+early_plain : (j : JobView) (past : List Entry) (o : Option Stay) (op : Option Op) → Plain j past (early_turn o op)
+early_plain j past None None = tt
+early_plain j past None (Some op) = tt
+early_plain j past (Some s) op = tt
+
+after_plain : (j : JobView) (past : List Entry) (l : Last) (b : Bool) (d : Due) → Plain j past d → Plain j past (due_after l b d)
+after_plain j past (Loads f page) b d h = (frame_at f, refl)
+after_plain j past (Fails page why) true d h = tt
+after_plain j past (Fails page why) false d h = tt
+after_plain j past WasEnded b d h = tt
+after_plain j past Other b d h = h
+
+-- a processor makes no such instruction
+pub due_plain : (j : JobView) (past : List Entry) (p : ℕ) → Plain j past (cpu_due j past p)
+due_plain j past p =
+    either j past (is_spent past) Stopped (due_after (last_of past p) (is_last past p) (turn_due j past p)) tt
+    (after_plain j past (last_of past p) (is_last past p) (turn_due j past p)
+    (either j past (is_built j past) (stay_turn j past p (stay past p)) (early_turn (stay past p) (next_op j past p))
+    (stay_plain j past p (stay past p)) (early_plain j past (stay past p) (next_op j past p))))
+
+step_plain : (j : JobView) (past : List Entry) (step : BuildStep) (o : Option ℕ) → Plain j past (makes_or waits.NoFrame (with_frame step o))
+step_plain j past builds.Va (Some f) = refl
+step_plain j past (builds.Create e b s) (Some f) = refl
+step_plain j past (builds.Add e n k p i) (Some f) = refl
+step_plain j past (builds.Extend e n c) (Some f) = refl
+step_plain j past (builds.Init e x) (Some f) = refl
+step_plain j past step None = tt
+
+turn_plain : (j : JobView) (past : List Entry) (step : Option BuildStep) → Plain j past (step_turn j past step)
+turn_plain j past None = tt
+turn_plain j past (Some builds.Va) = step_plain j past builds.Va (least_free j.epc (content past))
+turn_plain j past (Some (builds.Create e b s)) = step_plain j past (builds.Create e b s) (least_free j.epc (content past))
+turn_plain j past (Some (builds.Add e n k p i)) = step_plain j past (builds.Add e n k p i) (least_free j.epc (content past))
+turn_plain j past (Some (builds.Extend e n c)) = step_plain j past (builds.Extend e n c) (frame_of past (page_at e n))
+turn_plain j past (Some (builds.Init e x)) = refl
+
+-- .. nor does the builder
+pub build_plain : (j : JobView) (past : List Entry) → Plain j past (builder_due j past)
+build_plain j past =
+    either j past (is_spent past) Stopped (step_turn j past (slice_get (build_of j) (built past))) tt
+    (turn_plain j past (slice_get (build_of j) (built past)))
+
+-- ---- whose entries are whose
+
+not_own : (action : Action) → is_paging action ≡ false → (a : Action) → Some a ≡ Some action → is_paging a ≡ false
+not_own action h a same = let told : a ≡ action = cc in ap is_paging told ∙ h
+
+done_plain : (a : Action) (answer : Answer) → is_paging a ≡ false → is_reclaimers (Did a answer) ≡ false
+done_plain (actions.Block f) answer k = cc
+done_plain (actions.Track e) answer k = cc
+done_plain (actions.EwbStart f slot) answer k = cc
+done_plain (actions.Ewb f) answer k = cc
+done_plain _ answer k = refl
+
+refused_plain : (a : Action) (refusal : Refusal) → is_paging a ≡ false → is_reclaimers (Refused a refusal) ≡ false
+refused_plain (actions.Block f) refusal k = cc
+refused_plain (actions.Track e) refusal k = cc
+refused_plain (actions.EwbStart f slot) refusal k = cc
+refused_plain (actions.Ewb f) refusal k = cc
+refused_plain _ refusal k = refl
+
+-- an entry of this instruction is none of the reclaimer's
+made_own : (action : Action) → is_paging action ≡ false → (ev : Event) → action_of ev ≡ Some action → is_reclaimers ev ≡ false
+made_own action h (Did a answer) same = done_plain a answer (not_own action h a same)
+made_own action h (Refused a refusal) same = refused_plain a refusal (not_own action h a same)
+made_own action h (Age page look) same = cc
+made_own action h (Kick cpu) same = cc
+made_own action h (Bus page why) same = cc
+
+-- .. nor is the end of a load
+ended_own : (f : Frame) (ev : Event) → action_of ev ≡ Some (actions.Eld f) → is_reclaimers ev ≡ false
+ended_own f (Did a answer) same = let told : a ≡ actions.Eld f = cc in ap (λ y. is_reclaimers (Did y answer)) told
+ended_own f (Refused a refusal) same = let told : a ≡ actions.Eld f = cc in ap (λ y. is_reclaimers (Refused y refusal)) told
+ended_own f (Age page look) same = cc
+ended_own f (Kick cpu) same = cc
+ended_own f (Bus page why) same = cc
+
+fetched_own : (g : Page) (slot : SlotAt) (o : Option ℕ) (ev : Event) → IsFetch g slot o ev → is_reclaimers ev ≡ false
+fetched_own g slot None (Bus page why) k = refl
+fetched_own g slot None _ k = absurd k
+fetched_own g slot (Some f) (Bus page why) k = refl
+fetched_own g slot (Some f) (Did a answer) k = ap (λ y. is_reclaimers (Did y answer)) k
+fetched_own g slot (Some f) (Refused a refusal) k = ap (λ y. is_reclaimers (Refused y refusal)) k
+fetched_own g slot (Some f) _ k = absurd k
+
+-- what is next of a plain act is no entry of the reclaimer
+next_own : (j : JobView) (past : List Entry) (d : Due) (ev : Event) → Plain j past d → IsNext d ev → is_reclaimers ev ≡ false
+next_own j past Stopped ev h n = absurd n
+next_own j past Finished ev h n = absurd n
+next_own j past (Waits why) ev h n = absurd n
+next_own j past (Makes action) ev h n = made_own action h ev n
+next_own j past (Ends action) ev h n = ended_own h.0 ev (n ∙ ap Some h.1)
+next_own j past (Reports page why) ev h n = ap is_reclaimers n
+next_own j past (Fetches g slot free) ev h n = fetched_own g slot free ev n
+next_own j past (LooksAt page held young) ev h n = absurd h
+next_own j past (TriesOut f) ev h n = absurd h
+next_own j past (KicksAll cpus) ev h n = absurd h
+
+-- looks, kicks, blocks, tracks and write-outs are the reclaimer's alone
+pub script_own : (j : JobView) (past : List Entry) (e : Entry) → ScriptRule j past e → OwnRule past e
+script_own j past e s own = by_actor e.actor s.next
+  where
+    by_actor : (a : Actor) → IsActors j past a e.event → a ≡ actors.Reclaimer
+    by_actor actors.Reclaimer n = refl
+    by_actor actors.Builder n = absurd (false≢true (sym (next_own j past (builder_due j past) e.event (build_plain j past) n) ∙ own))
+    by_actor (actors.Cpu p) n = absurd (false≢true (sym (next_own j past (cpu_due j past p.0) e.event (due_plain j past p.0) n.1) ∙ own))

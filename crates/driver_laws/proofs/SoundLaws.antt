@@ -1,0 +1,329 @@
+-- One entry more keeps places, the list and the slots sound.
+use Rattle.std.proofs.Common.{◌≡◌, ℕ, ◌+◌, ◌==◌, not, Bool, true, false, if◌then◌else◌, refl, sym, ◌∙◌, ap, subst, List, [], ◌∷◌, Option, Some, None, option_map, is_some, arith}
+use Rattle.std.proofs.lemmas.Bool.{eq-eqb}
+use Rattle.sgx_types.specs.Slots.{slot_of as slot_of_start}
+use Rattle.page_history.specs.Fresh.{last_out}
+use Rattle.sgx_types.specs.declared.entries.Action.TheVariants.{Epa, Create, Add, EwbStart, Ewb, EldStart, Eld}
+use Rattle.sgx_types.specs.declared.entries.Actor.{Actor}
+use Rattle.sgx_types.specs.declared.entries.Answer.{Answer}
+use Rattle.sgx_types.specs.declared.entries.Answer.TheVariants.{Moved}
+use Rattle.sgx_types.specs.declared.entries.Entry.{Entry}
+use Rattle.sgx_types.specs.declared.entries.Event.{Event}
+use Rattle.sgx_types.specs.declared.entries.Event.TheVariants.{Did, Refused, Age}
+use Rattle.sgx_types.specs.declared.entries.Look.{Look}
+use Rattle.sgx_types.specs.declared.entries.Look.TheVariants as looks
+use Rattle.sgx_types.specs.declared.entries.PageInit.{PageInit}
+use Rattle.sgx_types.specs.declared.names.Frame.{Frame}
+use Rattle.sgx_types.specs.declared.names.Kind.{Kind}
+use Rattle.sgx_types.specs.declared.names.Page.{Page}
+use Rattle.sgx_types.specs.declared.names.Perm.{Perm}
+use Rattle.sgx_types.specs.declared.names.SlotAt.{SlotAt}
+use Rattle.sgx_types.specs.declared.refusals.Refusal.{Refusal}
+use Rattle.sgx_types.specs.Frames.{Holds, IsVa, SecsOf, added, content, page_at, reloaded, same_page}
+use Rattle.sgx_types.specs.Slots.{open_slot, version_in}
+use Rattle.sgx_types.specs.Starts.{Start, is_load_of, open_start, version_told}
+use Rattle.driver_rules.specs.Ages.{head_of}
+use Rattle.driver_laws.specs.Kinds.{CanMove}
+use Rattle.driver_rules.specs.Places.{Absent, Away, Here, Leaving, Loading, Place, active, after_look, back_to, gone_to, is_here, leaves, place, to_tail}
+use Rattle.driver_laws.specs.Sound.{IsSound, ListIsHere, PlacesAreFrames, is_absent, load_slot, once_here, slot_at, slot_if, slot_loading, slot_outside, times}
+use Rattle.driver_laws.proofs.ListLaws.{list_longer, list_same, list_shorter, list_turned}
+use Rattle.driver_laws.proofs.PlaceLaws.{of_same, put_added, put_apart, put_back, put_loading, put_looked, put_out, put_refused, put_starting, same_page-refl}
+use Rattle.driver_laws.proofs.SlotLaws.{apart_back, apart_here, apart_loading, apart_out, apart_refused, apart_starting, apart_taken, none_open, outside_here, outside_loading, outside_refused, outside_taken, versions_back, versions_less, versions_out}
+
+-- an entry of some actor
+abbrev pub entry_of : Actor → Event → Entry
+entry_of actor event = record { actor = actor; event = event }
+
+-- ---- entries that take a frame for something else than a page
+
+pub sound_epa : (past : List Entry) (a : Actor) (f : Frame) (answer : Answer) → CanMove past (Did (Epa f) answer) → IsSound past
+    → IsSound (entry_of a (Did (Epa f) answer) ∷ past)
+sound_epa past a f answer free s = record {
+  places = put_apart (place past) (content past) (open_start past) f.0 IsVa s.places free (λ g. refl) refl;
+  list = s.list;
+  apart = s.apart;
+  versions = s.versions;
+  added = s.added;
+}
+
+pub sound_create : (past : List Entry) (a : Actor) (e : ℕ) (f : Frame) (base size : ℕ) (answer : Answer)
+    → CanMove past (Did (Create e f base size) answer) → IsSound past → IsSound (entry_of a (Did (Create e f base size) answer) ∷ past)
+sound_create past a e f base size answer free s = record {
+  places = put_apart (place past) (content past) (open_start past) f.0 (SecsOf e) s.places free (λ g. refl) refl;
+  list = s.list;
+  apart = s.apart;
+  versions = s.versions;
+  added = s.added;
+}
+
+-- ---- a page is added
+
+pub sound_add : (past : List Entry) (a : Actor) (e n : ℕ) (f : Frame) (kind : Kind) (perm : Perm) (init : PageInit) (answer : Answer)
+    → CanMove past (Did (Add e n f kind perm init) answer) → IsSound past
+    → IsSound (entry_of a (Did (Add e n f kind perm init) answer) ∷ past)
+sound_add past a e n f kind perm init answer can s = record {
+  places = put_added (place past) (content past) (open_start past) f.0 (page_at e n) kind perm s.places can.0 can.1;
+  list = list_longer (active past) (place past) (page_at e n) f.0 s.list (ap is_here can.1);
+  apart = apart_here (place past) (open_start past) (page_at e n) f.0 s.apart;
+  versions =
+      versions_less (place past) (λ g. if same_page (page_at e n) g then Here f.0 else place past g) (last_out past)
+      (version_in past) s.versions (outside_here (place past) (page_at e n) f.0);
+  added = λ g. by_page g (same_page (page_at e n) g);
+}
+  where
+    by_page : (g : Page) (b : Bool)
+        → is_some (if b then Some (kind, perm) else added past g) ≡ not (is_absent (if b then Here f.0 else place past g))
+    by_page g true = refl
+    by_page g false = s.added g
+
+-- ---- looks
+
+-- where a page is that is here
+frame_of_here : (p : Place) → is_here p ≡ true → (f : ℕ) × (p ≡ Here f)
+frame_of_here (Here f) h = (f, refl)
+frame_of_here Absent h = cc
+frame_of_here (Leaving f) h = cc
+frame_of_here (Loading f slot) h = cc
+frame_of_here (Away slot) h = cc
+
+-- the head of the list is here
+pub head_here : (pages : List Page) (at : Page → Place) (a : Page) → ListIsHere pages at → head_of pages ≡ Some a
+    → (f : ℕ) × (at a ≡ Here f)
+head_here [] at a h head = cc
+head_here (x ∷ xs) at a h head =
+    frame_of_here (at a) (here (is_here (at a)) (subst (λ y. (if same_page y a then 1 else 0) + times xs a ≡ once_here (at a)) same (h a)))
+  where
+    same : x ≡ a
+    same = cc
+
+    here : (b : Bool) → (if same_page a a then 1 else 0) + times xs a ≡ (if b then 1 else 0) → b ≡ true
+    here true k = refl
+    here false k = absurd (omega (arith, rw (same_page-refl a) at k))
+
+absent-leaves : (p : Place) → is_absent (leaves p) ≡ is_absent p
+absent-leaves Absent = refl
+absent-leaves (Here n) = refl
+absent-leaves (Leaving n) = refl
+absent-leaves (Loading n slot) = refl
+absent-leaves (Away slot) = refl
+
+same_either : {X : Type 0} (b : Bool) (x : X) → (if b then x else x) ≡ x
+same_either true x = refl
+same_either false x = refl
+
+sound_taken : (past : List Entry) (a : Actor) (page : Page) → head_of (active past) ≡ Some page → IsSound past
+    → IsSound (entry_of a (Age page looks.Taken) ∷ past)
+sound_taken past a page head s =
+    let here = head_here (active past) (place past) page s.list head in
+    record {
+      places = put_looked (place past) (content past) (open_start past) page looks.Taken s.places;
+      list = list_shorter (active past) (place past) page s.list head;
+      apart =
+          apart_taken (place past) (open_start past) page here.0 s.apart here.1
+          (none_open (place past) (content past) (open_start past) page here.0 s.places here.1);
+      versions =
+          versions_less (place past) (λ g. if same_page page g then leaves (place past g) else place past g) (last_out past)
+          (version_in past) s.versions (outside_taken (place past) page);
+      added = λ g. by_page g (same_page page g);
+    }
+  where
+    by_page : (g : Page) (b : Bool) → is_some (added past g) ≡ not (is_absent (if b then leaves (place past g) else place past g))
+    by_page g true = s.added g ∙ ap not (sym (absent-leaves (place past g)))
+    by_page g false = s.added g
+
+-- another look leaves places as they are
+sound_turned : (past : List Entry) (a : Actor) (page : Page) (look : Look) → ((p : Place) → after_look look p ≡ p)
+    → active (entry_of a (Age page look) ∷ past) ≡ to_tail (active past) → IsSound past
+    → IsSound (entry_of a (Age page look) ∷ past)
+sound_turned past a page look keeps turned s = record {
+  places = put_looked (place past) (content past) (open_start past) page look s.places;
+  list = λ g. ap (λ pages. times pages g) turned ∙ list_turned (active past) (place past) s.list g ∙ ap once_here (sym (same g));
+  apart =
+      λ g h slot at_g at_h. s.apart g h slot (sym (ap (slot_at (open_start past)) (same g)) ∙ at_g)
+      (sym (ap (slot_at (open_start past)) (same h)) ∙ at_h);
+  versions = λ g slot k. s.versions g slot (sym (ap slot_outside (same g)) ∙ k);
+  added = λ g. s.added g ∙ ap (λ p. not (is_absent p)) (sym (same g));
+}
+  where
+    same : (g : Page) → (if same_page page g then after_look look (place past g) else place past g) ≡ place past g
+    same g = by_page (same_page page g)
+      where
+        by_page : (b : Bool) → (if b then after_look look (place past g) else place past g) ≡ place past g
+        by_page true = keeps (place past g)
+        by_page false = refl
+
+pub sound_age : (past : List Entry) (a : Actor) (page : Page) (look : Look) → CanMove past (Age page look) → IsSound past
+    → IsSound (entry_of a (Age page look) ∷ past)
+sound_age past a page looks.Taken head s = sound_taken past a page head s
+sound_age past a page looks.Young head s = sound_turned past a page looks.Young (λ p. refl) refl s
+sound_age past a page looks.Held head s = sound_turned past a page looks.Held (λ p. refl) refl s
+sound_age past a page looks.NoRoom head s = sound_turned past a page looks.NoRoom (λ p. refl) refl s
+
+-- ---- a page goes out
+
+pub sound_ewbstart : (past : List Entry) (a : Actor) (f : Frame) (slot : SlotAt) (answer : Answer)
+    → CanMove past (Did (EwbStart f slot) answer) → IsSound past → IsSound (entry_of a (Did (EwbStart f slot) answer) ∷ past)
+sound_ewbstart past a f slot answer can s = record {
+  places = put_starting (place past) (content past) (open_start past) f.0 can.0.0 slot (version_told answer) s.places can.0.1;
+  list = s.list;
+  apart =
+      apart_starting (place past) (content past) (open_start past) f.0 can.0.0 slot (version_told answer) s.places can.0.1 can.1 s.apart;
+  versions = s.versions;
+  added = s.added;
+}
+
+-- what is so of a page and of where it goes is so of each page
+by_same : (at : Page → Place) (to : Place → Place) (a : Page) (p : Place) {X : Type 0} (of : Place → X) → at a ≡ p → of (to p) ≡ of p
+    → (g : Page) → of (if same_page a g then to (at g) else at g) ≡ of (at g)
+by_same at to a p of here kept g = by_page (same_page a g) refl
+  where
+    by_page : (b : Bool) → same_page a g ≡ b → of (if b then to (at g) else at g) ≡ of (at g)
+    by_page true is = let now = of_same at p a g here is in ap (λ y. of (to y)) now ∙ kept ∙ sym (ap of now)
+    by_page false is = refl
+
+-- the slot that a frame's open start named
+pub named : (past : List Entry) (n : ℕ) (x : Start) → open_start past n ≡ Some x → open_slot past n ≡ Some x.slot
+named past n x now = ap slot_of_start now
+
+pub sound_ewb : (past : List Entry) (a : Actor) (f : Frame) (page : Page) (version : ℕ) (tag : List ℕ)
+    → CanMove past (Did (Ewb f) (Moved page version tag)) → IsSound past
+    → IsSound (entry_of a (Did (Ewb f) (Moved page version tag)) ∷ past)
+sound_ewb past a f page version tag can s =
+    let x = can.1.0 in
+    let now = can.1.1 in
+    record {
+      places = put_out (place past) (content past) (open_start past) f.0 page x s.places can.0 now;
+      list =
+          list_same (active past) (place past) (λ g. if same_page page g then gone_to (open_start past f.0)
+          (place past g) else place past g) s.list
+          (by_same (place past) (gone_to (open_start past f.0)) page (Leaving f.0) is_here can.0
+          (ap (λ o. is_here (gone_to o (Leaving f.0))) now));
+      apart = apart_out (place past) (open_start past) f.0 page x can.0 now s.apart;
+      versions =
+          versions_out (place past) (open_start past) (last_out past) (version_in past) f.0 page x
+          (open_slot past f.0) version tag can.0 now (named past f.0 x now) s.apart s.versions;
+      added =
+          λ g. s.added g ∙ ap not (sym
+          (by_same (place past) (gone_to (open_start past f.0)) page (Leaving f.0) is_absent can.0
+          (ap (λ o. is_absent (gone_to o (Leaving f.0))) now) g));
+    }
+
+-- ---- a page comes back
+
+pub sound_eldstart : (past : List Entry) (a : Actor) (f : Frame) (page : Page) (slot : SlotAt) (answer : Answer)
+    → CanMove past (Did (EldStart f page slot) answer) → IsSound past
+    → IsSound (entry_of a (Did (EldStart f page slot) answer) ∷ past)
+sound_eldstart past a f page slot answer can s = record {
+  places = put_loading (place past) (content past) (open_start past) f.0 page slot slot (version_told answer) s.places can.0 can.1;
+  list =
+      list_same (active past) (place past) (λ g. if same_page page g then Loading f.0 slot else place past g) s.list
+      (by_same (place past) (λ p. Loading f.0 slot) page (Away slot) is_here can.1 refl);
+  apart = apart_loading (place past) (content past) (open_start past) f.0 page slot (version_told answer) s.places can.0 can.1 s.apart;
+  versions =
+      versions_less (place past) (λ g. if same_page page g then Loading f.0 slot else place past g) (last_out past)
+      (version_in past) s.versions (outside_loading (place past) page f.0 slot can.1);
+  added = λ g. s.added g ∙ ap not (sym (by_same (place past) (λ p. Loading f.0 slot) page (Away slot) is_absent can.1 refl g));
+}
+
+-- the start of a page that is loading
+pub load_start : (past : List Entry) (f : ℕ) (page : Page) (slot : SlotAt) → IsSound past → place past page ≡ Loading f slot
+    → (x : Start) × (open_start past f ≡ Some x) × (x.slot ≡ slot)
+load_start past f page slot s loading = by_start (open_start past f) refl load
+  where
+    load : load_slot (open_start past f) page ≡ Some slot
+    load = s.places.loads page f ∙ ap (λ y. slot_loading y f) loading ∙ rw (eq-eqb f f refl) refl
+
+    told : (b : Bool) (x : Start) → slot_if b x.slot ≡ Some slot → x.slot ≡ slot
+    told true x k = cc
+    told false x k = cc
+
+    by_start : (o : Option Start) → open_start past f ≡ o → load_slot o page ≡ Some slot
+        → (x : Start) × (open_start past f ≡ Some x) × (x.slot ≡ slot)
+    by_start None now k = cc
+    by_start (Some x) now k = (x, now, told (is_load_of (Some x) page) x k)
+
+-- a page that was added is loaded as it was added
+loaded : (past : List Entry) (page : Page) → is_some (added past page) ≡ true → (k : Kind × Perm) × (added past page ≡ Some k)
+loaded past page h = by_kind (added past page) refl h
+  where
+    by_kind : (o : Option (Kind × Perm)) → added past page ≡ o → is_some o ≡ true → (k : Kind × Perm) × (added past page ≡ Some k)
+    by_kind None is k = cc
+    by_kind (Some k) is h = (k, is)
+
+pub sound_eld : (past : List Entry) (a : Actor) (f : Frame) (page : Page) (version : ℕ) (tag : List ℕ)
+    → CanMove past (Did (Eld f) (Moved page version tag)) → IsSound past
+    → IsSound (entry_of a (Did (Eld f) (Moved page version tag)) ∷ past)
+sound_eld past a f page version tag can s =
+    let slot = can.0 in
+    let loading = can.1 in
+    let start = load_start past f.0 page slot s loading in
+    let kind = loaded past page (s.added page ∙ ap (λ p. not (is_absent p)) loading) in
+    let same : (λ n. if f.0 == n then Holds page kind.0.0 kind.0.1 else content past n) ≡
+    (λ n. if f.0 == n then reloaded page (added past page) else content past n)
+    = λ i n. if f.0 == n then reloaded page (sym kind.1 i) else content past n in
+    record {
+      places =
+          subst (λ held. PlacesAreFrames (λ g. if same_page page g then Here f.0 else place past g) held
+          (λ n. if f.0 == n then None else open_start past n)) same
+          (put_back (place past) (content past) (open_start past) f.0 page slot kind.0.0 kind.0.1 s.places loading);
+      list = list_longer (active past) (place past) page f.0 s.list (ap is_here loading);
+      apart = apart_back (place past) (open_start past) f.0 page s.apart;
+      versions =
+          versions_back (place past) (open_start past) (last_out past) (version_in past) f.0 page slot (open_slot past f.0)
+          (ap (slot_at (open_start past)) loading)
+          (named past f.0 start.0 start.1 ∙ ap Some start.2) s.apart s.versions;
+      added = λ g. s.added g ∙ ap not (sym (by_same (place past) (λ p. Here f.0) page (Loading f.0 slot) is_absent loading refl g));
+    }
+
+absent-back : (p : Place) → is_absent (back_to p) ≡ is_absent p
+absent-back Absent = refl
+absent-back (Here n) = refl
+absent-back (Leaving n) = refl
+absent-back (Loading n slot) = refl
+absent-back (Away slot) = refl
+
+here-back : (p : Place) → is_here (back_to p) ≡ is_here p
+here-back Absent = refl
+here-back (Here n) = refl
+here-back (Leaving n) = refl
+here-back (Loading n slot) = refl
+here-back (Away slot) = refl
+
+by_either : {X : Type 0} (of : Place → X) (to : Place → Place) (b : Bool) (p : Place) → ((q : Place) → of (to q) ≡ of q)
+    → of (if b then to p else p) ≡ of p
+by_either of to true p kept = kept p
+by_either of to false p kept = refl
+
+pub sound_refused : (past : List Entry) (a : Actor) (f : Frame) (refusal : Refusal) → CanMove past (Refused (Eld f) refusal) → IsSound past
+    → IsSound (entry_of a (Refused (Eld f) refusal) ∷ past)
+sound_refused past a f refusal can s = record {
+  places = put_refused (place past) (content past) (open_start past) f.0 can.0 can.1 s.places can.2;
+  list =
+      list_same (active past) (place past) (λ g. if is_load_of (open_start past f.0) g then back_to (place past g) else place past g) s.list
+      (λ g. by_either is_here back_to (is_load_of (open_start past f.0) g) (place past g) here-back);
+  apart = apart_refused (place past) (open_start past) f.0 s.apart;
+  versions =
+      versions_less (place past) (λ g. if is_load_of (open_start past f.0) g then back_to (place past g) else place past g) (last_out past)
+      (version_in past) s.versions
+      (outside_refused (place past) (open_start past) f.0);
+  added = λ g. s.added g ∙ ap not (sym (by_either is_absent back_to (is_load_of (open_start past f.0) g) (place past g) absent-back));
+}
+
+-- ---- all of them
+
+pub stays_sound : (past : List Entry) (e : Entry) → CanMove past e.event → IsSound past → IsSound (e ∷ past)
+stays_sound past e can s = by_event e.event can
+  where
+    by_event : (ev : Event) → CanMove past ev → IsSound (entry_of e.actor ev ∷ past)
+    by_event (Did (Epa f) answer) k = sound_epa past e.actor f answer k s
+    by_event (Did (Create n f base size) answer) k = sound_create past e.actor n f base size answer k s
+    by_event (Did (Add n number f kind perm init) answer) k = sound_add past e.actor n number f kind perm init answer k s
+    by_event (Age page look) k = sound_age past e.actor page look k s
+    by_event (Did (EwbStart f slot) answer) k = sound_ewbstart past e.actor f slot answer k s
+    by_event (Did (Ewb f) (Moved page version tag)) k = sound_ewb past e.actor f page version tag k s
+    by_event (Did (EldStart f page slot) answer) k = sound_eldstart past e.actor f page slot answer k s
+    by_event (Did (Eld f) (Moved page version tag)) k = sound_eld past e.actor f page version tag k s
+    by_event (Refused (Eld f) refusal) k = sound_refused past e.actor f refusal k s
+    by_event (Did (Ewb f) answer) k = absurd k
+    by_event (Did (Eld f) answer) k = absurd k
+    by_event _ k = record { places = s.places; list = s.list; apart = s.apart; versions = s.versions; added = s.added }

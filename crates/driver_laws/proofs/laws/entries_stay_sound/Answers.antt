@@ -1,0 +1,6 @@
+use Rattle.driver_laws.proofs.HistoryLaws.{first_sound}
+use Rattle.driver_laws.proofs.SoundLaws.{stays_sound}
+use Rattle.driver_laws.proofs.laws.entries_stay_sound.Goals as goal
+
+pub returns : goal.returns
+returns c = record { first = first_sound; more = stays_sound }

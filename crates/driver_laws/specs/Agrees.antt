@@ -1,0 +1,99 @@
+-- When a driver's tables agree with the entries.
+use Rattle.std.specs.Prelude.{◌||◌, ◌++◌, ℕ, ◌≡◌, Bool, true, false, List, [], ◌∷◌, Option, Some, None, length, map}
+use Rattle.std.specs.List.{list_any}
+use Rattle.sgx_types.specs.declared.entries.Entry.{Entry}
+use Rattle.sgx_types.specs.declared.entries.Event.{Event}
+use Rattle.sgx_types.specs.declared.entries.Event.TheVariants.{Did}
+use Rattle.sgx_types.specs.declared.entries.Action.TheVariants.{Add}
+use Rattle.sgx_types.specs.declared.names.Page.{Page}
+use Rattle.sgx_types.specs.declared.names.SlotAt.{SlotAt}
+use Rattle.sgx_types.specs.Frames.{Content, IsVa, content, same_page}
+use Rattle.sgx_types.specs.Rules.{Along, Fits, LoadsAwayRule}
+use Rattle.sgx_types.specs.Slots.{is_slot_busy, version_in}
+use Rattle.version_array.specs.Keeper.{Keeper, is_added, is_out}
+use Rattle.job_grammar.specs.Jobs.{JobView, covers, lines_at, va_pages}
+use Rattle.driver_rules.specs.Places.{Place, active, is_young, place}
+use Rattle.driver_laws.specs.Sound.{IsSound, slot_of}
+use Rattle.driver_rules.specs.Turns.{Last, Loads, last_of}
+
+-- a page of the list, and its mark
+pub record Listed : Type 0 where
+  pub page : Page
+  pub young : Bool
+
+-- the head at the tail, without its mark
+abbrev pub turned : List Listed → List Listed
+turned [] = []
+turned (x ∷ xs) = xs ++ record { page = x.page; young = false } ∷ []
+
+-- a page with its mark set where it is this one
+abbrev pub touched : Page → Listed → Listed
+touched g x = record { page = x.page; young = same_page g x.page || x.young }
+
+-- a driver's tables as contracts see them: the list, where it has each page (a page whose put failed is away too), the keeper of the
+-- version slots, and the page whose record it keeps for a processor
+pub record DriverView : Type 0 where
+  pub list : List Listed
+  pub place : Page → Place
+  pub slots : Keeper
+  pub kept : ℕ → Option Page
+
+-- a page of the job
+abbrev pub is_of_job : JobView → Page → Bool
+is_of_job j g = list_any (covers g.number) (lines_at j.enclaves g.enclave)
+
+-- a page with the mark that the entries give it
+abbrev pub marked : List Entry → Page → Listed
+marked past g = record { page = g; young = is_young past g }
+
+-- the list with its marks
+abbrev pub listed_by : List Entry → List Listed
+listed_by past = map (marked past) (active past)
+
+pub record ShowsPages (j : JobView) (d : DriverView) (past : List Entry) : Type 0 where
+  pub list : d.list ≡ listed_by past
+  pub places : (g : Page) → is_of_job j g ≡ true → d.place g ≡ place past g
+
+-- ---- slots
+
+abbrev pub is_va : Content → Bool
+is_va IsVa = true
+is_va _ = false
+
+abbrev pub is_add : Event → Bool
+is_add (Did (Add enclave number f kind perm init) answer) = true
+is_add _ = false
+
+-- a page was added
+abbrev pub has_pages : List Entry → Bool
+has_pages past = list_any (λ (e : Entry). is_add e.event) past
+
+pub record ShowsSlots (j : JobView) (keeper : Keeper) (past : List Entry) : Type 0 where
+  -- the keeper's slots are those of the version array pages, and all of these are made before the first page is added
+  pub frames : (n : ℕ) → is_added keeper n ≡ is_va (content past n)
+  pub made : has_pages past ≡ true → length keeper.frames ≡ va_pages j
+  -- a slot is out exactly where it is a page's
+  pub out : (slot : SlotAt) → is_out keeper slot ≡ true → (g : Page) × (slot_of past g ≡ Some slot)
+  pub used : (g : Page) (slot : SlotAt) → slot_of past g ≡ Some slot → is_out keeper slot ≡ true
+  -- another one is empty
+  pub empty : (slot : SlotAt) → is_out keeper slot ≡ false → (version_in past slot ≡ 0) × (is_slot_busy past slot ≡ false)
+
+-- ---- copies
+
+-- the page that a processor loads
+abbrev pub loaded_by : Last → Option Page
+loaded_by (Loads n page) = Some page
+loaded_by _ = None
+
+-- ---- all together
+
+-- the machine follows the entries, which the type before the colon says; frames, places, list and slots fit each other; and the driver
+-- has all that as it is
+pub record Agrees (Follows : List Entry → Type 0) (j : JobView) (d : DriverView) (past : List Entry) : Type 0 where
+  pub follows : Follows past
+  pub fits : Fits j.epc past
+  pub loads : Along LoadsAwayRule past
+  pub sound : IsSound past
+  pub pages : ShowsPages j d past
+  pub slots : ShowsSlots j d.slots past
+  pub kept : (p : ℕ) → d.kept p ≡ loaded_by (last_of past p)

@@ -1,0 +1,112 @@
+//! Laws of the definitions. Each is the contract of a function without arguments, and so holds for every list of entries.
+
+ghost use Rattle.std.specs.Prelude.{ℕ, ◌≡◌, ◌≤◌, ◌+◌, true, false, List, [], ◌∷◌, Some, length};
+ghost use Rattle.sgx_types.specs.Making.{Making};
+ghost use Rattle.page_history.specs.Moves.{MovesRule};
+ghost use Rattle.sgx_types.specs.ByEpochs.{IsTrackedBlock};
+ghost use Rattle.sgx_types.specs.declared.entries.Actor.TheVariants as actors;
+ghost use Rattle.sgx_types.specs.declared.entries.Entry.{Entry};
+ghost use Rattle.sgx_types.specs.declared.names.Cpu.{Cpu};
+ghost use Rattle.sgx_types.specs.declared.names.Page.{Page};
+ghost use Rattle.sgx_types.specs.Epochs.{block_epoch, epoch, older_at};
+ghost use Rattle.sgx_types.specs.Eviction.{is_drained};
+ghost use Rattle.sgx_types.specs.Frames.{is_blocked};
+ghost use Rattle.job_grammar.specs.Jobs.{JobView};
+ghost use Rattle.sgx_types.specs.Rules.{Along, FlatRule, RefusalRule};
+ghost use Rattle.turn_rules.specs.Script.{IsEnded as SmallEnded, ScriptRule as SmallRule};
+ghost use Rattle.driver_rules.specs.Ages.{AgeRule, KickRule};
+ghost use Rattle.driver_laws.specs.Driven.{IsDriven};
+ghost use Rattle.driver_laws.specs.Kinds.{CanMove};
+ghost use Rattle.driver_rules.specs.Passes.{First, Tries, keepers, pass, processors_noting};
+ghost use Rattle.driver_rules.specs.Places.{Leaving, place};
+ghost use Rattle.driver_rules.specs.Scripts.{IsEnded, ScriptRule};
+ghost use Rattle.driver_rules.specs.Stops.{frame_started, last_event};
+ghost use Rattle.driver_rules.specs.Turns.{last_of};
+ghost use Rattle.driver_laws.specs.Started.{frame_loaded};
+ghost use Rattle.driver_laws.specs.Sound.{IsSound};
+ghost use Rattle.driver_laws.specs.Stages.{KeepsPages};
+ghost use Rattle.driver_laws.specs.Three.{IsApart, TcsAreApart, three};
+ghost use Rattle.driver_laws.specs.Tracks.{IsCalm, IsTracked, IsUntracked, KeepsTracks, OwnRule, TryTells};
+
+/// One entry more, of any kind, keeps places, the list and the slots sound, where it can move its page.
+pub fn entries_stay_sound()
+    ensures first { IsSound [] }
+    ensures more { (past : List Entry) (e : Entry) → CanMove past e.event → IsSound past → IsSound (e ∷ past) }
+{}
+
+/// One entry more keeps what a pass says of tracks. So a first try that is refused for want of a track tells that there was none since
+/// the block.
+pub fn passes_keep_tracks()
+    ensures more { (j : JobView) (past : List Entry) (e : Entry) → IsSound past → CanMove past e.event → TryTells past e.event
+        → OwnRule past e
+        → AgeRule j past e → KickRule j past e → KeepsTracks past (pass j past) → KeepsTracks (e ∷ past) (pass j (e ∷ past)) }
+    ensures first { (j : JobView) (past : List Entry) (g : Page) (rest : List Page) (f : ℕ) → IsSound past → KeepsTracks past (pass j past)
+        → pass j past ≡ Tries g rest First → place past g ≡ Leaving f → is_blocked past f ≡ true → is_drained past f ≡ false
+        → IsUntracked past g }
+    ensures own { (j : JobView) (past : List Entry) (e : Entry) → ScriptRule j past e → OwnRule past e }
+    ensures told { (k : Making) (past : List Entry) (e : Entry) → MovesRule k past e → TryTells past e.event }
+{}
+
+/// One entry more keeps how the pages of a pass stand: those that were taken wait in their frames, each once, and are blocked in their
+/// order; a page that is here is not blocked; within a scan the list has a page for each look that is left.
+pub fn pages_stay()
+    ensures first { (j : JobView) → KeepsPages [] (pass j []) }
+    ensures more { (j : JobView) (past : List Entry) (e : Entry) → IsSound past → CanMove past e.event → OwnRule past e → AgeRule j past e
+        → KickRule j past e → KeepsPages past (pass j past) → KeepsPages (e ∷ past) (pass j (e ∷ past)) }
+{}
+
+/// Before the track of a page's tries no processor inside is older than the last one, so that it is not refused for one. The block's
+/// epoch is then the enclave's, and behind the track it is the one before. Once nobody keeps the page back it is drained.
+pub fn tries_end()
+    ensures older { (past : List Entry) (e : ℕ) → IsCalm past e → older_at past e ≡ 0 }
+    ensures now { (first : ℕ) (past : List Entry) (g : Page) (u : IsUntracked past g) → IsSound past
+        → block_epoch first past u.frame ≡ Some (epoch first past g.enclave) }
+    ensures before { (first : ℕ) (past : List Entry) (g : Page) (t : IsTracked past g) → IsSound past
+        → (b : ℕ) × (block_epoch first past t.frame ≡ Some b) × (b + 1 ≡ epoch first past g.enclave) }
+    ensures drained { (past : List Entry) (g : Page) (t : IsTracked past g) → IsSound past → keepers past g ≡ []
+        → is_drained past t.frame ≡ true }
+{}
+
+/// Those whom the reclaimer kicks are the processors inside whose noted epoch is at or below the block's.
+pub fn kicks_go_by_epochs()
+    ensures { (first : ℕ) (past : List Entry) (g : Page) (f b k : ℕ) → place past g ≡ Leaving f → IsTrackedBlock first past f g.enclave b k
+        → keepers past g ≡ processors_noting first past g.enclave b }
+{}
+
+/// In a history places, the list and the slots are sound, a pass keeps what it says of tracks and of its pages, and three holds suffice.
+pub fn histories_are_sound()
+    ensures sound { (k : Making) (j : JobView) (past : List Entry) → 1 ≤ k.first_version → IsDriven k j past → IsSound past }
+    ensures tracks { (k : Making) (j : JobView) (past : List Entry) → 1 ≤ k.first_version → IsDriven k j past
+        → KeepsTracks past (pass j past) }
+    ensures pages { (k : Making) (j : JobView) (past : List Entry) → 1 ≤ k.first_version → IsDriven k j past
+        → KeepsPages past (pass j past) }
+    ensures three { (k : Making) (j : JobView) (past : List Entry) → 1 ≤ k.first_version → TcsAreApart j → IsDriven k j past → (p : ℕ)
+        → IsApart j past p }
+{}
+
+/// What a processor holds until its next reply is of three pages: the TCS page, the state save page beside it, and the page of its
+/// access. It is so at first, and each entry that is due keeps it where no two scripts name one TCS page.
+pub fn three_holds_suffice()
+    ensures first { (j : JobView) (p : ℕ) → IsApart j [] p }
+    ensures more { (j : JobView) (past : List Entry) (e : Entry) → TcsAreApart j → IsSound past → ScriptRule j past e → AgeRule j past e
+        → ((p : ℕ) → IsApart j past p) → (p : ℕ) → IsApart j (e ∷ past) p }
+    ensures most { (j : JobView) (past : List Entry) (p : ℕ) → length (three j past p) ≤ 3 }
+{}
+
+/// A processor has an open start exactly where its turn is to end a load, which is that of the start's frame.
+pub fn open_starts_are_ended()
+    ensures { (j : JobView) (past : List Entry) (c : Cpu) → Along (ScriptRule j) past
+        → frame_started (last_event past (actors.Cpu c)) ≡ frame_loaded (last_of past c.0) }
+{}
+
+/// For a job whose pages all fit, the rule Script of `turn_rules` is what the whole rule says: a trace that keeps it, Refusal and Flat
+/// keeps the whole rule, and Age and Kick. At its end the whole rule's end is there.
+pub fn small_scripts_are_scripts()
+    ensures script { (frames : ℕ) (j : JobView) (past : List Entry) → Along (SmallRule j) past → Along (RefusalRule frames) past
+        → Along FlatRule past → Along (ScriptRule j) past }
+    ensures age { (frames : ℕ) (j : JobView) (past : List Entry) → Along (SmallRule j) past → Along (RefusalRule frames) past
+        → Along FlatRule past → Along (AgeRule j) past }
+    ensures kick { (frames : ℕ) (j : JobView) (past : List Entry) → Along (SmallRule j) past → Along (RefusalRule frames) past
+        → Along FlatRule past → Along (KickRule j) past }
+    ensures ended { (j : JobView) (past : List Entry) → SmallEnded j past → IsEnded j past }
+{}

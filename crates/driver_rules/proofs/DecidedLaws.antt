@@ -1,0 +1,338 @@
+-- The tests pass exactly where the rules hold.
+use Rattle.std.proofs.Common.{◌≡◌, ℕ, ◌<◌, ◌==◌, ◌&&◌, not, Bool, true, false, refl, sym, ap, subst, List, [], ◌∷◌, Option, Some, None, length, nat_lt, slice_get, arith, zero, suc, ◌||◌}
+use Rattle.std.proofs.lemmas.Bool.{eqb-true, eq-eqb, false≢true}
+use Rattle.sgx_types.proofs.Truths.{both_true}
+use Rattle.sgx_types.proofs.Pages.{same_pages}
+use Rattle.sgx_types.specs.declared.entries.Action.{Action}
+use Rattle.sgx_types.specs.declared.entries.Action.TheVariants.{Block, Track, EwbStart, Ewb, EldStart, Eld}
+use Rattle.sgx_types.specs.declared.entries.Actor.{Actor}
+use Rattle.sgx_types.specs.declared.entries.Actor.TheVariants as actors
+use Rattle.sgx_types.specs.declared.entries.BusWhy.{BusWhy}
+use Rattle.sgx_types.specs.declared.entries.BusWhy.TheVariants as reasons
+use Rattle.sgx_types.specs.declared.entries.Entry.{Entry}
+use Rattle.sgx_types.specs.declared.entries.Event.{Event}
+use Rattle.sgx_types.specs.declared.entries.Event.TheVariants.{Did, Refused, Age, Kick, Bus}
+use Rattle.sgx_types.specs.declared.entries.Look.{Look}
+use Rattle.sgx_types.specs.declared.names.Page.{Page}
+use Rattle.sgx_types.specs.declared.names.SlotAt.{SlotAt}
+use Rattle.sgx_types.specs.declared.refusals.Refusal.TheVariants as why
+use Rattle.sgx_types.specs.Frames.{content, least_free, same_page}
+use Rattle.job_grammar.specs.Jobs.{JobView}
+use Rattle.turn_rules.specs.Script.{action_of, build_of, built, frame_at, replied, script_of}
+use Rattle.driver_rules.specs.Ages.{AgeRule, BesideOf, FormOf, InForm, InPass, IsBeside, IsEnd, IsInTries, IsKickOrTry, IsLastTry, IsLookAt, IsNextBlock, IsTrackOf, IsTry, KickRule, LookOf, PassOf, head_of}
+use Rattle.driver_rules.specs.Decided.{Tells, beside_of, form_of, is_action, is_actors, is_beside, is_end, is_fetch, is_in_form, is_look_of, is_try_of, is_in_pass, is_in_tries, is_kick_of, is_kick_or_try, is_last_try, is_leaving_in, is_next, is_next_block, is_some_page, is_stop, is_track_of, is_try, keeps_age, keeps_kick, keeps_script, looks_at, looks_of, pass_of, same_reason, are_done, is_done, is_outside, is_ended}
+use Rattle.driver_rules.specs.Holds.{is_held}
+use Rattle.driver_rules.specs.Passes.{Blocking, Between, First, Form, Kicks, Pass, Scan, Sealing, Second, Third, ToKick, ToTrack, Tries, keepers, pass}
+use Rattle.driver_rules.specs.Places.{Absent, Away, Here, Leaving, Loading, Place, active, is_young, place}
+use Rattle.driver_rules.specs.Same.{same_action}
+use Rattle.driver_rules.specs.Scripts.{IsActors, ScriptRule, is_load, IsDone, IsEnded, IsWhole}
+use Rattle.driver_rules.specs.Stops.{has_bus, is_spent}
+use Rattle.driver_rules.specs.Dues.{Due, Ends, Fetches, Finished, IsFetch, IsKickOf, IsLook, IsNext, IsTryOf, KicksAll, LooksAt, Makes, Reports, Stopped, TriesOut, Waits, is_look}
+use Rattle.driver_rules.specs.Turns.{builder_due, cpu_due}
+use Rattle.sgx_types.proofs.Pages.{same_page-refl}
+use Rattle.driver_rules.proofs.SameLaws.{action-refl, action-true}
+use Rattle.sgx_types.specs.Processors.{Stay, stay}
+
+never : Tells false ⊥
+never = (λ h. false≢true h, λ h. absurd h)
+
+always : Tells true (Unit {0})
+always = (λ h. tt, λ h. refl)
+
+both : (a b : Bool) (A B : Type 0) → Tells a A → Tells b B → Tells (a && b) (A × B)
+both a b A B s t = (λ h. let k = both_true a b h in (s.0 k.0, t.0 k.1), λ h. rw (s.1 h.0, t.1 h.1) refl)
+
+numbers : (m n : ℕ) → Tells (m == n) (m ≡ n)
+numbers m n = (λ h. eqb-true m n h, λ h. eq-eqb m n h)
+
+pages : (a b : Page) → Tells (same_page a b) (a ≡ b)
+pages a b = (λ h. same_pages a b h, λ h. subst (λ c. same_page a c ≡ true) h (same_page-refl a))
+
+actions_same : (a b : Action) → Tells (same_action a b) (a ≡ b)
+actions_same a b = (λ h. action-true a b h, λ h. subst (λ c. same_action a c ≡ true) h (action-refl a))
+
+-- ---- Age
+
+is_truth : (b : Bool) → Tells b (b ≡ true)
+is_truth b = (λ h. h, λ h. h)
+
+head_is : (o : Option Page) (g : Page) → Tells (is_some_page o g) (o ≡ Some g)
+head_is None g = (λ h. absurd (false≢true h), λ h. cc)
+head_is (Some page) g = (λ h. ap Some (same_pages page g h), λ h. (pages page g).1 (told h))
+  where
+    told : Some page ≡ Some g → page ≡ g
+    told h = cc
+
+looks_tell : (j : JobView) (past : List Entry) (page : Page) (look : Look) → Tells (looks_at j past page look) (IsLookAt j past page look)
+looks_tell j past page look =
+    let t = head_is (head_of (active past)) page in (
+      λ h. let k =
+          both_true (is_some_page (head_of (active past)) page) (is_look (is_held j past page)
+          (is_young past page) look) h in record { head = t.0 k.0; told = k.1 },
+      λ h. rw (t.1 h.head, h.told) refl,
+    )
+
+frame_tells : (p : Place) (f : ℕ) → Tells (is_leaving_in p f) (p ≡ Leaving f)
+frame_tells (Leaving n) f = (λ h. ap Leaving (eqb-true n f h), λ h. eq-eqb n f (told h))
+  where
+    told : Leaving n ≡ Leaving f → n ≡ f
+    told h = cc
+frame_tells Absent f = (λ h. absurd (false≢true h), λ h. cc)
+frame_tells (Here n) f = (λ h. absurd (false≢true h), λ h. cc)
+frame_tells (Loading n slot) f = (λ h. absurd (false≢true h), λ h. cc)
+frame_tells (Away slot) f = (λ h. absurd (false≢true h), λ h. cc)
+
+block_tells : (past : List Entry) (due : List Page) (f : ℕ) → Tells (is_next_block past due f) (IsNextBlock past due f)
+block_tells past [] f = never
+block_tells past (g ∷ gs) f = frame_tells (place past g) f
+
+tries_tell : (past : List Entry) (g : Page) (ev : Event) → Tells (is_in_tries past g ev) (IsInTries past g ev)
+tries_tell past g (Did (EwbStart f slot) answer) = frame_tells (place past g) f.0
+tries_tell past g (Refused (EwbStart f slot) refusal) = frame_tells (place past g) f.0
+tries_tell past g (Did (Ewb f) answer) = frame_tells (place past g) f.0
+tries_tell past g (Refused (Ewb f) refusal) = frame_tells (place past g) f.0
+tries_tell past g (Did (Track enclave) answer) = always
+tries_tell past g (Refused (Track enclave) refusal) = always
+tries_tell past g (Kick cpu) = always
+tries_tell past g _ = never
+
+pass_tells : (past : List Entry) (p : Pass) (ev : Event) → Tells (is_in_pass past p ev) (InPass past p ev)
+pass_tells past (Between works) (Age page look) = is_truth works
+pass_tells past (Scan left taken) (Age page look) = always
+pass_tells past (Blocking todo taken) (Did (Block f) answer) = block_tells past todo f.0
+pass_tells past (Tries g rest form) ev = tries_tell past g ev
+pass_tells past _ ev = never
+
+looks_of_tells : (j : JobView) (past : List Entry) (a : Actor) (ev : Event) → Tells (looks_of j past a ev) (LookOf j past a ev)
+looks_of_tells j past actors.Reclaimer (Age page look) = looks_tell j past page look
+looks_of_tells j past _ _ = always
+
+pass_of_tells : (past : List Entry) (p : Pass) (a : Actor) (ev : Event) → Tells (pass_of past p a ev) (PassOf past p a ev)
+pass_of_tells past p actors.Reclaimer ev = pass_tells past p ev
+pass_of_tells past p _ ev = always
+
+pub age_tells : (j : JobView) (past : List Entry) (e : Entry) → Tells (keeps_age j past e) (AgeRule j past e)
+age_tells j past e =
+    let s = looks_of_tells j past e.actor e.event in
+    let t = pass_of_tells past (pass j past) e.actor e.event in (
+      λ h. let k =
+          both_true (looks_of j past e.actor e.event) (pass_of past
+          (pass j past) e.actor e.event) h in record { look = s.0 k.0; in_pass = t.0 k.1 },
+      λ h. rw (s.1 h.look, t.1 h.in_pass) refl,
+    )
+
+-- ---- Kick
+
+last_try_tells : (ev : Event) → Tells (is_last_try ev) (IsLastTry ev)
+last_try_tells (Did (EwbStart f slot) answer) = always
+last_try_tells (Refused (EwbStart f slot) why.VersionSpent) = always
+last_try_tells _ = never
+
+try_tells : (ev : Event) → Tells (is_try ev) (IsTry ev)
+try_tells (Refused (EwbStart f slot) (why.NotTracked epoch older)) = always
+try_tells ev = last_try_tells ev
+
+track_tells : (enclave : ℕ) (ev : Event) → Tells (is_track_of enclave ev) (IsTrackOf enclave ev)
+track_tells enclave (Did (Track e) answer) = numbers e enclave
+track_tells enclave (Refused (Track e) why.EpochSpent) = numbers e enclave
+track_tells enclave _ = never
+
+kick_of_tells : (ps : List ℕ) (ev : Event) → Tells (is_kick_of ps ev) (IsKickOf ps ev)
+kick_of_tells (p ∷ ps) (Kick cpu) = numbers cpu.0 p
+kick_of_tells _ _ = never
+
+kick_or_try_tells : (ps : List ℕ) (ev : Event) → Tells (is_kick_or_try ps ev) (IsKickOrTry ps ev)
+kick_or_try_tells [] ev = last_try_tells ev
+kick_or_try_tells (p ∷ ps) ev = kick_of_tells (p ∷ ps) ev
+
+end_tells : (ev : Event) → Tells (is_end ev) (IsEnd ev)
+end_tells (Did (Ewb f) answer) = always
+end_tells _ = never
+
+form_tells : (past : List Entry) (g : Page) (form : Form) (ev : Event) → Tells (is_in_form past g form ev) (InForm past g form ev)
+form_tells past g First ev = try_tells ev
+form_tells past g ToTrack ev = track_tells g.enclave ev
+form_tells past g Second ev = try_tells ev
+form_tells past g ToKick ev = kick_or_try_tells (keepers past g) ev
+form_tells past g (Kicks rest) ev = kick_of_tells rest ev
+form_tells past g Third ev = last_try_tells ev
+form_tells past g Sealing ev = end_tells ev
+
+beside_tells : (form : Form) → Tells (is_beside form) (IsBeside form)
+beside_tells (Kicks rest) = never
+beside_tells _ = always
+
+form_of_tells : (past : List Entry) (p : Pass) (a : Actor) (ev : Event) → Tells (form_of past p a ev) (FormOf past p a ev)
+form_of_tells past (Tries g rest form) actors.Reclaimer ev = form_tells past g form ev
+form_of_tells past _ _ ev = always
+
+beside_of_tells : (p : Pass) (a : Actor) → Tells (beside_of p a) (BesideOf p a)
+beside_of_tells p actors.Reclaimer = always
+beside_of_tells (Tries g rest form) _ = beside_tells form
+beside_of_tells _ _ = always
+
+pub kick_tells : (j : JobView) (past : List Entry) (e : Entry) → Tells (keeps_kick j past e) (KickRule j past e)
+kick_tells j past e =
+    let s = form_of_tells past (pass j past) e.actor e.event in
+    let t = beside_of_tells (pass j past) e.actor in (
+      λ h. let k =
+          both_true (form_of past (pass j past) e.actor e.event) (beside_of
+          (pass j past) e.actor) h in record { form = s.0 k.0; beside = t.0 k.1 },
+      λ h. rw (s.1 h.form, t.1 h.beside) refl,
+    )
+
+-- ---- Script
+
+action_tells : (o : Option Action) (action : Action) → Tells (is_action o action) (o ≡ Some action)
+action_tells None action = (λ h. absurd (false≢true h), λ h. cc)
+action_tells (Some done) action = (λ h. ap Some (action-true done action h), λ h. (actions_same done action).1 (told h))
+  where
+    told : Some done ≡ Some action → done ≡ action
+    told h = cc
+
+reason-refl : (a : BusWhy) → same_reason a a ≡ true
+reason-refl reasons.GetFailed = refl
+reason-refl reasons.NoRecord = refl
+reason-refl reasons.PutFailed = refl
+reason-refl reasons.Mac = refl
+reason-refl reasons.Header = refl
+
+reason-true : (a b : BusWhy) → same_reason a b ≡ true → a ≡ b
+reason-true reasons.GetFailed reasons.GetFailed h = refl
+reason-true reasons.NoRecord reasons.NoRecord h = refl
+reason-true reasons.PutFailed reasons.PutFailed h = refl
+reason-true reasons.Mac reasons.Mac h = refl
+reason-true reasons.Header reasons.Header h = refl
+reason-true _ _ h = absurd (false≢true h)
+
+stop_tells : (page : Page) (reason : BusWhy) (ev : Event) → Tells (is_stop page reason ev) (ev ≡ Bus page reason)
+stop_tells page reason (Bus g other) = (
+  λ h. let k =
+      both_true (same_page g page) (same_reason other reason) h in λ i. Bus (same_pages g page k.0 i) (reason-true other reason k.1 i),
+  λ h. rw (page_told h, reason_told h, same_page-refl page, reason-refl reason) refl,
+)
+  where
+    page_told : Bus g other ≡ Bus page reason → g ≡ page
+    page_told h = cc
+
+    reason_told : Bus g other ≡ Bus page reason → other ≡ reason
+    reason_told h = cc
+stop_tells page reason (Did action answer) = (λ h. absurd (false≢true h), λ h. cc)
+stop_tells page reason (Refused action refusal) = (λ h. absurd (false≢true h), λ h. cc)
+stop_tells page reason (Age g look) = (λ h. absurd (false≢true h), λ h. cc)
+stop_tells page reason (Kick cpu) = (λ h. absurd (false≢true h), λ h. cc)
+
+fetch_tells : (g : Page) (slot : SlotAt) (free : Option ℕ) (ev : Event) → Tells (is_fetch g slot free ev) (IsFetch g slot free ev)
+fetch_tells g slot None (Bus page reasons.PutFailed) = pages page g
+fetch_tells g slot None ev = never
+fetch_tells g slot (Some f) (Bus page reasons.PutFailed) = pages page g
+fetch_tells g slot (Some f) (Bus page reasons.GetFailed) = pages page g
+fetch_tells g slot (Some f) (Bus page reasons.NoRecord) = pages page g
+fetch_tells g slot (Some f) (Did action answer) = actions_same action (EldStart (frame_at f) g slot)
+fetch_tells g slot (Some f) (Refused action refusal) = actions_same action (EldStart (frame_at f) g slot)
+fetch_tells g slot (Some f) ev = never
+
+look_of_tells : (page : Page) (held young : Bool) (ev : Event) → Tells (is_look_of page held young ev) (IsLook page held young ev)
+look_of_tells page held young (Age g look) =
+    both (same_page g page) (is_look held young look) (g ≡ page) (is_look held young look ≡ true) (pages g page)
+    (is_truth (is_look held young look))
+look_of_tells page held young _ = never
+
+try_of_tells : (n : ℕ) (ev : Event) → Tells (is_try_of n ev) (IsTryOf n ev)
+try_of_tells n (Did (EwbStart f slot) answer) = numbers f.0 n
+try_of_tells n (Refused (EwbStart f slot) refusal) = numbers f.0 n
+try_of_tells n _ = never
+
+pub next_tells : (d : Due) (ev : Event) → Tells (is_next d ev) (IsNext d ev)
+next_tells Stopped ev = never
+next_tells Finished ev = never
+next_tells (Waits reason) ev = never
+next_tells (Ends action) ev = action_tells (action_of ev) action
+next_tells (Makes action) ev = action_tells (action_of ev) action
+next_tells (Reports page reason) ev = stop_tells page reason ev
+next_tells (Fetches g slot free) ev = fetch_tells g slot free ev
+next_tells (LooksAt page held young) ev = look_of_tells page held young ev
+next_tells (TriesOut n) ev = try_of_tells n ev
+next_tells (KicksAll cpus) ev = kick_of_tells cpus ev
+
+below : (m n : ℕ) → Tells (nat_lt m n) (m < n)
+below m n = (λ h. grind arith, λ h. grind arith)
+
+load_tells : (b : Bool) → Tells (not b) (b ≡ false)
+load_tells true = (λ h. cc, λ h. cc)
+load_tells false = (λ h. refl, λ h. refl)
+
+actors_tell : (j : JobView) (past : List Entry) (a : Actor) (ev : Event) → Tells (is_actors j past a ev) (IsActors j past a ev)
+actors_tell j past actors.Builder ev = next_tells (builder_due j past) ev
+actors_tell j past (actors.Cpu p) ev =
+    both (nat_lt p.0 (length j.scripts)) (is_next (cpu_due j past p.0) ev) (p.0 < length j.scripts) (IsNext (cpu_due j past p.0) ev)
+    (below p.0 (length j.scripts)) (next_tells (cpu_due j past p.0) ev)
+actors_tell j past actors.Reclaimer ev = load_tells (is_load ev)
+
+pub script_tells : (j : JobView) (past : List Entry) (e : Entry) → Tells (keeps_script j past e) (ScriptRule j past e)
+script_tells j past e =
+    let s = load_tells (is_spent past) in
+    let t = actors_tell j past e.actor e.event in (
+      λ h. let k = both_true (not (is_spent past)) (is_actors j past e.actor e.event) h in record { not_spent = s.0 k.0; next = t.0 k.1 },
+      λ h. rw (s.1 h.not_spent, t.1 h.next) refl,
+    )
+
+-- ---- the end
+
+outside_tells : (o : Option Stay) → Tells (is_outside o) (o ≡ None)
+outside_tells None = (λ h. refl, λ h. refl)
+outside_tells (Some s) = (λ h. absurd (false≢true h), λ h. cc)
+
+-- .. where the page that it needed came back
+done_tells : (j : JobView) (past : List Entry) (p : ℕ) → Tells (is_done j past p) (has_bus past p ≡ false → IsDone j past p)
+done_tells j past p = by_bus (has_bus past p)
+  where
+    replies : Tells (replied past p == length (script_of j p)) (replied past p ≡ length (script_of j p))
+    replies = numbers (replied past p) (length (script_of j p))
+
+    outside : Tells (is_outside (stay past p)) (stay past p ≡ None)
+    outside = outside_tells (stay past p)
+
+    by_bus : (b : Bool) → Tells (b || ((replied past p == length (script_of j p)) && is_outside (stay past p))) (b ≡ false
+        → IsDone j past p)
+    by_bus true = (λ h k. cc, λ h. refl)
+    by_bus false = (
+      λ h k. let both_hold =
+          both_true (replied past p == length (script_of j p)) (is_outside
+          (stay past p)) h in record { replied = replies.0 both_hold.0; outside = outside.0 both_hold.1 },
+      λ h. let d = h refl in rw (replies.1 d.replied, outside.1 d.outside) refl,
+    )
+
+all_done : (j : JobView) (past : List Entry) (n : ℕ) → Tells (are_done j past n) ((p : ℕ) → p < n → has_bus past p ≡ false
+    → IsDone j past p)
+all_done j past zero = (λ h p low. absurd (omega arith), λ h. refl)
+all_done j past (suc n) =
+    let before = all_done j past n in
+    let last = done_tells j past n in (
+      λ h p low. let k = both_true (is_done j past n) (are_done j past n) h in by_last p low (p == n) refl (last.0 k.0) (before.0 k.1),
+      λ h. rw (last.1 (h n (omega arith)), before.1 (λ p low. h p (omega (arith, low)))) refl,
+    )
+  where
+    by_last : (p : ℕ) → p < suc n → (b : Bool) → (p == n) ≡ b → (has_bus past n ≡ false → IsDone j past n)
+        → ((q : ℕ) → q < n → has_bus past q ≡ false → IsDone j past q) → has_bus past p ≡ false → IsDone j past p
+    by_last p low true same last before = subst (λ q. has_bus past q ≡ false → IsDone j past q) (sym (eqb-true p n same)) last
+    by_last p low false other last before = before p (grind arith)
+
+pub ended_tells : (j : JobView) (past : List Entry) → Tells (is_ended j past) (IsEnded j past)
+ended_tells j past = by_spent (is_spent past)
+  where
+    builds : Tells (built past == length (build_of j)) (built past ≡ length (build_of j))
+    builds = numbers (built past) (length (build_of j))
+
+    cpus : Tells (are_done j past (length j.scripts)) ((p : ℕ) → p < length j.scripts → has_bus past p ≡ false → IsDone j past p)
+    cpus = all_done j past (length j.scripts)
+
+    by_spent : (b : Bool) → Tells (b || ((built past == length (build_of j)) && are_done j past (length j.scripts))) (b ≡ false
+        → IsWhole j past)
+    by_spent true = (λ h k. cc, λ h. refl)
+    by_spent false = (
+      λ h k. let both_hold =
+          both_true (built past == length (build_of j)) (are_done j past
+          (length j.scripts)) h in record { built = builds.0 both_hold.0; cpus = cpus.0 both_hold.1 },
+      λ h. let w = h refl in rw (builds.1 w.built, cpus.1 w.cpus) refl,
+    )

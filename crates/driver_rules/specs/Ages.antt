@@ -1,0 +1,128 @@
+-- The rules Age and Kick: what the reclaimer does next.
+use Rattle.std.specs.Prelude.{ℕ, ◌≡◌, Bool, true, false, List, [], ◌∷◌, Option, Some, None}
+use Rattle.sgx_types.specs.declared.entries.Entry.{Entry}
+use Rattle.sgx_types.specs.declared.entries.Event.{Event}
+use Rattle.sgx_types.specs.declared.entries.Event.TheVariants.{Did, Refused, Age, Kick}
+use Rattle.sgx_types.specs.declared.entries.Look.{Look}
+use Rattle.sgx_types.specs.declared.entries.Actor.{Actor}
+use Rattle.sgx_types.specs.declared.entries.Actor.TheVariants as actors
+use Rattle.sgx_types.specs.declared.entries.Action.TheVariants.{Block, Track, EwbStart, Ewb}
+use Rattle.sgx_types.specs.declared.names.Page.{Page}
+use Rattle.sgx_types.specs.declared.refusals.Refusal.TheVariants as why
+use Rattle.job_grammar.specs.Jobs.{JobView}
+use Rattle.driver_rules.specs.Dues.{IsKickOf, is_look}
+use Rattle.driver_rules.specs.Holds.{is_held}
+use Rattle.driver_rules.specs.Passes.{Blocking, Between, First, Form, Kicks, Pass, Scan, Sealing, Second, Third, ToKick, ToTrack, Tries, keepers, pass}
+use Rattle.driver_rules.specs.Places.{Leaving, active, is_young, place}
+
+abbrev pub head_of : List Page → Option Page
+head_of [] = None
+head_of (g ∷ gs) = Some g
+
+-- ---- Age: which page is due
+
+-- the head of the list is looked at, and what is told of it is so
+pub record IsLookAt (j : JobView) (past : List Entry) (page : Page) (look : Look) : Type 0 where
+  pub head : head_of (active past) ≡ Some page
+  pub told : is_look (is_held j past page) (is_young past page) look ≡ true
+
+-- the page is leaving from this frame
+abbrev pub IsFrame : List Entry → Page → ℕ → Type 0
+IsFrame past g f = place past g ≡ Leaving f
+
+-- a block of the frame of the first page that is not blocked yet
+abbrev pub IsNextBlock : List Entry → List Page → ℕ → Type 0
+IsNextBlock past [] f = ⊥
+IsNextBlock past (g ∷ gs) f = IsFrame past g f
+
+-- within the tries of a page, instructions on its frame, tracks and kicks
+abbrev pub IsInTries : List Entry → Page → Event → Type 0
+IsInTries past g (Did (EwbStart f slot) answer) = IsFrame past g f.0
+IsInTries past g (Refused (EwbStart f slot) refusal) = IsFrame past g f.0
+IsInTries past g (Did (Ewb f) answer) = IsFrame past g f.0
+IsInTries past g (Refused (Ewb f) refusal) = IsFrame past g f.0
+IsInTries past g (Did (Track enclave) answer) = Unit {0}
+IsInTries past g (Refused (Track enclave) refusal) = Unit {0}
+IsInTries past g (Kick cpu) = Unit {0}
+IsInTries past g _ = ⊥
+
+-- a pass is begun by who works; the looks come first, then the blocks in their order, then the tries of each page
+abbrev pub InPass : List Entry → Pass → Event → Type 0
+InPass past (Between works) (Age page look) = works ≡ true
+InPass past (Scan left taken) (Age page look) = Unit {0}
+InPass past (Blocking due taken) (Did (Block f) answer) = IsNextBlock past due f.0
+InPass past (Tries g rest form) event = IsInTries past g event
+InPass past _ event = ⊥
+
+-- the rule is on the reclaimer alone
+abbrev pub LookOf : JobView → List Entry → Actor → Event → Type 0
+LookOf j past actors.Reclaimer (Age page look) = IsLookAt j past page look
+LookOf j past _ _ = Unit {0}
+
+abbrev pub PassOf : List Entry → Pass → Actor → Event → Type 0
+PassOf past at actors.Reclaimer event = InPass past at event
+PassOf past at _ event = Unit {0}
+
+pub record AgeRule (j : JobView) (past : List Entry) (e : Entry) : Type 0 where
+  -- a look names the head of the list, and tells of it what is so
+  pub look : LookOf j past e.actor e.event
+  -- the entry is one that stands at this place of a pass, and is of the page that is due
+  pub in_pass : PassOf past (pass j past) e.actor e.event
+
+-- ---- Kick: what stands within the tries of one page
+
+-- a start, or the refusal at which the run ends
+abbrev pub IsLastTry : Event → Type 0
+IsLastTry (Did (EwbStart f slot) answer) = Unit {0}
+IsLastTry (Refused (EwbStart f slot) why.VersionSpent) = Unit {0}
+IsLastTry _ = ⊥
+
+-- .. or a processor keeps the page back, or the enclave was not tracked
+abbrev pub IsTry : Event → Type 0
+IsTry (Refused (EwbStart f slot) (why.NotTracked epoch older)) = Unit {0}
+IsTry event = IsLastTry event
+
+abbrev pub IsTrackOf : ℕ → Event → Type 0
+IsTrackOf enclave (Did (Track e) answer) = e ≡ enclave
+IsTrackOf enclave (Refused (Track e) why.EpochSpent) = e ≡ enclave
+IsTrackOf enclave _ = ⊥
+
+-- the kicks begin with the first that keeps the page back; where none does, there are none, and the last try comes at once
+abbrev pub IsKickOrTry : List ℕ → Event → Type 0
+IsKickOrTry [] event = IsLastTry event
+IsKickOrTry (p ∷ ps) event = IsKickOf (p ∷ ps) event
+
+abbrev pub IsEnd : Event → Type 0
+IsEnd (Did (Ewb f) answer) = Unit {0}
+IsEnd _ = ⊥
+
+-- three tries at most: a track behind the first refusal, kicks behind the second
+abbrev pub InForm : List Entry → Page → Form → Event → Type 0
+InForm past g First event = IsTry event
+InForm past g ToTrack event = IsTrackOf g.enclave event
+InForm past g Second event = IsTry event
+InForm past g ToKick event = IsKickOrTry (keepers past g) event
+InForm past g (Kicks rest) event = IsKickOf rest event
+InForm past g Third event = IsLastTry event
+InForm past g Sealing event = IsEnd event
+
+-- the rule is on the reclaimer's entries ..
+abbrev pub FormOf : List Entry → Pass → Actor → Event → Type 0
+FormOf past (Tries g rest form) actors.Reclaimer event = InForm past g form event
+FormOf past _ _ event = Unit {0}
+
+-- .. but that between two kicks nobody else makes an entry
+abbrev pub IsBeside : Form → Type 0
+IsBeside (Kicks rest) = ⊥
+IsBeside _ = Unit {0}
+
+abbrev pub BesideOf : Pass → Actor → Type 0
+BesideOf at actors.Reclaimer = Unit {0}
+BesideOf (Tries g rest form) _ = IsBeside form
+BesideOf _ _ = Unit {0}
+
+pub record KickRule (j : JobView) (past : List Entry) (e : Entry) : Type 0 where
+  -- the tries of a page go on in one of the three forms
+  pub form : FormOf past (pass j past) e.actor e.event
+  -- the kicks of a page stand next to each other
+  pub beside : BesideOf (pass j past) e.actor

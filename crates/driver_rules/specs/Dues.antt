@@ -1,0 +1,93 @@
+-- What the rules give an actor next, and the entries that this allows.
+use Rattle.std.specs.Prelude.{ℕ, ◌≡◌, Bool, true, false, List, [], ◌∷◌, Option, Some, None}
+use Rattle.sgx_types.specs.declared.entries.Event.{Event}
+use Rattle.sgx_types.specs.declared.entries.Event.TheVariants.{Did, Refused, Age, Kick, Bus}
+use Rattle.sgx_types.specs.declared.entries.Action.{Action}
+use Rattle.sgx_types.specs.declared.entries.Action.TheVariants as actions
+use Rattle.sgx_types.specs.declared.entries.BusWhy.{BusWhy}
+use Rattle.sgx_types.specs.declared.entries.BusWhy.TheVariants as reasons
+use Rattle.sgx_types.specs.declared.entries.Look.{Look}
+use Rattle.sgx_types.specs.declared.entries.Look.TheVariants as looks
+use Rattle.sgx_types.specs.declared.names.Page.{Page}
+use Rattle.sgx_types.specs.declared.names.SlotAt.{SlotAt}
+use Rattle.turn_rules.specs.Script.{action_of, frame_at}
+use Rattle.driver_rules.specs.declared.waits.Why.{Why}
+
+pub data Due : Type 0 where
+  -- nothing, since the run was stopped
+  Stopped : Due
+  -- nothing more
+  Finished : Due
+  -- no entry yet
+  Waits : (why : Why) → Due
+  -- the end of its open start: `ewb` or `eld`
+  Ends : (action : Action) → Due
+  -- this instruction
+  Makes : (action : Action) → Due
+  -- an entry that tells why a page did not come back
+  Reports : (page : Page) → (why : BusWhy) → Due
+  -- the first step for a page that is outside: its record is asked for, to be loaded by its slot into the least free frame. Without a
+  -- free frame it waits, and nothing is asked, unless the page's last put failed
+  Fetches : (page : Page) → (slot : SlotAt) → (free : Option ℕ) → Due
+  -- a look at this page, which is held or not, and young or not
+  LooksAt : (page : Page) → (held : Bool) → (young : Bool) → Due
+  -- a try to write out the page of a frame, into a slot of the driver's choice
+  TriesOut : (frame : ℕ) → Due
+  -- a kick of each of these processors, in their order
+  KicksAll : (cpus : List ℕ) → Due
+
+-- ---- where the store decides
+
+-- what may come of asking for a page's record: an earlier put of it failed; or the get fails, or finds none; or the load starts.
+-- Without a free frame nothing is asked
+abbrev pub IsFetch : Page → SlotAt → Option ℕ → Event → Type 0
+IsFetch g slot None (Bus page reasons.PutFailed) = page ≡ g
+IsFetch g slot None event = ⊥
+IsFetch g slot (Some f) (Bus page reasons.PutFailed) = page ≡ g
+IsFetch g slot (Some f) (Bus page reasons.GetFailed) = page ≡ g
+IsFetch g slot (Some f) (Bus page reasons.NoRecord) = page ≡ g
+IsFetch g slot (Some f) (Did action answer) = action ≡ actions.EldStart (frame_at f) g slot
+IsFetch g slot (Some f) (Refused action refusal) = action ≡ actions.EldStart (frame_at f) g slot
+IsFetch g slot (Some f) event = ⊥
+
+-- a held page is told as held, else a young one as young; another one is taken, or the store has no room for it
+abbrev pub is_look : Bool → Bool → Look → Bool
+is_look true young looks.Held = true
+is_look false true looks.Young = true
+is_look false false looks.NoRoom = true
+is_look false false looks.Taken = true
+is_look _ _ _ = false
+
+abbrev pub IsLook : Page → Bool → Bool → Event → Type 0
+IsLook page held young (Age g look) = (g ≡ page) × (is_look held young look ≡ true)
+IsLook page held young _ = ⊥
+
+-- ---- the entries that are allowed
+
+abbrev pub IsTryOf : ℕ → Event → Type 0
+IsTryOf n (Did (actions.EwbStart f slot) answer) = f.0 ≡ n
+IsTryOf n (Refused (actions.EwbStart f slot) refusal) = f.0 ≡ n
+IsTryOf n _ = ⊥
+
+-- a kick of the first of these
+abbrev pub IsKickOf : List ℕ → Event → Type 0
+IsKickOf (p ∷ ps) (Kick cpu) = cpu.0 ≡ p
+IsKickOf _ _ = ⊥
+
+-- an actor's entry is what is due: an instruction is done or refused
+abbrev pub IsNext : Due → Event → Type 0
+IsNext Stopped event = ⊥
+IsNext Finished event = ⊥
+IsNext (Waits why) event = ⊥
+IsNext (Ends action) event = action_of event ≡ Some action
+IsNext (Makes action) event = action_of event ≡ Some action
+IsNext (Reports page why) event = event ≡ Bus page why
+IsNext (Fetches g slot free) event = IsFetch g slot free event
+IsNext (LooksAt page held young) event = IsLook page held young event
+IsNext (TriesOut n) event = IsTryOf n event
+IsNext (KicksAll cpus) event = IsKickOf cpus event
+
+-- an instruction, or a wait where a frame that it takes is not there
+abbrev pub makes_or : Why → Option Action → Due
+makes_or why None = Waits why
+makes_or why (Some action) = Makes action

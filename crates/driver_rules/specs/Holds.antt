@@ -1,0 +1,72 @@
+-- Which pages are held: those that the reclaimer passes over since some actor is about to use them.
+use Rattle.std.specs.Prelude.{ℕ, zero, suc, ◌||◌, Bool, false, if◌then◌else◌, List, [], ◌∷◌, ◌++◌, Option, Some, None, length, slice_get}
+use Rattle.std.specs.List.{list_any}
+use Rattle.sgx_types.specs.declared.entries.Entry.{Entry}
+use Rattle.sgx_types.specs.declared.entries.Action.{Action}
+use Rattle.sgx_types.specs.declared.entries.Action.TheVariants.{Resume, Aex, Fill, EldStart}
+use Rattle.sgx_types.specs.declared.entries.Cause.TheVariants as causes
+use Rattle.sgx_types.specs.declared.names.Page.{Page}
+use Rattle.sgx_types.specs.Frames.{Content, Holds, content, page_at, same_page}
+use Rattle.sgx_types.specs.Processors.{Stay, is_by, stay}
+use Rattle.job_grammar.specs.Jobs.{JobView}
+use Rattle.turn_rules.specs.declared.steps.BuildStep.{BuildStep}
+use Rattle.turn_rules.specs.declared.steps.BuildStep.TheVariants as builds
+use Rattle.turn_rules.specs.Script.{action_of, build_of, built, is_reply_of}
+use Rattle.driver_rules.specs.Needs.{access_page, listed, needs, next_op}
+
+abbrev pub is_among : List Page → Page → Bool
+is_among pages g = list_any (λ h. same_page h g) pages
+
+abbrev pub front_to : Page → List Page → List Page
+front_to g [] = []
+front_to g (h ∷ hs) = if same_page h g then h ∷ [] else h ∷ front_to g hs
+
+-- a page with those before it in an order of needs; alone where it is none of them
+abbrev pub up_to : Page → List Page → List Page
+up_to g pages = if is_among pages g then front_to g pages else g ∷ []
+
+abbrev pub page_in : Content → List Page
+page_in (Holds page kind perm) = page ∷ []
+page_in _ = []
+
+abbrev pub page_of_stay : Option Stay → ℕ → List Page
+page_of_stay None number = []
+page_of_stay (Some s) number = page_at s.seat.enclave number ∷ []
+
+abbrev pub access_of_stay : JobView → List Entry → ℕ → Option Stay → List Page
+access_of_stay j past p None = []
+access_of_stay j past p (Some s) = listed (access_page s.seat.enclave (next_op j past p))
+
+-- the pages that a processor begins to hold by an instruction: the page whose translation it takes, the page for which it left,
+-- a page that it brings back with those that it needs before it, and the TCS page and the state save page by which it resumes
+abbrev pub holds_by : JobView → List Entry → ℕ → Option Action → List Page
+holds_by j past p (Some (Fill number f)) = page_of_stay (stay past p) number
+holds_by j past p (Some (Aex causes.Fault)) = access_of_stay j past p (stay past p)
+holds_by j past p (Some (EldStart f page slot)) = up_to page (needs j past p)
+holds_by j past p (Some (Resume enclave tcs tf sf)) = page_at enclave tcs ∷ page_in (content past sf.0)
+holds_by j past p _ = []
+
+abbrev pub holds_after : JobView → List Entry → Entry → ℕ → List Page → List Page
+holds_after j past e p before = if is_reply_of past e p then [] else before ++ holds_by j past p (action_of e.event)
+
+-- the pages that a processor holds since its last reply
+abbrev pub holds : JobView → List Entry → ℕ → List Page
+holds j [] p = []
+holds j (e ∷ past) p = if is_by p e.actor then holds_after j past e p (holds j past p) else holds j past p
+
+abbrev pub page_extended : Option BuildStep → Option Page
+page_extended (Some (builds.Extend enclave number chunk)) = Some (page_at enclave number)
+page_extended _ = None
+
+-- the page that the builder measures next: a page that is measured is held from its add to its sixteenth extend
+abbrev pub builder_holds : JobView → List Entry → Option Page
+builder_holds j past = page_extended (slice_get (build_of j) (built past))
+
+-- one of so many processors holds the page
+abbrev pub is_held_below : JobView → List Entry → Page → ℕ → Bool
+is_held_below j past g zero = false
+is_held_below j past g (suc p) = is_among (holds j past p) g || is_held_below j past g p
+
+-- whether some actor holds the page
+abbrev pub is_held : JobView → List Entry → Page → Bool
+is_held j past g = is_among (listed (builder_holds j past)) g || is_held_below j past g (length j.scripts)

@@ -1,0 +1,12 @@
+pub mod Places
+pub mod Needs
+pub mod Holds
+pub mod Passes
+pub mod Stops
+pub mod Dues
+pub mod Turns
+pub mod Ages
+pub mod Reclaims
+pub mod Scripts
+pub mod Same
+pub mod Decided

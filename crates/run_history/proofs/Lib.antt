@@ -1,0 +1,4 @@
+pub mod HistoryLaws
+pub mod RunLaws
+pub mod NoteLaws
+pub mod SmallRunLaws

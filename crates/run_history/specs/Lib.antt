@@ -1,0 +1,4 @@
+pub mod Histories
+pub mod Calls
+pub mod Given
+pub mod Stored

@@ -1,0 +1,65 @@
+//! Laws of the definitions. Each is the contract of a function without arguments, and so holds for every list of entries.
+
+ghost use Rattle.std.specs.Prelude.{ℕ, ◌≡◌, ◌≤◌, true, List, ◌∷◌, None, Some};
+ghost use Rattle.sgx_types.specs.declared.entries.Actor.{Actor};
+ghost use Rattle.sgx_types.specs.declared.entries.Entry.{Entry};
+ghost use Rattle.sgx_types.specs.declared.entries.Event.{Event};
+ghost use Rattle.sgx_types.specs.Rules.{Along, KeepsRules};
+ghost use Rattle.measure_log.specs.Rule.{MeasureRule};
+ghost use Rattle.job_grammar.specs.Jobs.{JobView};
+ghost use Rattle.turn_rules.specs.Script.{Script as SmallScript};
+ghost use Rattle.driver_laws.specs.Driven.{IsDriven};
+ghost use Rattle.driver_rules.specs.Ages.{AgeRule, KickRule};
+ghost use Rattle.driver_rules.specs.Passes.{pass};
+ghost use Rattle.driver_laws.specs.Sound.{IsSound};
+ghost use Rattle.driver_laws.specs.Stages.{KeepsPages};
+ghost use Rattle.driver_laws.specs.Three.{IsApart, TcsAreApart};
+ghost use Rattle.driver_laws.specs.Tracks.{KeepsTracks};
+ghost use Rattle.driver_rules.specs.Scripts.{ScriptRule};
+ghost use Rattle.run_history.specs.Calls.{Call, before};
+ghost use Rattle.run_history.specs.declared.rules.Rule.{Rule};
+ghost use Rattle.run_history.specs.Given.{UnforgedRun};
+ghost use Rattle.run_history.specs.Histories.{FailsFirst, GoesOn, History, Keeps, Says, is_machines, is_note, making_of};
+ghost use Rattle.run_history.specs.Stored.{StoreCalls};
+
+/// A history keeps each rule, so a trace that fails somewhere is none. A history is one that goes on.
+pub fn histories_fail_nowhere()
+    ensures keeps { (j : JobView) (past : List Entry) → History j past → (rule : Rule) → Keeps j rule past }
+    ensures fails { (j : JobView) (whole : List Entry) (place : ℕ) (rule : Rule) → FailsFirst j whole place rule → History j whole → ⊥ }
+    ensures goes_on { (j : JobView) (past : List Entry) → History j past → GoesOn j past }
+    ensures shorter { (j : JobView) (e : Entry) (past : List Entry) → GoesOn j (e ∷ past) → GoesOn j past }
+{}
+
+/// In a history that goes on places, the list and the slots are sound, a pass keeps what it says of tracks and of its pages, and three
+/// holds suffice.
+pub fn histories_are_driven()
+    ensures driven { (j : JobView) (past : List Entry) → GoesOn j past → IsDriven (making_of j) j past }
+    ensures sound { (j : JobView) (past : List Entry) → 1 ≤ j.start_version → GoesOn j past → IsSound past }
+    ensures tracks { (j : JobView) (past : List Entry) → 1 ≤ j.start_version → GoesOn j past → KeepsTracks past (pass j past) }
+    ensures pages { (j : JobView) (past : List Entry) → 1 ≤ j.start_version → GoesOn j past → KeepsPages past (pass j past) }
+    ensures three { (j : JobView) (past : List Entry) → 1 ≤ j.start_version → TcsAreApart j → GoesOn j past → (p : ℕ) → IsApart j past p }
+{}
+
+/// What is supposed of a run's records, and what its calls are, is so of the run without its last entry.
+pub fn runs_without_their_last_entry()
+    ensures unforged { (key : List ℕ) (e : Entry) (past : List Entry) (calls : List Call) → UnforgedRun key (e ∷ past) calls
+        → UnforgedRun key past (before e.event calls) }
+    ensures stored { (key : List ℕ) (e : Entry) (past : List Entry) (calls : List Call) → StoreCalls key (e ∷ past) calls
+        → StoreCalls key past (before e.event calls) }
+{}
+
+/// Of a look, of a kick, and of why a page did not come back, the rules but Script, Age and Kick say nothing. So a history goes on with one
+/// that keeps these three.
+pub fn entries_of_no_instruction()
+    ensures says { (j : JobView) (past : List Entry) (a : Actor) (ev : Event) (rule : Rule) → is_note ev ≡ true → is_machines rule ≡ true
+        → Says j rule past None → Says j rule past (Some (record { actor = a; event = ev })) }
+    ensures goes_on { (j : JobView) (past : List Entry) (a : Actor) (ev : Event) → is_note ev ≡ true
+        → ScriptRule j past (record { actor = a; event = ev }) → AgeRule j past (record { actor = a; event = ev })
+        → KickRule j past (record { actor = a; event = ev }) → GoesOn j past → GoesOn j (record { actor = a; event = ev } ∷ past) }
+{}
+
+/// What the program promises of the trace of a job whose pages all fit (Script of `turn_rules`, the rules of the machine, and Measure)
+/// makes it a history.
+pub fn small_runs_are_histories()
+    ensures { (j : JobView) (past : List Entry) → SmallScript j past → KeepsRules j.epc past → Along MeasureRule past → History j past }
+{}
