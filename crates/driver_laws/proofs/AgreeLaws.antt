@@ -109,7 +109,7 @@ pub shows_eldstart : (j : JobView) (keeper : Keeper) (past : List Entry) (a : Ac
     (answer : Answer) → CanMove past (Did (EldStart f page slot) answer) → IsSound past
     → ShowsSlots j keeper past → ShowsSlots j keeper (entry_of a (Did (EldStart f page slot) answer) ∷ past)
 shows_eldstart j keeper past a f page slot answer can sound s =
-    shows_same j keeper past (entry_of a (Did (EldStart f page slot) answer)) s (λ m. not_array past f.0 m IsLoading can.0 refl) s.made
+    shows_same j keeper past (entry_of a (Did (EldStart f page slot) answer)) s (λ m. not_array past f.0 m (IsLoading page) can.0 refl) s.made
     (λ g. by_page past past now page g (Loading f.0 slot) (Some slot) (ap (slot_at (open_start past)) can.1) refl
     (λ h other. kept h (place past h) refl))
     (λ t free. (refl, rw (out_apart keeper slot t (s.used page slot (ap (slot_at (open_start past)) can.1)) free) refl))
@@ -136,13 +136,21 @@ shows_eldstart j keeper past a f page slot answer can sound s =
     kept h (Here n) at = refl
     kept h Absent at = refl
 
+-- a frame that loads is no version array page
+loading_no_array : (c : Content) → is_loading c ≡ true → is_va c ≡ false
+loading_no_array (IsLoading page) k = refl
+loading_no_array Free k = cc
+loading_no_array IsVa k = cc
+loading_no_array (SecsOf e) k = cc
+loading_no_array (Holds g kind perm) k = cc
+
 -- the frame of a page is no version array page
 page_no_array : (c : Content) (g : Page) → is_page c g ≡ true → is_va c ≡ false
 page_no_array (Holds page kind perm) g h = refl
 page_no_array Free g h = cc
 page_no_array IsVa g h = cc
 page_no_array (SecsOf e) g h = cc
-page_no_array IsLoading g h = cc
+page_no_array (IsLoading page) g h = cc
 
 -- a page that leaves from a frame is the one that stands there
 same_leaving : (past : List Entry) (g h : Page) (f : ℕ) → IsSound past → place past g ≡ Leaving f → place past h ≡ Leaving f
@@ -304,20 +312,12 @@ shows_eld j old new past a f page version tag slot loading sound gives s = recor
     arrays : (n : ℕ) (b : Bool) → (f.0 == n) ≡ b
         → is_va (if b then reloaded page (added past page) else content past n) ≡ is_va (content past n)
     arrays n true is =
-        by_kind (added past page) ∙ sym (ap is_va
-        (subst (λ m. content past m ≡ IsLoading) (eqb-true f.0 n is) (loading_content (content past f.0) held)))
+        by_kind (added past page) ∙ sym (ap (λ m. is_va (content past m)) (sym (eqb-true f.0 n is)) ∙ loading_no_array (content past f.0) held)
       where
         held : is_loading (content past f.0) ≡ true
         held =
             sym (sound.places.loading f.0) ∙ load_slot_is (open_start past f.0) page slot
             (sound.places.loads page f.0 ∙ ap (λ q. slot_loading q f.0) loading ∙ rw (eq-eqb f.0 f.0 refl) refl)
-
-        loading_content : (c : Content) → is_loading c ≡ true → c ≡ IsLoading
-        loading_content IsLoading k = refl
-        loading_content Free k = cc
-        loading_content IsVa k = cc
-        loading_content (SecsOf e) k = cc
-        loading_content (Holds g kind perm) k = cc
 
         by_kind : (o : Option (Kind × Perm)) → is_va (reloaded page o) ≡ false
         by_kind None = refl
@@ -394,12 +394,6 @@ shows_refused j keeper past a f refusal can sound s =
     held : is_loading (content past f.0) ≡ true
     held = sym (sound.places.loading f.0) ∙ load_slot_is (open_start past f.0) page slot load
 
-    loading_no_array : (c : Content) → is_loading c ≡ true → is_va c ≡ false
-    loading_no_array IsLoading k = refl
-    loading_no_array Free k = cc
-    loading_no_array IsVa k = cc
-    loading_no_array (SecsOf e) k = cc
-    loading_no_array (Holds g kind perm) k = cc
 
     arrays : (n : ℕ) (b : Bool) → (f.0 == n) ≡ b → is_va (if b then Free else content past n) ≡ is_va (content past n)
     arrays n true is = sym (subst (λ m. is_va (content past m) ≡ false) (eqb-true f.0 n is) (loading_no_array (content past f.0) held))

@@ -2,7 +2,7 @@
 use Rattle.std.proofs.Common.{◌≡◌, ℕ, ◌+◌, ◌<◌, ◌≤◌, ◌==◌, ◌&&◌, ◌||◌, not, Bool, true, false, if◌then◌else◌, zero, suc, refl, sym, ◌∙◌, ap, subst, List, [], ◌∷◌, ◌++◌, Option, Some, None, length, nat_lt, arith}
 use Rattle.std.proofs.lemmas.Bool.{eqb-true}
 use Rattle.sgx_types.specs.Making.{Making}
-use Rattle.page_history.specs.Moves.{MovesRule, drain_sight_at, slot_sight_at}
+use Rattle.sgx_types.specs.Rules.{RefusalRule}
 use Rattle.sgx_types.proofs.Keystone.{BlockedAt, FirstTrack, blocked_at, first_track, tracks_behind}
 use Rattle.sgx_types.specs.declared.entries.Action.TheVariants.{EwbStart}
 use Rattle.sgx_types.specs.declared.entries.Entry.{Entry}
@@ -15,7 +15,7 @@ use Rattle.sgx_types.specs.Epochs.{block_epoch, epoch, is_in_before, is_track, l
 use Rattle.sgx_types.specs.Eviction.{earlier_or, is_drained, keeps_back, number_kept_back, track_behind}
 use Rattle.sgx_types.specs.Frames.{content, is_free}
 use Rattle.sgx_types.specs.Processors.{stay}
-use Rattle.sgx_types.specs.Sights.{sight_at}
+use Rattle.sgx_types.specs.Sights.{drain_sight_at, sight_at, slot_sight_at}
 use Rattle.sgx_types.specs.Table.{DrainSight, FrameSight, SlotSight, ewbstart_row, first_of_row, is_busy, is_out_of_range, is_secs, is_va}
 use Rattle.driver_rules.specs.Passes.{keepers, keepers_behind, keepers_from, keepers_in, keeps_from}
 use Rattle.driver_rules.specs.Places.{frame_leaving}
@@ -166,13 +166,13 @@ drained_row s slot d spent h =
     not_true d.is_drained m.0
 
 -- a try tells what is so where it is answered by its row
-pub try_tells : (k : Making) (past : List Entry) (e : Entry) → MovesRule k past e → TryTells past e.event
+pub try_tells : (k : Making) (past : List Entry) (e : Entry) → RefusalRule k past e → TryTells past e.event
 try_tells k past e h = by_event e.event h
   where
-    by_event : (ev : Event) → MovesRule k past (record { actor = e.actor; event = ev }) → TryTells past ev
+    by_event : (ev : Event) → RefusalRule k past (record { actor = e.actor; event = ev }) → TryTells past ev
     by_event (Did (EwbStart f slot) answer) m =
-        drained_row (sight_at k.frames past f.0) (slot_sight_at k.frames past slot) (drain_sight_at k.first_epoch past f.0) _ (m tt).0
+        drained_row (sight_at k.frames past f.0) (slot_sight_at k.frames past slot) (drain_sight_at k.first_epoch past f.0) _ m.0
     by_event (Refused (EwbStart f slot) (why.NotTracked epoch older)) m =
         not_drained_row (sight_at k.frames past f.0) (slot_sight_at k.frames past slot)
-        (drain_sight_at k.first_epoch past f.0) _ epoch older (m tt)
+        (drain_sight_at k.first_epoch past f.0) _ epoch older m
     by_event _ m = tt

@@ -7,9 +7,9 @@ use Rattle.page_history.proofs.FlatLaws.{added_flat}
 use Rattle.sgx_types.proofs.Rows.{NoneHolds, none_holds}
 use Rattle.sgx_types.proofs.Truths.{neither}
 use Rattle.page_history.proofs.StartLaws.{starts_apart}
-use Rattle.page_history.specs.Fresh.{Out, last_out}
+use Rattle.sgx_types.specs.Fresh.{Out, last_out}
 use Rattle.sgx_types.specs.Making.{Making}
-use Rattle.page_history.specs.Moves.{EndsIn, MovesRule, drain_sight_at, move_row_at, slot_sight_at}
+use Rattle.sgx_types.specs.Ends.{EndsIn}
 use Rattle.page_history.specs.Once.{KeepsMoves}
 use Rattle.sgx_types.specs.declared.entries.Action.TheVariants as actions
 use Rattle.sgx_types.specs.declared.entries.Actor.{Actor}
@@ -29,7 +29,7 @@ use Rattle.sgx_types.specs.declared.names.SlotAt.{SlotAt}
 use Rattle.sgx_types.specs.Flat.{FlatPage, added_as, enclave_sight, flat}
 use Rattle.sgx_types.specs.Frames.{Content, Free, Holds, IsLoading, IsVa, SecsOf, content, free_from, is_free, is_page, least_free, page_at}
 use Rattle.sgx_types.specs.Rules.{FitsRule, RefusalRule}
-use Rattle.sgx_types.specs.Sights.{sight_at}
+use Rattle.sgx_types.specs.Sights.{drain_sight_at, row_at, sight_at, slot_sight_at}
 use Rattle.sgx_types.specs.Slots.{is_slot_busy, next_version, version_in}
 use Rattle.sgx_types.specs.Starts.{Start, is_load_of, open_start}
 use Rattle.sgx_types.specs.Table.{EnclaveSight, FrameSight, add_row, ewbstart_row, first_of_row}
@@ -61,7 +61,7 @@ free_is Free h = refl
 free_is IsVa h = cc
 free_is (SecsOf e) h = cc
 free_is (Holds page kind perm) h = cc
-free_is IsLoading h = cc
+free_is (IsLoading page) h = cc
 
 found_free : (held : ℕ → Content) (n count f : ℕ) → free_from held n count ≡ Some f → is_free (held f) ≡ true
 found_free held n zero f h = cc
@@ -248,18 +248,18 @@ empty_row k past f slot is_spent none = (
     not_not true h = refl
     not_not false h = cc
 
-empty_slot : (k : Making) (past : List Entry) (f : Frame) (slot : SlotAt)
-    → first_of_row (move_row_at k past (actions.EwbStart f slot)) ≡ None → IsEmpty past slot
-empty_slot k past f slot h =
-    empty_row k past f slot (next_version k.first_version past == 2 ^ 64) (none_holds (move_row_at k past (actions.EwbStart f slot)) h)
+empty_slot : (k : Making) (past : List Entry) (a : Actor) (f : Frame) (slot : SlotAt)
+    → first_of_row (row_at k past a (actions.EwbStart f slot)) ≡ None → IsEmpty past slot
+empty_slot k past a f slot h =
+    empty_row k past f slot (next_version k.first_version past == 2 ^ 64) (none_holds (row_at k past a (actions.EwbStart f slot)) h)
 
 -- an entry that keeps the rules can move its page
 pub can_move : (k : Making) (j : JobView) (past : List Entry) (e : Entry) → 1 ≤ k.first_version → IsSound past → KeepsMoves k (e ∷ past)
     → FitsRule k.frames past e → ScriptRule j past e → AgeRule j past e → CanMove past e.event
-can_move k j past e positive s keeps fits script age = by_event e.event keeps.refusal.0 keeps.moves.0 fits script age
+can_move k j past e positive s keeps fits script age = by_event e.event keeps.refusal.0 fits script age
   where
     before : KeepsMoves k past
-    before = record { refusal = keeps.refusal.1; flat = keeps.flat.1; moves = keeps.moves.1; evict = keeps.evict.1; fresh = keeps.fresh.1 }
+    before = record { refusal = keeps.refusal.1; flat = keeps.flat.1; evict = keeps.evict.1; fresh = keeps.fresh.1 }
 
     absent : (g : Page) → is_some ((flat past).pages g) ≡ false → place past g ≡ Absent
     absent g none =
@@ -277,36 +277,37 @@ can_move k j past e positive s keeps fits script age = by_event e.event keeps.re
     same_told : (page other : Page) (v w : ℕ) (t u : List ℕ) → Moved page v t ≡ Moved other w u → page ≡ other
     same_told page other v w t u h = cc
 
-    by_event : (ev : Event) → RefusalRule k.frames past (record { actor = e.actor; event = ev })
-        → MovesRule k past (record { actor = e.actor; event = ev }) → FitsRule k.frames past (record { actor = e.actor; event = ev })
+    by_event : (ev : Event) → RefusalRule k past (record { actor = e.actor; event = ev }) → FitsRule k.frames past (record { actor = e.actor; event = ev })
         → ScriptRule j past (record { actor = e.actor; event = ev }) → AgeRule j past (record { actor = e.actor; event = ev })
         → CanMove past ev
-    by_event (Did (actions.Epa f) answer) refusal moves fit sc ag = fit.1
-    by_event (Did (actions.Create n f base size) answer) refusal moves fit sc ag = fit.1
-    by_event (Did (actions.Add n number f kind perm init) answer) refusal moves fit sc ag =
+    by_event (Did (actions.Epa f) answer) refusal fit sc ag = fit.1
+    by_event (Did (actions.Create n f base size) answer) refusal fit sc ag = fit.1
+    by_event (Did (actions.Add n number f kind perm init) answer) refusal fit sc ag =
         (fit.1, absent (page_at n number) (added_row n number kind perm init f refusal.0))
-    by_event (Age page look) refusal moves fit sc ag = (reclaimed j past e.actor (Age page look) sc ag refl).0.head
-    by_event (Did (actions.EwbStart f slot) answer) refusal moves fit sc ag = (
+    by_event (Age page look) refusal fit sc ag = (reclaimed j past e.actor (Age page look) sc ag refl).0.head
+    by_event (Did (actions.EwbStart f slot) answer) refusal fit sc ag = (
       start_frame j past f slot answer (pass j past) (reclaimed j past e.actor (Did (actions.EwbStart f slot) answer) sc ag refl).1,
-      used_slot k past slot positive s before (empty_slot k past f slot (moves tt).0),
+      used_slot k past slot positive s before (empty_slot k past e.actor f slot refusal.0),
     )
-    by_event (Did (actions.Ewb f) (Moved page version tag)) refusal out fit sc ag =
+    by_event (Did (actions.Ewb f) (Moved page version tag)) refusal fit sc ag =
+        let out = refusal.1 in
         let at = end_frame j past f (Moved page version tag) (pass j past)
         (reclaimed j past e.actor (Did (actions.Ewb f) (Moved page version tag)) sc ag refl).1 in (
           subst (λ g. place past g ≡ Leaving f.0) (sym (same_told page out.page version out.version tag out.tag out.told))
               (leaving_there past f.0 at.0 out.page out.kind out.perm s at.1 out.held),
           (out.start, out.opened),
         )
-    by_event (Did (actions.EldStart f page slot) answer) refusal moves fit sc ag = can_load j past e.actor f page slot answer sc.next
-    by_event (Did (actions.Eld f) (Moved page version tag)) refusal back fit sc ag =
+    by_event (Did (actions.EldStart f page slot) answer) refusal fit sc ag = can_load j past e.actor f page slot answer sc.next
+    by_event (Did (actions.Eld f) (Moved page version tag)) refusal fit sc ag =
+        let back = refusal.1 in
         let same = same_told page back.page version back.version tag back.tag back.told in
         let at = ends_in past f.0 back.page s back.ends in
         (at.0, ap (place past) same ∙ at.1)
-    by_event (Refused (actions.Eld f) refusal) r not_back fit sc ag =
+    by_event (Refused (actions.Eld f) refusal) not_back fit sc ag =
         let at = ends_in past f.0 not_back.page s not_back.ends in (not_back.page, at.0, at.1)
-    by_event (Did (actions.Ewb f) answer) refusal out fit sc ag = absurd cc
-    by_event (Did (actions.Eld f) answer) refusal back fit sc ag = absurd cc
-    by_event _ refusal moves fit sc ag = tt
+    by_event (Did (actions.Ewb f) answer) refusal fit sc ag = absurd cc
+    by_event (Did (actions.Eld f) answer) refusal fit sc ag = absurd cc
+    by_event _ refusal fit sc ag = tt
 
 -- ---- all along
 
@@ -326,7 +327,6 @@ driven_before k j e past d = record {
   moves = record {
     refusal = d.moves.refusal.1;
     flat = d.moves.flat.1;
-    moves = d.moves.moves.1;
     evict = d.moves.evict.1;
     fresh = d.moves.fresh.1;
   };
@@ -343,7 +343,7 @@ driven_sound k j (e ∷ past) positive d =
     let before = driven_sound k j past positive (driven_before k j e past d) in
     let can = can_move k j past e positive before.0 d.moves d.fits.0 d.script.0 d.age.0 in (
       stays_sound past e can before.0,
-      tracks_stay j past e before.0 can (try_tells k past e d.moves.moves.0)
+      tracks_stay j past e before.0 can (try_tells k past e d.moves.refusal.0)
           (script_own j past e d.script.0) d.age.0 d.kick.0 before.1,
     )
 

@@ -25,7 +25,7 @@ one_page (Holds page kind perm) a b h k =
 one_page Free a b h k = cc
 one_page IsVa a b h k = cc
 one_page (SecsOf e) a b h k = cc
-one_page IsLoading a b h k = cc
+one_page (IsLoading page) a b h k = cc
 
 -- a frame that holds a page loads none
 pub page_no_load : (c : Content) (a : Page) → is_page c a ≡ true → is_loading c ≡ false
@@ -33,7 +33,7 @@ page_no_load (Holds page kind perm) a h = refl
 page_no_load Free a h = refl
 page_no_load IsVa a h = refl
 page_no_load (SecsOf e) a h = refl
-page_no_load IsLoading a h = cc
+page_no_load (IsLoading page) a h = cc
 
 -- .. and one that loads holds none
 pub load_no_page : (c : Content) (a : Page) → is_loading c ≡ true → is_page c a ≡ false
@@ -41,7 +41,7 @@ load_no_page (Holds page kind perm) a h = cc
 load_no_page Free a h = refl
 load_no_page IsVa a h = refl
 load_no_page (SecsOf e) a h = refl
-load_no_page IsLoading a h = refl
+load_no_page (IsLoading page) a h = refl
 
 -- what is no start of a load has no slot of one
 pub no_load_slot : (o : Option Start) (g : Page) → is_load_start o ≡ false → load_slot o g ≡ None
@@ -227,7 +227,7 @@ put_out at held opened f a x s leaving open_now = record {
 -- a load starts
 pub put_loading : (at : Page → Place) (held : ℕ → Content) (opened : ℕ → Option Start) (f : ℕ) (a : Page) (before slot : SlotAt) (v : ℕ)
     → PlacesAreFrames at held opened → held f ≡ Free → at a ≡ Away before
-    → PlacesAreFrames (λ g. if same_page a g then Loading f slot else at g) (λ n. if f == n then IsLoading else held n)
+    → PlacesAreFrames (λ g. if same_page a g then Loading f slot else at g) (λ n. if f == n then IsLoading a else held n)
     (λ n. if f == n then Some (record { slot = slot; version = v; loads = Some a }) else opened n)
 put_loading at held opened f a before slot v s free away = record {
   frames = λ g n. grind (arith, s.frames, same_pages);

@@ -2,7 +2,7 @@
 use Rattle.std.proofs.Common.{◌≡◌, ℕ, ◌==◌, ◌⊎◌, inl, inr, not, Bool, true, false, if◌then◌else◌, refl, sym, ◌∙◌, ap, subst, List, Option, Some, None, is_some}
 use Rattle.std.proofs.lemmas.Bool.{eqb-true, eq-eqb, false≢true}
 use Rattle.sgx_types.proofs.Pages.{same_pages, same_slots}
-use Rattle.page_history.specs.Fresh.{Out}
+use Rattle.sgx_types.specs.Fresh.{Out}
 use Rattle.sgx_types.specs.declared.names.Page.{Page}
 use Rattle.sgx_types.specs.declared.names.SlotAt.{SlotAt}
 use Rattle.sgx_types.specs.Frames.{Content, Free, is_page, same_page}

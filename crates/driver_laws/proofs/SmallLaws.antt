@@ -45,21 +45,10 @@ use Rattle.driver_rules.specs.Scripts.{IsActors, IsEnded, ScriptRule}
 use Rattle.driver_rules.specs.Stops.{is_spent, spends}
 use Rattle.driver_rules.specs.Turns.{Last, Other, accesses_by, builder_due, cpu_due, due_after, early_turn, enters, fills, first_away, is_built, is_kicked, is_last, kicked_after, last_by, last_of, op_turn, resumes, save_frame, stay_turn, step_turn, turn_due, with_pages}
 use Rattle.driver_laws.proofs.SoundLaws.{entry_of}
-use Rattle.driver_laws.proofs.SpentLaws.{refused_fine}
+use Rattle.driver_laws.proofs.SpentLaws.{is_tame, refused_fine}
+use Rattle.sgx_types.specs.Making.{Making}
 
 -- ---- what is due there moves no page
-
--- an instruction that moves no page out or back, and is no exit for a page or a kick
-abbrev pub is_tame : Action → Bool
-is_tame (actions.Block f) = false
-is_tame (actions.Track enclave) = false
-is_tame (actions.EwbStart f slot) = false
-is_tame (actions.Ewb f) = false
-is_tame (actions.EldStart f page slot) = false
-is_tame (actions.Eld f) = false
-is_tame (actions.Aex causes.Fault) = false
-is_tame (actions.Aex causes.Kick) = false
-is_tame _ = true
 
 abbrev Tame : Option Action → Type 0
 Tame None = Unit {0}
@@ -163,39 +152,39 @@ tame_event (Bus page reason) (Some c) a h is told = cc
 
 -- ---- none of these ends a run
 
-tame_fine : (frames : ℕ) (past : List Entry) (a : Actor) (ev : Event) → TameEvent ev → RefusalRule frames past (entry_of a ev)
+tame_fine : (k : Making) (past : List Entry) (a : Actor) (ev : Event) → TameEvent ev → RefusalRule k past (entry_of a ev)
     → spends ev ≡ false
-tame_fine frames past a (Did action answer) tame rule = refl
-tame_fine frames past a (Refused (actions.Init e expect) (why.BadMeasure made)) tame rule = refl
-tame_fine frames past a (Refused (actions.Init e expect) r) tame rule = refused_fine frames past a (actions.Init e expect) r rule
-tame_fine frames past a (Refused (actions.Epa f) r) tame rule = refused_fine frames past a (actions.Epa f) r rule
-tame_fine frames past a (Refused (actions.Create e f base size) r) tame rule =
-    refused_fine frames past a (actions.Create e f base size) r rule
-tame_fine frames past a (Refused (actions.Add e n f kind perm init) r) tame rule =
-    refused_fine frames past a (actions.Add e n f kind perm init) r rule
-tame_fine frames past a (Refused (actions.Extend f chunk) r) tame rule = refused_fine frames past a (actions.Extend f chunk) r rule
-tame_fine frames past a (Refused (actions.Enter e t tf sf) r) tame rule = refused_fine frames past a (actions.Enter e t tf sf) r rule
-tame_fine frames past a (Refused (actions.Resume e t tf sf) r) tame rule = refused_fine frames past a (actions.Resume e t tf sf) r rule
-tame_fine frames past a (Refused actions.Exit r) tame rule = refused_fine frames past a actions.Exit r rule
-tame_fine frames past a (Refused (actions.Aex cause) r) tame rule = refused_fine frames past a (actions.Aex cause) r rule
-tame_fine frames past a (Refused (actions.Fill n f) r) tame rule = refused_fine frames past a (actions.Fill n f) r rule
-tame_fine frames past a (Refused (actions.Load off) r) tame rule = refused_fine frames past a (actions.Load off) r rule
-tame_fine frames past a (Refused (actions.Store off v) r) tame rule = refused_fine frames past a (actions.Store off v) r rule
-tame_fine frames past a (Refused (actions.Xadd off v) r) tame rule = refused_fine frames past a (actions.Xadd off v) r rule
-tame_fine frames past a (Refused (actions.Set v) r) tame rule = refused_fine frames past a (actions.Set v) r rule
-tame_fine frames past a (Refused (actions.Plus v) r) tame rule = refused_fine frames past a (actions.Plus v) r rule
-tame_fine frames past a (Refused (actions.Pf op off) r) tame rule = refused_fine frames past a (actions.Pf op off) r rule
-tame_fine frames past a (Refused (actions.OutLoad e off) r) tame rule = refused_fine frames past a (actions.OutLoad e off) r rule
-tame_fine frames past a (Refused (actions.OutStore e off v) r) tame rule = refused_fine frames past a (actions.OutStore e off v) r rule
-tame_fine frames past a (Refused (actions.Block f) r) tame rule = cc
-tame_fine frames past a (Refused (actions.Track e) r) tame rule = cc
-tame_fine frames past a (Refused (actions.EwbStart f slot) r) tame rule = cc
-tame_fine frames past a (Refused (actions.Ewb f) r) tame rule = cc
-tame_fine frames past a (Refused (actions.EldStart f page slot) r) tame rule = cc
-tame_fine frames past a (Refused (actions.Eld f) r) tame rule = cc
-tame_fine frames past a (Age page look) tame rule = absurd tame
-tame_fine frames past a (Kick cpu) tame rule = absurd tame
-tame_fine frames past a (Bus page reason) tame rule = absurd tame
+tame_fine k past a (Did action answer) tame rule = refl
+tame_fine k past a (Refused (actions.Init e expect) (why.BadMeasure made)) tame rule = refl
+tame_fine k past a (Refused (actions.Init e expect) r) tame rule = refused_fine k past a (actions.Init e expect) r tame rule
+tame_fine k past a (Refused (actions.Epa f) r) tame rule = refused_fine k past a (actions.Epa f) r tame rule
+tame_fine k past a (Refused (actions.Create e f base size) r) tame rule =
+    refused_fine k past a (actions.Create e f base size) r tame rule
+tame_fine k past a (Refused (actions.Add e n f kind perm init) r) tame rule =
+    refused_fine k past a (actions.Add e n f kind perm init) r tame rule
+tame_fine k past a (Refused (actions.Extend f chunk) r) tame rule = refused_fine k past a (actions.Extend f chunk) r tame rule
+tame_fine k past a (Refused (actions.Enter e t tf sf) r) tame rule = refused_fine k past a (actions.Enter e t tf sf) r tame rule
+tame_fine k past a (Refused (actions.Resume e t tf sf) r) tame rule = refused_fine k past a (actions.Resume e t tf sf) r tame rule
+tame_fine k past a (Refused actions.Exit r) tame rule = refused_fine k past a actions.Exit r tame rule
+tame_fine k past a (Refused (actions.Aex cause) r) tame rule = refused_fine k past a (actions.Aex cause) r tame rule
+tame_fine k past a (Refused (actions.Fill n f) r) tame rule = refused_fine k past a (actions.Fill n f) r tame rule
+tame_fine k past a (Refused (actions.Load off) r) tame rule = refused_fine k past a (actions.Load off) r tame rule
+tame_fine k past a (Refused (actions.Store off v) r) tame rule = refused_fine k past a (actions.Store off v) r tame rule
+tame_fine k past a (Refused (actions.Xadd off v) r) tame rule = refused_fine k past a (actions.Xadd off v) r tame rule
+tame_fine k past a (Refused (actions.Set v) r) tame rule = refused_fine k past a (actions.Set v) r tame rule
+tame_fine k past a (Refused (actions.Plus v) r) tame rule = refused_fine k past a (actions.Plus v) r tame rule
+tame_fine k past a (Refused (actions.Pf op off) r) tame rule = refused_fine k past a (actions.Pf op off) r tame rule
+tame_fine k past a (Refused (actions.OutLoad e off) r) tame rule = refused_fine k past a (actions.OutLoad e off) r tame rule
+tame_fine k past a (Refused (actions.OutStore e off v) r) tame rule = refused_fine k past a (actions.OutStore e off v) r tame rule
+tame_fine k past a (Refused (actions.Block f) r) tame rule = cc
+tame_fine k past a (Refused (actions.Track e) r) tame rule = cc
+tame_fine k past a (Refused (actions.EwbStart f slot) r) tame rule = cc
+tame_fine k past a (Refused (actions.Ewb f) r) tame rule = cc
+tame_fine k past a (Refused (actions.EldStart f page slot) r) tame rule = cc
+tame_fine k past a (Refused (actions.Eld f) r) tame rule = cc
+tame_fine k past a (Age page look) tame rule = absurd tame
+tame_fine k past a (Kick cpu) tame rule = absurd tame
+tame_fine k past a (Bus page reason) tame rule = absurd tame
 
 -- ---- what stays so
 
@@ -558,29 +547,29 @@ small_tame j past e small =
     tame_event e.event (small_due j past e.actor) made.0 (due_tame j past e.actor) (sym small.is_due ∙ made.1) made.1
 
 -- the entries are refused by their rows, so the run was not stopped
-fresh_all : (frames : ℕ) (j : JobView) (past : List Entry) → Along (SmallRule j) past → Along (RefusalRule frames) past
+fresh_all : (k : Making) (j : JobView) (past : List Entry) → Along (SmallRule j) past → Along (RefusalRule k) past
     → is_spent past ≡ false
-fresh_all frames j [] small refusal = refl
-fresh_all frames j (e ∷ past) small refusal =
+fresh_all k j [] small refusal = refl
+fresh_all k j (e ∷ past) small refusal =
     let made = some_action (action_of e.event) small.0.is_instruction in
     let due : small_due j past e.actor ≡ Some made.0 = sym small.0.is_due ∙ made.1 in
     let tame = tame_event e.event (small_due j past e.actor) made.0 (due_tame j past e.actor) due made.1 in
-    rw (tame_fine frames past e.actor e.event tame refusal.0) (fresh_all frames j past small.1 refusal.1)
+    rw (tame_fine k past e.actor e.event tame refusal.0) (fresh_all k j past small.1 refusal.1)
 
-pub small_script : (frames : ℕ) (j : JobView) (past : List Entry) → Along (SmallRule j) past → Along (RefusalRule frames) past
+pub small_script : (k : Making) (j : JobView) (past : List Entry) → Along (SmallRule j) past → Along (RefusalRule k) past
     → Along FlatRule past
     → Along (ScriptRule j) past
-small_script frames j past small refusal flat_rule = (kept_all j past small flat_rule (fresh_all frames j past small refusal)).script
+small_script k j past small refusal flat_rule = (kept_all j past small flat_rule (fresh_all k j past small refusal)).script
 
-pub small_age : (frames : ℕ) (j : JobView) (past : List Entry) → Along (SmallRule j) past → Along (RefusalRule frames) past
+pub small_age : (k : Making) (j : JobView) (past : List Entry) → Along (SmallRule j) past → Along (RefusalRule k) past
     → Along FlatRule past
     → Along (AgeRule j) past
-small_age frames j past small refusal flat_rule = (kept_all j past small flat_rule (fresh_all frames j past small refusal)).age
+small_age k j past small refusal flat_rule = (kept_all j past small flat_rule (fresh_all k j past small refusal)).age
 
-pub small_kick : (frames : ℕ) (j : JobView) (past : List Entry) → Along (SmallRule j) past → Along (RefusalRule frames) past
+pub small_kick : (k : Making) (j : JobView) (past : List Entry) → Along (SmallRule j) past → Along (RefusalRule k) past
     → Along FlatRule past
     → Along (KickRule j) past
-small_kick frames j past small refusal flat_rule = (kept_all j past small flat_rule (fresh_all frames j past small refusal)).kick
+small_kick k j past small refusal flat_rule = (kept_all j past small flat_rule (fresh_all k j past small refusal)).kick
 
 pub small_ended : (j : JobView) (past : List Entry) → SmallEnded j past → IsEnded j past
 small_ended j past ended = λ fresh. record {

@@ -3,15 +3,15 @@ use Rattle.std.proofs.Common.{◌≡◌, ℕ, ◌&&◌, not, Bool, true, false, 
 use Rattle.sgx_types.specs.declared.entries.Action.{Action}
 use Rattle.sgx_types.specs.declared.entries.Action.TheVariants as actions
 use Rattle.sgx_types.specs.declared.entries.Actor.{Actor}
-use Rattle.sgx_types.specs.declared.entries.Actor.TheVariants as actors
+use Rattle.sgx_types.specs.declared.entries.AexCause.TheVariants as causes
 use Rattle.sgx_types.specs.declared.entries.Entry.{Entry}
 use Rattle.sgx_types.specs.declared.entries.PageInit.{PageInit}
 use Rattle.sgx_types.specs.declared.names.Kind.{Kind}
 use Rattle.sgx_types.specs.declared.names.Perm.{Perm}
 use Rattle.sgx_types.specs.declared.refusals.Refusal.{Refusal}
 use Rattle.sgx_types.specs.Flat.{enclave_sight, flat}
-use Rattle.sgx_types.specs.Processors.{stay}
-use Rattle.sgx_types.specs.Sights.{enclave_of_stay, row_at, sight_at}
+use Rattle.sgx_types.specs.Making.{Making}
+use Rattle.sgx_types.specs.Sights.{enclave_of_stay, row_at, sight_at, stay_of}
 use Rattle.sgx_types.specs.Table.{Case, EnclaveSight, FrameSight, add_row, fill_row, first_of_row, init_row}
 use Rattle.driver_rules.specs.Stops.{is_last_refusal}
 
@@ -51,20 +51,33 @@ unfolding spares
 fill_spares n None s = refl
 fill_spares n (Some enclave) s = refl
 
-row_spares : (frames : ℕ) (past : List Entry) (a : Actor) (action : Action) → spares (row_at frames past a action) ≡ true
-unfolding spares
-row_spares frames past a (actions.Epa f) = refl
-row_spares frames past a (actions.Create e f base size) = refl
-row_spares frames past a (actions.Add e n f kind perm init) =
-    add_spares n kind perm init (enclave_sight (flat past) e) _ (sight_at frames past f.0)
-row_spares frames past a (actions.Extend f chunk) = refl
-row_spares frames past a (actions.Init e expect) = init_spares (enclave_sight (flat past) e)
-row_spares frames past (actors.Cpu p) (actions.Fill n f) = fill_spares n (enclave_of_stay (stay past p.0)) (sight_at frames past f.0)
-row_spares frames past (actors.Cpu p) _ = refl
-row_spares frames past actors.Builder _ = refl
-row_spares frames past actors.Reclaimer _ = refl
+-- an instruction that moves no page out or back, and is no exit for a page or a kick
+abbrev pub is_tame : Action → Bool
+is_tame (actions.Block f) = false
+is_tame (actions.Track enclave) = false
+is_tame (actions.EwbStart f slot) = false
+is_tame (actions.Ewb f) = false
+is_tame (actions.EldStart f page slot) = false
+is_tame (actions.Eld f) = false
+is_tame (actions.Aex causes.Fault) = false
+is_tame (actions.Aex causes.Kick) = false
+is_tame _ = true
 
-pub refused_fine : (frames : ℕ) (past : List Entry) (a : Actor) (action : Action) (r : Refusal)
-    → first_of_row (row_at frames past a action) ≡ Some r
+row_spares : (k : Making) (past : List Entry) (a : Actor) (action : Action) → is_tame action ≡ true → spares (row_at k past a action) ≡ true
+unfolding spares
+row_spares k past a (actions.Add e n f kind perm init) tame =
+    add_spares n kind perm init (enclave_sight (flat past) e) _ (sight_at k.frames past f.0)
+row_spares k past a (actions.Init e expect) tame = init_spares (enclave_sight (flat past) e)
+row_spares k past a (actions.Fill n f) tame = fill_spares n (enclave_of_stay (stay_of past a)) (sight_at k.frames past f.0)
+row_spares k past a (actions.Block f) tame = cc
+row_spares k past a (actions.Track e) tame = cc
+row_spares k past a (actions.EwbStart f slot) tame = cc
+row_spares k past a (actions.Ewb f) tame = cc
+row_spares k past a (actions.EldStart f page slot) tame = cc
+row_spares k past a (actions.Eld f) tame = cc
+row_spares k past a _ tame = refl
+
+pub refused_fine : (k : Making) (past : List Entry) (a : Actor) (action : Action) (r : Refusal) → is_tame action ≡ true
+    → first_of_row (row_at k past a action) ≡ Some r
     → is_last_refusal r ≡ false
-refused_fine frames past a action r is = never_last (row_at frames past a action) r (row_spares frames past a action) is
+refused_fine k past a action r tame is = never_last (row_at k past a action) r (row_spares k past a action tame) is

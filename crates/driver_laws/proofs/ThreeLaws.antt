@@ -357,7 +357,7 @@ page_in_among (Holds page kind perm) g zs held there =
 page_in_among Free g zs held there = none_among zs
 page_in_among IsVa g zs held there = none_among zs
 page_in_among (SecsOf e) g zs held there = none_among zs
-page_in_among IsLoading g zs held there = none_among zs
+page_in_among (IsLoading page) g zs held there = none_among zs
 
 pages_less : (j : JobView) (e t n : ℕ) (o : Op) → AreAmong (pages_by j e t n o) (pages_by j e t (n - 1 + 1) o)
 pages_less j e t n o = by_count n (tcs_line (lines_at j.enclaves e) t)

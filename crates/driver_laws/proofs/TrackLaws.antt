@@ -244,7 +244,7 @@ page_enclave (Holds page kind perm) g h =
 page_enclave Free g h = cc
 page_enclave IsVa g h = cc
 page_enclave (SecsOf e) g h = cc
-page_enclave IsLoading g h = cc
+page_enclave (IsLoading page) g h = cc
 
 -- what is asked of the frame of a waiting page
 pub drained_waiting : (past : List Entry) (g : Page) (f b : ℕ) → IsSound past → IsWaiting past g f b

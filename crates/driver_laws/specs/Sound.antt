@@ -7,7 +7,7 @@ use Rattle.sgx_types.specs.declared.names.SlotAt.{SlotAt}
 use Rattle.sgx_types.specs.Frames.{Content, IsLoading, added, content, is_page, same_page}
 use Rattle.sgx_types.specs.Slots.{slot_of as slot_of_start, version_in}
 use Rattle.sgx_types.specs.Starts.{Start, is_load_of, open_start}
-use Rattle.page_history.specs.Fresh.{Out, last_out}
+use Rattle.sgx_types.specs.Fresh.{Out, last_out}
 use Rattle.driver_rules.specs.Places.{Absent, Away, Here, Leaving, Loading, Place, active, is_here, place}
 
 -- ---- places
@@ -41,7 +41,7 @@ is_write_start None = false
 is_write_start (Some start) = not (is_some start.loads)
 
 abbrev pub is_loading : Content → Bool
-is_loading IsLoading = true
+is_loading (IsLoading page) = true
 is_loading _ = false
 
 -- by the place of each page, what each frame holds, and the open start of each frame

@@ -2,7 +2,6 @@
 
 ghost use Rattle.std.specs.Prelude.{ℕ, ◌≡◌, ◌≤◌, ◌+◌, true, false, List, [], ◌∷◌, Some, length};
 ghost use Rattle.sgx_types.specs.Making.{Making};
-ghost use Rattle.page_history.specs.Moves.{MovesRule};
 ghost use Rattle.sgx_types.specs.ByEpochs.{IsTrackedBlock};
 ghost use Rattle.sgx_types.specs.declared.entries.Actor.TheVariants as actors;
 ghost use Rattle.sgx_types.specs.declared.entries.Entry.{Entry};
@@ -44,7 +43,7 @@ pub fn passes_keep_tracks()
         → pass j past ≡ Tries g rest First → place past g ≡ Leaving f → is_blocked past f ≡ true → is_drained past f ≡ false
         → IsUntracked past g }
     ensures own { (j : JobView) (past : List Entry) (e : Entry) → ScriptRule j past e → OwnRule past e }
-    ensures told { (k : Making) (past : List Entry) (e : Entry) → MovesRule k past e → TryTells past e.event }
+    ensures told { (k : Making) (past : List Entry) (e : Entry) → RefusalRule k past e → TryTells past e.event }
 {}
 
 /// One entry more keeps how the pages of a pass stand: those that were taken wait in their frames, each once, and are blocked in their
@@ -102,11 +101,11 @@ pub fn open_starts_are_ended()
 /// For a job whose pages all fit, the rule Script of `turn_rules` is what the whole rule says: a trace that keeps it, Refusal and Flat
 /// keeps the whole rule, and Age and Kick. At its end the whole rule's end is there.
 pub fn small_scripts_are_scripts()
-    ensures script { (frames : ℕ) (j : JobView) (past : List Entry) → Along (SmallRule j) past → Along (RefusalRule frames) past
+    ensures script { (k : Making) (j : JobView) (past : List Entry) → Along (SmallRule j) past → Along (RefusalRule k) past
         → Along FlatRule past → Along (ScriptRule j) past }
-    ensures age { (frames : ℕ) (j : JobView) (past : List Entry) → Along (SmallRule j) past → Along (RefusalRule frames) past
+    ensures age { (k : Making) (j : JobView) (past : List Entry) → Along (SmallRule j) past → Along (RefusalRule k) past
         → Along FlatRule past → Along (AgeRule j) past }
-    ensures kick { (frames : ℕ) (j : JobView) (past : List Entry) → Along (SmallRule j) past → Along (RefusalRule frames) past
+    ensures kick { (k : Making) (j : JobView) (past : List Entry) → Along (SmallRule j) past → Along (RefusalRule k) past
         → Along FlatRule past → Along (KickRule j) past }
     ensures ended { (j : JobView) (past : List Entry) → SmallEnded j past → IsEnded j past }
 {}

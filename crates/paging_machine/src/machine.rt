@@ -8,7 +8,6 @@ ghost use Rattle.sgx_types.specs.Flat.{enclave_sight_of};
 ghost use Rattle.epcm_entry.specs.Epc.{is_free_frame};
 ghost use Rattle.cached_translations.specs.Translations.{translation_of};
 ghost use Rattle.paging_machine.specs.Parts.{state_of, cpu_at, tcs_of};
-ghost use Rattle.sgx_types.specs.declared.names.Page.{Page as PageView};
 ghost use Rattle.paging_laws.specs.Stands.{IsSound};
 ghost use Rattle.paging_laws.specs.State.{number_noting};
 

@@ -3,6 +3,7 @@ use Rattle.std.proofs.Common.{◌≡◌, ◌≤◌, ℕ, subst, List, [], ◌∷
 use Rattle.sgx_types.specs.declared.entries.Entry.{Entry}
 use Rattle.sgx_types.specs.Rules.{Along}
 use Rattle.job_grammar.specs.Jobs.{JobView}
+use Rattle.turn_rules.specs.Machines.{machine_of}
 use Rattle.driver_laws.specs.Driven.{IsDriven}
 use Rattle.driver_rules.specs.Passes.{pass}
 use Rattle.driver_laws.specs.Sound.{IsSound}
@@ -13,7 +14,7 @@ use Rattle.driver_laws.proofs.HistoryLaws.{driven_pages, driven_sound}
 use Rattle.driver_laws.proofs.TcsLaws.{driven_apart}
 use Rattle.run_history.specs.declared.rules.Rule.{Rule}
 use Rattle.run_history.specs.declared.rules.Rule.TheVariants as rules
-use Rattle.run_history.specs.Histories.{AtEntry, Before, FailsFirst, GoesOn, History, IsPlace, Keeps, Says, Throughout, making_of}
+use Rattle.run_history.specs.Histories.{AtEntry, Before, FailsFirst, GoesOn, History, IsPlace, Keeps, Says, Throughout}
 
 -- ---- the rules of a history
 
@@ -103,7 +104,7 @@ script_along : (j : JobView) (past : List Entry) → Before (Says j rules.Script
 script_along j [] h = tt
 script_along j (e ∷ past) h = (h.0, script_along j past h.1)
 
-pub driven : (j : JobView) (past : List Entry) → GoesOn j past → IsDriven (making_of j) j past
+pub driven : (j : JobView) (past : List Entry) → GoesOn j past → IsDriven (machine_of j) j past
 driven j past h = record {
   moves = record {
     refusal = first_along _ _ past h.refusal.1;
@@ -119,13 +120,13 @@ driven j past h = record {
 }
 
 pub sound : (j : JobView) (past : List Entry) → 1 ≤ j.start_version → GoesOn j past → IsSound past
-sound j past positive h = (driven_sound (making_of j) j past positive (driven j past h)).0
+sound j past positive h = (driven_sound (machine_of j) j past positive (driven j past h)).0
 
 pub tracks : (j : JobView) (past : List Entry) → 1 ≤ j.start_version → GoesOn j past → KeepsTracks past (pass j past)
-tracks j past positive h = (driven_sound (making_of j) j past positive (driven j past h)).1
+tracks j past positive h = (driven_sound (machine_of j) j past positive (driven j past h)).1
 
 pub pages : (j : JobView) (past : List Entry) → 1 ≤ j.start_version → GoesOn j past → KeepsPages past (pass j past)
-pages j past positive h = driven_pages (making_of j) j past positive (driven j past h)
+pages j past positive h = driven_pages (machine_of j) j past positive (driven j past h)
 
 pub three : (j : JobView) (past : List Entry) → 1 ≤ j.start_version → TcsAreApart j → GoesOn j past → (p : ℕ) → IsApart j past p
-three j past positive apart h = driven_apart (making_of j) j past positive apart (driven j past h)
+three j past positive apart h = driven_apart (machine_of j) j past positive apart (driven j past h)

@@ -5,38 +5,18 @@ use Rattle.sgx_types.specs.declared.entries.Actor.{Actor}
 use Rattle.sgx_types.specs.declared.entries.Entry.{Entry}
 use Rattle.sgx_types.specs.declared.entries.Event.{Event}
 use Rattle.sgx_types.specs.declared.entries.Event.TheVariants.{Did, Refused, Age, Kick, Bus}
-use Rattle.sgx_types.specs.Making.{Making}
 use Rattle.sgx_types.specs.Rules.{Along, AtEachPlace, EvictRule, KeepsRules, NoPageTwice, NoneStale, RefusalRule}
-use Rattle.page_history.specs.Fresh.{FreshRule}
-use Rattle.page_history.specs.Moves.{MovesRule}
-use Rattle.page_history.specs.Records.{SealedRule}
+use Rattle.sgx_types.specs.Fresh.{FreshRule}
+use Rattle.seal_record.specs.Sealing.{SealedRule}
 use Rattle.measure_log.specs.Rule.{MeasureRule}
 use Rattle.job_grammar.specs.Jobs.{JobView}
+use Rattle.turn_rules.specs.Machines.{machine_of}
 use Rattle.turn_rules.specs.Script.{Script as SmallScript, ScriptRule as SmallRule}
 use Rattle.driver_laws.proofs.SmallLaws.{TameEvent, small_age, small_ended, small_kick, small_script, small_tame}
 use Rattle.run_history.specs.declared.rules.Rule.TheVariants as rules
-use Rattle.run_history.specs.Histories.{AtEntry, Before, History, RowRule, Says, making_of}
+use Rattle.run_history.specs.Histories.{AtEntry, Before, History, Says}
 
 -- ---- one entry
-
-moves_tame : (k : Making) (past : List Entry) (a : Actor) (ev : Event) → TameEvent ev → MovesRule k past (record { actor = a; event = ev })
-moves_tame k past a (Did (actions.Block f) answer) tame = cc
-moves_tame k past a (Did (actions.Track e) answer) tame = cc
-moves_tame k past a (Did (actions.EwbStart f slot) answer) tame = cc
-moves_tame k past a (Did (actions.Ewb f) answer) tame = cc
-moves_tame k past a (Did (actions.EldStart f page slot) answer) tame = cc
-moves_tame k past a (Did (actions.Eld f) answer) tame = cc
-moves_tame k past a (Did _ answer) tame = λ h. absurd h
-moves_tame k past a (Refused (actions.Block f) r) tame = cc
-moves_tame k past a (Refused (actions.Track e) r) tame = cc
-moves_tame k past a (Refused (actions.EwbStart f slot) r) tame = cc
-moves_tame k past a (Refused (actions.Ewb f) r) tame = cc
-moves_tame k past a (Refused (actions.EldStart f page slot) r) tame = cc
-moves_tame k past a (Refused (actions.Eld f) r) tame = cc
-moves_tame k past a (Refused _ r) tame = λ h. absurd h
-moves_tame k past a (Age page look) tame = tt
-moves_tame k past a (Kick cpu) tame = tt
-moves_tame k past a (Bus page reason) tame = tt
 
 evict_tame : (past : List Entry) (a : Actor) (ev : Event) → TameEvent ev → EvictRule past (record { actor = a; event = ev })
 evict_tame past a (Did (actions.EwbStart f slot) answer) tame = cc
@@ -79,16 +59,10 @@ tame_along : (j : JobView) (rule : List Entry → Entry → Type 0)
 tame_along j rule each [] small = tt
 tame_along j rule each (e ∷ past) small = (each past e.actor e.event (small_tame j past e small.0), tame_along j rule each past small.1)
 
-row_along : (j : JobView) (past : List Entry) → Along (SmallRule j) past → Along (RefusalRule j.epc) past
-    → Along (RowRule (making_of j)) past
-row_along j [] small refusal = tt
-row_along j (e ∷ past) small refusal =
-    ((refusal.0, moves_tame (making_of j) past e.actor e.event (small_tame j past e small.0)), row_along j past small.1 refusal.1)
-
-pub small_history : (j : JobView) (past : List Entry) → SmallScript j past → KeepsRules j.epc past → Along MeasureRule past → History j past
+pub small_history : (j : JobView) (past : List Entry) → SmallScript j past → KeepsRules (machine_of j) past → Along MeasureRule past → History j past
 small_history j past small keeps measure = record {
-  script = (small_ended j past small.ended, said_script j past (small_script j.epc j past small.entries keeps.refusal keeps.flat));
-  refusal = (tt, said (RowRule (making_of j)) past (row_along j past small.entries keeps.refusal));
+  script = (small_ended j past small.ended, said_script j past (small_script (machine_of j) j past small.entries keeps.refusal keeps.flat));
+  refusal = (tt, said (RefusalRule (machine_of j)) past keeps.refusal);
   flat = (tt, said _ past keeps.flat);
   fits = ((tt, at_end NoPageTwice past keeps.fits.pages), said_placed _ NoPageTwice past keeps.fits.entries keeps.fits.pages);
   stale = ((tt, at_end NoneStale past keeps.stale.places), said_placed _ NoneStale past keeps.stale.entries keeps.stale.places);
@@ -100,6 +74,6 @@ small_history j past small keeps measure = record {
   );
   sealed = (tt, said (SealedRule j.key) past (tame_along j (SealedRule j.key) (sealed_tame j.key) past small.entries));
   measure = (tt, said _ past measure);
-  age = (tt, said _ past (small_age j.epc j past small.entries keeps.refusal keeps.flat));
-  kick = (tt, said _ past (small_kick j.epc j past small.entries keeps.refusal keeps.flat));
+  age = (tt, said _ past (small_age (machine_of j) j past small.entries keeps.refusal keeps.flat));
+  kick = (tt, said _ past (small_kick (machine_of j) j past small.entries keeps.refusal keeps.flat));
 }

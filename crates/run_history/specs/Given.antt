@@ -8,7 +8,7 @@ use Rattle.sgx_types.specs.declared.entries.Event.TheVariants.{Did, Refused}
 use Rattle.sgx_types.specs.Sealed.{Sealed}
 use Rattle.sgx_types.specs.Starts.{Start, open_start}
 use Rattle.seal_record.specs.Records.{Given as GivenRecord, Made, Unforged}
-use Rattle.page_history.specs.Records.{made_with}
+use Rattle.seal_record.specs.Sealing.{made_with}
 use Rattle.run_history.specs.Calls.{Call, Got, Given, Put, before}
 
 -- ---- made

@@ -3,13 +3,12 @@ use Rattle.std.specs.Prelude.{ℕ, ◌≡◌, ◌<◌, Bool, true, false, List, 
 use Rattle.sgx_types.specs.declared.entries.Entry.{Entry}
 use Rattle.sgx_types.specs.declared.entries.Event.{Event}
 use Rattle.sgx_types.specs.declared.entries.Event.TheVariants.{Age, Kick, Bus}
-use Rattle.sgx_types.specs.Making.{Making}
 use Rattle.sgx_types.specs.Rules.{EvictRule, FitsRule, FlatRule, NoneStale, NoPageTwice, RefusalRule, StaleRule}
-use Rattle.page_history.specs.Fresh.{FreshRule}
-use Rattle.page_history.specs.Moves.{MovesRule}
-use Rattle.page_history.specs.Records.{SealedRule}
+use Rattle.sgx_types.specs.Fresh.{FreshRule}
+use Rattle.seal_record.specs.Sealing.{SealedRule}
 use Rattle.measure_log.specs.Rule.{MeasureRule}
 use Rattle.job_grammar.specs.Jobs.{JobView}
+use Rattle.turn_rules.specs.Machines.{machine_of}
 use Rattle.driver_rules.specs.Ages.{AgeRule, KickRule}
 use Rattle.driver_rules.specs.Scripts.{IsEnded, ScriptRule}
 use Rattle.run_history.specs.declared.rules.Rule.{Rule}
@@ -43,15 +42,7 @@ is_note (Kick cpu) = true
 is_note (Bus page reason) = true
 is_note _ = false
 
--- the machine that a job is run on
-abbrev pub making_of : JobView → Making
-making_of j = record { frames = j.epc; cpus = length j.scripts; key = j.key; first_epoch = j.start_epoch; first_version = j.start_version }
-
 -- ---- what a rule says of a place: of the entries before it, and of the next one, None at the end
-
--- the rule Refusal of every instruction
-abbrev pub RowRule : Making → List Entry → Entry → Type 0
-RowRule made past e = RefusalRule made.frames past e × MovesRule made past e
 
 -- a rule on entries says nothing of the end
 abbrev pub AtEntry : (List Entry → Entry → Type 0) → List Entry → Option Entry → Type 0
@@ -65,7 +56,7 @@ SaysScript j past (Some e) = ScriptRule j past e
 
 abbrev pub Says : JobView → Rule → List Entry → Option Entry → Type 0
 Says j rules.Script past next = SaysScript j past next
-Says j rules.Refusal past next = AtEntry (RowRule (making_of j)) past next
+Says j rules.Refusal past next = AtEntry (RefusalRule (machine_of j)) past next
 Says j rules.Flat past next = AtEntry FlatRule past next
 Says j rules.Fits past next = AtEntry (FitsRule j.epc) past next × NoPageTwice past
 Says j rules.Stale past next = AtEntry StaleRule past next × NoneStale past

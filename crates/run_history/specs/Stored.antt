@@ -10,12 +10,11 @@ use Rattle.sgx_types.specs.declared.entries.Event.TheVariants.{Did, Refused}
 use Rattle.sgx_types.specs.declared.names.Page.{Page}
 use Rattle.sgx_types.specs.declared.refusals.Refusal.{Refusal}
 use Rattle.sgx_types.specs.declared.refusals.Refusal.TheVariants as why
-use Rattle.sgx_types.specs.Flat.{flat, words_of}
+use Rattle.sgx_types.specs.Flat.{flat, header_at, words_of}
 use Rattle.sgx_types.specs.Layouts.{bytes_of}
 use Rattle.sgx_types.specs.Sealed.{Sealed}
 use Rattle.sgx_types.specs.Starts.{Start, open_start}
 use Rattle.seal_record.specs.Cipher.{cipher, tag}
-use Rattle.page_history.specs.Moves.{IsHeader}
 use Rattle.run_history.specs.Calls.{Call, CallsAre, Put, before}
 use Rattle.run_history.specs.Given.{gift}
 
@@ -23,7 +22,7 @@ use Rattle.run_history.specs.Given.{gift}
 
 -- a record that is put has the page's header, and the tag of the version and of its own header and cipher
 pub record IsSealedRecord (key : List ℕ) (past : List Entry) (g : Page) (version : ℕ) (rec : Sealed) : Type 0 where
-  pub header : IsHeader (flat past) g rec.header
+  pub header : header_at past g ≡ Some rec.header
   pub tagged : rec.tag ≡ tag key version rec.header rec.cipher
 
 abbrev pub PutsSealed : List ℕ → List Entry → Page → ℕ → List Call → Type 0
@@ -33,7 +32,7 @@ PutsSealed key past g version _ = ⊥
 -- a page came back by the record that was given for it
 pub record IsBackBy (past : List Entry) (g : Page) (told : List ℕ) (rec : Sealed) : Type 0 where
   pub tagged : rec.tag ≡ told
-  pub header : IsHeader (flat past) g rec.header
+  pub header : header_at past g ≡ Some rec.header
 
 -- a record was refused: its tag is not the one that is computed of it under the version of its slot, or its header is another
 abbrev pub IsUnfit : List ℕ → Start → Refusal → Sealed → Type 0

@@ -7,6 +7,7 @@ ghost use Rattle.sgx_types.specs.declared.entries.Event.{Event};
 ghost use Rattle.sgx_types.specs.Rules.{Along, KeepsRules};
 ghost use Rattle.measure_log.specs.Rule.{MeasureRule};
 ghost use Rattle.job_grammar.specs.Jobs.{JobView};
+ghost use Rattle.turn_rules.specs.Machines.{machine_of};
 ghost use Rattle.turn_rules.specs.Script.{Script as SmallScript};
 ghost use Rattle.driver_laws.specs.Driven.{IsDriven};
 ghost use Rattle.driver_rules.specs.Ages.{AgeRule, KickRule};
@@ -19,7 +20,7 @@ ghost use Rattle.driver_rules.specs.Scripts.{ScriptRule};
 ghost use Rattle.run_history.specs.Calls.{Call, before};
 ghost use Rattle.run_history.specs.declared.rules.Rule.{Rule};
 ghost use Rattle.run_history.specs.Given.{UnforgedRun};
-ghost use Rattle.run_history.specs.Histories.{FailsFirst, GoesOn, History, Keeps, Says, is_machines, is_note, making_of};
+ghost use Rattle.run_history.specs.Histories.{FailsFirst, GoesOn, History, Keeps, Says, is_machines, is_note};
 ghost use Rattle.run_history.specs.Stored.{StoreCalls};
 
 /// A history keeps each rule, so a trace that fails somewhere is none. A history is one that goes on.
@@ -33,7 +34,7 @@ pub fn histories_fail_nowhere()
 /// In a history that goes on places, the list and the slots are sound, a pass keeps what it says of tracks and of its pages, and three
 /// holds suffice.
 pub fn histories_are_driven()
-    ensures driven { (j : JobView) (past : List Entry) → GoesOn j past → IsDriven (making_of j) j past }
+    ensures driven { (j : JobView) (past : List Entry) → GoesOn j past → IsDriven (machine_of j) j past }
     ensures sound { (j : JobView) (past : List Entry) → 1 ≤ j.start_version → GoesOn j past → IsSound past }
     ensures tracks { (j : JobView) (past : List Entry) → 1 ≤ j.start_version → GoesOn j past → KeepsTracks past (pass j past) }
     ensures pages { (j : JobView) (past : List Entry) → 1 ≤ j.start_version → GoesOn j past → KeepsPages past (pass j past) }
@@ -61,5 +62,5 @@ pub fn entries_of_no_instruction()
 /// What the program promises of the trace of a job whose pages all fit (Script of `turn_rules`, the rules of the machine, and Measure)
 /// makes it a history.
 pub fn small_runs_are_histories()
-    ensures { (j : JobView) (past : List Entry) → SmallScript j past → KeepsRules j.epc past → Along MeasureRule past → History j past }
+    ensures { (j : JobView) (past : List Entry) → SmallScript j past → KeepsRules (machine_of j) past → Along MeasureRule past → History j past }
 {}

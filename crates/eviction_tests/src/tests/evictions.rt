@@ -70,7 +70,7 @@ const GOES_AND_COMES: &[Row] = &[
 
 const FREE: rows::Told = rows::Told::Entry(EntryView::Free);
 
-const LOADING: rows::Told = rows::Told::Entry(EntryView::Loading);
+const LOADING: rows::Told = rows::Told::Entry(EntryView::Loading { page: PAGE_2 });
 
 // A page is blocked, tracked, written out and loaded into another frame.
 #[test]

@@ -1,7 +1,7 @@
 use super::digests::THREE_PAGES;
 use super::instructions::Instruction::*;
-use super::rows::Reader::Older;
-use super::rows::Row::{self, EndIn, EndOut, EndOutOther, Step, Tells};
+use super::rows::Reader::{Cpus, Frames, Older};
+use super::rows::Row::{self, EndIn, EndOut, EndOutOther, Kick, Step, Tells};
 use super::rows::Told::Count;
 use super::rows::{BUILDER, DONE, FIRST, RECLAIMER};
 use super::world::play;
@@ -68,6 +68,9 @@ const WAITS: &[Row] = &[
     ),
     Tells(Older(1, 0), Count(0)),
     Tells(Older(1, 1), Count(1)),
+    Tells(Frames, Count(8)),
+    Tells(Cpus, Count(1)),
+    Kick(0),
     Step(FIRST, Leave(Cause::Kick), DONE),
     Tells(Older(1, 1), Count(0)),
     Step(RECLAIMER, StartOut(4, 0), Ok(Answer::Version(1))),

@@ -52,6 +52,8 @@ pub enum Row {
     EndOutOther(u32, Answer),
     // The end of the load of a frame, with the record that was kept.
     EndIn(u32, Result<Answer, Refusal>),
+    // The reclaimer kicks a processor: the machine is what it was.
+    Kick(u8),
     // What the machine has to tell of itself.
     Tells(Reader, Told),
     // The REG pages from a number to below another are added, page n in frame n + 1, each of one word's copies.
@@ -64,6 +66,7 @@ pub enum Row {
 #[derive(Clone, Copy)]
 pub enum Reader {
     Frames,
+    Cpus,
     FirstFree,
     FreeCount,
     // The fields of the TCS page in a frame.

@@ -2,7 +2,7 @@ ghost use Rattle.std.specs.Prelude.{◌≡◌, ◌≤◌, IsTrue};
 ghost use Rattle.paging_laws.specs.Steps.{CanApply};
 
 use super::instructions::Instruction;
-use super::rows::{DONE, FIRST, Reader, Row, Told};
+use super::rows::{DONE, FIRST, RECLAIMER, Reader, Row, Told};
 use paging_machine::machine::Machine;
 use seal_record::seal::{SealWork, seal};
 use seal_record::unseal::{UnsealWork, unseal};
@@ -74,6 +74,13 @@ impl World {
             Row::TouchEach(first, past, value) => self.touch_each(
                 rt, alloc, at, first, past, value,
             ),
+            Row::Kick(cpu) => {
+                self.machine.note(&Entry {
+                    actor: RECLAIMER,
+                    event: Event::Kick { cpu: Cpu(cpu) },
+                });
+                Ok(())
+            }
             Row::Tells(reader, want) => {
                 let told = self.told(rt, reader);
                 assert_eq!(rt; told, want, "row {at}");
@@ -93,7 +100,7 @@ impl World {
         want: Result<Answer, Refusal>,
     ) -> Result<(), Memory> {
         assert!(rt; can_apply(self.cpus, actor, action), "row {at}");
-        let entry = self.machine.apply(alloc, actor, action)?;
+        let entry = self.machine.apply(alloc, actor, &action)?;
         let event = event(action, want);
         assert_eq!(rt; entry, Entry { actor, event }, "row {at}");
         Ok(())
@@ -199,6 +206,7 @@ impl World {
         let machine = &self.machine;
         match reader {
             Reader::Frames => Told::Count(machine.frames()),
+            Reader::Cpus => Told::Count(u32::from(machine.cpus())),
             Reader::FirstFree => Told::Free(machine.first_free()),
             Reader::FreeCount => Told::Count(machine.free_count()),
             Reader::Fields(frame) => Told::Tcs(machine.tcs(Frame(frame))),

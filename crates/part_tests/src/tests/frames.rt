@@ -80,9 +80,9 @@ fn words_are_bytes_low_first(rt: HostRuntime) -> Result<(), Fail> {
 #[test]
 fn claims_a_frame_once(rt: HostRuntime) -> Result<(), Fail> {
     let mut epc = Epc::new(rt.alloc(), 2)?;
-    assert_eq!(rt; epc.claim_load(Frame(0)), Ok(()));
-    assert_eq!(rt; epc.claim_load(Frame(0)), Err(Refusal::Conflict));
-    assert_eq!(rt; epc.entry(Frame(0)), EntryView::Loading);
+    assert_eq!(rt; epc.claim_load(Frame(0), PAGE), Ok(()));
+    assert_eq!(rt; epc.claim_load(Frame(0), PAGE), Err(Refusal::Conflict));
+    assert_eq!(rt; epc.entry(Frame(0)), EntryView::Loading { page: PAGE });
     epc.set(Frame(0), PAGE, Kind::Reg, PERM);
     epc.block(Frame(0), 7);
     assert_eq!(rt; epc.claim_seal(Frame(0)), Ok(()));

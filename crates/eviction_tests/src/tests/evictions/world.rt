@@ -293,7 +293,7 @@ impl World {
         work: &UnsealedWork,
     ) -> Result<(), Refusal> {
         assert!(rt; self.has_slot(slot) && frame < self.epc.frames());
-        assert_eq!(rt; self.epc.entry(Frame(frame)), EntryView::Loading);
+        assert_eq!(rt; self.epc.entry(Frame(frame)), EntryView::Loading { page });
         assert!(rt; is_reg(&self.secs, page));
         eld_commit(
             &mut self.epc,

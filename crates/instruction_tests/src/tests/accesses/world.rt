@@ -11,6 +11,11 @@ use sgx_types::names::{Frame, Kind, Memory, Page, Perm};
 use std::alloc::Global;
 use std::process::Abort;
 
+const PAGE_1: Page = Page {
+    enclave: 1,
+    number: 1,
+};
+
 const INSIDE: Mode = Mode::Inside {
     enclave: 1,
     tcs: 0,
@@ -75,7 +80,7 @@ impl World {
 
     fn claim_load(&mut self, rt: &impl Abort, frame: u32) -> Told {
         assert!(rt; frame < self.epc.frames() && self.epc.entry(Frame(frame)).is_free());
-        Told::of_done(self.epc.claim_load(Frame(frame)))
+        Told::of_done(self.epc.claim_load(Frame(frame), PAGE_1))
     }
 
     fn put(&mut self, rt: &impl Abort, frame: u32, page: Page, kind: Kind, perm: Perm) -> Told {

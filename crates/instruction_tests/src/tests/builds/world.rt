@@ -12,9 +12,14 @@ use epcm_entry::entry_view::EntryView;
 use epcm_entry::epc::Epc;
 use measure_log::measure::Measure;
 use secs_state::secs::Secs;
-use sgx_types::names::{Frame, Kind, Memory};
+use sgx_types::names::{Frame, Kind, Memory, Page};
 use std::alloc::Global;
 use std::process::Abort;
+
+const PAGE_1: Page = Page {
+    enclave: 1,
+    number: 1,
+};
 
 // An EPC, and the enclave that was created last, with its log.
 #[derive(Drop)]
@@ -93,7 +98,7 @@ impl World {
 
 fn claim_load(rt: &impl Abort, epc: &mut Epc, frame: u32) -> Told {
     assert!(rt; frame < epc.frames() && epc.entry(Frame(frame)).is_free());
-    Told::of_done(epc.claim_load(Frame(frame)))
+    Told::of_done(epc.claim_load(Frame(frame), PAGE_1))
 }
 
 fn entry(rt: &impl Abort, epc: &Epc, frame: u32) -> Told {
