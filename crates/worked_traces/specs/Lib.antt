@@ -1,1 +1,2 @@
+pub mod Evictions
 pub mod Traces
