@@ -1,7 +1,7 @@
 -- Where every page stays in its frame: an entry that the rule Script for jobs that fit gives is one that the whole rule gives, and keeps
 -- Age
 -- and Kick.
-use Rattle.std.proofs.Common.{◌≡◌, ℕ, ◌==◌, ◌+◌, ◌-◌, ◌/◌, ◌<◌, nat_le, not, Bool, true, false, if◌then◌else◌, refl, sym, ◌∙◌, ap, subst, List, [], ◌∷◌, Option, Some, None, is_some, length, slice_get}
+use Rattle.std.proofs.Common.{◌≡◌, ℕ, ◌==◌, ◌+◌, ◌-◌, ◌/◌, ◌<◌, not, Bool, true, false, if◌then◌else◌, refl, sym, ◌∙◌, ap, subst, List, [], ◌∷◌, Option, Some, None, is_some, length, slice_get}
 use Rattle.std.proofs.lemmas.Bool.{eqb-true}
 use Rattle.std.proofs.lemmas.Option.{slice_get_within}
 use Rattle.sgx_types.specs.declared.entries.AccessOp.{AccessOp}
@@ -10,16 +10,13 @@ use Rattle.sgx_types.specs.declared.entries.Action.{Action}
 use Rattle.sgx_types.specs.declared.entries.Action.TheVariants as actions
 use Rattle.sgx_types.specs.declared.entries.Actor.{Actor}
 use Rattle.sgx_types.specs.declared.entries.Actor.TheVariants as actors
-use Rattle.sgx_types.specs.declared.entries.Answer.TheVariants.{Moved}
 use Rattle.sgx_types.specs.declared.entries.Cause.TheVariants as causes
 use Rattle.sgx_types.specs.declared.entries.Entry.{Entry}
 use Rattle.sgx_types.specs.declared.entries.Event.{Event}
 use Rattle.sgx_types.specs.declared.entries.Event.TheVariants.{Did, Refused, Age, Kick, Bus}
-use Rattle.sgx_types.specs.declared.names.Kind.{Kind}
 use Rattle.sgx_types.specs.declared.names.Page.{Page}
-use Rattle.sgx_types.specs.declared.names.Perm.{Perm}
 use Rattle.sgx_types.specs.Flat.{added_as, at_offset, flat}
-use Rattle.sgx_types.specs.Frames.{added, content, frame_of, least_free, page_at, same_page}
+use Rattle.sgx_types.specs.Frames.{content, frame_of, least_free, page_at, same_page}
 use Rattle.sgx_types.specs.Processors.{Enters, Keeps, Leaves, Move, Stay, holds_number, is_by, move_by, stay, stay_after, translations}
 use Rattle.sgx_types.specs.declared.refusals.Refusal.TheVariants as why
 use Rattle.sgx_types.specs.Rules.{Along, FlatRule, RefusalRule}
@@ -33,17 +30,17 @@ use Rattle.job_grammar.specs.declared.jobs.PageLine.TheVariants as lines
 use Rattle.job_grammar.specs.Jobs.{JobView, lines_at, tcs_line}
 use Rattle.turn_rules.specs.declared.steps.BuildStep.{BuildStep}
 use Rattle.turn_rules.specs.declared.steps.BuildStep.TheVariants as builds
-use Rattle.turn_rules.specs.Script.{IsEnded as SmallEnded, ScriptRule as SmallRule, access_due, action_of, build_of, builder_due as small_builder, built, cpu_due as small_cpu, due as small_due, end_due, enter_by, enter_with, fill_with, frame_at, inner_access, is_turned_away, next_due, op_due, replied, resume_by, resume_with, saved, script_of, step_due, with_frame}
+use Rattle.turn_rules.specs.Script.{IsEnded as SmallEnded, ScriptRule as SmallRule, access_due, action_of, build_of, builder_due as small_builder, built, cpu_due as small_cpu, due as small_due, end_due, enter_by, enter_with, fill_with, frame_at, is_turned_away, next_due, op_due, resume_by, resume_with, saved, step_due, with_frame}
 use Rattle.driver_rules.specs.declared.waits.Why.{Why}
 use Rattle.driver_rules.specs.declared.waits.Why.TheVariants as waits
 use Rattle.driver_rules.specs.Ages.{AgeRule, KickRule}
-use Rattle.driver_rules.specs.Dues.{Due, IsNext, Makes, Stopped, makes_or}
-use Rattle.driver_rules.specs.Needs.{interrupted_by, interruption, interruption_after, listed, next_op, save_to_enter, save_to_resume}
-use Rattle.driver_rules.specs.Passes.{Between, Pass, free_count, pass, works_with}
-use Rattle.driver_rules.specs.Places.{Absent, Here, Place, frame_here, is_here, place, place_after}
+use Rattle.driver_rules.specs.Dues.{IsNext, Makes, makes_or}
+use Rattle.driver_rules.specs.Needs.{interruption, interruption_after, listed, next_op, save_to_enter, save_to_resume}
+use Rattle.driver_rules.specs.Passes.{Between, free_count, pass, works_with}
+use Rattle.driver_rules.specs.Places.{Absent, Here, Place, frame_here, place}
 use Rattle.driver_rules.specs.Scripts.{IsActors, IsEnded, ScriptRule}
 use Rattle.driver_rules.specs.Stops.{is_spent, spends}
-use Rattle.driver_rules.specs.Turns.{Last, Other, accesses_by, builder_due, cpu_due, due_after, early_turn, enters, fills, first_away, is_built, is_kicked, is_last, kicked_after, last_by, last_of, op_turn, resumes, save_frame, stay_turn, step_turn, turn_due, with_pages}
+use Rattle.driver_rules.specs.Turns.{Other, accesses_by, cpu_due, early_turn, enters, fills, first_away, is_built, is_kicked, kicked_after, last_by, last_of, op_turn, resumes, save_frame, stay_turn, step_turn, with_pages}
 use Rattle.driver_laws.proofs.SoundLaws.{entry_of}
 use Rattle.driver_laws.proofs.SpentLaws.{is_tame, refused_fine}
 use Rattle.sgx_types.specs.Making.{Making}

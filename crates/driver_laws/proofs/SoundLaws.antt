@@ -1,5 +1,5 @@
 -- One entry more keeps places, the list and the slots sound.
-use Rattle.std.proofs.Common.{◌≡◌, ℕ, ◌+◌, ◌==◌, not, Bool, true, false, if◌then◌else◌, refl, sym, ◌∙◌, ap, subst, List, [], ◌∷◌, Option, Some, None, option_map, is_some, arith}
+use Rattle.std.proofs.Common.{◌≡◌, ℕ, ◌+◌, ◌==◌, not, Bool, true, false, if◌then◌else◌, refl, sym, ◌∙◌, ap, subst, List, [], ◌∷◌, Option, Some, None, is_some, arith}
 use Rattle.std.proofs.lemmas.Bool.{eq-eqb}
 use Rattle.sgx_types.specs.Slots.{slot_of as slot_of_start}
 use Rattle.sgx_types.specs.Fresh.{last_out}

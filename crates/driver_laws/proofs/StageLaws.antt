@@ -1,5 +1,5 @@
 -- The pages of a pass stand as before, one entry longer.
-use Rattle.std.proofs.Common.{◌≡◌, ℕ, ◌+◌, ◌-◌, ◌≤◌, ◌==◌, ◌||◌, ◌&&◌, not, Bool, true, false, if◌then◌else◌, zero, suc, refl, sym, ◌∙◌, ap, subst, List, [], ◌∷◌, ◌++◌, drop, length, length-append, min, Option, Some, None, is_some, arith}
+use Rattle.std.proofs.Common.{◌≡◌, ℕ, ◌+◌, ◌-◌, ◌≤◌, ◌==◌, ◌||◌, ◌&&◌, not, Bool, true, false, if◌then◌else◌, zero, suc, refl, sym, ◌∙◌, ap, subst, List, [], ◌∷◌, ◌++◌, drop, length, length-append, min, Option, Some, None, arith}
 use Rattle.std.proofs.lemmas.Bool.{eqb-true, eq-eqb, false≢true}
 use Rattle.std.proofs.lemmas.List.{append_assoc, append-nil}
 use Rattle.std.proofs.lemmas.List.Folds.{list_any-append}
@@ -27,12 +27,12 @@ use Rattle.driver_rules.specs.Holds.{is_among}
 use Rattle.driver_laws.specs.Kinds.{CanMove}
 use Rattle.driver_rules.specs.Passes.{Between, Blocking, First, Form, Kicks, Pass, Scan, Sealing, Second, Third, ToKick, ToTrack, Tries, block_on, decided, free_count, keepers, kicks_on, next_tries, pass, pass_after, pass_by, scan_on, scanned, taken_by}
 use Rattle.driver_rules.specs.Places.{Absent, Away, Here, Leaving, Loading, Place, active, active_after, back_to, gone_to, leaves, looked_at, place, to_tail}
-use Rattle.driver_laws.specs.Sound.{IsSound, is_load_start, is_write_start, stands_in}
+use Rattle.driver_laws.specs.Sound.{IsSound, is_load_start, is_write_start}
 use Rattle.driver_laws.specs.Tracks.{OwnRule, is_reclaimers}
 use Rattle.driver_laws.proofs.MoveLaws.{place-taken}
 use Rattle.driver_laws.proofs.SlotLaws.{none_open}
 use Rattle.driver_laws.proofs.SoundLaws.{entry_of, head_here}
-use Rattle.driver_laws.specs.Stages.{AllWait, AreApart, IsGoing, HasPages, IsBlocking, IsScanning, IsTrying, KeepsPages, Stands, IsTaken, touches}
+use Rattle.driver_laws.specs.Stages.{AllWait, AreApart, HasPages, IsTrying, KeepsPages, Stands, IsTaken, touches}
 use Rattle.driver_laws.proofs.StillLaws.{frames_apart, holds_here, load_open, place_apart, still}
 
 self_eq : (f : ℕ) → (f == f) ≡ true

@@ -1,8 +1,7 @@
 -- A processor has an open start exactly where it is to end a load.
-use Rattle.std.proofs.Common.{◌≡◌, ℕ, Bool, true, false, if◌then◌else◌, refl, sym, ◌∙◌, ap, subst, List, [], ◌∷◌, Option, Some, None}
+use Rattle.std.proofs.Common.{◌≡◌, ℕ, Bool, true, false, if◌then◌else◌, refl, sym, ◌∙◌, ap, List, [], ◌∷◌, Option, Some, None}
 use Rattle.std.proofs.lemmas.Bool.{false≢true}
 use Rattle.sgx_types.specs.declared.entries.Action.TheVariants as actions
-use Rattle.sgx_types.specs.declared.entries.Actor.{Actor}
 use Rattle.sgx_types.specs.declared.entries.Actor.TheVariants as actors
 use Rattle.sgx_types.specs.declared.entries.Entry.{Entry}
 use Rattle.sgx_types.specs.declared.entries.Event.{Event}
@@ -17,7 +16,7 @@ use Rattle.sgx_types.specs.Starts.{Start, open_start}
 use Rattle.job_grammar.specs.Jobs.{JobView}
 use Rattle.driver_rules.specs.Scripts.{ScriptRule}
 use Rattle.driver_rules.specs.Stops.{frame_started, last_event}
-use Rattle.driver_rules.specs.Turns.{Fails, Last, Loads, Other, WasEnded, fails_with, last_by, last_of, load_of}
+use Rattle.driver_rules.specs.Turns.{fails_with, last_by, last_of, load_of}
 use Rattle.driver_laws.specs.Tracks.{is_reclaimers}
 use Rattle.driver_laws.specs.Started.{frame_loaded}
 use Rattle.driver_laws.proofs.OwnLaws.{script_own}

@@ -1,5 +1,5 @@
 -- What an entry leaves of a page that was taken, where it does not touch its frame.
-use Rattle.std.proofs.Common.{◌≡◌, ℕ, ◌==◌, ◌||◌, ◌&&◌, not, Bool, true, false, if◌then◌else◌, refl, sym, ◌∙◌, ap, subst, List, [], ◌∷◌, Option, Some, None, is_some, arith}
+use Rattle.std.proofs.Common.{◌≡◌, ℕ, ◌==◌, Bool, true, false, if◌then◌else◌, refl, sym, ◌∙◌, ap, subst, List, ◌∷◌, Some}
 use Rattle.std.proofs.lemmas.Bool.{eqb-true, eq-eqb, false≢true}
 use Rattle.sgx_types.specs.declared.entries.Action.TheVariants.{Epa, Create, Add, Block, EwbStart, Ewb, EldStart, Eld}
 use Rattle.sgx_types.specs.declared.entries.Answer.TheVariants.{Moved}
@@ -10,11 +10,11 @@ use Rattle.sgx_types.specs.declared.entries.Look.{Look}
 use Rattle.sgx_types.specs.declared.entries.Look.TheVariants as looks
 use Rattle.sgx_types.specs.declared.names.Page.{Page}
 use Rattle.sgx_types.specs.declared.names.SlotAt.{SlotAt}
-use Rattle.sgx_types.specs.Frames.{Content, Free, content, is_blocked, is_page, is_sealing, page_at, same_page}
-use Rattle.sgx_types.specs.Starts.{Start, is_load_of, open_start}
+use Rattle.sgx_types.specs.Frames.{Free, content, is_blocked, is_page, same_page}
+use Rattle.sgx_types.specs.Starts.{is_load_of, open_start}
 use Rattle.driver_laws.specs.Kinds.{CanMove}
-use Rattle.driver_rules.specs.Places.{Absent, Away, Here, Leaving, Loading, Place, after_look, back_to, gone_to, place}
-use Rattle.driver_laws.specs.Sound.{IsSound, is_load_start, is_write_start, load_slot, slot_loading, stands_in}
+use Rattle.driver_rules.specs.Places.{Absent, Away, Leaving, Loading, Place, after_look, back_to, place}
+use Rattle.driver_laws.specs.Sound.{IsSound, is_load_start, load_slot, slot_loading, stands_in}
 use Rattle.driver_laws.proofs.PlaceLaws.{load_no_page, load_slot_is, of_same, one_page}
 use Rattle.driver_laws.proofs.SoundLaws.{entry_of}
 use Rattle.driver_laws.specs.Stages.{touches}

@@ -1,10 +1,10 @@
 -- The tests pass exactly where the rules hold.
-use Rattle.std.proofs.Common.{◌≡◌, ℕ, ◌<◌, ◌==◌, ◌&&◌, not, Bool, true, false, refl, sym, ap, subst, List, [], ◌∷◌, Option, Some, None, length, nat_lt, slice_get, arith, zero, suc, ◌||◌}
+use Rattle.std.proofs.Common.{◌≡◌, ℕ, ◌<◌, ◌==◌, ◌&&◌, not, Bool, true, false, refl, sym, ap, subst, List, [], ◌∷◌, Option, Some, None, length, nat_lt, arith, zero, suc, ◌||◌}
 use Rattle.std.proofs.lemmas.Bool.{eqb-true, eq-eqb, false≢true}
 use Rattle.sgx_types.proofs.Truths.{both_true}
 use Rattle.sgx_types.proofs.Pages.{same_pages}
 use Rattle.sgx_types.specs.declared.entries.Action.{Action}
-use Rattle.sgx_types.specs.declared.entries.Action.TheVariants.{Block, Track, EwbStart, Ewb, EldStart, Eld}
+use Rattle.sgx_types.specs.declared.entries.Action.TheVariants.{Block, Track, EwbStart, Ewb, EldStart}
 use Rattle.sgx_types.specs.declared.entries.Actor.{Actor}
 use Rattle.sgx_types.specs.declared.entries.Actor.TheVariants as actors
 use Rattle.sgx_types.specs.declared.entries.BusWhy.{BusWhy}
@@ -16,7 +16,7 @@ use Rattle.sgx_types.specs.declared.entries.Look.{Look}
 use Rattle.sgx_types.specs.declared.names.Page.{Page}
 use Rattle.sgx_types.specs.declared.names.SlotAt.{SlotAt}
 use Rattle.sgx_types.specs.declared.refusals.Refusal.TheVariants as why
-use Rattle.sgx_types.specs.Frames.{content, least_free, same_page}
+use Rattle.sgx_types.specs.Frames.{same_page}
 use Rattle.job_grammar.specs.Jobs.{JobView}
 use Rattle.turn_rules.specs.Script.{action_of, build_of, built, frame_at, replied, script_of}
 use Rattle.driver_rules.specs.Ages.{AgeRule, BesideOf, FormOf, InForm, InPass, IsBeside, IsEnd, IsInTries, IsKickOrTry, IsLastTry, IsLookAt, IsNextBlock, IsTrackOf, IsTry, KickRule, LookOf, PassOf, head_of}

@@ -19,7 +19,7 @@ use Rattle.turn_rules.specs.Script.{action_of, frame_at}
 use Rattle.driver_rules.specs.declared.waits.Why.{Why}
 use Rattle.driver_rules.specs.declared.waits.Why.TheVariants as waits
 use Rattle.driver_rules.specs.Ages.{AgeRule, FormOf, InForm, InPass, IsInTries, IsKickOrTry, IsLastTry, IsLookAt, IsTry, KickRule, LookOf, head_of}
-use Rattle.driver_rules.specs.Dues.{Due, Ends, IsKickOf, IsNext, KicksAll, LooksAt, Makes, TriesOut, Waits, is_look}
+use Rattle.driver_rules.specs.Dues.{Due, Ends, IsKickOf, IsNext, KicksAll, Makes, TriesOut, Waits, is_look}
 use Rattle.driver_rules.specs.Holds.{is_held}
 use Rattle.driver_rules.specs.Passes.{Between, Blocking, First, Form, Kicks, Pass, Scan, Sealing, Second, Third, ToKick, ToTrack, Tries, keepers, pass}
 use Rattle.driver_rules.specs.Places.{Absent, Away, Here, Leaving, Loading, Place, active, frame_leaving, is_young, place}

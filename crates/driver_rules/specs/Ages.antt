@@ -1,5 +1,5 @@
 -- The rules Age and Kick: what the reclaimer does next.
-use Rattle.std.specs.Prelude.{ℕ, ◌≡◌, Bool, true, false, List, [], ◌∷◌, Option, Some, None}
+use Rattle.std.specs.Prelude.{ℕ, ◌≡◌, true, List, [], ◌∷◌, Option, Some, None}
 use Rattle.sgx_types.specs.declared.entries.Entry.{Entry}
 use Rattle.sgx_types.specs.declared.entries.Event.{Event}
 use Rattle.sgx_types.specs.declared.entries.Event.TheVariants.{Did, Refused, Age, Kick}

@@ -6,7 +6,7 @@ use Rattle.sgx_types.specs.declared.entries.Event.TheVariants.{Did, Refused, Age
 use Rattle.sgx_types.specs.declared.entries.Actor.{Actor}
 use Rattle.sgx_types.specs.declared.entries.Actor.TheVariants as actors
 use Rattle.sgx_types.specs.declared.entries.Action.{Action}
-use Rattle.sgx_types.specs.declared.entries.Action.TheVariants.{Block, Track, EwbStart, Ewb, EldStart, Eld}
+use Rattle.sgx_types.specs.declared.entries.Action.TheVariants.{Block, Track, EwbStart, Ewb, EldStart}
 use Rattle.sgx_types.specs.declared.entries.BusWhy.{BusWhy}
 use Rattle.sgx_types.specs.declared.entries.BusWhy.TheVariants as reasons
 use Rattle.sgx_types.specs.declared.entries.Look.{Look}
@@ -18,7 +18,7 @@ use Rattle.sgx_types.specs.Processors.{Stay, stay}
 use Rattle.job_grammar.specs.Jobs.{JobView}
 use Rattle.turn_rules.specs.Script.{action_of, build_of, built, frame_at, replied, script_of}
 use Rattle.driver_rules.specs.Ages.{head_of}
-use Rattle.driver_rules.specs.Dues.{Due, Ends, Fetches, Finished, KicksAll, LooksAt, Makes, Reports, Stopped, TriesOut, Waits, is_look}
+use Rattle.driver_rules.specs.Dues.{Due, Ends, Fetches, KicksAll, LooksAt, Makes, Reports, TriesOut, is_look}
 use Rattle.driver_rules.specs.Holds.{is_held}
 use Rattle.driver_rules.specs.Passes.{Blocking, Between, First, Form, Kicks, Pass, Scan, Sealing, Second, Third, ToKick, ToTrack, Tries, keepers, pass}
 use Rattle.driver_rules.specs.Places.{Leaving, Place, active, is_young, place}

@@ -1,5 +1,5 @@
 -- A job in which a record comes back with a flipped bit, and its processor is ended.
-use Rattle.std.specs.Prelude.{ℕ, List, [], ◌∷◌, None, true, false, replicate, reverse}
+use Rattle.std.specs.Prelude.{List, [], ◌∷◌, None, true, replicate, reverse}
 use Rattle.sgx_types.specs.declared.entries.Actor.TheVariants.{Builder, Reclaimer}
 use Rattle.sgx_types.specs.declared.entries.BusWhy.TheVariants as reasons
 use Rattle.sgx_types.specs.declared.entries.Cause.TheVariants as causes

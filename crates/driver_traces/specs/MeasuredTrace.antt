@@ -1,5 +1,5 @@
 -- A job with a page that is measured, and so held by the builder, while pages go out.
-use Rattle.std.specs.Prelude.{ℕ, List, [], ◌∷◌, None, true, false, replicate, reverse}
+use Rattle.std.specs.Prelude.{List, [], ◌∷◌, None, true, false, replicate, reverse}
 use Rattle.sgx_types.specs.declared.entries.Actor.TheVariants.{Builder, Reclaimer}
 use Rattle.sgx_types.specs.declared.entries.Entry.{Entry}
 use Rattle.sgx_types.specs.declared.entries.Look.TheVariants as looks

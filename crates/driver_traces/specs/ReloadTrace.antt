@@ -1,5 +1,5 @@
 -- A job whose pages go out in the build and come back: the value that was stored is read.
-use Rattle.std.specs.Prelude.{ℕ, List, [], ◌∷◌, None, true, false, replicate, reverse}
+use Rattle.std.specs.Prelude.{List, [], ◌∷◌, None, true, replicate, reverse}
 use Rattle.sgx_types.specs.declared.entries.Actor.TheVariants.{Builder, Reclaimer}
 use Rattle.sgx_types.specs.declared.entries.Cause.TheVariants as causes
 use Rattle.sgx_types.specs.declared.entries.Entry.{Entry}

@@ -1,5 +1,5 @@
 -- A job in which the store has no room at first, so that a page stays.
-use Rattle.std.specs.Prelude.{ℕ, List, [], ◌∷◌, None, true, false, replicate, reverse}
+use Rattle.std.specs.Prelude.{List, [], ◌∷◌, None, true, replicate, reverse}
 use Rattle.sgx_types.specs.declared.entries.Actor.TheVariants.{Builder, Reclaimer}
 use Rattle.sgx_types.specs.declared.entries.Cause.TheVariants as causes
 use Rattle.sgx_types.specs.declared.entries.Entry.{Entry}

@@ -1,5 +1,5 @@
 -- A job that begins at the last epoch, so that its first track ends the run.
-use Rattle.std.specs.Prelude.{ℕ, List, [], ◌∷◌, None, true, false, replicate, reverse}
+use Rattle.std.specs.Prelude.{List, [], ◌∷◌, None, true, replicate, reverse}
 use Rattle.sgx_types.specs.declared.entries.Actor.TheVariants.{Builder, Reclaimer}
 use Rattle.sgx_types.specs.declared.entries.Entry.{Entry}
 use Rattle.sgx_types.specs.declared.entries.Look.TheVariants as looks

@@ -1,5 +1,5 @@
 -- A job with an interrupt, faults that no reload can help and a load from outside: saved state survives that its page is out.
-use Rattle.std.specs.Prelude.{ℕ, List, [], ◌∷◌, None, true, false, replicate, reverse}
+use Rattle.std.specs.Prelude.{List, [], ◌∷◌, None, true, replicate, reverse}
 use Rattle.sgx_types.specs.declared.entries.AccessOp.TheVariants as accesses
 use Rattle.sgx_types.specs.declared.entries.Actor.TheVariants.{Builder, Reclaimer}
 use Rattle.sgx_types.specs.declared.entries.Cause.TheVariants as causes

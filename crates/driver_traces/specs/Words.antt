@@ -1,11 +1,11 @@
 -- Short words for jobs and entries of one enclave, by which the worked traces are written: slots are of the version array page in frame 0,
 -- and tags are left empty, since none of the rules here looks at them.
-use Rattle.std.specs.Prelude.{ℕ, List, [], ◌∷◌, Bool, true, false, None}
+use Rattle.std.specs.Prelude.{ℕ, [], true, false, None}
 use Rattle.sgx_types.specs.declared.entries.AccessOp.{AccessOp}
 use Rattle.sgx_types.specs.declared.entries.Action.{Action}
 use Rattle.sgx_types.specs.declared.entries.Action.TheVariants as actions
 use Rattle.sgx_types.specs.declared.entries.Actor.{Actor}
-use Rattle.sgx_types.specs.declared.entries.Actor.TheVariants.{Builder, Cpu, Reclaimer}
+use Rattle.sgx_types.specs.declared.entries.Actor.TheVariants.{Cpu, Reclaimer}
 use Rattle.sgx_types.specs.declared.entries.Answer.{Answer}
 use Rattle.sgx_types.specs.declared.entries.Answer.TheVariants as answers
 use Rattle.sgx_types.specs.declared.entries.BusWhy.{BusWhy}

@@ -1,5 +1,5 @@
 -- A trace of a job whose pages all fit: what the program promises of it makes it a history.
-use Rattle.std.proofs.Common.{◌≡◌, ℕ, true, List, [], ◌∷◌, Some, None}
+use Rattle.std.proofs.Common.{ℕ, List, [], ◌∷◌, Some}
 use Rattle.sgx_types.specs.declared.entries.Action.TheVariants as actions
 use Rattle.sgx_types.specs.declared.entries.Actor.{Actor}
 use Rattle.sgx_types.specs.declared.entries.Entry.{Entry}
