@@ -5,12 +5,16 @@ use Rattle.std.specs.Option.{option_or, option_and_then}
 use Rattle.std.proofs.lemmas.Bool.{eqb-true, eq-eqb, ne_eqb}
 use Rattle.std.proofs.lemmas.List.{append-nil}
 use Rattle.sgx_types.specs.declared.names.Page.{Page}
+use Rattle.sgx_types.specs.Sealed.{Sealed}
 use Rattle.sgx_types.specs.Frames.{same_page}
 use Rattle.io_edges.specs.declared.plans.PlanLine.{PlanLine}
 use Rattle.backing_store.specs.declared.calls.StoreCall.{StoreCall}
 use Rattle.backing_store.specs.declared.calls.StoreCall.TheVariants.{Room, Put, Got}
 use Rattle.backing_store.specs.declared.calls.GetAnswer.TheVariants.{Failed, Nothing, Given}
-use Rattle.backing_store.specs.Store.{is_put, records_of, nth, put_at, given, place_given, bit_flipped, get_fails, is_dropped, replays, first_of, next_get_of, partner_of, AreByRule, GiveGoodPuts}
+use Rattle.backing_store.specs.Store.{is_put, records_of, nth, put_at, given, get_answer, place_given, bit_flipped, get_fails, is_dropped, replays, first_of, next_get_of, partner_of, AreByRule, GiveGoodPuts}
+use Rattle.backing_store.specs.Told.{record_at}
+use Rattle.std.specs.Prelude.{◌≢◌, is_some}
+use Rattle.std.proofs.lemmas.Bool.Decides.{eqb_tells}
 use Rattle.backing_store.proofs.AnswerLaws.{slice_get-push}
 use Rattle.backing_store.proofs.CallLaws.{one_put_more}
 
@@ -94,6 +98,29 @@ given_place false true bit found place flipped is = absurd cc
 given_place false false bit None place flipped is = absurd cc
 given_place false false bit (Some at) place flipped is = cc
 
+-- a record stands at each place below their number
+record_at-below : (place : ℕ) (puts : List Sealed) → place < length puts → is_some (record_at place puts) ≡ true
+record_at-below place [] below = absurd (omega (arith, below))
+record_at-below place (rec ∷ before) below =
+    ⊎_elim (λ (here : (place == length before) ≡ true × (place ≡ length before)). ap (λ b. is_some (if b then Some rec else record_at place before)) here.0)
+    (λ (older : (place == length before) ≡ false × (place ≢ length before)). ap (λ b. is_some (if b then Some rec else record_at place before)) older.0
+    ∙ record_at-below place before (omega (arith, below, older.1)))
+    (eqb_tells place (length before))
+
+good_place : (plans : List PlanLine) (calls : List StoreCall) (page : Page) (place : ℕ) (flipped : Option ℕ)
+    → Given place flipped ≡ get_answer plans calls page → put_at place calls ≡ Some false
+good_place plans calls page place flipped is =
+    let other = partner_of plans page in
+    let found : place_given plans calls page ≡ Some place
+    = given_place (get_fails plans calls) (is_dropped plans calls page) (bit_flipped plans calls page) (place_given plans calls page) place flipped is in
+    good_choice calls (first_of (replays page (next_get_of page calls)) plans) page other (length (records_of other calls)) place found
+
+-- what a get gives has its record
+pub given_is_there : (plans : List PlanLine) (calls : List StoreCall) (puts : List Sealed) → length puts ≡ count_by is_put calls
+    → (page : Page) (place : ℕ) (bit : Option ℕ) → get_answer plans calls page ≡ Given place bit → is_some (record_at place puts) ≡ true
+given_is_there plans calls puts each page place bit is =
+    record_at-below place puts (omega (arith, each, put_at-below place calls false (good_place plans calls page place bit (sym is))))
+
 -- so each record that was given is one of a put before that did not fail
 pub good_puts : (plans : List PlanLine) (calls : List StoreCall) → AreByRule plans calls → GiveGoodPuts calls
 good_puts plans [] rule = tt
@@ -102,7 +129,4 @@ good_puts plans (Put page failed ∷ calls) rule = good_puts plans calls rule.1
 good_puts plans (Got page Failed ∷ calls) rule = good_puts plans calls rule.1
 good_puts plans (Got page Nothing ∷ calls) rule = good_puts plans calls rule.1
 good_puts plans (Got page (Given place flipped) ∷ calls) rule =
-    let other = partner_of plans page in
-    let found : place_given plans calls page ≡ Some place
-    = given_place (get_fails plans calls) (is_dropped plans calls page) (bit_flipped plans calls page) (place_given plans calls page) place flipped rule.0 in
-    (good_choice calls (first_of (replays page (next_get_of page calls)) plans) page other (length (records_of other calls)) place found, good_puts plans calls rule.1)
+    (good_place plans calls page place flipped rule.0, good_puts plans calls rule.1)

@@ -52,7 +52,7 @@ pub fn bit_flipped(plans: &[PlanLine], page: Page, number: u64) -> Option<u32>
     None
 }
 
-/// Which record of the page that get gives, counted from 1, if it is no matter of the newest.
+/// Which record of the page a line replays to that get, counted from 1.
 pub fn replayed(plans: &[PlanLine], page: Page, number: u64) -> Option<u64>
     ensures { result ≡ first_of (replays page number) plans.now }
 {

@@ -1,6 +1,6 @@
 //! A store that keeps records in memory, and lies by a plan.
 
-ghost use Rattle.std.specs.Prelude.{◌≡◌, ◌≤◌, [], Some, OnOk, OnErr, IsErr, IsErrOf, length, reverse, count_by};
+ghost use Rattle.std.specs.Prelude.{◌≡◌, ◌≤◌, ℕ, true, [], Option, Some, is_some, OnOk, OnErr, IsErr, IsErrOf, length, reverse, count_by};
 ghost use Rattle.io_edges.specs.Faults.{HasCause};
 
 use crate::backing::{Backing, StoreFault};
@@ -34,7 +34,10 @@ impl Model for PlannedStore {
 }
 
 impl PlannedStore {
-    ghost use Rattle.backing_store.specs.Store.{new_store, is_put, GiveGoodPuts, IsStore};
+    ghost use Rattle.backing_store.specs.Store.{new_store, is_put, get_answer, GiveGoodPuts, IsStore};
+    ghost use Rattle.backing_store.specs.Told.{record_at};
+    ghost use Rattle.backing_store.specs.declared.calls.GetAnswer.TheVariants.{Given};
+    ghost use Rattle.sgx_types.specs.declared.names.Page.{Page};
 
     /// No plan lines and no calls.
     pub fn new() -> PlannedStore
@@ -70,6 +73,10 @@ impl PlannedStore {
     pub fn puts(&self) -> &[Record]
         ensures puts { result.now ≡ reverse self.now.puts }
         ensures one_each { length self.now.puts ≡ count_by is_put self.now.calls }
+
+        // What the next get of a page gives has its record among them.
+        ensures found { (page : Page) (put : ℕ) (bit : Option ℕ) →
+            get_answer self.now.plans self.now.calls page ≡ Given put bit → is_some (record_at put self.now.puts) ≡ true }
     {
         match &self.ledger {
             Some(ledger) => &ledger.puts,

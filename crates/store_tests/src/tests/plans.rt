@@ -67,12 +67,7 @@ fn gives<B: Backing>(
 }
 
 // Whether this is the record that was put so many puts after the first, with a bit inverted or as it is.
-fn is_record(
-    alloc: Global,
-    rec: &Record,
-    put: u64,
-    bit: Option<u32>,
-) -> Result<bool, StoreFault> {
+fn is_record(alloc: Global, rec: &Record, put: u64, bit: Option<u32>) -> Result<bool, StoreFault> {
     let number = u8::try_from(put.saturating_add(1)).unwrap_or(0);
     let mut bytes = record(alloc, number)?.to_bytes(alloc)?;
     if let Some(bit) = bit {
