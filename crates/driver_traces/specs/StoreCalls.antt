@@ -2,7 +2,7 @@
 use Rattle.std.specs.Prelude.{List, [], ◌∷◌, true, false, reverse}
 use Rattle.sgx_types.specs.Frames.{page_at}
 use Rattle.sgx_types.specs.Sealed.{Sealed}
-use Rattle.run_history.specs.Calls.{Call, Given, Got, Put, Room}
+use Rattle.backing_store.specs.Calls.{Call, Given, Got, Put, Room}
 
 abbrev pub blank : Sealed
 blank = record { header = record { enclave = 0; address = 0; flags = 0 }; cipher = []; tag = [] }

@@ -2,7 +2,8 @@
 
 ghost use Rattle.std.specs.Prelude.{◌∷◌, drop, true};
 ghost use Rattle.sgx_types.specs.Frames.{page_at};
-ghost use Rattle.run_history.specs.Calls.{CallsAre, Room};
+ghost use Rattle.backing_store.specs.Calls.{Room};
+ghost use Rattle.run_history.specs.Calls.{CallsAre};
 ghost use Rattle.driver_traces.specs.BusTrace.{bus_trace};
 ghost use Rattle.driver_traces.specs.LostTrace.{lost_trace};
 ghost use Rattle.driver_traces.specs.ReloadTrace.{reload_trace};

@@ -11,7 +11,8 @@ use Rattle.sgx_types.specs.Sealed.{Sealed}
 use Rattle.sgx_types.specs.Starts.{Start, open_start}
 use Rattle.seal_record.specs.Records.{Given as GivenRecord, Made}
 use Rattle.seal_record.proofs.RecordLaws.{Unforged-before}
-use Rattle.run_history.specs.Calls.{Call, before}
+use Rattle.backing_store.specs.Calls.{Call}
+use Rattle.run_history.specs.Calls.{before}
 use Rattle.run_history.specs.Given.{UnforgedRun, gift, given_in, given_more, looked_at, made_in, made_more}
 use Rattle.run_history.specs.Stored.{StoreCalls}
 

@@ -12,21 +12,9 @@ use Rattle.sgx_types.specs.declared.entries.Look.{Look}
 use Rattle.sgx_types.specs.declared.entries.Look.TheVariants as looks
 use Rattle.sgx_types.specs.declared.names.Page.{Page}
 use Rattle.sgx_types.specs.Frames.{same_page}
-use Rattle.sgx_types.specs.Sealed.{Sealed}
+use Rattle.backing_store.specs.Calls.{Call, Failed, Given, Gift, Got, Nothing, Put, Room}
 
--- ---- calls
-
--- what a get gave
-pub data Gift : Type 0 where
-  Failed : Gift
-  Nothing : Gift
-  Given : (rec : Sealed) → Gift
-
--- place was asked for a page's record, a page's record was put, or one was asked for
-pub data Call : Type 0 where
-  Room : (page : Page) → (failed : Bool) → Call
-  Put : (page : Page) → (rec : Sealed) → (failed : Bool) → Call
-  Got : (page : Page) → (gift : Gift) → Call
+-- ---- pages that were lost
 
 abbrev pub lost_after : Call → Page → Bool → Bool
 lost_after (Put page rec failed) g before = if same_page page g then failed else before

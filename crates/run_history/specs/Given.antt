@@ -9,7 +9,8 @@ use Rattle.sgx_types.specs.Sealed.{Sealed}
 use Rattle.sgx_types.specs.Starts.{Start, open_start}
 use Rattle.seal_record.specs.Records.{Given as GivenRecord, Made, Unforged}
 use Rattle.seal_record.specs.Sealing.{made_with}
-use Rattle.run_history.specs.Calls.{Call, Got, Given, Put, before}
+use Rattle.backing_store.specs.Calls.{Call, Given, Got, Put}
+use Rattle.run_history.specs.Calls.{before}
 
 -- ---- made
 

@@ -15,7 +15,8 @@ use Rattle.sgx_types.specs.Layouts.{bytes_of}
 use Rattle.sgx_types.specs.Sealed.{Sealed}
 use Rattle.sgx_types.specs.Starts.{Start, open_start}
 use Rattle.seal_record.specs.Cipher.{cipher, tag}
-use Rattle.run_history.specs.Calls.{Call, CallsAre, Put, before}
+use Rattle.backing_store.specs.Calls.{Call, Put}
+use Rattle.run_history.specs.Calls.{CallsAre, before}
 use Rattle.run_history.specs.Given.{gift}
 
 -- ---- records
