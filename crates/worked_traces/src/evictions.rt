@@ -8,10 +8,12 @@ ghost use Rattle.turn_rules.specs.Machines.{machine_of};
 ghost use Rattle.worked_traces.specs.Evictions.{came_back, enter_by_reclaimer, gone_out, no_track, other_page_in, other_version_in, other_version_out, second_start, sevens, start_in};
 ghost use Rattle.worked_traces.specs.Traces.{first_job};
 
+#[tactic(auto, using(crate::proofs::EvictionLaws::came_back_table))]
 pub fn a_page_that_came_back_keeps_the_table()
     ensures { Along (RefusalRule (machine_of first_job)) came_back }
 {}
 
+#[tactic(auto, using(crate::proofs::EvictionLaws::came_back_drained))]
 pub fn a_page_that_came_back_was_drained()
     ensures { Along EvictRule came_back }
 {}
@@ -37,8 +39,8 @@ pub fn no_track_is_not_drained()
     ensures { ¬ Along EvictRule no_track }
 {}
 
-pub fn another_version_out_breaks_the_table()
-    ensures { ¬ Along (RefusalRule (machine_of first_job)) other_version_out }
+pub fn another_version_out_is_of_no_start()
+    ensures { ¬ Along EvictRule other_version_out }
 {}
 
 pub fn another_version_in_breaks_the_table()
