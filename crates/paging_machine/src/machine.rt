@@ -125,7 +125,7 @@ impl Machine {
 
     /// Whether the page in a frame has started to go out, and its write-out has not ended.
     pub fn is_leaving(&self, frame: Frame) -> bool
-        ensures { IsTrue result → (state_of self.now).is_sealing frame.0 ≡ true }
+        ensures { result ≡ (state_of self.now).is_sealing frame.0 }
     {
         frame.0 < self.frames()
             && matches!(
@@ -136,7 +136,7 @@ impl Machine {
 
     /// Whether a page has started to come into a frame, and its load has not ended.
     pub fn is_coming(&self, frame: Frame) -> bool
-        ensures { IsTrue result → is_loading ((state_of self.now).content frame.0) ≡ true }
+        ensures { result ≡ is_loading ((state_of self.now).content frame.0) }
     {
         frame.0 < self.frames() && matches!(self.epc.entry(frame), EntryView::Loading { .. })
     }
