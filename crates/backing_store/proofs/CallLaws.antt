@@ -17,7 +17,8 @@ use Rattle.backing_store.specs.Store.{is_put, is_get_of, more_of, records_of, nt
 use Rattle.backing_store.specs.Kept.{Counts, counts_in}
 use Rattle.backing_store.proofs.AnswerLaws.{slice_get-push}
 
-pub one_put_more : (page : Page) (failed : Bool) (calls : List StoreCall) → count_by is_put (Put page failed ∷ calls) ≡ count_by is_put calls + 1
+pub one_put_more : (page : Page) (failed : Bool) (calls : List StoreCall)
+    → count_by is_put (Put page failed ∷ calls) ≡ count_by is_put calls + 1
 one_put_more page failed calls = omega (arith, sum_by-cons (λ c. if is_put c then 1 else 0) (Put page failed) calls)
 
 -- a call adds a place to a page's records only where it is a put
@@ -27,14 +28,21 @@ more-le page (Room g failed) calls n = omega arith
 more-le page (Got g answer) calls n = omega arith
 more-le page (Put g true) calls n = omega (arith, one_put_more g true calls)
 more-le page (Put g false) calls n =
-    let one : (b : Bool) → length (if b then n ∷ [] else []) ≤ 1 = λ b. elim b as (λ v. length (if v then n ∷ [] else []) ≤ 1) [ true ↦ omega arith | false ↦ omega arith ] in
+    let one : (b : Bool) → length (if b then n ∷ [] else []) ≤ 1 = λ b. elim b as (λ v. length (if v then n ∷ [] else []) ≤ 1)
+    [ true ↦ omega arith | false ↦ omega arith ] in
     omega (arith, one (same_page g page), one_put_more g false calls)
 
 -- a page has no more records than were put
 pub records-le : (page : Page) (calls : List StoreCall) → length (records_of page calls) ≤ count_by is_put calls
 records-le page [] = omega arith
 records-le page (call ∷ calls) =
-    omega (arith, records-le page calls, more-le page call calls (count_by is_put calls), length-append (records_of page calls) (more_of page call (count_by is_put calls)))
+    omega (
+      arith,
+      records-le page calls,
+      more-le page call calls (count_by is_put calls),
+      length-append (records_of page calls)
+          (more_of page call (count_by is_put calls)),
+    )
 
 -- one record more, the last
 nth-push : (places : List ℕ) (place n : ℕ) → nth n (places ++ place ∷ []) ≡ (if length places + 1 == n then Some place else nth n places)
@@ -85,7 +93,8 @@ places-put false page g calls had put n was now same is at is_was after =
     after ∙ is_was ∙ ap (nth n) (sym (append-nil xs)) ∙ ap (λ v. nth n (xs ++ (if v then here ∷ [] else []))) (sym same)
 
 -- the numbers go on with a put that did not fail
-pub Counts-put : (olds news : List StoreCall) (rooms gets puts blanks puts' blanks' : ℕ) (known known' : PagePlaces) (page : Page) (failed : Bool)
+pub Counts-put : (olds news : List StoreCall) (rooms gets puts blanks puts' blanks' : ℕ) (known known' : PagePlaces) (page : Page)
+    (failed : Bool)
     → news ≡ olds ++ Put page failed ∷ [] → failed ≡ false → OnePut known page puts known' → puts' ≡ puts + 1 → blanks' + 1 ≡ blanks
     → Counts (reverse olds) rooms gets puts blanks known → Counts (reverse news) rooms gets puts' blanks' known'
 Counts-put olds news rooms gets puts blanks puts' blanks' known known' page failed pushed good put more less counted =
@@ -99,8 +108,10 @@ Counts-put olds news rooms gets puts blanks puts' blanks' known known' page fail
       are_puts = omega (arith, counted.are_puts, more, one_put_more page false calls);
       are_spare = omega (arith, counted.are_spare, less);
       counts = λ g. counts-put (same_page page g) page g calls (counts_of known page) (counts_of known' g) refl is
-          (put.counts g ∙ ap (λ k. if same_page page g then record (counts_of known page) { puts = (counts_of known page).puts + 1 } else k) (counted.counts g));
-      places = λ g n. places-put (same_page page g) page g calls (counts_of known page).puts puts n (place_of known g n) (place_of known' g n) refl
+          (put.counts g ∙ ap (λ k. if same_page page g then record (counts_of known page) { puts = (counts_of known page).puts + 1 }
+          else k) (counted.counts g));
+      places = λ g n. places-put (same_page page g) page g calls (counts_of known page).puts puts n (place_of known g n)
+          (place_of known' g n) refl
           (ap (λ (k : PageCounts). k.puts) is) counted.are_puts (counted.places g n) (put.place g n);
     } in
     rw last after

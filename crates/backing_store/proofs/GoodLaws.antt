@@ -30,11 +30,13 @@ put_at-below place (Room page made ∷ calls) failed is = put_at-below place cal
 put_at-below place (Got page answer ∷ calls) failed is = put_at-below place calls failed is
 put_at-below place (Put page made ∷ calls) failed is =
     let below : place < count_by is_put calls + 1
-    = put_at_step (place == count_by is_put calls) place (count_by is_put calls) made failed (put_at place calls) refl (put_at-below place calls failed) is in
+    = put_at_step (place == count_by is_put calls) place (count_by is_put calls) made failed (put_at place calls) refl
+    (put_at-below place calls failed) is in
     omega (arith, below, one_put_more page made calls)
 
 -- one put more leaves those before it as they were
-put_at-older : (place : ℕ) (page : Page) (made : Bool) (calls : List StoreCall) → put_at place calls ≡ Some false → put_at place (Put page made ∷ calls) ≡ Some false
+put_at-older : (place : ℕ) (page : Page) (made : Bool) (calls : List StoreCall) → put_at place calls ≡ Some false
+    → put_at place (Put page made ∷ calls) ≡ Some false
 put_at-older place page made calls is =
     let below = put_at-below place calls false is in
     let apart : (place == count_by is_put calls) ≡ false = ne_eqb place (count_by is_put calls) (λ e. omega (arith, e, below)) in
@@ -45,7 +47,8 @@ put_at-last : (page : Page) (calls : List StoreCall) → put_at (count_by is_put
 put_at-last page calls =
     ap (λ b. if b then Some false else put_at (count_by is_put calls) calls) (eq-eqb (count_by is_put calls) (count_by is_put calls) refl)
 
-last_read : (b : Bool) (put place : ℕ) (before : Option ℕ) → (if b then Some put else before) ≡ Some place → (before ≡ Some place) ⊎ (put ≡ place)
+last_read : (b : Bool) (put place : ℕ) (before : Option ℕ) → (if b then Some put else before) ≡ Some place
+    → (before ≡ Some place) ⊎ (put ≡ place)
 last_read true put place before e = inr cc
 last_read false put place before e = inl e
 
@@ -54,27 +57,31 @@ last_record : (same : Bool) (xs : List ℕ) (put i place : ℕ) → slice_get (x
     → (slice_get xs i ≡ Some place) ⊎ ((put ≡ place) × (same ≡ true))
 last_record false xs put i place is = inl (ap (λ ys. slice_get ys i) (sym (append-nil xs)) ∙ is)
 last_record true xs put i place is =
-    ⊎_elim (λ old. inl old) (λ (new : put ≡ place). inr (new, refl)) (last_read (i == length xs) put place (slice_get xs i) (sym (slice_get-push xs put i) ∙ is))
+    ⊎_elim (λ old. inl old) (λ (new : put ≡ place). inr (new, refl)) (last_read (i == length xs) put place (slice_get xs i)
+    (sym (slice_get-push xs put i) ∙ is))
 
 none_there : (i place : ℕ) → slice_get {X = ℕ} [] i ≡ Some place → ⊥
 none_there i place is = cc
 
 -- each record of a page is one of a put that did not fail
-good_record : (page : Page) (calls : List StoreCall) (i place : ℕ) → slice_get (records_of page calls) i ≡ Some place → put_at place calls ≡ Some false
+good_record : (page : Page) (calls : List StoreCall) (i place : ℕ) → slice_get (records_of page calls) i ≡ Some place
+    → put_at place calls ≡ Some false
 good_record page [] i place is = absurd (none_there i place is)
 good_record page (Room g failed ∷ calls) i place is =
     good_record page calls i place (ap (λ xs. slice_get xs i) (sym (append-nil (records_of page calls))) ∙ is)
 good_record page (Got g answer ∷ calls) i place is =
     good_record page calls i place (ap (λ xs. slice_get xs i) (sym (append-nil (records_of page calls))) ∙ is)
 good_record page (Put g true ∷ calls) i place is =
-    put_at-older place g true calls (good_record page calls i place (ap (λ xs. slice_get xs i) (sym (append-nil (records_of page calls))) ∙ is))
+    put_at-older place g true calls (good_record page calls i place (ap (λ xs. slice_get xs i)
+    (sym (append-nil (records_of page calls))) ∙ is))
 good_record page (Put g false ∷ calls) i place is =
     let P : ℕ → Type 0 = λ at. put_at at (Put g false ∷ calls) ≡ Some false in
     ⊎_elim (λ old. put_at-older place g false calls (good_record page calls i place old))
     (λ (new : (count_by is_put calls ≡ place) × (same_page g page ≡ true)). subst P new.0 (put_at-last g calls))
     (last_record (same_page g page) (records_of page calls) (count_by is_put calls) i place is)
 
-good_nth : (page : Page) (calls : List StoreCall) (n place : ℕ) → nth n (records_of page calls) ≡ Some place → put_at place calls ≡ Some false
+good_nth : (page : Page) (calls : List StoreCall) (n place : ℕ) → nth n (records_of page calls) ≡ Some place
+    → put_at place calls ≡ Some false
 good_nth page calls zero place is = absurd cc
 good_nth page calls (suc i) place is = good_record page calls i place is
 
@@ -102,8 +109,10 @@ given_place false false bit (Some at) place flipped is = cc
 record_at-below : (place : ℕ) (puts : List Sealed) → place < length puts → is_some (record_at place puts) ≡ true
 record_at-below place [] below = absurd (omega (arith, below))
 record_at-below place (rec ∷ before) below =
-    ⊎_elim (λ (here : (place == length before) ≡ true × (place ≡ length before)). ap (λ b. is_some (if b then Some rec else record_at place before)) here.0)
-    (λ (older : (place == length before) ≡ false × (place ≢ length before)). ap (λ b. is_some (if b then Some rec else record_at place before)) older.0
+    ⊎_elim (λ (here : (place == length before) ≡ true × (place ≡ length before)). ap
+    (λ b. is_some (if b then Some rec else record_at place before)) here.0)
+    (λ (older : (place == length before) ≡ false × (place ≢ length before)). ap
+    (λ b. is_some (if b then Some rec else record_at place before)) older.0
     ∙ record_at-below place before (omega (arith, below, older.1)))
     (eqb_tells place (length before))
 
@@ -112,7 +121,8 @@ good_place : (plans : List PlanLine) (calls : List StoreCall) (page : Page) (pla
 good_place plans calls page place flipped is =
     let other = partner_of plans page in
     let found : place_given plans calls page ≡ Some place
-    = given_place (get_fails plans calls) (is_dropped plans calls page) (bit_flipped plans calls page) (place_given plans calls page) place flipped is in
+    = given_place (get_fails plans calls) (is_dropped plans calls page) (bit_flipped plans calls page) (place_given plans calls page)
+    place flipped is in
     good_choice calls (first_of (replays page (next_get_of page calls)) plans) page other (length (records_of other calls)) place found
 
 -- what a get gives has its record

@@ -27,6 +27,14 @@ with_plans-kept l plans kept told =
     (omega (arith, length-reverse l.puts.items, l.puts.ok.0, kept.kept.counted.are_puts)) in
     let P : List StoreCall → Type 0 = λ calls. AreByRule plans.items calls in
     record {
-      kept = record { counted = kept.kept.counted; room = record { calls = kept.kept.room.calls; puts = kept.kept.room.puts; known = kept.kept.room.known } };
+      kept = record {
+        counted = kept.kept.counted;
+        room = record {
+          calls = kept.kept.room.calls;
+          puts = kept.kept.room.puts;
+          known =
+              kept.kept.room.known;
+        };
+      };
       by_rule = subst P (sym none) tt;
     }

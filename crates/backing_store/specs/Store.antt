@@ -150,7 +150,8 @@ is_dropped plans calls page = list_any (drops page (next_get_of page calls)) pla
 
 -- the place of the record that a line replays, where the page has as many
 abbrev pub replayed : List PlanLine → List StoreCall → Page → Option ℕ
-replayed plans calls page = option_and_then (λ which. nth which (records_of page calls)) (first_of (replays page (next_get_of page calls)) plans)
+replayed plans calls page = option_and_then (λ which. nth which (records_of page calls))
+    (first_of (replays page (next_get_of page calls)) plans)
 
 -- the page whose newest record is given: the one that a line swaps it with, and else the page itself
 abbrev pub partner_of : List PlanLine → Page → Page

@@ -1,6 +1,6 @@
 use super::rows::Ask::{AsksRoom, Gets, Keeps};
 use super::rows::Outcome::{Fails, Flips, Gives, HasRoom, Kept, NoRoom, NotKept, Nothing};
-use super::rows::{A, Ask, BITS, Bit, Outcome, ROWS, Row};
+use super::rows::{A, Ask, BITS, Outcome, ROWS};
 use backing_store::backing::{Backing, StoreFault};
 use backing_store::calls::{GetAnswer, StoreCall};
 use backing_store::planned_store::PlannedStore;
@@ -36,11 +36,10 @@ fn keep<B: Backing>(
     alloc: Global,
     store: &mut B,
     page: Page,
-    number: u8,
+    rec: &Record,
 ) -> Result<Outcome, StoreFault> {
-    let rec = record(alloc, number)?;
     match store.room(alloc, page) {
-        Ok(()) => match store.put(page, &rec) {
+        Ok(()) => match store.put(page, rec) {
             Ok(()) => Ok(Kept),
             Err(Failed) => Ok(NotKept),
         },
@@ -104,111 +103,84 @@ fn call(ask: Ask, comes: Outcome) -> StoreCall {
     }
 }
 
-// Takes a store through what is asked of it, and notes the calls that it is to tell.
+// Takes a store through what is asked of it, and answers the calls that it is to tell.
 fn play<B: Backing>(
     rt: &impl Abort,
     alloc: Global,
     store: &mut B,
-    row: &Row,
-    told: &mut Vec<StoreCall>,
-) -> Result<(), Fail> {
+    asked: &[Ask],
+    comes: &[Outcome],
+) -> Result<Vec<StoreCall>, Fail> {
+    let mut told = Vec::new(alloc);
     let mut number = 1;
-    for (ask, comes) in row.asked.iter().zip(row.comes) {
+    for (ask, comes) in asked.iter().zip(comes) {
         match *ask {
-            AsksRoom(page) => assert_eq!(rt; room(alloc, store, page)?, *comes),
-            Keeps(page) => {
-                assert_eq!(rt; keep(alloc, store, page, number)?, *comes);
-                told.push(call(AsksRoom(page), *comes))?;
-                if *comes == NoRoom {
-                    continue;
-                }
-                number = number.saturating_add(1);
+            AsksRoom(page) => {
+                assert_eq!(rt; room(alloc, store, page)?, *comes);
+                told.push(call(*ask, *comes))?;
             }
-            Gets(page) => assert!(rt; gives(alloc, store, page, *comes)?),
+            Keeps(page) => {
+                let rec = record(alloc, number)?;
+                assert_eq!(rt; keep(alloc, store, page, &rec)?, *comes);
+                told.push(call(AsksRoom(page), *comes))?;
+                if *comes != NoRoom {
+                    told.push(call(*ask, *comes))?;
+                    number = number.saturating_add(1);
+                }
+            }
+            Gets(page) => {
+                assert!(rt; gives(alloc, store, page, *comes)?);
+                told.push(call(*ask, *comes))?;
+            }
         }
-        told.push(call(*ask, *comes))?;
     }
-    Ok(())
-}
-
-fn follow(
-    rt: &impl Abort,
-    alloc: Global,
-    store: &mut PlannedStore,
-    row: &Row,
-    told: &mut Vec<StoreCall>,
-) -> Result<(), Fail> {
-    store.plan(alloc, row.plans)?;
-    play(rt, alloc, store, row, told)?;
-    assert_eq!(rt; store.plans(), row.plans);
-    assert_eq!(rt; store.calls(), told.as_slice());
-    let mut number = 1u64;
-    for rec in store.puts() {
-        assert_eq!(rt; rec.header.enclave, number);
-        number = number.saturating_add(1);
-    }
-    Ok(())
-}
-
-// The bytes of the record that a get gives.
-fn got<B: Backing>(
-    rt: &impl Abort,
-    alloc: Global,
-    store: &mut B,
-    bytes: &mut Vec<u8>,
-) -> Result<(), Fail> {
-    let rec = store.get(alloc, A)?;
-    assert!(rt; rec.is_some());
-    *bytes = rec.unwrap().to_bytes(alloc)?;
-    Ok(())
-}
-
-fn invert(
-    rt: &impl Abort,
-    alloc: Global,
-    store: &mut PlannedStore,
-    row: &Bit,
-    bytes: &mut Vec<u8>,
-) -> Result<(), Fail> {
-    let line = PlanLine::Flip {
-        page: A,
-        g: 1,
-        bit: row.bit,
-    };
-    store.plan(alloc, &[line])?;
-    assert_eq!(rt; keep(alloc, store, A, 1)?, Kept);
-    got(rt, alloc, store, bytes)?;
-    assert!(rt; row.at < bytes.len());
-    assert_eq!(rt; bytes[row.at], row.is);
-    bytes[row.at] = row.was;
-    assert!(rt; is_bytes(alloc, bytes)?);
-
-    // The record that is kept is as it was.
-    got(rt, alloc, store, bytes)?;
-    assert!(rt; is_bytes(alloc, bytes)?);
-    Ok(())
-}
-
-fn is_bytes(alloc: Global, bytes: &[u8]) -> Result<bool, StoreFault> {
-    Ok(record(alloc, 1)?.to_bytes(alloc)?.as_slice() == bytes)
+    Ok(told)
 }
 
 #[test]
 fn plans_are_followed(rt: HostRuntime) -> Result<(), Fail> {
+    let alloc = rt.alloc();
     for row in ROWS {
-        let mut told = Vec::new(rt.alloc());
-        let mut store = Box::new(rt.alloc(), PlannedStore::new())?;
-        follow(&rt, rt.alloc(), &mut store, row, &mut told)?;
+        let mut store = Box::new(alloc, PlannedStore::new())?;
+        store.plan(alloc, row.plans)?;
+        let told = play(&rt, alloc, &mut *store, row.asked, row.comes)?;
+        assert_eq!(rt; store.plans(), row.plans);
+        assert_eq!(rt; store.calls(), told.as_slice());
+        let mut number = 1u64;
+        for rec in store.puts() {
+            assert_eq!(rt; rec.header.enclave, number);
+            number = number.saturating_add(1);
+        }
     }
     Ok(())
 }
 
 #[test]
 fn bits_are_inverted_in_a_copy(rt: HostRuntime) -> Result<(), Fail> {
+    let alloc = rt.alloc();
+    let kept = record(alloc, 1)?.to_bytes(alloc)?;
     for row in BITS {
-        let mut bytes = Vec::new(rt.alloc());
-        let mut store = Box::new(rt.alloc(), PlannedStore::new())?;
-        invert(&rt, rt.alloc(), &mut store, row, &mut bytes)?;
+        let mut store = Box::new(alloc, PlannedStore::new())?;
+        let line = PlanLine::Flip {
+            page: A,
+            g: 1,
+            bit: row.bit,
+        };
+        store.plan(alloc, &[line])?;
+        let rec = record(alloc, 1)?;
+        assert_eq!(rt; keep(alloc, &mut *store, A, &rec)?, Kept);
+        let mut bytes = got(&rt, alloc, &mut *store)?;
+        assert!(rt; row.at < bytes.len());
+        assert_eq!(rt; bytes[row.at], row.is);
+        bytes[row.at] = row.was;
+        assert!(rt; bytes == kept);
+        assert!(rt; got(&rt, alloc, &mut *store)? == kept);
     }
     Ok(())
+}
+
+fn got<B: Backing>(rt: &impl Abort, alloc: Global, store: &mut B) -> Result<Vec<u8>, Fail> {
+    let rec = store.get(alloc, A)?;
+    assert!(rt; rec.is_some());
+    Ok(rec.unwrap().to_bytes(alloc)?)
 }

@@ -10,8 +10,10 @@ returns-then-is_dropped c =
     let number = ap (λ n. n + 1) c.requires.kept.counted.are_gets in
     let of_page = c.next_get_of-number.ensures in
     answer_dropped old.plans.items calls c.args.page
-    (any_line fails_get (old.gets + 1) (next_get calls) c.deref.result.now old.plans.items c.get_fails.result false c.get_fails.ensures c.deref.ensures.value number c.if-get_fails.false)
-    (any_line (drops c.args.page) c.next_get_of-number.result (next_get_of c.args.page calls) c.deref-2.result.now old.plans.items c.is_dropped.result true c.is_dropped.ensures c.deref-2.ensures.value of_page c.if-is_dropped.true)
+    (any_line fails_get (old.gets + 1) (next_get calls) c.deref.result.now old.plans.items c.get_fails.result false c.get_fails.ensures
+    c.deref.ensures.value number c.if-get_fails.false)
+    (any_line (drops c.args.page) c.next_get_of-number.result (next_get_of c.args.page calls) c.deref-2.result.now old.plans.items
+    c.is_dropped.result true c.is_dropped.ensures c.deref-2.ensures.value of_page c.if-is_dropped.true)
 
 pub returns-in-Some : goal.returns-in-Some
 returns-in-Some c =
@@ -20,7 +22,10 @@ returns-in-Some c =
     let number = ap (λ n. n + 1) c.requires.kept.counted.are_gets in
     let of_page = c.next_get_of-number.ensures in
     answer_given old.plans.items calls c.args.page c.in-Some.put c.bit_flipped.result
-    (any_line fails_get (old.gets + 1) (next_get calls) c.deref.result.now old.plans.items c.get_fails.result false c.get_fails.ensures c.deref.ensures.value number c.if-get_fails.false)
-    (any_line (drops c.args.page) c.next_get_of-number.result (next_get_of c.args.page calls) c.deref-2.result.now old.plans.items c.is_dropped.result false c.is_dropped.ensures c.deref-2.ensures.value of_page c.if-is_dropped.false)
+    (any_line fails_get (old.gets + 1) (next_get calls) c.deref.result.now old.plans.items c.get_fails.result false c.get_fails.ensures
+    c.deref.ensures.value number c.if-get_fails.false)
+    (any_line (drops c.args.page) c.next_get_of-number.result (next_get_of c.args.page calls) c.deref-2.result.now old.plans.items
+    c.is_dropped.result false c.is_dropped.ensures c.deref-2.ensures.value of_page c.if-is_dropped.false)
     (sym c.place_given.ensures ∙ c.in-Some.is)
-    (first_line (flips c.args.page) c.next_get_of-number.result (next_get_of c.args.page calls) c.deref-in-Some.result.now old.plans.items c.bit_flipped.result c.bit_flipped.ensures c.deref-in-Some.ensures.value of_page)
+    (first_line (flips c.args.page) c.next_get_of-number.result (next_get_of c.args.page calls) c.deref-in-Some.result.now
+    old.plans.items c.bit_flipped.result c.bit_flipped.ensures c.deref-in-Some.ensures.value of_page)

@@ -12,7 +12,8 @@ returns-clause-put c =
     let old = c.args.self.now in
     record {
       counts = λ g. c.set_counts.ensures.counts g
-          ∙ ap (λ (k : PageCounts). if same_page c.args.page g then record k { puts = k.puts + 1 } else counts_of old g) c.counts-counts.ensures;
+          ∙ ap (λ (k : PageCounts). if same_page c.args.page g then record k { puts = k.puts + 1 } else counts_of old g)
+          c.counts-counts.ensures;
       place = λ g nth.
           let at = put_key g nth in
           place_read c.key_of.result c.args.page g (c.counts-counts.result.puts + 1) ((counts_of old c.args.page).puts + 1) nth c.args.place
