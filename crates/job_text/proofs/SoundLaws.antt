@@ -201,15 +201,15 @@ tcs-sound : (n : ℕ) (d : Draft) (page ossa nssa : ℕ) (plain : Bool) → AreS
 tcs-sound n d page ossa nssa plain sound h =
     let fits = tcs_fits d page ossa nssa plain h in
     page-sound d.tcs_lines _ d.enclaves (pages.Tcs page ossa nssa plain) sound (fits.1, fits.2, omega (arith, fits.0.range), fits.3)
-        fits.0.once fits.0.few (some-last d.enclaves page (omega (arith, fits.0.range)))
-        (λ p all. all-front (tests p) d.tcs_lines _ all) (λ p all. all-last (tests p) d.tcs_lines _ all)
+    fits.0.once fits.0.few (some-last d.enclaves page (omega (arith, fits.0.range)))
+    (λ p all. all-front (tests p) d.tcs_lines _ all) (λ p all. all-last (tests p) d.tcs_lines _ all)
 
 reg-sound : (d : Draft) (first count : ℕ) (perm : Perm) (value : ℕ) (plain : Bool) → AreSoundEnclaves d.tcs_lines d.enclaves → HasNoFault d (says.Reg first count perm value plain)
     → (perm.r ≡ true) × (value < 2 ^ 64) → AreSoundEnclaves d.tcs_lines (add_page (pages.Reg first count perm value plain) d.enclaves)
 reg-sound d first count perm value plain sound h spelled =
     let room = reg_fits d first count perm value plain h in
     page-sound d.tcs_lines d.tcs_lines d.enclaves (pages.Reg first count perm value plain) sound (room.some, room.range, spelled.0, spelled.1)
-        room.once room.few (some-last d.enclaves first (omega (arith, room.some, room.range))) (λ p all. all) tt
+    room.once room.few (some-last d.enclaves first (omega (arith, room.some, room.range))) (λ p all. all) tt
 
 -- ---- store lines
 
@@ -361,22 +361,39 @@ pub keep-sound : (n : ℕ) (d : Draft) (s : Statement) → IsSound d → HasNoFa
 unfolding keep
 keep-sound n d (says.Epc frames) sound h spelled = record {
   frames = epc-range d frames h;
-  marks = sound.marks; key = sound.key; start = sound.start; enclaves = sound.enclaves; plans = sound.plans; scripts = sound.scripts;
+  marks = sound.marks;
+  key = sound.key;
+  start = sound.start;
+  enclaves = sound.enclaves;
+  plans = sound.plans;
+  scripts = sound.scripts;
 }
 keep-sound n d (says.Marks low high scan) sound h spelled = record {
   frames = sound.frames;
   marks = marks-range d low high scan h;
-  key = sound.key; start = sound.start; enclaves = sound.enclaves; plans = sound.plans; scripts = sound.scripts;
+  key = sound.key;
+  start = sound.start;
+  enclaves = sound.enclaves;
+  plans = sound.plans;
+  scripts = sound.scripts;
 }
 keep-sound n d (says.Key key) sound h spelled = record {
-  frames = sound.frames; marks = sound.marks;
+  frames = sound.frames;
+  marks = sound.marks;
   key = spelled;
-  start = sound.start; enclaves = sound.enclaves; plans = sound.plans; scripts = sound.scripts;
+  start = sound.start;
+  enclaves = sound.enclaves;
+  plans = sound.plans;
+  scripts = sound.scripts;
 }
 keep-sound n d (says.Start start) sound h spelled = record {
-  frames = sound.frames; marks = sound.marks; key = sound.key;
+  frames = sound.frames;
+  marks = sound.marks;
+  key = sound.key;
   start = (let range = start-range d start h in (range.0, range.1, range.2, spelled));
-  enclaves = sound.enclaves; plans = sound.plans; scripts = sound.scripts;
+  enclaves = sound.enclaves;
+  plans = sound.plans;
+  scripts = sound.scripts;
 }
 keep-sound n d (says.Enclave enclave base size) sound h spelled =
     with-enclaves d (says.Enclave enclave base size) _ _ sound h refl (enclave-sound d enclave base size sound.enclaves h spelled)
@@ -387,15 +404,29 @@ keep-sound n d (says.Reg first count perm value plain) sound h spelled =
 keep-sound n d (says.Expect digest) sound h spelled =
     with-enclaves d (says.Expect digest) _ _ sound h refl (digest-sound d.tcs_lines d.enclaves digest sound.enclaves spelled)
 keep-sound n d (says.Plan plan) sound h spelled = record {
-  frames = sound.frames; marks = sound.marks; key = sound.key; start = sound.start; enclaves = sound.enclaves;
+  frames = sound.frames;
+  marks = sound.marks;
+  key = sound.key;
+  start = sound.start;
+  enclaves = sound.enclaves;
   plans = plan-sound d plan sound.plans h spelled;
   scripts = sound.scripts;
 }
 keep-sound n d (says.Cpu number) sound h spelled = record {
-  frames = sound.frames; marks = sound.marks; key = sound.key; start = sound.start; enclaves = sound.enclaves; plans = sound.plans;
+  frames = sound.frames;
+  marks = sound.marks;
+  key = sound.key;
+  start = sound.start;
+  enclaves = sound.enclaves;
+  plans = sound.plans;
   scripts = cpu-sound d number sound.scripts h;
 }
 keep-sound n d (says.Operation op) sound h spelled = record {
-  frames = sound.frames; marks = sound.marks; key = sound.key; start = sound.start; enclaves = sound.enclaves; plans = sound.plans;
+  frames = sound.frames;
+  marks = sound.marks;
+  key = sound.key;
+  start = sound.start;
+  enclaves = sound.enclaves;
+  plans = sound.plans;
   scripts = op-sound d op sound.scripts h spelled;
 }
