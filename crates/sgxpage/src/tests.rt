@@ -302,7 +302,10 @@ fn no_more_than_one_byte_past_the_limit_is_read(rt: HostRuntime) -> Result<(), F
         ((1 << 24) + 100_000, TOO_LONG, 99_999),
     ];
     for (len, told, left) in rows {
-        let job = vec![in alloc; b'e'; len]?;
+        let mut job = vec![in alloc; b'e'; len]?;
+        if let Some(byte) = job.get_mut(3) {
+            *byte = b'\n';
+        }
         let mut source = MemSource::new(alloc, &job, 1 << 20, &[])?;
         let mut out = MemSink::new(alloc, 7, &[])?;
         let mut trace = MemSink::new(alloc, 7, &[])?;
