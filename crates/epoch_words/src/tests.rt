@@ -125,8 +125,7 @@ struct World {
 }
 
 impl World {
-    fn new(alloc: Global, job: &Job) -> Result<World, Fail>
-    {
+    fn new(alloc: Global, job: &Job) -> Result<World, Fail> {
         let (words, seat, mut pass) = Words::new(alloc, job)?;
         let other = words.split_pass(&mut pass);
         Ok(World {

@@ -17,11 +17,14 @@ ok-same x y e = cc
 digit-small : (c v : ℕ) → hex_digit_value c ≡ Some v → v < 16
 digit-small c v e =
     elim (cases_Bool (nat_le 65 c && nat_le c 70)) [
-      | inl upper ↦ (let p = and_parts (nat_le 65 c) (nat_le c 70) upper in let is = some-same (c - 55) v (rw upper at e) in omega (arith, leb-true 65 c p.0, leb-true c 70 p.1, is))
+      | inl upper ↦ (let p = and_parts (nat_le 65 c) (nat_le c 70) upper in let is = some-same (c - 55) v (rw upper at e) in omega
+          (arith, leb-true 65 c p.0, leb-true c 70 p.1, is))
       | inr not_upper ↦ elim (cases_Bool (nat_le 97 c && nat_le c 102)) [
-        | inl lower ↦ (let p = and_parts (nat_le 97 c) (nat_le c 102) lower in let is = some-same (c - 87) v (rw (not_upper, lower) at e) in omega (arith, leb-true 97 c p.0, leb-true c 102 p.1, is))
+        | inl lower ↦ (let p = and_parts (nat_le 97 c) (nat_le c 102) lower in let is = some-same (c - 87) v
+            (rw (not_upper, lower) at e) in omega (arith, leb-true 97 c p.0, leb-true c 102 p.1, is))
         | inr not_lower ↦ elim (cases_Bool (nat_le 48 c && nat_le c 57)) [
-          | inl digit ↦ (let p = and_parts (nat_le 48 c) (nat_le c 57) digit in let is = some-same (c - 48) v (rw (not_upper, not_lower, digit) at e) in omega (arith, leb-true 48 c p.0, leb-true c 57 p.1, is))
+          | inl digit ↦ (let p = and_parts (nat_le 48 c) (nat_le c 57) digit in let is = some-same (c - 48) v
+              (rw (not_upper, not_lower, digit) at e) in omega (arith, leb-true 48 c p.0, leb-true c 57 p.1, is))
           | inr none ↦ (let no = rw (not_upper, not_lower, none) at e in absurd cc)
         ]
       ]
@@ -34,7 +37,8 @@ value-small c i v e = digit-small c v (from (hex_digit_value c) e)
     from None h = absurd cc
     from (Some w) h = cc
 
-bind-ok : {A B : Type 0} (r : Result A FromHexError) (f : A → Result B FromHexError) (y : B) → (r >>= f) ≡ Ok y → (x : A) × (r ≡ Ok x) × (f x ≡ Ok y)
+bind-ok : {A B : Type 0} (r : Result A FromHexError) (f : A → Result B FromHexError) (y : B) → (r >>= f) ≡ Ok y → (x : A) × (r ≡ Ok x)
+    × (f x ≡ Ok y)
 bind-ok (Ok x) f y e = (x, refl, e)
 bind-ok (Err e') f y e = absurd cc
 

@@ -36,13 +36,15 @@ without_return-nil (b ∷ line) e = absurd (omega arith)
 
 -- ---- words one after the other, as a loop finds them
 
-pub words-more : {A : Type 0} (now : A → List ℕ) (items more : List A) (word : A) (all : Words) (i : ℕ) → map now items ≡ take i all → more ≡ items ++ word ∷ []
+pub words-more : {A : Type 0} (now : A → List ℕ) (items more : List A) (word : A) (all : Words) (i : ℕ) → map now items ≡ take i all
+    → more ≡ items ++ word ∷ []
     → i < length all → now word ≡ get_or all i (now word) → map now more ≡ take (i + 1) all
 words-more now items more word all i so_far is lt here =
     rw is (map_push now items word ∙ ap (λ (front : Words). front ++ now word ∷ []) so_far ∙ ap (λ (w : List ℕ). take i all ++ w ∷ []) here
     ∙ sym (take_more all i (now word) lt))
 
-pub words-done : {A : Type 0} (now : A → List ℕ) (items : List A) (all : Words) (i : ℕ) → map now items ≡ take i all → length all ≤ i → map now items ≡ all
+pub words-done : {A : Type 0} (now : A → List ℕ) (items : List A) (all : Words) (i : ℕ) → map now items ≡ take i all → length all ≤ i
+    → map now items ≡ all
 words-done now items all i so_far le = so_far ∙ take_all i all le
 
 -- ---- the first seven words tell what a line says
@@ -56,7 +58,8 @@ bind-same : {K : Type 0} (o : Option K) (f g : K → Says) → ((k : K) → f k 
 bind-same None f g same = refl
 bind-same (Some k) f g same = same k
 
-plan_of-take : (word : PlanWord) (c d e f g : List ℕ) (rest : Words) → plan_of word (c ∷ d ∷ e ∷ f ∷ g ∷ []) ≡ plan_of word (c ∷ d ∷ e ∷ f ∷ g ∷ rest)
+plan_of-take : (word : PlanWord) (c d e f g : List ℕ) (rest : Words) → plan_of word (c ∷ d ∷ e ∷ f ∷ g ∷ []) ≡ plan_of word
+    (c ∷ d ∷ e ∷ f ∷ g ∷ rest)
 unfolding fail_row drop_row flip_row replay_row swap_row
 plan_of-take plan_words.Fail c d e f g rest = refl
 plan_of-take plan_words.Drop c d e f g rest = refl
@@ -64,7 +67,8 @@ plan_of-take plan_words.Flip c d e f g rest = refl
 plan_of-take plan_words.Replay c d e f g rest = refl
 plan_of-take plan_words.Swap c d e f g rest = refl
 
-row-take : (has_cpu : Bool) (word : Keyword) (b c d e f g : List ℕ) (rest : Words) → row has_cpu word (b ∷ c ∷ d ∷ e ∷ f ∷ g ∷ []) ≡ row has_cpu word (b ∷ c ∷ d ∷ e ∷ f ∷ g ∷ rest)
+row-take : (has_cpu : Bool) (word : Keyword) (b c d e f g : List ℕ) (rest : Words)
+    → row has_cpu word (b ∷ c ∷ d ∷ e ∷ f ∷ g ∷ []) ≡ row has_cpu word (b ∷ c ∷ d ∷ e ∷ f ∷ g ∷ rest)
 unfolding as_plain epc_row marks_row key_row start_row enclave_row tcs_row reg_row expect_row plan_row cpu_row outload_row outstore_row
 row-take has_cpu keywords.Epc b c d e f g rest = refl
 row-take has_cpu keywords.Marks b c d e f g rest = refl
@@ -87,7 +91,8 @@ row-take has_cpu keywords.OutLoad b c d e f g rest = refl
 row-take has_cpu keywords.OutStore b c d e f g rest = refl
 row-take true keywords.Store b c d e f g rest = refl
 row-take false keywords.Store b c d e f g rest =
-    bind-same (plan_word_of b) (λ word. plan_of word (c ∷ d ∷ e ∷ f ∷ g ∷ [])) (λ word. plan_of word (c ∷ d ∷ e ∷ f ∷ g ∷ rest)) (λ word. plan_of-take word c d e f g rest)
+    bind-same (plan_word_of b) (λ word. plan_of word (c ∷ d ∷ e ∷ f ∷ g ∷ [])) (λ word. plan_of word (c ∷ d ∷ e ∷ f ∷ g ∷ rest))
+        (λ word. plan_of-take word c d e f g rest)
 
 pub statement_of-take : (has_cpu : Bool) (words : Words) → statement_of has_cpu (take 7 words) ≡ statement_of has_cpu words
 unfolding statement_of
@@ -99,4 +104,5 @@ statement_of-take has_cpu (a ∷ b ∷ c ∷ d ∷ []) = refl
 statement_of-take has_cpu (a ∷ b ∷ c ∷ d ∷ e ∷ []) = refl
 statement_of-take has_cpu (a ∷ b ∷ c ∷ d ∷ e ∷ f ∷ []) = refl
 statement_of-take has_cpu (a ∷ b ∷ c ∷ d ∷ e ∷ f ∷ g ∷ rest) =
-    bind-same (keyword_of a) (λ word. row has_cpu word (b ∷ c ∷ d ∷ e ∷ f ∷ g ∷ [])) (λ word. row has_cpu word (b ∷ c ∷ d ∷ e ∷ f ∷ g ∷ rest)) (λ word. row-take has_cpu word b c d e f g rest)
+    bind-same (keyword_of a) (λ word. row has_cpu word (b ∷ c ∷ d ∷ e ∷ f ∷ g ∷ []))
+        (λ word. row has_cpu word (b ∷ c ∷ d ∷ e ∷ f ∷ g ∷ rest)) (λ word. row-take has_cpu word b c d e f g rest)

@@ -6,9 +6,9 @@ ghost use Rattle.job_lines.specs.Statements.{epc_row, marks_row, key_row, start_
 ghost use Rattle.job_lines.specs.declared.statements.Operation.TheVariants as ops;
 
 use crate::keywords::{CallWord, Keyword, PlanWord};
+use crate::kinds::JobKind;
 use crate::statements::{NamedPage, Operation, Plan, Start, Statement};
 use crate::words::{call_word_of, hash, keyword_of, letter, number, perm, plain, plan_word_of};
-use crate::kinds::JobKind;
 
 #[tactic(auto, unfolding(crate::specs::Statements::epc_row))]
 fn epc(words: &[&[u8]]) -> Result<Statement, JobKind>

@@ -91,7 +91,8 @@ no-plans : (es : List EnclaveView) (plans : List PlanLine) → plans ≡ [] → 
 no-plans es plans e = rw e (record { each = All-nil (IsPlanAmong es); few = omega arith })
 
 no-scripts : (es : List EnclaveView) (scripts : List (List Op)) → scripts ≡ [] → AreSoundScripts es scripts
-no-scripts es scripts e = rw e (record { each = All-nil (All (IsOpAmong es)); few = omega arith; few_ops = omega arith; own = λ enclave number. omega arith })
+no-scripts es scripts e = rw e (record { each = All-nil (All (IsOpAmong es)); few = omega arith; few_ops = omega arith;
+    own = λ enclave number. omega arith })
 
 -- ---- options
 
@@ -99,7 +100,8 @@ epc-range : (d : Draft) (frames : ℕ) → HasNoFault d (says.Epc frames) → Ar
 unfolding is_in_range
 epc-range d frames h = let p = and_parts _ _ h.range in (leb-true _ _ p.0, leb-true _ _ p.1)
 
-marks-range : (d : Draft) (low high scan : ℕ) → HasNoFault d (says.Marks low high scan) → (1 ≤ low) × (low < high) × (high ≤ 4096) × (1 ≤ scan) × (scan ≤ 64)
+marks-range : (d : Draft) (low high scan : ℕ) → HasNoFault d (says.Marks low high scan) → (1 ≤ low) × (low < high) × (high ≤ 4096)
+    × (1 ≤ scan) × (scan ≤ 64)
 unfolding is_in_range
 marks-range d low high scan h =
     let p = and_parts _ _ h.range in
@@ -108,7 +110,8 @@ marks-range d low high scan h =
     let s = and_parts _ _ p.1 in
     (leb-true _ _ r.0, ltb-true _ _ r.1, leb-true _ _ q.1, leb-true _ _ s.0, leb-true _ _ s.1)
 
-start-range : (d : Draft) (start : Start) → HasNoFault d (says.Start start) → (1 ≤ start.epoch) × (start.epoch ≤ 2 ^ 40 - 1) × (1 ≤ start.version)
+start-range : (d : Draft) (start : Start) → HasNoFault d (says.Start start) → (1 ≤ start.epoch) × (start.epoch ≤ 2 ^ 40 - 1)
+    × (1 ≤ start.version)
 unfolding is_in_range
 start-range d start h =
     let p = and_parts _ _ h.range in
@@ -117,7 +120,8 @@ start-range d start h =
 
 -- ---- enclaves
 
-enclave-range : (d : Draft) (enclave base size : ℕ) → HasNoFault d (says.Enclave enclave base size) → (is_lawful base size ≡ true) × (base + size ≤ 2 ^ 47)
+enclave-range : (d : Draft) (enclave base size : ℕ) → HasNoFault d (says.Enclave enclave base size) → (is_lawful base size ≡ true)
+    × (base + size ≤ 2 ^ 47)
 unfolding is_in_range
 enclave-range d enclave base size h = let p = and_parts _ _ h.range in (p.0, leb-true _ _ p.1)
 
@@ -128,30 +132,38 @@ in-order d s h lt =
     let le = ltb-false (part_of s) (latest_part d) (or_left (nat_lt (part_of s) (latest_part d)) (is_misplaced d s) h.order) in
     omega (arith, le, lt)
 
-noted-push : (ts : List TcsLine) (n base size : ℕ) (es : List EnclaveView) → AreNoted ts n es → AreNoted ts n (es ++ new_enclave base size ∷ [])
+noted-push : (ts : List TcsLine) (n base size : ℕ) (es : List EnclaveView) → AreNoted ts n es
+    → AreNoted ts n (es ++ new_enclave base size ∷ [])
 noted-push ts n base size [] noted = (All-nil (IsNoted ts n), tt)
 noted-push ts n base size (e ∷ es) noted = (noted.0, noted-push ts (n + 1) base size es noted.1)
 
-noted-digest : (ts : List TcsLine) (n : ℕ) (digest : List ℕ) (es : List EnclaveView) → AreNoted ts n es → AreNoted ts n (add_digest digest es)
+noted-digest : (ts : List TcsLine) (n : ℕ) (digest : List ℕ) (es : List EnclaveView) → AreNoted ts n es
+    → AreNoted ts n (add_digest digest es)
 noted-digest ts n digest [] noted = tt
 noted-digest ts n digest (e ∷ []) noted = noted
 noted-digest ts n digest (e ∷ f ∷ es) noted = (noted.0, noted-digest ts (n + 1) digest (f ∷ es) noted.1)
 
-line-weaker : (ts more : List TcsLine) (n : ℕ) → ((p : ℕ → ℕ → ℕ → Bool) → All (tests p) more → All (tests p) ts) → (line : PageLine) → IsNoted ts n line → IsNoted more n line
+line-weaker : (ts more : List TcsLine) (n : ℕ) → ((p : ℕ → ℕ → ℕ → Bool) → All (tests p) more → All (tests p) ts) → (line : PageLine)
+    → IsNoted ts n line → IsNoted more n line
 line-weaker ts more n weaker (pages.Tcs page ossa nssa plain) noted = λ p all. noted p (weaker p all)
 line-weaker ts more n weaker (pages.Reg first count perm value plain) noted = tt
 
-noted-weaker : (ts more : List TcsLine) (n : ℕ) (es : List EnclaveView) → ((p : ℕ → ℕ → ℕ → Bool) → All (tests p) more → All (tests p) ts) → AreNoted ts n es → AreNoted more n es
+noted-weaker : (ts more : List TcsLine) (n : ℕ) (es : List EnclaveView) → ((p : ℕ → ℕ → ℕ → Bool) → All (tests p) more → All (tests p) ts)
+    → AreNoted ts n es → AreNoted more n es
 noted-weaker ts more n [] weaker noted = tt
 noted-weaker ts more n (e ∷ es) weaker noted =
-    (All-weaker (IsNoted ts n) (IsNoted more n) (line-weaker ts more n weaker) e.lines noted.0, noted-weaker ts more (n + 1) es weaker noted.1)
+    (All-weaker (IsNoted ts n) (IsNoted more n) (line-weaker ts more n weaker) e.lines noted.0,
+        noted-weaker ts more (n + 1) es weaker noted.1)
 
-noted-line : (ts : List TcsLine) (n k : ℕ) (es : List EnclaveView) (line : PageLine) → AreNoted ts n es → n + length es ≡ k + 1 → IsNoted ts k line → AreNoted ts n (add_page line es)
+noted-line : (ts : List TcsLine) (n k : ℕ) (es : List EnclaveView) (line : PageLine) → AreNoted ts n es → n + length es ≡ k + 1
+    → IsNoted ts k line → AreNoted ts n (add_page line es)
 noted-line ts n k [] line noted at is = tt
-noted-line ts n k (e ∷ []) line noted at is = (let same : k ≡ n = omega arith in (All-push (IsNoted ts n) e.lines line noted.0 (rw (← same) is), tt))
+noted-line ts n k (e ∷ []) line noted at is = (let same : k ≡ n = omega arith in
+    (All-push (IsNoted ts n) e.lines line noted.0 (rw (← same) is), tt))
 noted-line ts n k (e ∷ f ∷ es) line noted at is = (noted.0, noted-line ts (n + 1) k (f ∷ es) line noted.1 (omega arith) is)
 
-line-more : (e : EnclaveView) (line : PageLine) → IsSoundEnclave e → IsValidLine (e.size / 4096) line → is_any_added (first_page line) (page_count line) e.lines ≡ false
+line-more : (e : EnclaveView) (line : PageLine) → IsSoundEnclave e → IsValidLine (e.size / 4096) line
+    → is_any_added (first_page line) (page_count line) e.lines ≡ false
     → IsSoundEnclave (record e { lines = e.lines ++ line ∷ [] })
 line-more e line sound valid free = record {
   range = sound.range;
@@ -162,9 +174,12 @@ line-more e line sound valid free = record {
 }
 
 -- a line of pages more, in the enclave that stands last
-page-sound : (ts more : List TcsLine) (es : List EnclaveView) (line : PageLine) → AreSoundEnclaves ts es → IsValidLine (pages_in (last es)) line
-    → is_any_added (first_page line) (page_count line) (lines_in (last es)) ≡ false → sum_by enclave_pages es + page_count line ≤ 4096 → 1 ≤ length es
-    → ((p : ℕ → ℕ → ℕ → Bool) → All (tests p) more → All (tests p) ts) → IsNoted more (length es) line → AreSoundEnclaves more (add_page line es)
+page-sound : (ts more : List TcsLine) (es : List EnclaveView) (line : PageLine) → AreSoundEnclaves ts es
+    → IsValidLine (pages_in (last es)) line
+    → is_any_added (first_page line) (page_count line) (lines_in (last es)) ≡ false → sum_by enclave_pages es + page_count line ≤ 4096
+        → 1 ≤ length es
+    → ((p : ℕ → ℕ → ℕ → Bool) → All (tests p) more → All (tests p) ts) → IsNoted more (length es) line
+        → AreSoundEnclaves more (add_page line es)
 page-sound ts more es line sound valid free few some weaker noted = record {
   each = All-change_last IsSoundEnclave (λ e. record e { lines = e.lines ++ line ∷ [] }) es sound.each
       (λ e is old. line-more e line old (rw is at valid) (rw is at free));
@@ -173,7 +188,8 @@ page-sound ts more es line sound valid free few some weaker noted = record {
   noted = noted-line more 1 (length es) es line (noted-weaker ts more 1 es weaker sound.noted) (omega arith) noted;
 }
 
-digest-sound : (ts : List TcsLine) (es : List EnclaveView) (digest : List ℕ) → AreSoundEnclaves ts es → IsDigest digest → AreSoundEnclaves ts (add_digest digest es)
+digest-sound : (ts : List TcsLine) (es : List EnclaveView) (digest : List ℕ) → AreSoundEnclaves ts es → IsDigest digest
+    → AreSoundEnclaves ts (add_digest digest es)
 digest-sound ts es digest sound is = record {
   each = All-change_last IsSoundEnclave (λ e. record e { expect = Some digest }) es sound.each
       (λ e at old. record { range = old.range; top = old.top; lines = old.lines; once = old.once; expect = is });
@@ -182,7 +198,8 @@ digest-sound ts es digest sound is = record {
   noted = noted-digest ts 1 digest es sound.noted;
 }
 
-enclave-sound : (d : Draft) (enclave base size : ℕ) → AreSoundEnclaves d.tcs_lines d.enclaves → HasNoFault d (says.Enclave enclave base size) → enclave ≤ 8
+enclave-sound : (d : Draft) (enclave base size : ℕ) → AreSoundEnclaves d.tcs_lines d.enclaves
+    → HasNoFault d (says.Enclave enclave base size) → enclave ≤ 8
     → AreSoundEnclaves d.tcs_lines (d.enclaves ++ new_enclave base size ∷ [])
 enclave-sound d enclave base size sound h letter =
     let range = enclave-range d enclave base size h in
@@ -196,24 +213,29 @@ enclave-sound d enclave base size sound h letter =
       noted = noted-push d.tcs_lines 1 base size d.enclaves sound.noted;
     }
 
-tcs-sound : (n : ℕ) (d : Draft) (page ossa nssa : ℕ) (plain : Bool) → AreSoundEnclaves d.tcs_lines d.enclaves → HasNoFault d (says.Tcs page ossa nssa plain)
-    → AreSoundEnclaves (d.tcs_lines ++ record { line = n; enclave = length d.enclaves; ossa = ossa; nssa = nssa } ∷ []) (add_page (pages.Tcs page ossa nssa plain) d.enclaves)
+tcs-sound : (n : ℕ) (d : Draft) (page ossa nssa : ℕ) (plain : Bool) → AreSoundEnclaves d.tcs_lines d.enclaves
+    → HasNoFault d (says.Tcs page ossa nssa plain)
+    → AreSoundEnclaves (d.tcs_lines ++ record { line = n; enclave = length d.enclaves; ossa = ossa; nssa = nssa } ∷ [])
+        (add_page (pages.Tcs page ossa nssa plain) d.enclaves)
 tcs-sound n d page ossa nssa plain sound h =
     let fits = tcs_fits d page ossa nssa plain h in
     page-sound d.tcs_lines _ d.enclaves (pages.Tcs page ossa nssa plain) sound (fits.1, fits.2, omega (arith, fits.0.range), fits.3)
-        fits.0.once fits.0.few (some-last d.enclaves page (omega (arith, fits.0.range)))
-        (λ p all. all-front (tests p) d.tcs_lines _ all) (λ p all. all-last (tests p) d.tcs_lines _ all)
+    fits.0.once fits.0.few (some-last d.enclaves page (omega (arith, fits.0.range)))
+    (λ p all. all-front (tests p) d.tcs_lines _ all) (λ p all. all-last (tests p) d.tcs_lines _ all)
 
-reg-sound : (d : Draft) (first count : ℕ) (perm : Perm) (value : ℕ) (plain : Bool) → AreSoundEnclaves d.tcs_lines d.enclaves → HasNoFault d (says.Reg first count perm value plain)
+reg-sound : (d : Draft) (first count : ℕ) (perm : Perm) (value : ℕ) (plain : Bool) → AreSoundEnclaves d.tcs_lines d.enclaves
+    → HasNoFault d (says.Reg first count perm value plain)
     → (perm.r ≡ true) × (value < 2 ^ 64) → AreSoundEnclaves d.tcs_lines (add_page (pages.Reg first count perm value plain) d.enclaves)
 reg-sound d first count perm value plain sound h spelled =
     let room = reg_fits d first count perm value plain h in
-    page-sound d.tcs_lines d.tcs_lines d.enclaves (pages.Reg first count perm value plain) sound (room.some, room.range, spelled.0, spelled.1)
-        room.once room.few (some-last d.enclaves first (omega (arith, room.some, room.range))) (λ p all. all) tt
+    page-sound d.tcs_lines d.tcs_lines d.enclaves (pages.Reg first count perm value plain) sound
+        (room.some, room.range, spelled.0, spelled.1)
+    room.once room.few (some-last d.enclaves first (omega (arith, room.some, room.range))) (λ p all. all) tt
 
 -- ---- store lines
 
-plan-among : (es : List EnclaveView) (plan : Plan) → is_plan_in_range plan ≡ true → plan_stands es plan ≡ true → IsSpelledPlan plan → IsPlanAmong es (kept_plan plan)
+plan-among : (es : List EnclaveView) (plan : Plan) → is_plan_in_range plan ≡ true → plan_stands es plan ≡ true → IsSpelledPlan plan
+    → IsPlanAmong es (kept_plan plan)
 plan-among es (plans.FailRoom k) range stands spelled = (leb-true _ _ range, spelled)
 plan-among es (plans.FailPut k) range stands spelled = (leb-true _ _ range, spelled)
 plan-among es (plans.FailGet k) range stands spelled = (leb-true _ _ range, spelled)
@@ -227,7 +249,8 @@ few-plans : (d : Draft) (plan : Plan) → HasNoFault d (says.Plan plan) → leng
 unfolding is_too_many
 few-plans d plan h = ltb-false _ _ h.few
 
-plan-sound : (d : Draft) (plan : Plan) → AreSoundPlans d.enclaves d.plans → HasNoFault d (says.Plan plan) → IsSpelledPlan plan → AreSoundPlans d.enclaves (d.plans ++ kept_plan plan ∷ [])
+plan-sound : (d : Draft) (plan : Plan) → AreSoundPlans d.enclaves d.plans → HasNoFault d (says.Plan plan) → IsSpelledPlan plan
+    → AreSoundPlans d.enclaves (d.plans ++ kept_plan plan ∷ [])
 plan-sound d plan sound h spelled =
     let fits = plan_fits d plan h in
     record {
@@ -240,11 +263,13 @@ plan-sound d plan sound h spelled =
 offset-in : (off size : ℕ) → ((off % 8 == 0) && nat_lt off size) ≡ true → (off % 8 ≡ 0) × (off < size)
 offset-in off size e = let p = and_parts _ _ e in (eqb-true _ _ p.0, ltb-true _ _ p.1)
 
-outer-in : (enclave : Option EnclaveView) (off : ℕ) → is_outer_offset enclave off ≡ true → is_some enclave ≡ true → IsOuterOffset off enclave
+outer-in : (enclave : Option EnclaveView) (off : ℕ) → is_outer_offset enclave off ≡ true → is_some enclave ≡ true
+    → IsOuterOffset off enclave
 outer-in None off range stands = absurd (false≢true stands)
 outer-in (Some e) off range stands = offset-in off e.size range
 
-op-among : (es : List EnclaveView) (op : Operation) → is_op_in_range es op ≡ true → op_stands es op ≡ true → IsSpelledOp op → IsOpAmong es (kept_op op)
+op-among : (es : List EnclaveView) (op : Operation) → is_op_in_range es op ≡ true → op_stands es op ≡ true → IsSpelledOp op
+    → IsOpAmong es (kept_op op)
 op-among es (ops.Enter tcs) range stands spelled = stands
 op-among es (ops.Resume tcs) range stands spelled = stands
 op-among es ops.Exit range stands spelled = tt
@@ -262,9 +287,11 @@ unfolding is_in_range
 op-range d op h = h.range
 
 -- where no script before the last passes, at most one does after the last is changed
-one-last : {X : Type 0} (p : X → Bool) (f : X → X) (xs : List X) → list_any p (take (length xs - 1) xs) ≡ false → count_by p (change_last f xs) ≤ 1
+one-last : {X : Type 0} (p : X → Bool) (f : X → X) (xs : List X) → list_any p (take (length xs - 1) xs) ≡ false
+    → count_by p (change_last f xs) ≤ 1
 one-last p f [] none = omega arith
-one-last p f (x ∷ []) none = (let count = sum_by-cons (λ y. cond (p y) 1 0) (f x) [] in let one = cond-one (p (f x)) in omega (arith, count, one))
+one-last p f (x ∷ []) none = (let count = sum_by-cons (λ y. cond (p y) 1 0) (f x) [] in let one = cond-one (p (f x)) in omega
+    (arith, count, one))
   where
     cond-one : (b : Bool) → cond b 1 0 ≤ 1
     cond-one true = omega arith
@@ -281,7 +308,8 @@ any-push : {X : Type 0} (p : X → Bool) (xs : List X) (x : X) → p x ≡ false
 any-push p [] x e = rw e refl
 any-push p (y ∷ xs) x e = rw (any-push p xs x e) refl
 
-own-more : (scripts : List (List Op)) (op : Op) (enclave number : ℕ) → (names_tcs enclave number op ≡ true → list_any (script_names enclave number) (earlier scripts) ≡ false)
+own-more : (scripts : List (List Op)) (op : Op) (enclave number : ℕ) → (names_tcs enclave number op ≡ true
+    → list_any (script_names enclave number) (earlier scripts) ≡ false)
     → count_by (script_names enclave number) scripts ≤ 1 → count_by (script_names enclave number) (add_op op scripts) ≤ 1
 own-more scripts op enclave number free own =
     elim (cases_Bool (names_tcs enclave number op)) [
@@ -291,13 +319,16 @@ own-more scripts op enclave number free own =
     ]
 
 -- a TCS that an operation names is named by no script before the last
-names-own : (d : Draft) (op : Operation) → is_shared d (says.Operation op) ≡ false → (enclave number : ℕ) → names_tcs enclave number (kept_op op) ≡ true
+names-own : (d : Draft) (op : Operation) → is_shared d (says.Operation op) ≡ false → (enclave number : ℕ)
+    → names_tcs enclave number (kept_op op) ≡ true
     → list_any (script_names enclave number) (earlier d.scripts) ≡ false
 unfolding is_shared
 names-own d (ops.Enter tcs) own enclave number names =
-    (let p = and_parts (tcs.enclave == enclave) (tcs.number == number) names in rw (← eqb-true tcs.enclave enclave p.0, ← eqb-true tcs.number number p.1) own)
+    (let p = and_parts (tcs.enclave == enclave) (tcs.number == number) names in rw
+        (← eqb-true tcs.enclave enclave p.0, ← eqb-true tcs.number number p.1) own)
 names-own d (ops.Resume tcs) own enclave number names =
-    (let p = and_parts (tcs.enclave == enclave) (tcs.number == number) names in rw (← eqb-true tcs.enclave enclave p.0, ← eqb-true tcs.number number p.1) own)
+    (let p = and_parts (tcs.enclave == enclave) (tcs.number == number) names in rw
+        (← eqb-true tcs.enclave enclave p.0, ← eqb-true tcs.number number p.1) own)
 names-own d ops.Exit own enclave number names = absurd (false≢true names)
 names-own d ops.Timer own enclave number names = absurd (false≢true names)
 names-own d (ops.Load off) own enclave number names = absurd (false≢true names)
@@ -318,17 +349,20 @@ op-sound d op sound h spelled =
           (λ script is all. All-push (IsOpAmong d.enclaves) script (kept_op op) all valid);
       few = rw (length-change_last (λ (script : List Op). script ++ kept_op op ∷ []) d.scripts) sound.few;
       few_ops = rw (ops-more (kept_op op) d.scripts fits.0) fits.1;
-      own = λ enclave number. own-more d.scripts (kept_op op) enclave number (names-own d op h.own enclave number) (sound.own enclave number);
+      own = λ enclave number. own-more d.scripts (kept_op op) enclave number (names-own d op h.own enclave number)
+          (sound.own enclave number);
     }
 
-cpu-sound : (d : Draft) (number : ℕ) → AreSoundScripts d.enclaves d.scripts → HasNoFault d (says.Cpu number) → AreSoundScripts d.enclaves (d.scripts ++ [] ∷ [])
+cpu-sound : (d : Draft) (number : ℕ) → AreSoundScripts d.enclaves d.scripts → HasNoFault d (says.Cpu number)
+    → AreSoundScripts d.enclaves (d.scripts ++ [] ∷ [])
 cpu-sound d number sound h =
     let next = cpu_next d number h in
     record {
       each = All-push (All (IsOpAmong d.enclaves)) d.scripts [] sound.each (All-nil (IsOpAmong d.enclaves));
       few = omega (arith, next.0, next.1, length-append d.scripts ([] ∷ []));
       few_ops = omega (arith, sum_by_push (λ (script : List Op). length script) d.scripts [], sound.few_ops);
-      own = λ enclave tcs. omega (arith, sum_by_push (λ (script : List Op). cond (script_names enclave tcs script) 1 0) d.scripts [], sound.own enclave tcs);
+      own = λ enclave tcs. omega (arith, sum_by_push (λ (script : List Op). cond (script_names enclave tcs script) 1 0) d.scripts [],
+          sound.own enclave tcs);
     }
 
 -- ---- a draft and one line more
@@ -345,7 +379,8 @@ empty-sound = record {
 }
 
 -- a draft with other enclaves, behind which nothing stands
-with-enclaves : (d : Draft) (s : Statement) (ts : List TcsLine) (es : List EnclaveView) → IsSound d → HasNoFault d s → part_of s ≡ 2 → AreSoundEnclaves ts es
+with-enclaves : (d : Draft) (s : Statement) (ts : List TcsLine) (es : List EnclaveView) → IsSound d → HasNoFault d s → part_of s ≡ 2
+    → AreSoundEnclaves ts es
     → IsSound (record d { tcs_lines = ts; enclaves = es })
 with-enclaves d s ts es sound h part enclaves = record {
   frames = sound.frames;
@@ -361,41 +396,73 @@ pub keep-sound : (n : ℕ) (d : Draft) (s : Statement) → IsSound d → HasNoFa
 unfolding keep
 keep-sound n d (says.Epc frames) sound h spelled = record {
   frames = epc-range d frames h;
-  marks = sound.marks; key = sound.key; start = sound.start; enclaves = sound.enclaves; plans = sound.plans; scripts = sound.scripts;
+  marks = sound.marks;
+  key = sound.key;
+  start = sound.start;
+  enclaves = sound.enclaves;
+  plans = sound.plans;
+  scripts = sound.scripts;
 }
 keep-sound n d (says.Marks low high scan) sound h spelled = record {
   frames = sound.frames;
   marks = marks-range d low high scan h;
-  key = sound.key; start = sound.start; enclaves = sound.enclaves; plans = sound.plans; scripts = sound.scripts;
+  key = sound.key;
+  start = sound.start;
+  enclaves = sound.enclaves;
+  plans = sound.plans;
+  scripts = sound.scripts;
 }
 keep-sound n d (says.Key key) sound h spelled = record {
-  frames = sound.frames; marks = sound.marks;
+  frames = sound.frames;
+  marks = sound.marks;
   key = spelled;
-  start = sound.start; enclaves = sound.enclaves; plans = sound.plans; scripts = sound.scripts;
+  start = sound.start;
+  enclaves = sound.enclaves;
+  plans = sound.plans;
+  scripts = sound.scripts;
 }
 keep-sound n d (says.Start start) sound h spelled = record {
-  frames = sound.frames; marks = sound.marks; key = sound.key;
+  frames = sound.frames;
+  marks = sound.marks;
+  key = sound.key;
   start = (let range = start-range d start h in (range.0, range.1, range.2, spelled));
-  enclaves = sound.enclaves; plans = sound.plans; scripts = sound.scripts;
+  enclaves = sound.enclaves;
+  plans = sound.plans;
+  scripts = sound.scripts;
 }
 keep-sound n d (says.Enclave enclave base size) sound h spelled =
     with-enclaves d (says.Enclave enclave base size) _ _ sound h refl (enclave-sound d enclave base size sound.enclaves h spelled)
 keep-sound n d (says.Tcs page ossa nssa plain) sound h spelled =
     with-enclaves d (says.Tcs page ossa nssa plain) _ _ sound h refl (tcs-sound n d page ossa nssa plain sound.enclaves h)
 keep-sound n d (says.Reg first count perm value plain) sound h spelled =
-    with-enclaves d (says.Reg first count perm value plain) _ _ sound h refl (reg-sound d first count perm value plain sound.enclaves h spelled)
+    with-enclaves d (says.Reg first count perm value plain) _ _ sound h refl
+        (reg-sound d first count perm value plain sound.enclaves h spelled)
 keep-sound n d (says.Expect digest) sound h spelled =
     with-enclaves d (says.Expect digest) _ _ sound h refl (digest-sound d.tcs_lines d.enclaves digest sound.enclaves spelled)
 keep-sound n d (says.Plan plan) sound h spelled = record {
-  frames = sound.frames; marks = sound.marks; key = sound.key; start = sound.start; enclaves = sound.enclaves;
+  frames = sound.frames;
+  marks = sound.marks;
+  key = sound.key;
+  start = sound.start;
+  enclaves = sound.enclaves;
   plans = plan-sound d plan sound.plans h spelled;
   scripts = sound.scripts;
 }
 keep-sound n d (says.Cpu number) sound h spelled = record {
-  frames = sound.frames; marks = sound.marks; key = sound.key; start = sound.start; enclaves = sound.enclaves; plans = sound.plans;
+  frames = sound.frames;
+  marks = sound.marks;
+  key = sound.key;
+  start = sound.start;
+  enclaves = sound.enclaves;
+  plans = sound.plans;
   scripts = cpu-sound d number sound.scripts h;
 }
 keep-sound n d (says.Operation op) sound h spelled = record {
-  frames = sound.frames; marks = sound.marks; key = sound.key; start = sound.start; enclaves = sound.enclaves; plans = sound.plans;
+  frames = sound.frames;
+  marks = sound.marks;
+  key = sound.key;
+  start = sound.start;
+  enclaves = sound.enclaves;
+  plans = sound.plans;
   scripts = op-sound d op sound.scripts h spelled;
 }

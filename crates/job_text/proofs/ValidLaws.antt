@@ -27,7 +27,8 @@ find-none p (x ∷ xs) e =
       | inr fails ↦ (let some = rw fails at e in absurd cc)
     ]
 
-are-saved : (es : List EnclaveView) (enclave first count : ℕ) → are_save_pages es enclave first count ≡ true → (n : ℕ) → first ≤ n → n < first + count
+are-saved : (es : List EnclaveView) (enclave first count : ℕ) → are_save_pages es enclave first count ≡ true → (n : ℕ) → first ≤ n
+    → n < first + count
     → is_save_page (lines_at es enclave) n ≡ true
 are-saved es enclave first zero e n low high = absurd (omega arith)
 are-saved es enclave first (suc count) e n low high =
@@ -37,13 +38,16 @@ are-saved es enclave first (suc count) e n low high =
       | inr past ↦ (let same : n ≡ first + count = omega arith in rw same p.0)
     ]
 
-line-saved : (es : List EnclaveView) (ts : List TcsLine) (n : ℕ) (lines : List PageLine) → All (tests (are_save_pages es)) ts → lines_at es n ≡ lines
+line-saved : (es : List EnclaveView) (ts : List TcsLine) (n : ℕ) (lines : List PageLine) → All (tests (are_save_pages es)) ts
+    → lines_at es n ≡ lines
     → (line : PageLine) → IsNoted ts n line → HasSavePages lines line
-line-saved es ts n lines all here (pages.Tcs page ossa nssa plain) noted = λ m low high. rw (← here) (are-saved es n ossa nssa (noted (are_save_pages es) all) m low high)
+line-saved es ts n lines all here (pages.Tcs page ossa nssa plain) noted =
+    λ m low high. rw (← here) (are-saved es n ossa nssa (noted (are_save_pages es) all) m low high)
 line-saved es ts n lines all here (pages.Reg first count perm value plain) noted = tt
 
 -- the enclaves from number n on
-enclaves-valid : (full : List EnclaveView) (ts : List TcsLine) (n : ℕ) (es : List EnclaveView) → All IsSoundEnclave es → AreNoted ts n es → All (tests (are_save_pages full)) ts
+enclaves-valid : (full : List EnclaveView) (ts : List TcsLine) (n : ℕ) (es : List EnclaveView) → All IsSoundEnclave es → AreNoted ts n es
+    → All (tests (are_save_pages full)) ts
     → ((k : ℕ) → lines_at full (n + k) ≡ lines_in (slice_get es k)) → All IsValidEnclave es
 enclaves-valid full ts n [] each noted all here = All-nil IsValidEnclave
 enclaves-valid full ts n (e ∷ es) each noted all here =
@@ -54,10 +58,12 @@ enclaves-valid full ts n (e ∷ es) each noted all here =
       top = first.top;
       lines = first.lines;
       once = first.once;
-      saved = All-weaker (IsNoted ts n) (HasSavePages e.lines) (line-saved full ts n e.lines all (let none : n + 0 ≡ n = omega arith in rw none at (here 0))) e.lines noted.0;
+      saved = All-weaker (IsNoted ts n) (HasSavePages e.lines) (line-saved full ts n e.lines all
+          (let none : n + 0 ≡ n = omega arith in rw none at (here 0))) e.lines noted.0;
       expect = first.expect;
     })
-    (enclaves-valid full ts (n + 1) es (All-tail IsSoundEnclave e es each) noted.1 all (λ k. let at : n + 1 + k ≡ n + suc k = omega arith in rw at (here (suc k))))
+    (enclaves-valid full ts (n + 1) es (All-tail IsSoundEnclave e es each) noted.1 all
+        (λ k. let at : n + 1 + k ≡ n + suc k = omega arith in rw at (here (suc k))))
 
 -- ---- options
 
@@ -82,7 +88,8 @@ or-none true b c e = absurd cc
 or-none false true c e = absurd cc
 or-none false false c e = (refl, e)
 
-job-valid : (d : Draft) (frames : ℕ) → IsSound d → d.epc ≡ Some frames → is_incomplete d ≡ false → unsaved_line d ≡ None → needed (job_of frames d) ≤ frames → IsValid (job_of frames d)
+job-valid : (d : Draft) (frames : ℕ) → IsSound d → d.epc ≡ Some frames → is_incomplete d ≡ false → unsaved_line d ≡ None
+    → needed (job_of frames d) ≤ frames → IsValid (job_of frames d)
 unfolding job_of
 job-valid d frames sound epc whole saved enough =
     let range = rw epc at sound.frames in
@@ -102,7 +109,8 @@ job-valid d frames sound epc whole saved enough =
       few_versions = start.3;
       some_enclaves = enclaves;
       few_enclaves = sound.enclaves.few;
-      enclaves = enclaves-valid d.enclaves d.tcs_lines 1 d.enclaves sound.enclaves.each sound.enclaves.noted (find-none (has_save_pages d.enclaves) d.tcs_lines saved)
+      enclaves = enclaves-valid d.enclaves d.tcs_lines 1 d.enclaves sound.enclaves.each sound.enclaves.noted
+          (find-none (has_save_pages d.enclaves) d.tcs_lines saved)
           (λ k. let one : 1 + k ≡ suc k = omega arith in rw one refl);
       few_pages = sound.enclaves.few_pages;
       few_plans = sound.plans.few;
@@ -129,7 +137,8 @@ whole-valid n d job sound e =
           | inr unsaved ↦ (let two = sym (whole_unsaved n d epc.0 unsaved.0 there epc.1 unsaved.1) ∙ e in absurd cc)
           | inl saved ↦ elim (cases_lt epc.0 (needed (job_of epc.0 d))) [
             | inl small ↦ (let two = sym (whole_small n d epc.0 there epc.1 saved small) ∙ e in absurd cc)
-            | inr enough ↦ (let same : job ≡ job_of epc.0 d = ok-same job (job_of epc.0 d) (sym e ∙ whole_job n d epc.0 there epc.1 saved enough) in
+            | inr enough ↦ (let same : job ≡ job_of epc.0 d = ok-same job (job_of epc.0 d)
+                (sym e ∙ whole_job n d epc.0 there epc.1 saved enough) in
                 rw same (job-valid d epc.0 sound epc.1 there saved enough))
           ]
         ]

@@ -38,23 +38,27 @@ some_longer n =
 ok-same : (a b : JobView) → ◌≡◌ {A = Result JobView Fault} (Ok a) (Ok b) → a ≡ b
 ok-same a b e = cc
 
-refused : (bytes : List ℕ) (fault : Fault) → read bytes ≡ Err fault → IsNoJob bytes × (bad_jobs.Fault fault.line fault.kind ≡ why_not (read bytes))
+refused : (bytes : List ℕ) (fault : Fault) → read bytes ≡ Err fault → IsNoJob bytes
+    × (bad_jobs.Fault fault.line fault.kind ≡ why_not (read bytes))
 refused bytes fault e = (λ job is. absurd (let two = sym e ∙ is.0 in cc), rw e refl)
 
 -- more bytes than a job may have
-pub fault-too_long : (left : Option (List ℕ)) → IfSome left (λ all. 2 ^ 24 < length all) → IsFaultOf left (unread.Bad (bad_jobs.Fault 0 TooLong))
+pub fault-too_long : (left : Option (List ℕ)) → IfSome left (λ all. 2 ^ 24 < length all)
+    → IsFaultOf left (unread.Bad (bad_jobs.Fault 0 TooLong))
 fault-too_long None long =
     let some = some_longer (2 ^ 24) in
     (some.0, tt, refused some.0 (at 0 TooLong) (read_long some.0 some.1))
 fault-too_long (Some all) long = (all, refl, refused all (at 0 TooLong) (read_long all long))
 
 -- no more bytes, and a line is faulty
-pub fault-read : (left : Option (List ℕ)) (bytes : List ℕ) (line : ℕ) (kind : JobKind) → IfSome left (λ all. bytes ≡ all) → read bytes ≡ Err (at line kind)
+pub fault-read : (left : Option (List ℕ)) (bytes : List ℕ) (line : ℕ) (kind : JobKind) → IfSome left (λ all. bytes ≡ all)
+    → read bytes ≡ Err (at line kind)
     → IsFaultOf left (unread.Bad (bad_jobs.Fault line kind))
 fault-read left bytes line kind same e = (bytes, same, refused bytes (at line kind) e)
 
 -- no line is, and the job is of a form that is not run
-pub not-built : (left : Option (List ℕ)) (bytes : List ℕ) (job : JobView) → IfSome left (λ all. bytes ≡ all) → read bytes ≡ Ok job → (IsSmallJob job → ⊥)
+pub not-built : (left : Option (List ℕ)) (bytes : List ℕ) (job : JobView) → IfSome left (λ all. bytes ≡ all) → read bytes ≡ Ok job
+    → (IsSmallJob job → ⊥)
     → IsFaultOf left (unread.Bad bad_jobs.NotYetBuilt)
 not-built left bytes job same e other =
     (bytes, same, (λ (j : JobView) is. other (rw (ok-same j job (sym is.0 ∙ e)) at is.1), rw e refl))

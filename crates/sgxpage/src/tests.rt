@@ -32,8 +32,14 @@ const REFUSED: &[(&[u8], &[u8])] = &[
     (b"", b"job line 1: Missing\n"),
     (b"epc 6\n", b"job line 2: Missing\n"),
     (b"epc 6\n\xff\n", b"job line 2: NotUtf8\n"),
-    (b"epc 5\nenclave A 0x0 0x2000\ncpu 0\n", b"job line 1: EpcTooSmall 6\n"),
-    (b"epc 6\nenclave A 0x0 0x2000\ncpu 0\nload 0x2004\n", b"job line 4: Range\n"),
+    (
+        b"epc 5\nenclave A 0x0 0x2000\ncpu 0\n",
+        b"job line 1: EpcTooSmall 6\n",
+    ),
+    (
+        b"epc 6\nenclave A 0x0 0x2000\ncpu 0\nload 0x2004\n",
+        b"job line 4: Range\n",
+    ),
     (UNBUILT, NOT_YET_BUILT),
 ];
 
@@ -133,15 +139,7 @@ fn the_oldest_translation_makes_room(rt: HostRuntime) -> Result<(), Fail> {
 #[test]
 fn a_job_that_is_not_accepted_is_told(rt: HostRuntime) -> Result<(), Fail> {
     for (job, told) in REFUSED {
-        ends(
-            &rt,
-            job,
-            7,
-            [&[], &[], &[]],
-            Status::BadJob,
-            told,
-            b"",
-        )?;
+        ends(&rt, job, 7, [&[], &[], &[]], Status::BadJob, told, b"")?;
     }
     Ok(())
 }
@@ -304,7 +302,10 @@ fn no_more_than_one_byte_past_the_limit_is_read(rt: HostRuntime) -> Result<(), F
         ((1 << 24) + 100_000, TOO_LONG, 99_999),
     ];
     for (len, told, left) in rows {
-        let job = vec![in alloc; b'e'; len]?;
+        let mut job = vec![in alloc; b'e'; len]?;
+        if let Some(byte) = job.get_mut(3) {
+            *byte = b'\n';
+        }
         let mut source = MemSource::new(alloc, &job, 1 << 20, &[])?;
         let mut out = MemSink::new(alloc, 7, &[])?;
         let mut trace = MemSink::new(alloc, 7, &[])?;

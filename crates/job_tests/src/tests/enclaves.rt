@@ -1,8 +1,8 @@
 use super::texts::Want::{Faulty, Read};
 use super::texts::{Row, Want, read_each, want_of, with};
 use job_grammar::jobs::{EnclaveJob, Job, Op, PageLine, needed};
-use job_text::reader::read_job;
 use job_lines::kinds::JobKind::{EpcTooSmall, Missing, Order, Range, Twice, Word};
+use job_text::reader::read_job;
 use sgx_types::names::Perm;
 use std::alloc::Global;
 use std::process::Abort;
@@ -96,48 +96,80 @@ fn two_enclaves(rt: HostRuntime) -> Result<(), Fail> {
 }
 
 const PARTS: &[Row] = &[
-    ("a frame to spare",
-        "epc 10",
-        "epc 11", Read,),
-    ("a frame too few",
-        "epc 10",
-        "epc 9", Read,),
-    ("a script that enters A",
+    ("a frame to spare", "epc 10", "epc 11", Read),
+    ("a frame too few", "epc 10", "epc 9", Read),
+    (
+        "a script that enters A",
         "B 0\nload 0x5ff8\nload 0x4000",
-        "A 0\nload 0x2000", Read,),
-    ("a load from B of a page that only A has",
+        "A 0\nload 0x2000",
+        Read,
+    ),
+    (
+        "a load from B of a page that only A has",
         "load 0x4000",
-        "load 0x2000", Read,),
-    ("a load from outside past B, which is smaller than A",
+        "load 0x2000",
+        Read,
+    ),
+    (
+        "a load from outside past B, which is smaller than A",
         "load 0x4000",
-        "outload B 0x8000", Faulty(13, Range),),
-    ("a load from outside of the same page of A",
+        "outload B 0x8000",
+        Faulty(13, Range),
+    ),
+    (
+        "a load from outside of the same page of A",
         "load 0x4000",
-        "outload A 0x8000", Read,),
-    ("a resumption in A by its TCS page",
+        "outload A 0x8000",
+        Read,
+    ),
+    (
+        "a resumption in A by its TCS page",
         "load 0x4000",
-        "eresume A 0", Read,),
-    ("an entry into B by a page that is a TCS page of A alone",
+        "eresume A 0",
+        Read,
+    ),
+    (
+        "an entry into B by a page that is a TCS page of A alone",
         "tcs 0 1 1 plain",
-        "tcs 3 1 1 plain", Faulty(11, Missing),),
-    ("an enclave without pages",
+        "tcs 3 1 1 plain",
+        Faulty(11, Missing),
+    ),
+    (
+        "an enclave without pages",
         B,
-        "enclave B 0x0 0x2000\ncpu 0\neenter A 0\n", Read,),
-    ("an entry into an enclave without pages",
+        "enclave B 0x0 0x2000\ncpu 0\neenter A 0\n",
+        Read,
+    ),
+    (
+        "an entry into an enclave without pages",
         B,
-        "enclave B 0x0 0x2000\ncpu 0\neenter B 0\n", Faulty(8, Missing),),
-    ("a letter left out",
+        "enclave B 0x0 0x2000\ncpu 0\neenter B 0\n",
+        Faulty(8, Missing),
+    ),
+    (
+        "a letter left out",
         "enclave B",
-        "enclave C", Faulty(6, Order),),
-    ("letters in another order",
+        "enclave C",
+        Faulty(6, Order),
+    ),
+    (
+        "letters in another order",
         "enclave A",
-        "enclave B", Faulty(2, Order),),
-    ("a page line before the first enclave",
+        "enclave B",
+        Faulty(2, Order),
+    ),
+    (
+        "a page line before the first enclave",
         "enclave A",
-        "reg 5 1 r 0\nenclave A", Faulty(2, Order),),
-    ("an entry into a second enclave",
+        "reg 5 1 r 0\nenclave A",
+        Faulty(2, Order),
+    ),
+    (
+        "an entry into a second enclave",
         "eexit\n",
-        "eexit\neenter A 0\neexit\n", Read,),
+        "eexit\neenter A 0\neexit\n",
+        Read,
+    ),
 ];
 
 #[test]
@@ -242,39 +274,37 @@ fn digests_of_both_enclaves(rt: HostRuntime) -> Result<(), Fail> {
 
 // Of a text with a digest within A.
 const REFUSED: &[Row] = &[
-    ("twice in A",
+    (
+        "twice in A",
         "enclave B",
-        "expect 000102030405060708090a0b0c0d0e0f101112131415161718191a1b1c1d1e1f\nenclave B", Faulty(7, Twice),),
-    ("upper case",
-        "1e1f",
-        "1E1f", Read,),
-    ("63 digits",
-        "1e1f",
-        "1e1", Faulty(5, Word),),
-    ("62 digits",
-        "1e1f",
-        "1e", Faulty(5, Word),),
-    ("66 digits",
-        "1e1f",
-        "1e1f20", Faulty(5, Word),),
-    ("a letter that is no digit",
-        "1e1f",
-        "1e1g", Faulty(5, Word),),
-    ("a prefix",
-        "expect ",
-        "expect 0x", Faulty(5, Word),),
-    ("no digest",
+        "expect 000102030405060708090a0b0c0d0e0f101112131415161718191a1b1c1d1e1f\nenclave B",
+        Faulty(7, Twice),
+    ),
+    ("upper case", "1e1f", "1E1f", Read),
+    ("63 digits", "1e1f", "1e1", Faulty(5, Word)),
+    ("62 digits", "1e1f", "1e", Faulty(5, Word)),
+    ("66 digits", "1e1f", "1e1f20", Faulty(5, Word)),
+    ("a letter that is no digit", "1e1f", "1e1g", Faulty(5, Word)),
+    ("a prefix", "expect ", "expect 0x", Faulty(5, Word)),
+    (
+        "no digest",
         "expect 000102030405060708090a0b0c0d0e0f101112131415161718191a1b1c1d1e1f",
-        "expect", Faulty(5, Word),),
-    ("a word more",
-        "1e1f",
-        "1e1f plain", Faulty(5, Word),),
-    ("before the first enclave",
+        "expect",
+        Faulty(5, Word),
+    ),
+    ("a word more", "1e1f", "1e1f plain", Faulty(5, Word)),
+    (
+        "before the first enclave",
         "enclave A",
-        "expect 000102030405060708090a0b0c0d0e0f101112131415161718191a1b1c1d1e1f\nenclave A", Faulty(2, Order),),
-    ("after the processor",
+        "expect 000102030405060708090a0b0c0d0e0f101112131415161718191a1b1c1d1e1f\nenclave A",
+        Faulty(2, Order),
+    ),
+    (
+        "after the processor",
         "eexit\n",
-        "eexit\nexpect 000102030405060708090a0b0c0d0e0f101112131415161718191a1b1c1d1e1f\n", Faulty(16, Order),),
+        "eexit\nexpect 000102030405060708090a0b0c0d0e0f101112131415161718191a1b1c1d1e1f\n",
+        Faulty(16, Order),
+    ),
 ];
 
 #[test]

@@ -55,9 +55,17 @@ pub fn read_each(rt: &impl Abort, alloc: Global, text: &str, rows: &[Row]) -> Re
         let changed = with(alloc, text, old, new)?;
         assert_eq!(rt; want_of(alloc, changed.as_bytes())?, *want, "{what}");
         let returns = with_returns(alloc, &changed)?;
-        assert_eq!(rt; want_of(alloc, &returns)?, *want, "{what}, with carriage returns");
+        assert_eq!(rt;
+            want_of(alloc, &returns)?,
+            *want,
+            "{what}, with carriage returns"
+        );
         let commented = format!(in alloc; "# a comment\n{changed}")?;
-        assert_eq!(rt; want_of(alloc, commented.as_bytes())?, behind_a_line(*want), "{what}, behind a comment");
+        assert_eq!(rt;
+            want_of(alloc, commented.as_bytes())?,
+            behind_a_line(*want),
+            "{what}, behind a comment"
+        );
     }
     Ok(())
 }
