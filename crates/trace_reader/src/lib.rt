@@ -1,0 +1,4 @@
+// The text of a trace is read: whole, or in pieces.
+#![tactic(auto)]
+
+mod names;
