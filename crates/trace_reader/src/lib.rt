@@ -1,4 +1,6 @@
 // The text of a trace is read: whole, or in pieces.
 #![tactic(auto)]
 
+mod instructions;
 mod names;
+mod words;
