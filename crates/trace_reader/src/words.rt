@@ -73,12 +73,12 @@ pub(crate) fn actor(word: &[u8]) -> Option<Actor>
 }
 
 /// A digest or a tag.
+#[tactic(auto, using(crate::proofs::DigestLaws::digest_fits))]
 pub(crate) fn tag(word: &[u8]) -> Option<[u8; 32]>
     ensures read { result ≡ digest_of word.now }
     ensures fits { IfSome result IsDigest }
 {
-    let tag = digest(word)?;
-    Some(tag)
+    digest(word)
 }
 
 /// A digest that is expected, or a dash.
