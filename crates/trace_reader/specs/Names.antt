@@ -86,7 +86,7 @@ unfoldable pub stop_of : List ℕ → Option BusWhy
 stop_of word = named stop_word (stops.GetFailed ∷ stops.NoRecord ∷ stops.PutFailed ∷ stops.Mac ∷ stops.Header ∷ []) word
 
 -- the one word of a refusal that has no fields
-abbrev bare_word : Refusal → List ℕ
+abbrev pub bare_word : Refusal → List ℕ
 bare_word refusal = first (refusal_words refusal)
   where
     first : Words → List ℕ
@@ -94,10 +94,12 @@ bare_word refusal = first (refusal_words refusal)
     first (name ∷ fields) = name
 
 -- the refusals that have no fields
-unfoldable pub bare_of : List ℕ → Option Refusal
-bare_of word = named bare_word
-    (why.PgInvld ∷ why.PgIsSecs ∷ why.NotBlockable ∷ why.BlkState ∷ why.Conflict
+abbrev pub bares : List Refusal
+bares = why.PgInvld ∷ why.PgIsSecs ∷ why.NotBlockable ∷ why.BlkState ∷ why.Conflict
     ∷ why.EpochSpent ∷ why.PageNotBlocked ∷ why.SlotEmpty ∷ why.VersionSpent ∷ why.PageExists
     ∷ why.BadRange ∷ why.BadPerm ∷ why.BadKind ∷ why.NotInit ∷ why.IsInit
     ∷ why.TcsBusy ∷ why.NoFrame ∷ why.NoSaved ∷ why.FrameBusy ∷ why.Absent
-    ∷ why.Blocked ∷ why.NoPerm ∷ why.Miss ∷ why.NoFault ∷ why.WrongMode ∷ []) word
+    ∷ why.Blocked ∷ why.NoPerm ∷ why.Miss ∷ why.NoFault ∷ why.WrongMode ∷ []
+
+unfoldable pub bare_of : List ℕ → Option Refusal
+bare_of word = named bare_word bares word

@@ -62,32 +62,59 @@ FitsAction (actions.Eld f) = f.0 < 2 ^ 32
 
 -- ---- a done instruction has the answer that its row gives, and a refusal is one of this text
 
+abbrev pub IsPlain : Answer → Type 0
+IsPlain answers.Plain = Unit {0}
+IsPlain answer = ⊥
+
+abbrev pub IsCssa : Answer → Type 0
+IsCssa (answers.Cssa count) = count < 2 ^ 32
+IsCssa answer = ⊥
+
+abbrev pub IsValue : Answer → Type 0
+IsValue (answers.Value word) = word < 2 ^ 64
+IsValue answer = ⊥
+
+abbrev pub IsHash : Answer → Type 0
+IsHash (answers.Hash digest) = IsDigest digest
+IsHash answer = ⊥
+
+abbrev pub IsVersion : Answer → Type 0
+IsVersion (answers.Version version) = version < 2 ^ 64
+IsVersion answer = ⊥
+
+abbrev pub IsMoved : Answer → Type 0
+IsMoved (answers.Moved page version tag) = FitsPage page × (version < 2 ^ 64) × IsDigest tag
+IsMoved answer = ⊥
+
+abbrev pub IsPf : Answer → Type 0
+IsPf (answers.Pf fault) = Unit {0}
+IsPf answer = ⊥
+
 abbrev pub FitsAnswer : Action → Answer → Type 0
-FitsAnswer (actions.Epa f) answers.Plain = Unit {0}
-FitsAnswer (actions.Create enclave f base size) answers.Plain = Unit {0}
-FitsAnswer (actions.Add enclave number f kind perm init) answers.Plain = Unit {0}
-FitsAnswer (actions.Extend f chunk) answers.Plain = Unit {0}
-FitsAnswer (actions.Init enclave expect) (answers.Hash digest) = IsDigest digest
-FitsAnswer (actions.Enter enclave tcs tf sf) (answers.Cssa count) = count < 2 ^ 32
-FitsAnswer (actions.Resume enclave tcs tf sf) (answers.Value word) = word < 2 ^ 64
-FitsAnswer actions.Exit answers.Plain = Unit {0}
-FitsAnswer (actions.Aex cause) answers.Plain = Unit {0}
-FitsAnswer (actions.Fill number f) answers.Plain = Unit {0}
-FitsAnswer (actions.Load off) (answers.Value word) = word < 2 ^ 64
-FitsAnswer (actions.Store off value) answers.Plain = Unit {0}
-FitsAnswer (actions.Xadd off value) (answers.Value word) = word < 2 ^ 64
-FitsAnswer (actions.Set value) answers.Plain = Unit {0}
-FitsAnswer (actions.Plus value) (answers.Value word) = word < 2 ^ 64
-FitsAnswer (actions.Pf op off) (answers.Pf fault) = Unit {0}
-FitsAnswer (actions.OutLoad enclave off) (answers.Value word) = word < 2 ^ 64
-FitsAnswer (actions.OutStore enclave off value) answers.Plain = Unit {0}
-FitsAnswer (actions.Block f) answers.Plain = Unit {0}
-FitsAnswer (actions.Track enclave) answers.Plain = Unit {0}
-FitsAnswer (actions.EwbStart f slot) (answers.Version version) = version < 2 ^ 64
-FitsAnswer (actions.Ewb f) (answers.Moved page version tag) = FitsPage page × (version < 2 ^ 64) × IsDigest tag
-FitsAnswer (actions.EldStart f page slot) (answers.Version version) = version < 2 ^ 64
-FitsAnswer (actions.Eld f) (answers.Moved page version tag) = FitsPage page × (version < 2 ^ 64) × IsDigest tag
-FitsAnswer action answer = ⊥
+FitsAnswer (actions.Epa f) answer = IsPlain answer
+FitsAnswer (actions.Create enclave f base size) answer = IsPlain answer
+FitsAnswer (actions.Add enclave number f kind perm init) answer = IsPlain answer
+FitsAnswer (actions.Extend f chunk) answer = IsPlain answer
+FitsAnswer (actions.Init enclave expect) answer = IsHash answer
+FitsAnswer (actions.Enter enclave tcs tf sf) answer = IsCssa answer
+FitsAnswer (actions.Resume enclave tcs tf sf) answer = IsValue answer
+FitsAnswer actions.Exit answer = IsPlain answer
+FitsAnswer (actions.Aex cause) answer = IsPlain answer
+FitsAnswer (actions.Fill number f) answer = IsPlain answer
+FitsAnswer (actions.Load off) answer = IsValue answer
+FitsAnswer (actions.Store off value) answer = IsPlain answer
+FitsAnswer (actions.Xadd off value) answer = IsValue answer
+FitsAnswer (actions.Set value) answer = IsPlain answer
+FitsAnswer (actions.Plus value) answer = IsValue answer
+FitsAnswer (actions.Pf op off) answer = IsPf answer
+FitsAnswer (actions.OutLoad enclave off) answer = IsValue answer
+FitsAnswer (actions.OutStore enclave off value) answer = IsPlain answer
+FitsAnswer (actions.Block f) answer = IsPlain answer
+FitsAnswer (actions.Track enclave) answer = IsPlain answer
+FitsAnswer (actions.EwbStart f slot) answer = IsVersion answer
+FitsAnswer (actions.Ewb f) answer = IsMoved answer
+FitsAnswer (actions.EldStart f page slot) answer = IsVersion answer
+FitsAnswer (actions.Eld f) answer = IsMoved answer
 
 abbrev pub FitsRefusal : Refusal → Type 0
 FitsRefusal (why.PrevTrk older) = older < 2 ^ 32

@@ -1,7 +1,7 @@
 //! Answers that are read, each by the form that its instruction's row gives.
 
 ghost use Rattle.std.specs.Prelude.{◌≡◌, IfSome};
-ghost use Rattle.trace_reader.specs.Readable.{FitsAnswer};
+ghost use Rattle.trace_reader.specs.Readable.{FitsAnswer, IsCssa, IsHash, IsMoved, IsPf, IsPlain, IsValue, IsVersion};
 ghost use Rattle.trace_reader.specs.Reading.{answer_of, cssa_of, hash_of, moved_of, pf_of, plain_of, texts, value_of, version_of};
 
 use crate::names::fault;
@@ -12,7 +12,8 @@ use text_words::readers::{number, small};
 
 #[tactic(auto, unfolding(crate::specs::Reading::plain_of))]
 fn plain(words: &[&[u8]]) -> Option<Answer>
-    ensures { result ≡ plain_of (texts words.now) }
+    ensures read { result ≡ plain_of (texts words.now) }
+    ensures fits { IfSome result IsPlain }
 {
     let [] = words else {
         return None;
@@ -22,7 +23,8 @@ fn plain(words: &[&[u8]]) -> Option<Answer>
 
 #[tactic(auto, unfolding(crate::specs::Reading::cssa_of))]
 fn cssa(words: &[&[u8]]) -> Option<Answer>
-    ensures { result ≡ cssa_of (texts words.now) }
+    ensures read { result ≡ cssa_of (texts words.now) }
+    ensures fits { IfSome result IsCssa }
 {
     let [word] = words else {
         return None;
@@ -32,7 +34,8 @@ fn cssa(words: &[&[u8]]) -> Option<Answer>
 
 #[tactic(auto, unfolding(crate::specs::Reading::value_of))]
 fn value(words: &[&[u8]]) -> Option<Answer>
-    ensures { result ≡ value_of (texts words.now) }
+    ensures read { result ≡ value_of (texts words.now) }
+    ensures fits { IfSome result IsValue }
 {
     let [word] = words else {
         return None;
@@ -42,7 +45,8 @@ fn value(words: &[&[u8]]) -> Option<Answer>
 
 #[tactic(auto, unfolding(crate::specs::Reading::hash_of))]
 fn hash(words: &[&[u8]]) -> Option<Answer>
-    ensures { result ≡ hash_of (texts words.now) }
+    ensures read { result ≡ hash_of (texts words.now) }
+    ensures fits { IfSome result IsHash }
 {
     let [word] = words else {
         return None;
@@ -52,7 +56,8 @@ fn hash(words: &[&[u8]]) -> Option<Answer>
 
 #[tactic(auto, unfolding(crate::specs::Reading::version_of))]
 fn version(words: &[&[u8]]) -> Option<Answer>
-    ensures { result ≡ version_of (texts words.now) }
+    ensures read { result ≡ version_of (texts words.now) }
+    ensures fits { IfSome result IsVersion }
 {
     let [word] = words else {
         return None;
@@ -62,7 +67,8 @@ fn version(words: &[&[u8]]) -> Option<Answer>
 
 #[tactic(auto, unfolding(crate::specs::Reading::pf_of))]
 fn pf(words: &[&[u8]]) -> Option<Answer>
-    ensures { result ≡ pf_of (texts words.now) }
+    ensures read { result ≡ pf_of (texts words.now) }
+    ensures fits { IfSome result IsPf }
 {
     let [word] = words else {
         return None;
@@ -72,7 +78,8 @@ fn pf(words: &[&[u8]]) -> Option<Answer>
 
 #[tactic(auto, unfolding(crate::specs::Reading::moved_of))]
 fn moved(words: &[&[u8]]) -> Option<Answer>
-    ensures { result ≡ moved_of (texts words.now) }
+    ensures read { result ≡ moved_of (texts words.now) }
+    ensures fits { IfSome result IsMoved }
 {
     let [enclave_word, page_number, version, tag_word] = words else {
         return None;

@@ -11,7 +11,7 @@ use crate::refusals::refusal;
 use crate::words::{actor, cpu, enclave};
 use sgx_types::entries::{Actor, Entry, Event};
 use sgx_types::names::{Memory, Page};
-use std::alloc::Global;
+use std::alloc::{AllocError, Global};
 use text_words::readers::small;
 
 #[tactic(auto, unfolding(crate::specs::Reading::refused_of))]
@@ -125,11 +125,10 @@ fn entry(words: &[&[u8]]) -> Option<Entry>
 
 /// The words of a line. No entry has more than 15, so that more than 16 need not be looked at.
 #[tactic(auto, unfolding(crate::specs::Reading::words_of))]
-fn line_words(alloc: Global, line: &[u8]) -> Result<Vec<&[u8]>, Memory>
+fn line_words(alloc: Global, line: &[u8]) -> Result<Vec<&[u8]>, AllocError>
     ensures { IfOk result (λ words. texts words.items ≡ words_of line.now) }
 {
-    let words = line.split(|byte| *byte == b' ').take(16).collect(alloc)?;
-    Ok(words)
+    line.split(|byte| *byte == b' ').take(16).collect(alloc)
 }
 
 /// The entry that the words of a line tell, in any spelling of their numbers.

@@ -60,7 +60,7 @@ fn with_three(name: &[u8], enclave: &[u8], address: &[u8], flags: &[u8]) -> Opti
 }
 
 /// A refusal's name and its fields.
-#[tactic(auto, unfolding(crate::specs::Reading::refusal_of))]
+#[tactic(auto, using(crate::proofs::BareLaws::bare_fits), unfolding(crate::specs::Reading::refusal_of))]
 pub(crate) fn refusal(words: &[&[u8]]) -> Option<Refusal>
     ensures read { result ≡ refusal_of (texts words.now) }
     ensures fits { IfSome result FitsRefusal }

@@ -8,7 +8,7 @@ use sgx_types::entries::{AccessOp, BusWhy, Cause, Look, PfWhy};
 use sgx_types::names::{Kind, Perm};
 use sgx_types::refusals::Refusal;
 
-pub fn kind_name(kind: Kind) -> &'static str
+pub(crate) fn kind_name(kind: Kind) -> &'static str
     ensures { result.now ≡ kind_word kind }
 {
     match kind {
@@ -19,7 +19,7 @@ pub fn kind_name(kind: Kind) -> &'static str
     }
 }
 
-pub fn perms_name(perm: Perm) -> &'static str
+pub(crate) fn perms_name(perm: Perm) -> &'static str
     ensures { result.now ≡ perms_word perm }
 {
     match (perm.r, perm.w, perm.x) {
@@ -34,7 +34,7 @@ pub fn perms_name(perm: Perm) -> &'static str
     }
 }
 
-pub fn cause_name(cause: Cause) -> &'static str
+pub(crate) fn cause_name(cause: Cause) -> &'static str
     ensures { result.now ≡ cause_word cause }
 {
     match cause {
@@ -45,7 +45,7 @@ pub fn cause_name(cause: Cause) -> &'static str
     }
 }
 
-pub fn access_name(access: AccessOp) -> &'static str
+pub(crate) fn access_name(access: AccessOp) -> &'static str
     ensures { result.now ≡ access_word access }
 {
     match access {
@@ -65,7 +65,7 @@ pub fn fault_name(fault: PfWhy) -> &'static str
     }
 }
 
-pub fn look_name(look: Look) -> &'static str
+pub(crate) fn look_name(look: Look) -> &'static str
     ensures { result.now ≡ look_word look }
 {
     match look {
@@ -76,7 +76,7 @@ pub fn look_name(look: Look) -> &'static str
     }
 }
 
-pub fn stop_name(stop: BusWhy) -> &'static str
+pub(crate) fn stop_name(stop: BusWhy) -> &'static str
     ensures { result.now ≡ stop_word stop }
 {
     match stop {
