@@ -1,2 +1,2 @@
-pub mod DigestLaws
-pub mod BareLaws
+pub mod TextLaws
+pub mod FollowLaws

@@ -1,3 +1,2 @@
-pub mod Names
-pub mod Readable
-pub mod Reading
+pub mod Faults
+pub mod Lines
