@@ -1,5 +1,5 @@
 -- Behind some lines of a trace comes the line of an entry, or the last line, and nothing else.
-use Rattle.std.proofs.Common.{◌≡◌, ℕ, ◌+◌, refl, sym, ap, ◌∙◌, List, [], ◌∷◌, ◌++◌, append_assoc, codes, decimal, length, map, take}
+use Rattle.std.proofs.Common.{◌≡◌, ℕ, ◌+◌, refl, sym, ap, ◌∙◌, List, [], ◌∷◌, ◌++◌, append_assoc, codes, decimal, length, map, take, arith}
 use Rattle.std.specs.List.{join_with_byte}
 use Rattle.std.proofs.lemmas.List.{append-nil}
 use Rattle.sgx_types.specs.declared.entries.Entry.{Entry}
@@ -17,10 +17,13 @@ first-byte : (c : ℕ) (word : List ℕ) (words : Words) → take 1 (join_with_b
 first-byte c word [] = refl
 first-byte c word (next ∷ words) = refl
 
-begins-other : (actor : Actor) (words : Words) → codes "e" ≡ take 1 (join_with_byte 32 (actor_word actor ∷ words)) → ⊥
-begins-other actors.Builder words same = let e : codes "e" ≡ codes "b" = same ∙ first-byte 98 [] words in cc
-begins-other actors.Reclaimer words same = let e : codes "e" ≡ codes "r" = same ∙ first-byte 114 [] words in cc
-begins-other (actors.Cpu p) words same = let e : codes "e" ≡ codes "p" = same ∙ first-byte 112 (decimal p.0) words in cc
+one-byte : {c d : ℕ} → c ∷ [] ≡ d ∷ [] → c ≡ d
+one-byte e = cc
+
+begins-other : (actor : Actor) (words : Words) → 101 ∷ [] ≡ take 1 (join_with_byte 32 (actor_word actor ∷ words)) → ⊥
+begins-other actors.Builder words same = let e : 101 ≡ 98 = one-byte (same ∙ first-byte 98 [] words) in omega arith
+begins-other actors.Reclaimer words same = let e : 101 ≡ 114 = one-byte (same ∙ first-byte 114 [] words) in omega arith
+begins-other (actors.Cpu p) words same = let e : 101 ≡ 112 = one-byte (same ∙ first-byte 112 (decimal p.0) words) in omega arith
 
 pub last-no_entry : (e : Entry) (count : ℕ) → last_line count ≡ spelling e → ⊥
 unfolding spelling

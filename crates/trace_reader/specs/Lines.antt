@@ -1,5 +1,5 @@
 -- The lines of a trace, and those that a reader has taken.
-use Rattle.std.specs.Prelude.{ℕ, ◌≡◌, List, [], ◌∷◌, ◌++◌, codes, length, map}
+use Rattle.std.specs.Prelude.{ℕ, ◌≡◌, ◌==◌, false, All, List, [], ◌∷◌, ◌++◌, codes, length, map}
 use Rattle.std.specs.Fmt.{decimal}
 use Rattle.sgx_types.specs.declared.entries.Entry.{Entry}
 use Rattle.trace_text.specs.Readable.{AreReadable}
@@ -44,3 +44,19 @@ pub record IsKept (lines : Lines) : Type 0 where
 -- in no trace does the line stand behind these lines
 abbrev pub CannotFollow : List (List ℕ) → List ℕ → Type 0
 CannotFollow lines line = (entries : List Entry) (others : List (List ℕ)) → AreReadable entries → trace_lines entries ≡ lines ++ line ∷ others → ⊥
+
+abbrev pub HasNoFeed : List ℕ → Type 0
+HasNoFeed bytes = All (λ b. (b == 10) ≡ false) bytes
+
+-- the text is these lines and what stands behind them, which has no line feed
+pub record IsTaken (text : List ℕ) (lines : List (List ℕ)) (rest : List ℕ) : Type 0 where
+  pub same : text ≡ joined lines ++ rest
+  pub apart : HasNoFeed rest
+
+-- behind these lines the text has one with which no trace goes on
+pub record IsRefused (text : List ℕ) (lines : List (List ℕ)) : Type 0 where
+  pub line : List ℕ
+  pub rest : List ℕ
+  pub same : text ≡ joined lines ++ line ++ 10 ∷ rest
+  pub apart : HasNoFeed line
+  pub refused : CannotFollow lines line

@@ -1,13 +1,14 @@
 //! The lines of a trace, taken one after another.
 
-ghost use Rattle.std.specs.Prelude.{◌≡◌, [], length, IfOk, MatchBool};
-ghost use Rattle.trace_reader.specs.Lines.{IsKept, last_line, taken};
+ghost use Rattle.std.specs.Prelude.{◌≡◌, ◌++◌, [], ◌∷◌, false, length, take, IfOk, MatchBool, MatchOption, OnErr};
+ghost use Rattle.trace_reader.specs.Lines.{CannotFollow, HasNoFeed, IsKept, IsRefused, IsTaken, first_line, joined, last_line, taken};
 
 use sgx_types::entries::Entry;
 use sgx_types::names::Memory;
 use std::alloc::Global;
 use text_words::words::Word::{Decimal, Name};
 use text_words::words::{push_word, push_words};
+use trace_lines::lines::read_line;
 
 
 /// Which line comes next: the first, an entry's or the last, or none.
@@ -51,4 +52,54 @@ impl Lines {
         push_words(&[Decimal(self.entries.len() as u64)], &mut self.space)?;
         Ok(self.space.as_slice() == line)
     }
+
+    /// Takes the line of an entry, or the last.
+    fn take_later(&mut self, alloc: Global, line: &[u8]) -> Result<bool, Memory>
+        requires kept { IsKept self.old }
+        requires stage { self.old.stage ≡ Stage.Entries }
+        ensures kept { IsKept self.new }
+        ensures front { take (length self.old.entries.items) self.new.entries.items ≡ self.old.entries.items }
+        ensures taken { IfOk result (λ is_next. MatchBool is_next (taken self.new ≡ taken self.old ++ line.now ∷ [])
+            ((taken self.new ≡ taken self.old) × CannotFollow (taken self.old) line.now)) }
+    {
+        if let Some(entry) = read_line(alloc, line, &mut self.space)? {
+            self.entries.push(entry)?;
+            return Ok(true);
+        }
+        let is_last = self.is_last(line)?;
+        if is_last {
+            self.stage = Stage::Ended;
+        }
+        Ok(is_last)
+    }
+
+    /// Takes the next line, where some trace goes on with it.
+    pub(crate) fn take_line(&mut self, alloc: Global, line: &[u8]) -> Result<bool, Memory>
+        requires kept { IsKept self.old }
+        ensures kept { IsKept self.new }
+        ensures front { take (length self.old.entries.items) self.new.entries.items ≡ self.old.entries.items }
+        ensures taken { IfOk result (λ is_next. MatchBool is_next (taken self.new ≡ taken self.old ++ line.now ∷ [])
+            ((taken self.new ≡ taken self.old) × CannotFollow (taken self.old) line.now)) }
+    {
+        match self.stage {
+            Stage::First => {
+                let is_first = line == b"trace 1".as_slice();
+                if is_first {
+                    self.stage = Stage::Entries;
+                }
+                Ok(is_first)
+            }
+            Stage::Entries => self.take_later(alloc, line),
+            Stage::Ended => Ok(false),
+        }
+    }
+}
+
+/// A text's first line without its line feed, and what stands behind it.
+fn cut_line(text: &[u8]) -> Option<(&[u8], &[u8])>
+    ensures { MatchOption result (HasNoFeed text.now)
+        (λ cut. HasNoFeed cut.0.now × (text.now ≡ cut.0.now ++ 10 ∷ cut.1.now)) }
+{
+    let at = text.iter().position(|byte| *byte == b'\n')?;
+    Some((&text[..at], &text[at + 1..]))
 }
