@@ -31,7 +31,7 @@ use Rattle.sgx_types.specs.declared.names.Perm.{Perm}
 use Rattle.sgx_types.specs.declared.names.Frame.{Frame}
 use Rattle.sgx_types.specs.declared.names.Cpu.{Cpu}
 use Rattle.text_words.specs.Words.{Words}
-use Rattle.text_words.proofs.Splits.{AreWords, split-join}
+use Rattle.text_words.proofs.Splits.{AreWords, IsApart, join-apart, split-join}
 use Rattle.text_words.proofs.WordLaws.{decimal-is_word, digest-is_word, hexadecimal-is_word}
 use Rattle.trace_text.specs.TraceText.{action_words, actor_word, answer_words, event_words, init_words, refusal_words, spelling}
 use Rattle.trace_text.specs.Readable.{FitsAction, FitsAnswer, FitsEvent, FitsInit, FitsRefusal, IsCssa, IsHash, IsMoved, IsPf, IsPlain, IsReadable, IsValue, IsVersion}
@@ -218,3 +218,9 @@ same_entry e f own other same =
   where
     some-inj : {x y : Entry} → Some x ≡ Some y → x ≡ y
     some-inj s = cc
+
+-- a readable entry's line has no line feed
+pub spelling_apart : (e : Entry) → IsReadable e → IsApart 10 (spelling e)
+unfolding spelling
+spelling_apart e readable =
+    join-apart (actor_word e.actor ∷ event_words e.event) (actor-is_word e.actor readable.actor, event-words e.event readable.event)

@@ -9,7 +9,9 @@ use Rattle.text_words.specs.Words.{Words}
 use Rattle.trace_text.specs.Readable.{AreReadable, IsReadable}
 use Rattle.trace_text.specs.TraceText.{actor_word, event_words, spelling}
 use Rattle.trace_lines.proofs.LineReads.{same_entry}
-use Rattle.trace_reader.specs.Lines.{CannotFollow, first_line, last_line, trace_lines}
+use Rattle.trace_reader.specs.declared.lines.Stage.{Stage}
+use Rattle.trace_reader.specs.declared.lines.Stage.TheVariants.{First, Entries, Ended}
+use Rattle.trace_reader.specs.Lines.{CannotFollow, first_line, last_line, lines_at, trace_lines}
 
 -- ---- the last line is no entry's: it begins with another byte
 
@@ -21,9 +23,9 @@ one-byte : {c d : ℕ} → c ∷ [] ≡ d ∷ [] → c ≡ d
 one-byte e = cc
 
 begins-other : (actor : Actor) (words : Words) → 101 ∷ [] ≡ take 1 (join_with_byte 32 (actor_word actor ∷ words)) → ⊥
-begins-other actors.Builder words same = let e : 101 ≡ 98 = one-byte (same ∙ first-byte 98 [] words) in omega arith
-begins-other actors.Reclaimer words same = let e : 101 ≡ 114 = one-byte (same ∙ first-byte 114 [] words) in omega arith
-begins-other (actors.Cpu p) words same = let e : 101 ≡ 112 = one-byte (same ∙ first-byte 112 (decimal p.0) words) in omega arith
+begins-other actors.Builder words same = let e : 101 ≡ 98 = one-byte {c = 101} {d = 98} (same ∙ first-byte 98 [] words) in omega arith
+begins-other actors.Reclaimer words same = let e : 101 ≡ 114 = one-byte {c = 101} {d = 114} (same ∙ first-byte 114 [] words) in omega arith
+begins-other (actors.Cpu p) words same = let e : 101 ≡ 112 = one-byte {c = 101} {d = 112} (same ∙ first-byte 112 (decimal p.0) words) in omega arith
 
 pub last-no_entry : (e : Entry) (count : ℕ) → last_line count ≡ spelling e → ⊥
 unfolding spelling
@@ -105,3 +107,18 @@ same_entries done whole own readable same =
     by_others : (es : List Entry) → whole ≡ done ++ es → last_line (length done) ∷ [] ≡ map spelling es ++ last_line (length whole) ∷ [] → done ≡ whole
     by_others [] are lines = sym (are ∙ append-nil done)
     by_others (e ∷ es) are lines = absurd (last-no_entry e (length done) (head-inj lines))
+
+-- ---- by the stage
+
+pub later_refused : (stage after : Stage) (done kept : List Entry) (line : List ℕ) → stage ≡ Entries → after ≡ stage → kept ≡ done
+    → AreReadable done → ((e : Entry) → IsReadable e → line ≡ spelling e → ⊥) → (line ≡ last_line (length done) → ⊥)
+    → (lines_at after kept ≡ lines_at stage done) × CannotFollow (lines_at stage done) line
+later_refused First after done kept line is same more own no_entry no_last = absurd cc
+later_refused Entries after done kept line is same more own no_entry no_last =
+    (ap (λ (s : Stage). lines_at s kept) same ∙ ap (lines_at Entries) more, others-only done line own no_entry no_last)
+later_refused Ended after done kept line is same more own no_entry no_last = absurd cc
+
+pub ended_refused : (stage : Stage) (done : List Entry) (line : List ℕ) → stage ≡ Ended → AreReadable done → CannotFollow (lines_at stage done) line
+ended_refused First done line is own = absurd cc
+ended_refused Entries done line is own = absurd cc
+ended_refused Ended done line is own = none_behind done line own

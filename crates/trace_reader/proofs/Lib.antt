@@ -1,2 +1,3 @@
 pub mod TextLaws
 pub mod FollowLaws
+pub mod FaultLaws

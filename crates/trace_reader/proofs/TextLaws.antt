@@ -65,3 +65,12 @@ text-joined entries =
     rw (body, count)
     (append_assoc (first_line ++ 10 ∷ []) (joined (map spelling entries)) (joined (last_line (length entries) ∷ []))
     ∙ ap (λ (text : List ℕ). first_line ++ 10 ∷ text) (sym (joined-append (map spelling entries) (last_line (length entries) ∷ []))))
+
+-- ---- one line more
+
+pub one_line : (lines : List (List ℕ)) (line behind : List ℕ) → joined (lines ++ line ∷ []) ++ behind ≡ joined lines ++ line ++ 10 ∷ behind
+one_line lines line behind =
+    ap (λ (text : List ℕ). text ++ behind) (joined-append lines (line ∷ []))
+    ∙ append_assoc (joined lines) (line ++ 10 ∷ []) behind
+    ∙ ap (λ (text : List ℕ). joined lines ++ text) (append_assoc line (10 ∷ []) behind)
+    ∙ sym (append_assoc (joined lines) line (10 ∷ behind))

@@ -2,3 +2,5 @@
 #![tactic(auto)]
 
 mod lines;
+pub mod reader;
+pub mod refusals;

@@ -1,7 +1,7 @@
 //! The lines of a trace, taken one after another.
 
 ghost use Rattle.std.specs.Prelude.{◌≡◌, ◌++◌, [], ◌∷◌, false, length, take, IfOk, MatchBool, MatchOption, OnErr};
-ghost use Rattle.trace_reader.specs.Lines.{CannotFollow, HasNoFeed, IsKept, IsRefused, IsTaken, first_line, joined, last_line, taken};
+ghost use Rattle.trace_reader.specs.Lines.{CannotFollow, HasNoFeed, IsKept, IsRefused, IsTaken, joined, last_line, taken};
 
 use sgx_types::entries::Entry;
 use sgx_types::names::Memory;
@@ -66,11 +66,12 @@ impl Lines {
             self.entries.push(entry)?;
             return Ok(true);
         }
-        let is_last = self.is_last(line)?;
-        if is_last {
+        if self.is_last(line)? {
             self.stage = Stage::Ended;
+            Ok(true)
+        } else {
+            Ok(false)
         }
-        Ok(is_last)
     }
 
     /// Takes the next line, where some trace goes on with it.
@@ -83,20 +84,53 @@ impl Lines {
     {
         match self.stage {
             Stage::First => {
-                let is_first = line == b"trace 1".as_slice();
-                if is_first {
+                if line == b"trace 1".as_slice() {
                     self.stage = Stage::Entries;
+                    Ok(true)
+                } else {
+                    Ok(false)
                 }
-                Ok(is_first)
             }
             Stage::Entries => self.take_later(alloc, line),
             Stage::Ended => Ok(false),
         }
     }
+
+    /// Takes the whole lines of a text, one after another, and answers what stands behind them. None where no trace goes
+    /// on with one of them; the lines before it are taken then.
+    pub(crate) fn take_lines<'a>(&mut self, alloc: Global, text: &'a [u8]) -> Result<Option<&'a [u8]>, Memory>
+        requires kept { IsKept self.old }
+        ensures kept { IsKept self.new }
+        ensures front { take (length self.old.entries.items) self.new.entries.items ≡ self.old.entries.items }
+        ensures taken { IfOk result (λ rest. MatchOption rest
+            (IsRefused (joined (taken self.old) ++ text.now) (taken self.new))
+            (λ rest. IsTaken (joined (taken self.old) ++ text.now) (taken self.new) rest.now)) }
+    {
+        let mut rest = text;
+        while let Some((line, behind)) = cut_line(rest) {
+            if !self.take_line(alloc, line)? {
+                return Ok(None);
+            }
+            rest = behind;
+        }
+        Ok(Some(rest))
+    }
+
+    /// The number of lines that were taken.
+    pub(crate) fn count(&self) -> u64
+        ensures { result ≡ length (taken self.now) }
+    {
+        let entries = self.entries.len() as u64;
+        match self.stage {
+            Stage::First => 0,
+            Stage::Entries => entries + 1,
+            Stage::Ended => entries + 2,
+        }
+    }
 }
 
 /// A text's first line without its line feed, and what stands behind it.
-fn cut_line(text: &[u8]) -> Option<(&[u8], &[u8])>
+pub(crate) fn cut_line(text: &[u8]) -> Option<(&[u8], &[u8])>
     ensures { MatchOption result (HasNoFeed text.now)
         (λ cut. HasNoFeed cut.0.now × (text.now ≡ cut.0.now ++ 10 ∷ cut.1.now)) }
 {
