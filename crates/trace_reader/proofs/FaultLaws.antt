@@ -4,7 +4,7 @@ use Rattle.std.specs.Fmt.{digits, digits_onto, digit_glyph}
 use Rattle.std.specs.List.{AllByRecursion}
 use Rattle.std.proofs.lemmas.Bool.{ne_eqb}
 use Rattle.std.proofs.lemmas.List.{append-nil, append_cancel_left, length-append, length-map, take-append-le, take-append-drop, length-take, take_all}
-use Rattle.std.proofs.lemmas.List.Elements.{All-nil, All-cons, All-append}
+use Rattle.std.proofs.lemmas.List.Elements.{All-nil, All-cons, All-append, All-from_recursion}
 use Rattle.std.proofs.lemmas.Bool.Decides.{nat_tests}
 use Rattle.sgx_types.specs.declared.entries.Entry.{Entry}
 use Rattle.text_words.proofs.Splits.{IsApart}
@@ -42,12 +42,11 @@ decimal-apart n = digits-apart 64 n [] (All-nil Other)
 
 last-apart : (n : ℕ) → IsApart 10 (last_line n)
 last-apart n =
-    All-cons Other 101 _ refl (All-cons Other 110 _ refl (All-cons Other 100 _ refl (All-cons Other 32 _ refl (decimal-apart n))))
+    All-append Other (101 ∷ 110 ∷ 100 ∷ 32 ∷ []) (decimal n)
+    (All-from_recursion Other (101 ∷ 110 ∷ 100 ∷ 32 ∷ []) (refl, (refl, (refl, (refl, tt))))) (decimal-apart n)
 
 first-apart : IsApart 10 first_line
-first-apart =
-    All-cons Other 116 _ refl (All-cons Other 114 _ refl (All-cons Other 97 _ refl (All-cons Other 99 _ refl
-    (All-cons Other 101 _ refl (All-cons Other 32 _ refl (All-cons Other 49 _ refl (All-nil Other)))))))
+first-apart = All-from_recursion Other first_line (refl, (refl, (refl, (refl, (refl, (refl, (refl, tt)))))))
 
 spellings-apart : (entries : List Entry) → AreReadable entries → AreApart (map spelling entries)
 spellings-apart [] all = tt

@@ -1,5 +1,5 @@
 -- Behind some lines of a trace comes the line of an entry, or the last line, and nothing else.
-use Rattle.std.proofs.Common.{◌≡◌, ℕ, ◌+◌, refl, sym, ap, ◌∙◌, List, [], ◌∷◌, ◌++◌, append_assoc, codes, decimal, length, map, take, arith}
+use Rattle.std.proofs.Common.{◌≡◌, ℕ, ◌+◌, refl, sym, ap, ◌∙◌, List, [], ◌∷◌, ◌++◌, append_assoc, codes, decimal, length, map, take, get_or, eqb, Bool, true, false}
 use Rattle.std.specs.List.{join_with_byte}
 use Rattle.std.proofs.lemmas.List.{append-nil}
 use Rattle.sgx_types.specs.declared.entries.Entry.{Entry}
@@ -19,13 +19,14 @@ first-byte : (c : ℕ) (word : List ℕ) (words : Words) → take 1 (join_with_b
 first-byte c word [] = refl
 first-byte c word (next ∷ words) = refl
 
-one-byte : {c d : ℕ} → c ∷ [] ≡ d ∷ [] → c ≡ d
-one-byte e = cc
+is-e : List ℕ → Bool
+is-e bytes = eqb (get_or bytes 0 0) 101
 
 begins-other : (actor : Actor) (words : Words) → 101 ∷ [] ≡ take 1 (join_with_byte 32 (actor_word actor ∷ words)) → ⊥
-begins-other actors.Builder words same = let e : 101 ≡ 98 = one-byte {c = 101} {d = 98} (same ∙ first-byte 98 [] words) in omega arith
-begins-other actors.Reclaimer words same = let e : 101 ≡ 114 = one-byte {c = 101} {d = 114} (same ∙ first-byte 114 [] words) in omega arith
-begins-other (actors.Cpu p) words same = let e : 101 ≡ 112 = one-byte {c = 101} {d = 112} (same ∙ first-byte 112 (decimal p.0) words) in omega arith
+unfolding is-e
+begins-other actors.Builder words same = let f : true ≡ false = ap is-e (same ∙ first-byte 98 [] words) in cc
+begins-other actors.Reclaimer words same = let f : true ≡ false = ap is-e (same ∙ first-byte 114 [] words) in cc
+begins-other (actors.Cpu p) words same = let f : true ≡ false = ap is-e (same ∙ first-byte 112 (decimal p.0) words) in cc
 
 pub last-no_entry : (e : Entry) (count : ℕ) → last_line count ≡ spelling e → ⊥
 unfolding spelling

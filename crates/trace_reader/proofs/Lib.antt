@@ -1,3 +1,4 @@
 pub mod TextLaws
 pub mod FollowLaws
 pub mod FaultLaws
+pub mod FeedLaws

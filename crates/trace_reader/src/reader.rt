@@ -1,6 +1,7 @@
 //! The text of a trace is read, whole or in pieces.
 
-ghost use Rattle.std.specs.Prelude.{◌≡◌, ℕ, List, ◌++◌, ◌∷◌, [], length, take, IfOk, MatchBool, MatchOption, OnErr, result_map};
+ghost use Rattle.std.specs.Prelude.{◌≡◌, ℕ, List, ◌++◌, ◌∷◌, [], length, take, IfOk, MatchBool, MatchOption, OnErr};
+ghost use Rattle.std.specs.Result.{result_map_both};
 ghost use Rattle.trace_reader.specs.Faults.{IsFirstFault, Reading};
 ghost use Rattle.trace_reader.specs.Lines.{CannotFollow, HasNoFeed, IsKept, IsRefused, IsTaken, joined, taken};
 ghost use Rattle.trace_reader.specs.Outcomes.{Feeds, Finishes, Tells};
@@ -145,7 +146,7 @@ impl TraceReader {
 
     /// The entries, oldest first, where the pieces together are the text of a trace.
     pub fn finish(self) -> Result<Vec<Entry>, TraceRefusal>
-        ensures { Finishes self (result_map (λ entries. entries.items) result) }
+        ensures { Finishes self (result_map_both (λ entries. entries.items) (λ why. why) result) }
     {
         let TraceReader { lines, part, fault } = self;
         if let Some(line) = fault {
@@ -163,7 +164,7 @@ impl TraceReader {
 
 /// The entries of a trace's text, oldest first.
 pub fn read_trace(alloc: Global, bytes: &[u8]) -> Result<Vec<Entry>, TraceRefusal>
-    ensures { Tells bytes.now (result_map (λ entries. entries.items) result) }
+    ensures { Tells bytes.now (result_map_both (λ entries. entries.items) (λ why. why) result) }
 {
     let mut reader = TraceReader::new(alloc);
     reader.feed(alloc, bytes)?;
