@@ -1,5 +1,5 @@
 -- The lines of a trace, and those that a reader has taken.
-use Rattle.std.specs.Prelude.{ℕ, ◌≡◌, ◌==◌, false, All, List, [], ◌∷◌, ◌++◌, codes, length, map}
+use Rattle.std.specs.Prelude.{ℕ, ◌≡◌, ◌==◌, Bool, true, false, All, List, [], ◌∷◌, ◌++◌, codes, length, map}
 use Rattle.std.specs.Fmt.{decimal}
 use Rattle.sgx_types.specs.declared.entries.Entry.{Entry}
 use Rattle.trace_text.specs.Readable.{AreReadable}
@@ -28,6 +28,10 @@ abbrev pub lines_at : Stage → List Entry → List (List ℕ)
 lines_at First entries = []
 lines_at Entries entries = first_line ∷ map spelling entries
 lines_at Ended entries = trace_lines entries
+
+abbrev pub is_last_stage : Stage → Bool
+is_last_stage Ended = true
+is_last_stage stage = false
 
 abbrev pub taken : Lines → List (List ℕ)
 taken lines = lines_at lines.stage lines.entries.items

@@ -1,7 +1,8 @@
 //! The lines of a trace, taken one after another.
 
 ghost use Rattle.std.specs.Prelude.{◌≡◌, ◌++◌, [], ◌∷◌, false, length, take, IfOk, MatchBool, MatchOption, OnErr};
-ghost use Rattle.trace_reader.specs.Lines.{CannotFollow, HasNoFeed, IsKept, IsRefused, IsTaken, joined, last_line, taken};
+ghost use Rattle.trace_reader.specs.Lines.{CannotFollow, HasNoFeed, IsKept, IsRefused, IsTaken, is_last_stage, joined, last_line, taken};
+ghost use Rattle.trace_reader.specs.Faults.{IsFirstFault, text_of};
 
 use sgx_types::entries::Entry;
 use sgx_types::names::Memory;
@@ -108,12 +109,38 @@ impl Lines {
     {
         let mut rest = text;
         while let Some((line, behind)) = cut_line(rest) {
-            if !self.take_line(alloc, line)? {
+            if self.take_line(alloc, line)? {
+                rest = behind;
+            } else {
                 return Ok(None);
             }
-            rest = behind;
         }
         Ok(Some(rest))
+    }
+
+    /// Whether the last line was taken.
+    fn is_ended(&self) -> bool
+        ensures { result ≡ is_last_stage self.now.stage }
+    {
+        match self.stage {
+            Stage::Ended => true,
+            Stage::First | Stage::Entries => false,
+        }
+    }
+
+    /// The line that a text lacks which is these whole lines and a part of one. None where it lacks nothing.
+    pub(crate) fn missing(&self, part: &[u8]) -> Option<u64>
+        requires kept { IsKept self.now }
+        requires apart { HasNoFeed part.now }
+        ensures { MatchOption result (joined (taken self.now) ++ part.now ≡ text_of self.now.entries.items)
+            (IsFirstFault (joined (taken self.now) ++ part.now)) }
+    {
+        let next = self.count() + 1;
+        if part.is_empty() {
+            if self.is_ended() { None } else { Some(next) }
+        } else {
+            Some(next)
+        }
     }
 
     /// The number of lines that were taken.

@@ -6,7 +6,7 @@ ghost use Rattle.trace_reader.specs.Faults.{IsFirstFault, Reading};
 ghost use Rattle.trace_reader.specs.Lines.{CannotFollow, HasNoFeed, IsKept, IsRefused, IsTaken, joined, taken};
 ghost use Rattle.trace_reader.specs.Outcomes.{Feeds, Finishes, Tells};
 
-use crate::lines::{Lines, Stage, cut_line};
+use crate::lines::{Lines, cut_line};
 use crate::refusals::TraceRefusal;
 use sgx_types::entries::Entry;
 use sgx_types::names::Memory;
@@ -68,12 +68,13 @@ fn take_whole(
         (IsRefused (joined (taken lines.old) ++ (part.now ++ end.now) ++ 10 ∷ behind.now) (taken lines.new))
         (λ rest. IsTaken (joined (taken lines.old) ++ (part.now ++ end.now) ++ 10 ∷ behind.now) (taken lines.new) rest.items)) }
 {
-    if !take_first(lines, alloc, part, end)? {
-        return Ok(None);
-    }
-    match lines.take_lines(alloc, behind)? {
-        Some(rest) => Ok(Some(rest.to_vec(alloc)?)),
-        None => Ok(None),
+    if take_first(lines, alloc, part, end)? {
+        match lines.take_lines(alloc, behind)? {
+            Some(rest) => Ok(Some(rest.to_vec(alloc)?)),
+            None => Ok(None),
+        }
+    } else {
+        Ok(None)
     }
 }
 
@@ -152,12 +153,9 @@ impl TraceReader {
         if let Some(line) = fault {
             return Err(TraceRefusal::Fault { line });
         }
-        if part.is_empty() && matches!(lines.stage, Stage::Ended) {
-            Ok(lines.entries)
-        } else {
-            Err(TraceRefusal::Fault {
-                line: lines.count() + 1,
-            })
+        match lines.missing(&part) {
+            None => Ok(lines.entries),
+            Some(line) => Err(TraceRefusal::Fault { line }),
         }
     }
 }
