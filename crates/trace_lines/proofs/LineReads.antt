@@ -204,7 +204,7 @@ unfolding words_of spelling
 words-read e readable =
     let words = actor_word e.actor ∷ event_words e.event in
     let split : slice_split (λ b. eqb b 32) (join_with_byte 32 words) ≡ words =
-            split-join words (actor-is_word e.actor readable.actor, event-words e.event readable.event) in
+    split-join words (actor-is_word e.actor readable.actor, event-words e.event readable.event) in
     ap (take 16) split ∙ take_all 16 words (omega (arith, event-few e.event))
 
 -- what is printed of a readable entry is read again as it

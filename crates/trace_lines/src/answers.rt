@@ -4,11 +4,11 @@ ghost use Rattle.std.specs.Prelude.{◌≡◌, IfSome};
 ghost use Rattle.trace_text.specs.Readable.{FitsAnswer, IsCssa, IsHash, IsMoved, IsPf, IsPlain, IsValue, IsVersion};
 ghost use Rattle.trace_lines.specs.Reading.{answer_of, cssa_of, hash_of, moved_of, pf_of, plain_of, texts, value_of, version_of};
 
-use trace_words::names::fault;
-use trace_words::words::{enclave, tag};
 use sgx_types::entries::{Action, Answer};
 use sgx_types::names::Page;
 use text_words::readers::{number, small};
+use trace_words::names::fault;
+use trace_words::words::{enclave, tag};
 
 #[tactic(auto, unfolding(crate::specs::Reading::plain_of))]
 fn plain(words: &[&[u8]]) -> Option<Answer>
@@ -119,10 +119,8 @@ pub(crate) fn answer(action: &Action, words: &[&[u8]]) -> Option<Answer>
         | Action::Plus { .. }
         | Action::OutLoad { .. } => value(words),
         Action::Init { .. } => hash(words),
-        Action::EwbStart { .. }
-        | Action::EldStart { .. } => version(words),
-        Action::Ewb { .. }
-        | Action::Eld { .. } => moved(words),
+        Action::EwbStart { .. } | Action::EldStart { .. } => version(words),
+        Action::Ewb { .. } | Action::Eld { .. } => moved(words),
         Action::Pf { .. } => pf(words),
     }
 }

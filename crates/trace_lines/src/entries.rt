@@ -6,13 +6,13 @@ ghost use Rattle.trace_lines.specs.Reading.{age_of, bus_of, done_of, entry_of, e
 
 use crate::answers::answer;
 use crate::instructions::action;
-use trace_words::names::{look, stop};
 use crate::refusals::refusal;
-use trace_words::words::{actor, cpu, enclave};
 use sgx_types::entries::{Actor, Entry, Event};
 use sgx_types::names::{Memory, Page};
 use std::alloc::{AllocError, Global};
 use text_words::readers::small;
+use trace_words::names::{look, stop};
+use trace_words::words::{actor, cpu, enclave};
 
 #[tactic(auto, unfolding(crate::specs::Reading::refused_of))]
 fn refused(words: &[&[u8]]) -> Option<Event>

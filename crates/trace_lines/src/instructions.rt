@@ -4,11 +4,11 @@ ghost use Rattle.std.specs.Prelude.{◌≡◌, IfSome, option_map};
 ghost use Rattle.trace_text.specs.Readable.{FitsAction, FitsInit};
 ghost use Rattle.trace_lines.specs.Reading.{add_row, aex_row, block_row, create_row, eld_row, eldstart_row, enter_row, epa_row, ewb_row, ewbstart_row, extend_row, fill_row, init_row, load_row, outload_row, outstore_row, pf_row, plus_row, resume_row, set_row, store_row, track_row, xadd_row, action_of, by_row, front_of, page_init, texts};
 
-use trace_words::names::{Row, access, cause, instruction, kind, perm};
-use trace_words::words::{byte, enclave, expect, frame, short};
 use sgx_types::entries::{Action, PageInit};
 use sgx_types::names::{Page, SlotAt};
 use text_words::readers::{number, small};
+use trace_words::names::{Row, access, cause, instruction, kind, perm};
+use trace_words::words::{byte, enclave, expect, frame, short};
 
 /// With what a page is added.
 #[tactic(auto, unfolding(crate::specs::Reading::page_init))]
@@ -76,7 +76,15 @@ fn read_add<'a>(words: &'a [&'a [u8]]) -> Option<(Action, &'a [&'a [u8]])>
     ensures read { option_map front_of result ≡ add_row (texts words.now) }
     ensures fits { IfSome result (λ front. FitsAction front.0) }
 {
-    let [enclave_word, number_word, frame_word, kind_word, perm_word, operands @ ..] = words else {
+    let [
+        enclave_word,
+        number_word,
+        frame_word,
+        kind_word,
+        perm_word,
+        operands @ ..,
+    ] = words
+    else {
         return None;
     };
     let enclave = enclave(enclave_word)?;
@@ -131,7 +139,14 @@ fn read_enter<'a>(words: &'a [&'a [u8]]) -> Option<(Action, &'a [&'a [u8]])>
     ensures read { option_map front_of result ≡ enter_row (texts words.now) }
     ensures fits { IfSome result (λ front. FitsAction front.0) }
 {
-    let [enclave_word, tcs_word, tcs_frame_word, ssa_frame_word, rest @ ..] = words else {
+    let [
+        enclave_word,
+        tcs_word,
+        tcs_frame_word,
+        ssa_frame_word,
+        rest @ ..,
+    ] = words
+    else {
         return None;
     };
     let action = Action::Enter {
@@ -148,7 +163,14 @@ fn read_resume<'a>(words: &'a [&'a [u8]]) -> Option<(Action, &'a [&'a [u8]])>
     ensures read { option_map front_of result ≡ resume_row (texts words.now) }
     ensures fits { IfSome result (λ front. FitsAction front.0) }
 {
-    let [enclave_word, tcs_word, tcs_frame_word, ssa_frame_word, rest @ ..] = words else {
+    let [
+        enclave_word,
+        tcs_word,
+        tcs_frame_word,
+        ssa_frame_word,
+        rest @ ..,
+    ] = words
+    else {
         return None;
     };
     let action = Action::Resume {
@@ -372,7 +394,15 @@ fn read_eldstart<'a>(words: &'a [&'a [u8]]) -> Option<(Action, &'a [&'a [u8]])>
     ensures read { option_map front_of result ≡ eldstart_row (texts words.now) }
     ensures fits { IfSome result (λ front. FitsAction front.0) }
 {
-    let [frame_word, page_enclave, page_number, slot_frame, slot_index, rest @ ..] = words else {
+    let [
+        frame_word,
+        page_enclave,
+        page_number,
+        slot_frame,
+        slot_index,
+        rest @ ..,
+    ] = words
+    else {
         return None;
     };
     let action = Action::EldStart {

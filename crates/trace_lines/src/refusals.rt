@@ -4,10 +4,10 @@ ghost use Rattle.std.specs.Prelude.{◌≡◌, IfSome};
 ghost use Rattle.trace_text.specs.Readable.{FitsRefusal};
 ghost use Rattle.trace_lines.specs.Reading.{one_of, refusal_of, texts, three_of, two_of};
 
-use trace_words::names::bare;
-use trace_words::words::tag;
 use sgx_types::refusals::Refusal;
 use text_words::readers::{number, small};
+use trace_words::names::bare;
+use trace_words::words::tag;
 
 #[tactic(auto, unfolding(crate::specs::Reading::one_of))]
 fn with_one(name: &[u8], field: &[u8]) -> Option<Refusal>

@@ -17,7 +17,7 @@ use Rattle.trace_reader.specs.declared.lines.Stage.TheVariants.{First, Entries, 
 use Rattle.trace_reader.specs.Faults.{IsBegun, IsFirstFault, text_of, whole_lines}
 use Rattle.trace_reader.specs.Lines.{CannotFollow, HasNoFeed, IsKept, IsRefused, IsTaken, NoneBefore, first_line, joined, last_line, lines_at, taken, trace_lines}
 use Rattle.trace_reader.proofs.TextLaws.{AreApart, text-joined, whole-all, whole-joined, whole-line, whole-part}
-use Rattle.trace_reader.proofs.FollowLaws.{not_whole}
+use Rattle.trace_reader.proofs.FollowLaws.{not_whole, same_entries}
 
 abbrev Other : ℕ → Type 0
 Other b = eqb b 10 ≡ false
@@ -99,9 +99,9 @@ refused-first : (stage : Stage) (entries : List Entry) (line rest : List ℕ) (t
 refused-first stage entries line rest text all apart refused same =
     let lines = lines_at stage entries in
     let whole : whole_lines text ≡ lines ++ line ∷ whole_lines rest =
-            ap whole_lines (same ∙ append_assoc (joined lines) line (10 ∷ rest))
-            ∙ whole-joined lines (line ++ 10 ∷ rest) (lines-apart stage entries all)
-            ∙ ap (λ (others : List (List ℕ)). lines ++ others) (whole-line line rest apart) in
+    ap whole_lines (same ∙ append_assoc (joined lines) line (10 ∷ rest))
+    ∙ whole-joined lines (line ++ 10 ∷ rest) (lines-apart stage entries all)
+    ∙ ap (λ (others : List (List ℕ)). lines ++ others) (whole-line line rest apart) in
     record {
       no_trace = λ es readable text_is.
           refused es (whole_lines rest) readable (sym (whole-text es readable) ∙ ap whole_lines (sym text_is) ∙ whole);
@@ -114,11 +114,11 @@ refused-first stage entries line rest text all apart refused same =
     none_begun lines line others text refused whole begun =
         let n = length lines + 1 in
         let front : take n (lines ++ line ∷ others) ≡ lines ++ line ∷ [] =
-                ap (take n) (sym (append_assoc lines (line ∷ []) others))
-                ∙ take-append-le n (lines ++ line ∷ []) others (omega (arith, length-append lines (line ∷ [])))
-                ∙ take_all n (lines ++ line ∷ []) (omega (arith, length-append lines (line ∷ []))) in
+        ap (take n) (sym (append_assoc lines (line ∷ []) others))
+        ∙ take-append-le n (lines ++ line ∷ []) others (omega (arith, length-append lines (line ∷ [])))
+        ∙ take_all n (lines ++ line ∷ []) (omega (arith, length-append lines (line ∷ []))) in
         let same : take n (trace_lines begun.entries) ≡ lines ++ line ∷ [] =
-                ap (take n) (sym (whole-text begun.entries begun.readable)) ∙ sym begun.same ∙ ap (take n) whole ∙ front in
+        ap (take n) (sym (whole-text begun.entries begun.readable)) ∙ sym begun.same ∙ ap (take n) whole ∙ front in
         refused begun.entries (drop n (trace_lines begun.entries)) begun.readable
         (sym (take-append-drop n (trace_lines begun.entries))
         ∙ ap (λ (front : List (List ℕ)). front ++ drop n (trace_lines begun.entries)) same
@@ -135,8 +135,8 @@ pub taken_begun : (lines : Lines) (text part : List ℕ) → IsKept lines → Ha
     → IsBegun text (length (whole_lines text))
 taken_begun lines text part kept apart same =
     let whole : whole_lines text ≡ taken lines ++ [] =
-            ap whole_lines same ∙ whole-joined (taken lines) part (lines-apart lines.stage lines.entries.items kept.readable)
-            ∙ ap (λ (others : List (List ℕ)). taken lines ++ others) (whole-part part apart) in
+    ap whole_lines same ∙ whole-joined (taken lines) part (lines-apart lines.stage lines.entries.items kept.readable)
+    ∙ ap (λ (others : List (List ℕ)). taken lines ++ others) (whole-part part apart) in
     let few = ap length whole ∙ length-append (taken lines) [] in
     begun-at (taken lines) text [] (length (whole_lines text)) (begins lines.stage lines.entries.items kept.readable) whole (omega (arith, few))
 
@@ -148,8 +148,8 @@ cut-fault : (stage : Stage) (entries : List Entry) (part text : List ℕ) → Ar
 cut-fault stage entries part text all apart same other =
     let lines = lines_at stage entries in
     let whole : whole_lines text ≡ lines ++ [] =
-            ap whole_lines same ∙ whole-joined lines part (lines-apart stage entries all)
-            ∙ ap (λ (others : List (List ℕ)). lines ++ others) (whole-part part apart) in
+    ap whole_lines same ∙ whole-joined lines part (lines-apart stage entries all)
+    ∙ ap (λ (others : List (List ℕ)). lines ++ others) (whole-part part apart) in
     let few = ap length whole ∙ length-append lines [] in
     record {
       no_trace = other;
@@ -164,11 +164,11 @@ text-parts : (stage : Stage) (entries es : List Entry) (part text : List ℕ) �
 text-parts stage entries es part text all apart same readable is =
     let lines = lines_at stage entries in
     let whole : lines ≡ trace_lines es =
-            sym (append-nil lines) ∙ sym (ap (λ (others : List (List ℕ)). lines ++ others) (whole-part part apart))
-            ∙ sym (whole-joined lines part (lines-apart stage entries all)) ∙ sym (ap whole_lines same)
-            ∙ ap whole_lines is ∙ whole-text es readable in
+    sym (append-nil lines) ∙ sym (ap (λ (others : List (List ℕ)). lines ++ others) (whole-part part apart))
+    ∙ sym (whole-joined lines part (lines-apart stage entries all)) ∙ sym (ap whole_lines same)
+    ∙ ap whole_lines is ∙ whole-text es readable in
     let both : joined lines ++ part ≡ joined lines ++ [] =
-            sym same ∙ is ∙ text-joined es ∙ ap joined (sym whole) ∙ sym (append-nil (joined lines)) in
+    sym same ∙ is ∙ text-joined es ∙ ap joined (sym whole) ∙ sym (append-nil (joined lines)) in
     (whole, append_cancel_left (joined lines) part [] both)
 
 pub part_fault : (lines : Lines) (part : List ℕ) → IsKept lines → HasNoFeed part → (part ≡ [] → ⊥)
@@ -187,7 +187,7 @@ pub end_fault : (lines : Lines) (part : List ℕ) → IsKept lines → HasNoFeed
 end_fault lines part kept apart other =
     cut-fault lines.stage lines.entries.items part (joined (taken lines) ++ part) kept.readable apart refl
     (λ es readable is. unended lines.stage lines.entries.items es other kept.readable readable
-        (text-parts lines.stage lines.entries.items es part (joined (taken lines) ++ part) kept.readable apart refl readable is).0)
+    (text-parts lines.stage lines.entries.items es part (joined (taken lines) ++ part) kept.readable apart refl readable is).0)
 
 -- the lines of a trace are its text
 pub ended_text : (lines : Lines) (part : List ℕ) → lines.stage ≡ Ended → part ≡ [] → joined (taken lines) ++ part ≡ text_of lines.entries.items
@@ -204,3 +204,9 @@ front_trans a b c first second =
     ∙ ap (λ (front : List Entry). take (length a) (front ++ drop (length b) c)) second
     ∙ take-append-le (length a) b (drop (length b) c) (omega (arith, short, length-take (length a) b))
     ∙ first
+
+-- ---- one text
+
+pub same_text : (entries others : List Entry) → AreReadable entries → AreReadable others → text_of entries ≡ text_of others → entries ≡ others
+same_text entries others own readable same =
+    same_entries entries others own readable (sym (whole-text entries own) ∙ ap whole_lines same ∙ whole-text others readable)

@@ -81,7 +81,7 @@ others-only done line own no_entry no_last whole others readable same =
 pub none_behind : (done : List Entry) (line : List ℕ) → AreReadable done → CannotFollow (trace_lines done) line
 none_behind done line own whole others readable same =
     let split : map spelling done ++ last_line (length done) ∷ line ∷ others ≡ map spelling whole ++ last_line (length whole) ∷ [] =
-            sym (append_assoc (map spelling done) (last_line (length done) ∷ []) (line ∷ others)) ∙ sym (tail-inj same) in
+    sym (append_assoc (map spelling done) (last_line (length done) ∷ []) (line ∷ others)) ∙ sym (tail-inj same) in
     let rest = goes_on done whole (length whole) (last_line (length done) ∷ line ∷ others) own readable split in
     by_others rest.others rest.lines_are
   where

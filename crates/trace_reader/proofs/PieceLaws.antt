@@ -67,10 +67,10 @@ pub piece_fault : (lines : Lines) (head part own piece end behind : List ℕ) (c
     → (more : List ℕ) → IsFirstFault (((head ++ part) ++ piece) ++ more) (count + 1)
 piece_fault lines head part own piece end behind count kept refused same cut is more =
     let text : head ++ (own ++ end) ++ 10 ∷ behind ≡ (head ++ part) ++ piece =
-            ap (λ (p : List ℕ). head ++ (p ++ end) ++ 10 ∷ behind) same
-            ∙ ap (λ (t : List ℕ). t ++ 10 ∷ behind) (sym (append_assoc head part end))
-            ∙ append_assoc (head ++ part) end (10 ∷ behind)
-            ∙ ap (λ (t : List ℕ). (head ++ part) ++ t) (sym cut) in
+    ap (λ (p : List ℕ). head ++ (p ++ end) ++ 10 ∷ behind) same
+    ∙ ap (λ (t : List ℕ). t ++ 10 ∷ behind) (sym (append_assoc head part end))
+    ∙ append_assoc (head ++ part) end (10 ∷ behind)
+    ∙ ap (λ (t : List ℕ). (head ++ part) ++ t) (sym cut) in
     subst (λ (t : List ℕ). IsFirstFault (t ++ more) (count + 1)) text
     (subst (λ (n : ℕ). IsFirstFault ((head ++ (own ++ end) ++ 10 ∷ behind) ++ more) (n + 1)) (sym is)
     (refused_fault lines (head ++ (own ++ end) ++ 10 ∷ behind) more kept refused))

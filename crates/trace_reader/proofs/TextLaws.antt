@@ -60,7 +60,7 @@ pub text-joined : (entries : List Entry) → text_of entries ≡ joined (trace_l
 unfolding trace_of
 text-joined entries =
     let body : entries_text (reverse entries) ≡ joined (map spelling entries) =
-            entries-joined (reverse entries) ∙ ap (λ (es : List Entry). joined (map spelling es)) (reverse-reverse entries) in
+    entries-joined (reverse entries) ∙ ap (λ (es : List Entry). joined (map spelling es)) (reverse-reverse entries) in
     let count : length (reverse entries) ≡ length entries = length-reverse entries in
     rw (body, count)
     (append_assoc (first_line ++ 10 ∷ []) (joined (map spelling entries)) (joined (last_line (length entries) ∷ []))

@@ -11,7 +11,6 @@ use text_words::words::Word::{Decimal, Name};
 use text_words::words::{push_word, push_words};
 use trace_lines::lines::read_line;
 
-
 /// Which line comes next: the first, an entry's or the last, or none.
 #[derive(Clone, Copy)]
 pub(crate) enum Stage {
@@ -99,7 +98,11 @@ impl Lines {
 
     /// Takes the whole lines of a text, one after another, and answers what stands behind them. None where no trace goes
     /// on with one of them; the lines before it are taken then.
-    pub(crate) fn take_lines<'a>(&mut self, alloc: Global, text: &'a [u8]) -> Result<Option<&'a [u8]>, Memory>
+    pub(crate) fn take_lines<'a>(
+        &mut self,
+        alloc: Global,
+        text: &'a [u8],
+    ) -> Result<Option<&'a [u8]>, Memory>
         requires kept { IsKept self.old }
         ensures kept { IsKept self.new }
         ensures front { take (length self.old.entries.items) self.new.entries.items ≡ self.old.entries.items }

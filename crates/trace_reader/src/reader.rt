@@ -2,8 +2,10 @@
 
 ghost use Rattle.std.specs.Prelude.{◌≡◌, ℕ, List, ◌++◌, ◌∷◌, [], length, take, IfOk, MatchBool, MatchOption, OnErr};
 ghost use Rattle.std.specs.Result.{result_map_both};
-ghost use Rattle.trace_reader.specs.Faults.{IsFirstFault, Reading};
+ghost use Rattle.sgx_types.specs.declared.entries.Entry.{Entry};
+ghost use Rattle.trace_reader.specs.Faults.{IsFirstFault, Reading, text_of};
 ghost use Rattle.trace_reader.specs.Lines.{CannotFollow, HasNoFeed, IsKept, IsRefused, IsTaken, joined, taken};
+ghost use Rattle.trace_text.specs.Readable.{AreReadable};
 ghost use Rattle.trace_reader.specs.Outcomes.{Feeds, Finishes, Tells};
 
 use crate::lines::{Lines, cut_line};
@@ -168,3 +170,8 @@ pub fn read_trace(alloc: Global, bytes: &[u8]) -> Result<Vec<Entry>, TraceRefusa
     reader.feed(alloc, bytes)?;
     reader.finish()
 }
+
+/// Two traces of readable entries never have the same text.
+pub fn no_two_traces_share_a_text()
+    ensures { (entries others : List Entry) → AreReadable entries → AreReadable others → text_of entries ≡ text_of others → entries ≡ others }
+{}

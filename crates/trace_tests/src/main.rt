@@ -1,14 +1,12 @@
-// Reads traces from files: whole, and where it is asked for also in pieces of 1, 2 and 7 bytes, and prints what was read again.
-// For each file it says how many entries were read, or the line of the fault.
+// Reads traces from files and says of each how many entries it has, or the line of its fault. The first word is `whole`, or
+// `pieces`: then each is read in pieces of 1, 2 and 7 bytes too, and what was read is printed again.
 #![tactic(auto)]
 
 ghost use Rattle.std.specs.Prelude.{◌<◌};
 
 use sgx_types::entries::Entry;
 use std::alloc::Global;
-use std::env;
-use std::fs;
-use std::io;
+use std::{env, fs, io};
 use trace_reader::reader::{TraceReader, read_trace};
 use trace_reader::refusals::TraceRefusal;
 use trace_text::trace::print_trace;
@@ -27,7 +25,10 @@ fn main(rt: HostRuntime) -> io::Result<()> {
             println!(rt; "{path}: in pieces another answer")?;
         }
         match &told {
-            Ok(entries) if is_printed(rt.alloc(), entries, bytes) => println!(rt; "{path}: {} entries", entries.len())?,
+            Ok(entries) if !in_pieces || is_printed(rt.alloc(), entries, bytes) => println!(rt;
+                "{path}: {} entries",
+                entries.len()
+            )?,
             Ok(_) => println!(rt; "{path}: printed otherwise")?,
             Err(TraceRefusal::Fault { line }) => println!(rt; "{path}: line {line}")?,
             Err(TraceRefusal::Memory) => println!(rt; "{path}: no memory")?,

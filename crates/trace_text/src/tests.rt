@@ -7,7 +7,7 @@ use crate::tests::building::{OTHER_PAGES, TEXT, WHOLE};
 use crate::tests::paging::{PAGING, REFUSED};
 use crate::tests::rows::Row;
 use crate::tests::running::PROCESSORS;
-use crate::trace::{print_trace, print_entry};
+use crate::trace::{print_entry, print_trace};
 use std::process::Abort;
 use std::str;
 use std::test::Fail;

@@ -11,4 +11,4 @@ returns-in-Ok-None c =
     feeds_ok c.args.self.now c.self.inside.fault (joined (taken c.self.inside.lines) ++ c.self.inside.part.items) c.args.piece.now
     (joined (taken c.take_piece.new.lines) ++ c.take_piece.new.part.items) c.self.view_is c.in_default.is same
     (taken_begun c.take_piece.new.lines ((joined (taken c.self.inside.lines) ++ c.self.inside.part.items) ++ c.args.piece.now)
-        c.take_piece.new.part.items c.in-Ok-None.ensures.kept c.in-Ok-None.ensures.apart same)
+    c.take_piece.new.part.items c.in-Ok-None.ensures.kept c.in-Ok-None.ensures.apart same)
