@@ -15,4 +15,5 @@ found-fits p (refusal ∷ others) all =
 
 pub bare_fits : (word : List ℕ) (read : Option Refusal) → read ≡ bare_of word → IfSome read FitsRefusal
 unfolding bare_of
-bare_fits word read same = subst (λ r. IfSome r FitsRefusal) (sym same) (found-fits (λ refusal. bytes_eq word (bare_word refusal)) bares (search rules))
+bare_fits word read same = subst (λ r. IfSome r FitsRefusal) (sym same)
+    (found-fits (λ refusal. bytes_eq word (bare_word refusal)) bares (search rules))

@@ -49,12 +49,18 @@ init-words (inits.Tcs ossa nssa) fits = (refl, (small-is_word ossa fits.0, (smal
 
 action-words : (action : Action) → FitsAction action → AreWords (action_words action)
 action-words (actions.Epa f) fits = (refl, (small-is_word f.0 fits, tt))
-action-words (actions.Create enclave f base size) fits = (refl, (enclave-is_word enclave fits.0, (small-is_word f.0 fits.1, (hexadecimal-is_word base fits.2, (hexadecimal-is_word size fits.3, tt)))))
-action-words (actions.Add enclave number f kind perm init) fits = (refl, (enclave-is_word enclave fits.0, (small-is_word number fits.1, (small-is_word f.0 fits.2, (kind-is_word kind, (perm-is_word perm, init-words init fits.3))))))
+action-words (actions.Create enclave f base size) fits =
+    (refl, (enclave-is_word enclave fits.0, (small-is_word f.0 fits.1,
+    (hexadecimal-is_word base fits.2, (hexadecimal-is_word size fits.3, tt)))))
+action-words (actions.Add enclave number f kind perm init) fits =
+    (refl, (enclave-is_word enclave fits.0, (small-is_word number fits.1,
+    (small-is_word f.0 fits.2, (kind-is_word kind, (perm-is_word perm, init-words init fits.3))))))
 action-words (actions.Extend f chunk) fits = (refl, (small-is_word f.0 fits.0, (byte-is_word chunk fits.1, tt)))
 action-words (actions.Init enclave expect) fits = (refl, (enclave-is_word enclave fits.0, (expect-is_word expect fits.1, tt)))
-action-words (actions.Enter enclave tcs tf sf) fits = (refl, (enclave-is_word enclave fits.0, (small-is_word tcs fits.1, (small-is_word tf.0 fits.2, (small-is_word sf.0 fits.3, tt)))))
-action-words (actions.Resume enclave tcs tf sf) fits = (refl, (enclave-is_word enclave fits.0, (small-is_word tcs fits.1, (small-is_word tf.0 fits.2, (small-is_word sf.0 fits.3, tt)))))
+action-words (actions.Enter enclave tcs tf sf) fits =
+    (refl, (enclave-is_word enclave fits.0, (small-is_word tcs fits.1, (small-is_word tf.0 fits.2, (small-is_word sf.0 fits.3, tt)))))
+action-words (actions.Resume enclave tcs tf sf) fits =
+    (refl, (enclave-is_word enclave fits.0, (small-is_word tcs fits.1, (small-is_word tf.0 fits.2, (small-is_word sf.0 fits.3, tt)))))
 action-words actions.Exit fits = (refl, tt)
 action-words (actions.Aex cause) fits = (refl, (cause-is_word cause, tt))
 action-words (actions.Fill number f) fits = (refl, (small-is_word number fits.0, (small-is_word f.0 fits.1, tt)))
@@ -65,12 +71,16 @@ action-words (actions.Set value) fits = (refl, (decimal-is_word value fits, tt))
 action-words (actions.Plus value) fits = (refl, (decimal-is_word value fits, tt))
 action-words (actions.Pf op off) fits = (refl, (access-is_word op, (hexadecimal-is_word off fits, tt)))
 action-words (actions.OutLoad enclave off) fits = (refl, (enclave-is_word enclave fits.0, (hexadecimal-is_word off fits.1, tt)))
-action-words (actions.OutStore enclave off value) fits = (refl, (enclave-is_word enclave fits.0, (hexadecimal-is_word off fits.1, (decimal-is_word value fits.2, tt))))
+action-words (actions.OutStore enclave off value) fits =
+    (refl, (enclave-is_word enclave fits.0, (hexadecimal-is_word off fits.1, (decimal-is_word value fits.2, tt))))
 action-words (actions.Block f) fits = (refl, (small-is_word f.0 fits, tt))
 action-words (actions.Track enclave) fits = (refl, (enclave-is_word enclave fits, tt))
-action-words (actions.EwbStart f slot) fits = (refl, (small-is_word f.0 fits.0, (small-is_word slot.frame.0 fits.1.0, (short-is_word slot.index fits.1.1, tt))))
+action-words (actions.EwbStart f slot) fits =
+    (refl, (small-is_word f.0 fits.0, (small-is_word slot.frame.0 fits.1.0, (short-is_word slot.index fits.1.1, tt))))
 action-words (actions.Ewb f) fits = (refl, (small-is_word f.0 fits, tt))
-action-words (actions.EldStart f page slot) fits = (refl, (small-is_word f.0 fits.0, (enclave-is_word page.enclave fits.1.0, (small-is_word page.number fits.1.1, (small-is_word slot.frame.0 fits.2.0, (short-is_word slot.index fits.2.1, tt))))))
+action-words (actions.EldStart f page slot) fits =
+    (refl, (small-is_word f.0 fits.0, (enclave-is_word page.enclave fits.1.0,
+    (small-is_word page.number fits.1.1, (small-is_word slot.frame.0 fits.2.0, (short-is_word slot.index fits.2.1, tt))))))
 action-words (actions.Eld f) fits = (refl, (small-is_word f.0 fits, tt))
 
 plain-words : (answer : Answer) → IsPlain answer → AreWords (answer_words answer)
@@ -95,7 +105,8 @@ version-words answer is = absurd is
 
 moved-words : (answer : Answer) → IsMoved answer → AreWords (answer_words answer)
 moved-words (answers.Moved page version tag) is =
-    (enclave-is_word page.enclave is.0.0, (small-is_word page.number is.0.1, (decimal-is_word version is.1, (digest-is_word tag is.2, tt))))
+    (enclave-is_word page.enclave is.0.0, (small-is_word page.number is.0.1,
+        (decimal-is_word version is.1, (digest-is_word tag is.2, tt))))
 moved-words answer is = absurd is
 
 pf-words : (answer : Answer) → IsPf answer → AreWords (answer_words answer)
@@ -191,8 +202,10 @@ refusal-few why.WrongMode = lit≤ tt
 refusal-few refusal = lit≤ tt
 
 event-few : (event : Event) → length (event_words event) ≤ 14
-event-few (events.Did action answer) = omega (arith, length-append (action_words action) (answer_words answer), action-few action, answer-few answer)
-event-few (events.Refused action refusal) = omega (arith, length-append (action_words action) (refusal_words refusal), action-few action, refusal-few refusal)
+event-few (events.Did action answer) = omega
+    (arith, length-append (action_words action) (answer_words answer), action-few action, answer-few answer)
+event-few (events.Refused action refusal) =
+    omega (arith, length-append (action_words action) (refusal_words refusal), action-few action, refusal-few refusal)
 event-few (events.Age page look) = lit≤ tt
 event-few (events.Kick cpu) = lit≤ tt
 event-few (events.Bus page stop) = lit≤ tt
@@ -209,7 +222,8 @@ words-read e readable =
 
 -- what is printed of a readable entry is read again as it
 pub line_read : (e : Entry) (line : List ℕ) → IsReadable e → line ≡ spelling e → entry_of (words_of line) ≡ Some e
-line_read e line readable same = ap (λ (l : List ℕ). entry_of (words_of l)) same ∙ ap entry_of (words-read e readable) ∙ entry-read e readable
+line_read e line readable same = ap (λ (l : List ℕ). entry_of (words_of l)) same ∙ ap entry_of (words-read e readable)
+    ∙ entry-read e readable
 
 -- two readable entries with one spelling are one entry
 pub same_entry : (e f : Entry) → IsReadable e → IsReadable f → spelling e ≡ spelling f → e ≡ f

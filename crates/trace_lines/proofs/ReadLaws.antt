@@ -47,12 +47,17 @@ init-read (inits.Tcs ossa nssa) rest fits = rw (small_of-decimal ossa fits.0, sm
 action-read : (action : Action) (rest : Words) → FitsAction action → action_of (action_words action ++ rest) ≡ Some (action, rest)
 unfolding action_of row_of epa_row create_row add_row extend_row init_row enter_row resume_row aex_row fill_row load_row store_row xadd_row set_row plus_row pf_row outload_row outstore_row block_row track_row ewbstart_row ewb_row eldstart_row eld_row
 action-read (actions.Epa f) rest fits = rw (frame-read f.0 fits) refl
-action-read (actions.Create enclave f base size) rest fits = rw (enclave-read enclave fits.0, frame-read f.0 fits.1, number_of-hexadecimal base fits.2, number_of-hexadecimal size fits.3) refl
-action-read (actions.Add enclave number f kind perm init) rest fits = rw (enclave-read enclave fits.0, small_of-decimal number fits.1, frame-read f.0 fits.2, kind-read kind, perm-read perm, init-read init rest fits.3) refl
+action-read (actions.Create enclave f base size) rest fits =
+    rw (enclave-read enclave fits.0, frame-read f.0 fits.1, number_of-hexadecimal base fits.2, number_of-hexadecimal size fits.3) refl
+action-read (actions.Add enclave number f kind perm init) rest fits =
+    rw (enclave-read enclave fits.0, small_of-decimal number fits.1, frame-read f.0 fits.2, kind-read kind, perm-read perm,
+    init-read init rest fits.3) refl
 action-read (actions.Extend f chunk) rest fits = rw (frame-read f.0 fits.0, byte-read chunk fits.1) refl
 action-read (actions.Init enclave expect) rest fits = rw (enclave-read enclave fits.0, expect-read expect fits.1) refl
-action-read (actions.Enter enclave tcs tf sf) rest fits = rw (enclave-read enclave fits.0, small_of-decimal tcs fits.1, frame-read tf.0 fits.2, frame-read sf.0 fits.3) refl
-action-read (actions.Resume enclave tcs tf sf) rest fits = rw (enclave-read enclave fits.0, small_of-decimal tcs fits.1, frame-read tf.0 fits.2, frame-read sf.0 fits.3) refl
+action-read (actions.Enter enclave tcs tf sf) rest fits =
+    rw (enclave-read enclave fits.0, small_of-decimal tcs fits.1, frame-read tf.0 fits.2, frame-read sf.0 fits.3) refl
+action-read (actions.Resume enclave tcs tf sf) rest fits =
+    rw (enclave-read enclave fits.0, small_of-decimal tcs fits.1, frame-read tf.0 fits.2, frame-read sf.0 fits.3) refl
 action-read actions.Exit rest fits = refl
 action-read (actions.Aex cause) rest fits = rw (cause-read cause) refl
 action-read (actions.Fill number f) rest fits = rw (small_of-decimal number fits.0, frame-read f.0 fits.1) refl
@@ -63,12 +68,16 @@ action-read (actions.Set value) rest fits = rw (number_of-decimal value fits) re
 action-read (actions.Plus value) rest fits = rw (number_of-decimal value fits) refl
 action-read (actions.Pf op off) rest fits = rw (access-read op, number_of-hexadecimal off fits) refl
 action-read (actions.OutLoad enclave off) rest fits = rw (enclave-read enclave fits.0, number_of-hexadecimal off fits.1) refl
-action-read (actions.OutStore enclave off value) rest fits = rw (enclave-read enclave fits.0, number_of-hexadecimal off fits.1, number_of-decimal value fits.2) refl
+action-read (actions.OutStore enclave off value) rest fits =
+    rw (enclave-read enclave fits.0, number_of-hexadecimal off fits.1, number_of-decimal value fits.2) refl
 action-read (actions.Block f) rest fits = rw (frame-read f.0 fits) refl
 action-read (actions.Track enclave) rest fits = rw (enclave-read enclave fits) refl
-action-read (actions.EwbStart f slot) rest fits = rw (frame-read f.0 fits.0, frame-read slot.frame.0 fits.1.0, short-read slot.index fits.1.1) refl
+action-read (actions.EwbStart f slot) rest fits =
+    rw (frame-read f.0 fits.0, frame-read slot.frame.0 fits.1.0, short-read slot.index fits.1.1) refl
 action-read (actions.Ewb f) rest fits = rw (frame-read f.0 fits) refl
-action-read (actions.EldStart f page slot) rest fits = rw (frame-read f.0 fits.0, enclave-read page.enclave fits.1.0, small_of-decimal page.number fits.1.1, frame-read slot.frame.0 fits.2.0, short-read slot.index fits.2.1) refl
+action-read (actions.EldStart f page slot) rest fits =
+    rw (frame-read f.0 fits.0, enclave-read page.enclave fits.1.0, small_of-decimal page.number fits.1.1,
+    frame-read slot.frame.0 fits.2.0, short-read slot.index fits.2.1) refl
 action-read (actions.Eld f) rest fits = rw (frame-read f.0 fits) refl
 
 -- ---- answers
@@ -101,7 +110,8 @@ version-read answer is = absurd is
 moved-read : (answer : Answer) → IsMoved answer → moved_of (answer_words answer) ≡ Some answer
 unfolding moved_of
 moved-read (answers.Moved page version tag) is =
-    rw (enclave-read page.enclave is.0.0, small_of-decimal page.number is.0.1, number_of-decimal version is.1, digest_of-encode_lower tag is.2) refl
+    rw (enclave-read page.enclave is.0.0, small_of-decimal page.number is.0.1, number_of-decimal version is.1,
+        digest_of-encode_lower tag is.2) refl
 moved-read answer is = absurd is
 
 pf-read : (answer : Answer) → IsPf answer → pf_of (answer_words answer) ≡ Some answer
@@ -186,7 +196,8 @@ done-read : (action : Action) (answer : Answer) → FitsAction action → FitsAn
 unfolding event_of
 done-read (actions.Epa f) answer fits form = done-all (actions.Epa f) answer fits form
 done-read (actions.Create enclave f base size) answer fits form = done-all (actions.Create enclave f base size) answer fits form
-done-read (actions.Add enclave number f kind perm init) answer fits form = done-all (actions.Add enclave number f kind perm init) answer fits form
+done-read (actions.Add enclave number f kind perm init) answer fits form =
+    done-all (actions.Add enclave number f kind perm init) answer fits form
 done-read (actions.Extend f chunk) answer fits form = done-all (actions.Extend f chunk) answer fits form
 done-read (actions.Init enclave expect) answer fits form = done-all (actions.Init enclave expect) answer fits form
 done-read (actions.Enter enclave tcs tf sf) answer fits form = done-all (actions.Enter enclave tcs tf sf) answer fits form

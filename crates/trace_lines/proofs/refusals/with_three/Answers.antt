@@ -6,4 +6,5 @@ use Rattle.trace_lines.proofs.refusals.with_three.Goals as goal
 
 pub returns-in_ok-number-in-BadHeader-3-clause-read : goal.returns-in_ok-number-in-BadHeader-3-clause-read
 unfolding three_of
-returns-in_ok-number-in-BadHeader-3-clause-read c = rw (text_from_reads c.args.name.now (codes "BadHeader") (omega arith) (search rules)) (search rules)
+returns-in_ok-number-in-BadHeader-3-clause-read c =
+    rw (text_from_reads c.args.name.now (codes "BadHeader") (omega arith) (search rules)) (search rules)

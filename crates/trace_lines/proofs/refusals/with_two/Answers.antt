@@ -6,8 +6,10 @@ use Rattle.trace_lines.proofs.refusals.with_two.Goals as goal
 
 pub returns-in_ok-tag-in-MacFail-2-clause-read : goal.returns-in_ok-tag-in-MacFail-2-clause-read
 unfolding two_of
-returns-in_ok-tag-in-MacFail-2-clause-read c = rw (text_from_reads c.args.name.now (codes "MacFail") (omega arith) (search rules)) (search rules)
+returns-in_ok-tag-in-MacFail-2-clause-read c =
+    rw (text_from_reads c.args.name.now (codes "MacFail") (omega arith) (search rules)) (search rules)
 
 pub returns-in_ok-small-in-NotTracked-clause-read : goal.returns-in_ok-small-in-NotTracked-clause-read
 unfolding two_of
-returns-in_ok-small-in-NotTracked-clause-read c = rw (text_from_reads c.args.name.now (codes "NotTracked") (omega arith) (search rules)) (search rules)
+returns-in_ok-small-in-NotTracked-clause-read c =
+    rw (text_from_reads c.args.name.now (codes "NotTracked") (omega arith) (search rules)) (search rules)
