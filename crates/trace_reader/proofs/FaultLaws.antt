@@ -30,8 +30,10 @@ glyph-apart d = grind (arith, nat_tests)
 digits-apart : (k n : ℕ) (acc : List ℕ) → IsApart 10 acc → IsApart 10 (digits_onto k 10 false n acc)
 digits-apart zero n acc apart = apart
 digits-apart (suc k) n acc apart =
-    let more : IsApart 10 (digit_glyph false (n % 10) ∷ acc) = All-cons Other (digit_glyph false (n % 10)) acc (glyph-apart (n % 10)) apart in
-    elim (eqb (n / 10) 0) as (λ last. IsApart 10 (if last then digit_glyph false (n % 10) ∷ acc else digits_onto k 10 false (n / 10) (digit_glyph false (n % 10) ∷ acc))) [
+    let more : IsApart 10 (digit_glyph false (n % 10) ∷ acc) =
+    All-cons Other (digit_glyph false (n % 10)) acc (glyph-apart (n % 10)) apart in
+    elim (eqb (n / 10) 0) as (λ last. IsApart 10
+    (if last then digit_glyph false (n % 10) ∷ acc else digits_onto k 10 false (n / 10) (digit_glyph false (n % 10) ∷ acc))) [
       | true ↦ more
       | false ↦ digits-apart k (n / 10) (digit_glyph false (n % 10) ∷ acc) more
     ]
@@ -57,8 +59,11 @@ apart-append [] others all rest = rest
 apart-append (line ∷ lines) others all rest = (all.0, apart-append lines others all.1 rest)
 
 pub trace-apart : (entries : List Entry) → AreReadable entries → AreApart (trace_lines entries)
-trace-apart entries all =
-    (first-apart, apart-append (map spelling entries) (last_line (length entries) ∷ []) (spellings-apart entries all) (last-apart (length entries), tt))
+trace-apart entries all = (
+  first-apart,
+  apart-append (map spelling entries) (last_line (length entries) ∷ []) (spellings-apart entries all)
+      (last-apart (length entries), tt),
+)
 
 pub lines-apart : (stage : Stage) (entries : List Entry) → AreReadable entries → AreApart (lines_at stage entries)
 lines-apart First entries all = tt
@@ -81,7 +86,8 @@ begins First entries all = record { entries = []; readable = tt; others = trace_
 begins Entries entries all = record { entries = entries; readable = all; others = last_line (length entries) ∷ []; same = refl }
 begins Ended entries all = record { entries = entries; readable = all; others = []; same = sym (append-nil (trace_lines entries)) }
 
-begun-at : (lines : List (List ℕ)) (text : List ℕ) (more : List (List ℕ)) (n : ℕ) → Begins lines → whole_lines text ≡ lines ++ more → n ≤ length lines → IsBegun text n
+begun-at : (lines : List (List ℕ)) (text : List ℕ) (more : List (List ℕ)) (n : ℕ) → Begins lines → whole_lines text ≡ lines ++ more
+    → n ≤ length lines → IsBegun text n
 begun-at lines text more n b whole within = record {
   entries = b.entries;
   readable = b.readable;
@@ -124,9 +130,11 @@ refused-first stage entries line rest text all apart refused same =
         ∙ ap (λ (front : List (List ℕ)). front ++ drop n (trace_lines begun.entries)) same
         ∙ append_assoc lines (line ∷ []) (drop n (trace_lines begun.entries)))
 
-pub refused_fault : (lines : Lines) (text more : List ℕ) → IsKept lines → IsRefused text (taken lines) → IsFirstFault (text ++ more) (length (taken lines) + 1)
+pub refused_fault : (lines : Lines) (text more : List ℕ) → IsKept lines → IsRefused text (taken lines)
+    → IsFirstFault (text ++ more) (length (taken lines) + 1)
 refused_fault lines text more kept refused =
-    refused-first lines.stage lines.entries.items refused.line (refused.rest ++ more) (text ++ more) kept.readable refused.apart refused.refused
+    refused-first lines.stage lines.entries.items refused.line (refused.rest ++ more)
+    (text ++ more) kept.readable refused.apart refused.refused
     (ap (λ (t : List ℕ). t ++ more) refused.same
     ∙ append_assoc (joined (taken lines) ++ refused.line) (10 ∷ refused.rest) more)
 
@@ -138,7 +146,8 @@ taken_begun lines text part kept apart same =
     ap whole_lines same ∙ whole-joined (taken lines) part (lines-apart lines.stage lines.entries.items kept.readable)
     ∙ ap (λ (others : List (List ℕ)). taken lines ++ others) (whole-part part apart) in
     let few = ap length whole ∙ length-append (taken lines) [] in
-    begun-at (taken lines) text [] (length (whole_lines text)) (begins lines.stage lines.entries.items kept.readable) whole (omega (arith, few))
+    begun-at (taken lines) text [] (length (whole_lines text)) (begins lines.stage lines.entries.items kept.readable) whole
+    (omega (arith, few))
 
 -- a text that ends before its trace does has its first fault in the line that is missing
 cut-fault : (stage : Stage) (entries : List Entry) (part text : List ℕ) → AreReadable entries → IsApart 10 part
@@ -175,9 +184,11 @@ pub part_fault : (lines : Lines) (part : List ℕ) → IsKept lines → HasNoFee
     → IsFirstFault (joined (taken lines) ++ part) (length (taken lines) + 1)
 part_fault lines part kept apart some =
     cut-fault lines.stage lines.entries.items part (joined (taken lines) ++ part) kept.readable apart refl
-    (λ es readable is. some (text-parts lines.stage lines.entries.items es part (joined (taken lines) ++ part) kept.readable apart refl readable is).1)
+    (λ es readable is. some (text-parts lines.stage lines.entries.items es part
+    (joined (taken lines) ++ part) kept.readable apart refl readable is).1)
 
-unended : (stage : Stage) (entries es : List Entry) → (stage ≡ Ended → ⊥) → AreReadable entries → AreReadable es → lines_at stage entries ≡ trace_lines es → ⊥
+unended : (stage : Stage) (entries es : List Entry) → (stage ≡ Ended → ⊥) → AreReadable entries → AreReadable es
+    → lines_at stage entries ≡ trace_lines es → ⊥
 unended First entries es other all readable same = cc
 unended Entries entries es other all readable same = not_whole entries es all readable same
 unended Ended entries es other all readable same = other refl
@@ -190,7 +201,8 @@ end_fault lines part kept apart other =
     (text-parts lines.stage lines.entries.items es part (joined (taken lines) ++ part) kept.readable apart refl readable is).0)
 
 -- the lines of a trace are its text
-pub ended_text : (lines : Lines) (part : List ℕ) → lines.stage ≡ Ended → part ≡ [] → joined (taken lines) ++ part ≡ text_of lines.entries.items
+pub ended_text : (lines : Lines) (part : List ℕ) → lines.stage ≡ Ended → part ≡ []
+    → joined (taken lines) ++ part ≡ text_of lines.entries.items
 ended_text lines part is none =
     ap (λ (p : List ℕ). joined (taken lines) ++ p) none ∙ append-nil (joined (taken lines))
     ∙ ap (λ (stage : Stage). joined (lines_at stage lines.entries.items)) is ∙ sym (text-joined lines.entries.items)
@@ -207,6 +219,7 @@ front_trans a b c first second =
 
 -- ---- one text
 
-pub same_text : (entries others : List Entry) → AreReadable entries → AreReadable others → text_of entries ≡ text_of others → entries ≡ others
+pub same_text : (entries others : List Entry) → AreReadable entries → AreReadable others → text_of entries ≡ text_of others
+    → entries ≡ others
 same_text entries others own readable same =
     same_entries entries others own readable (sym (whole-text entries own) ∙ ap whole_lines same ∙ whole-text others readable)

@@ -6,7 +6,8 @@ use Rattle.trace_reader.specs.Kept.{progress_at}
 use Rattle.trace_reader.specs.Outcomes.{Feeds}
 
 pub feeds_ok : (before : Progress) (fault : Option ℕ) (fed piece grown : List ℕ) → progress_at fault fed ≡ before → fault ≡ None
-    → fed ++ piece ≡ grown → IsBegun (fed ++ piece) (length (whole_lines (fed ++ piece))) → Feeds before piece (Ok tt) (progress_at fault grown)
+    → fed ++ piece ≡ grown → IsBegun (fed ++ piece) (length (whole_lines (fed ++ piece)))
+    → Feeds before piece (Ok tt) (progress_at fault grown)
 feeds_ok before None fed piece grown is none same begun =
     subst (λ p. Feeds p piece (Ok tt) (Reading grown)) is (ap Reading (sym same), begun)
 feeds_ok before (Some line) fed piece grown is none same begun = absurd cc

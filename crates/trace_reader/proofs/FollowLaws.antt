@@ -72,7 +72,8 @@ others-only done line own no_entry no_last whole others readable same =
     let rest = goes_on done whole (length whole) (line ∷ others) own readable (sym (tail-inj same)) in
     by_others rest.others rest.readable rest.entries_are rest.lines_are
   where
-    by_others : (es : List Entry) → AreReadable es → whole ≡ done ++ es → line ∷ others ≡ map spelling es ++ last_line (length whole) ∷ [] → ⊥
+    by_others : (es : List Entry) → AreReadable es → whole ≡ done ++ es
+        → line ∷ others ≡ map spelling es ++ last_line (length whole) ∷ [] → ⊥
     by_others [] all are lines =
         let count : length whole ≡ length done = ap length are ∙ ap length (append-nil done) in
         no_last (head-inj lines ∙ ap last_line count)
@@ -105,7 +106,8 @@ same_entries done whole own readable same =
     let rest = goes_on done whole (length whole) (last_line (length done) ∷ []) own readable (tail-inj same) in
     by_others rest.others rest.entries_are rest.lines_are
   where
-    by_others : (es : List Entry) → whole ≡ done ++ es → last_line (length done) ∷ [] ≡ map spelling es ++ last_line (length whole) ∷ [] → done ≡ whole
+    by_others : (es : List Entry) → whole ≡ done ++ es → last_line (length done) ∷ [] ≡ map spelling es ++ last_line (length whole) ∷ []
+        → done ≡ whole
     by_others [] are lines = sym (are ∙ append-nil done)
     by_others (e ∷ es) are lines = absurd (last-no_entry e (length done) (head-inj lines))
 
@@ -119,7 +121,8 @@ later_refused Entries after done kept line is same more own no_entry no_last =
     (ap (λ (s : Stage). lines_at s kept) same ∙ ap (lines_at Entries) more, others-only done line own no_entry no_last)
 later_refused Ended after done kept line is same more own no_entry no_last = absurd cc
 
-pub ended_refused : (stage : Stage) (done : List Entry) (line : List ℕ) → stage ≡ Ended → AreReadable done → CannotFollow (lines_at stage done) line
+pub ended_refused : (stage : Stage) (done : List Entry) (line : List ℕ) → stage ≡ Ended → AreReadable done
+    → CannotFollow (lines_at stage done) line
 ended_refused First done line is own = absurd cc
 ended_refused Entries done line is own = absurd cc
 ended_refused Ended done line is own = none_behind done line own

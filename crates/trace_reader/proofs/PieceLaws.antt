@@ -19,7 +19,8 @@ use Rattle.trace_reader.proofs.FaultLaws.{end_fault, ended_text, part_fault, ref
 
 pub refused_more : (text : List ℕ) (before after : List (List ℕ)) (rest line behind : List ℕ) (is_next : Bool)
     → text ≡ joined before ++ rest → HasNoFeed line → rest ≡ line ++ 10 ∷ behind
-    → MatchBool is_next (after ≡ before ++ line ∷ []) ((after ≡ before) × CannotFollow before line) → is_next ≡ false → IsRefused text after
+    → MatchBool is_next (after ≡ before ++ line ∷ []) ((after ≡ before) × CannotFollow before line) → is_next ≡ false
+    → IsRefused text after
 refused_more text before after rest line behind true same apart cut took unmet = absurd cc
 refused_more text before after rest line behind false same apart cut took unmet =
     subst (IsRefused text) (sym took.0) (record {
@@ -32,7 +33,8 @@ refused_more text before after rest line behind false same apart cut took unmet 
 
 pub taken_more : (text : List ℕ) (before after : List (List ℕ)) (rest line behind : List ℕ) (is_next : Bool)
     → text ≡ joined before ++ rest → rest ≡ line ++ 10 ∷ behind
-    → MatchBool is_next (after ≡ before ++ line ∷ []) ((after ≡ before) × CannotFollow before line) → is_next ≡ true → text ≡ joined after ++ behind
+    → MatchBool is_next (after ≡ before ++ line ∷ []) ((after ≡ before) × CannotFollow before line) → is_next ≡ true
+    → text ≡ joined after ++ behind
 taken_more text before after rest line behind false same cut took met = absurd cc
 taken_more text before after rest line behind true same cut took met =
     same ∙ ap (λ (r : List ℕ). joined before ++ r) cut ∙ sym (append_assoc (joined before) line (10 ∷ behind))
@@ -63,7 +65,8 @@ refused_behind before middle after line behind is_next took met refused =
 -- ---- a piece
 
 pub piece_fault : (lines : Lines) (head part own piece end behind : List ℕ) (count : ℕ) → IsKept lines
-    → IsRefused (head ++ (own ++ end) ++ 10 ∷ behind) (taken lines) → own ≡ part → piece ≡ end ++ 10 ∷ behind → count ≡ length (taken lines)
+    → IsRefused (head ++ (own ++ end) ++ 10 ∷ behind) (taken lines) → own ≡ part → piece ≡ end ++ 10 ∷ behind
+    → count ≡ length (taken lines)
     → (more : List ℕ) → IsFirstFault (((head ++ part) ++ piece) ++ more) (count + 1)
 piece_fault lines head part own piece end behind count kept refused same cut is more =
     let text : head ++ (own ++ end) ++ 10 ∷ behind ≡ (head ++ part) ++ piece =
@@ -101,12 +104,15 @@ at-count text count own is first = subst (λ (n : ℕ). IsFirstFault text (n + 1
 pub missing_part : (lines : Lines) (part : List ℕ) (empty : Bool) (count : ℕ) → IsKept lines → HasNoFeed part
     → empty ≡ eqb (length part) 0 → empty ≡ false → count ≡ length (taken lines) → IsFirstFault (joined (taken lines) ++ part) (count + 1)
 missing_part lines part empty count kept apart test unmet is =
-    at-count (joined (taken lines) ++ part) count (length (taken lines)) is (part_fault lines part kept apart (some-from part (sym test ∙ unmet)))
+    at-count (joined (taken lines) ++ part) count (length (taken lines)) is
+    (part_fault lines part kept apart (some-from part (sym test ∙ unmet)))
 
 pub missing_end : (lines : Lines) (part : List ℕ) (ended : Bool) (count : ℕ) → IsKept lines → HasNoFeed part
-    → ended ≡ is_last_stage lines.stage → ended ≡ false → count ≡ length (taken lines) → IsFirstFault (joined (taken lines) ++ part) (count + 1)
+    → ended ≡ is_last_stage lines.stage → ended ≡ false → count ≡ length (taken lines)
+    → IsFirstFault (joined (taken lines) ++ part) (count + 1)
 missing_end lines part ended count kept apart test unmet is =
-    at-count (joined (taken lines) ++ part) count (length (taken lines)) is (end_fault lines part kept apart (unended-from lines.stage (sym test ∙ unmet)))
+    at-count (joined (taken lines) ++ part) count (length (taken lines)) is
+    (end_fault lines part kept apart (unended-from lines.stage (sym test ∙ unmet)))
 
 pub missing_none : (lines : Lines) (part : List ℕ) (empty ended : Bool) → empty ≡ eqb (length part) 0 → empty ≡ true
     → ended ≡ is_last_stage lines.stage → ended ≡ true → joined (taken lines) ++ part ≡ text_of lines.entries.items

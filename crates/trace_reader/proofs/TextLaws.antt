@@ -28,7 +28,8 @@ whole-part (c ∷ part) apart =
     let other : eqb c 10 ≡ false = All-head (λ b. eqb b 10 ≡ false) c part apart in
     rw (other, whole-part part (All-tail (λ b. eqb b 10 ≡ false) c part apart)) refl
 
-pub whole-joined : (lines : List (List ℕ)) (rest : List ℕ) → AreApart lines → whole_lines (joined lines ++ rest) ≡ lines ++ whole_lines rest
+pub whole-joined : (lines : List (List ℕ)) (rest : List ℕ) → AreApart lines
+    → whole_lines (joined lines ++ rest) ≡ lines ++ whole_lines rest
 whole-joined [] rest apart = refl
 whole-joined (line ∷ lines) rest apart =
     ap whole_lines (append_assoc line (10 ∷ joined lines) rest)
@@ -68,7 +69,8 @@ text-joined entries =
 
 -- ---- one line more
 
-pub one_line : (lines : List (List ℕ)) (line behind : List ℕ) → joined (lines ++ line ∷ []) ++ behind ≡ joined lines ++ line ++ 10 ∷ behind
+pub one_line : (lines : List (List ℕ)) (line behind : List ℕ)
+    → joined (lines ++ line ∷ []) ++ behind ≡ joined lines ++ line ++ 10 ∷ behind
 one_line lines line behind =
     ap (λ (text : List ℕ). text ++ behind) (joined-append lines (line ∷ []))
     ∙ append_assoc (joined lines) (line ++ 10 ∷ []) behind

@@ -47,7 +47,8 @@ pub record IsKept (lines : Lines) : Type 0 where
 
 -- in no trace does the line stand behind these lines
 abbrev pub CannotFollow : List (List ℕ) → List ℕ → Type 0
-CannotFollow lines line = (entries : List Entry) (others : List (List ℕ)) → AreReadable entries → trace_lines entries ≡ lines ++ line ∷ others → ⊥
+CannotFollow lines line =
+    (entries : List Entry) (others : List (List ℕ)) → AreReadable entries → trace_lines entries ≡ lines ++ line ∷ others → ⊥
 
 abbrev pub HasNoFeed : List ℕ → Type 0
 HasNoFeed bytes = All (λ b. (b == 10) ≡ false) bytes

@@ -173,5 +173,6 @@ pub fn read_trace(alloc: Global, bytes: &[u8]) -> Result<Vec<Entry>, TraceRefusa
 
 /// Two traces of readable entries never have the same text.
 pub fn no_two_traces_share_a_text()
-    ensures { (entries others : List Entry) → AreReadable entries → AreReadable others → text_of entries ≡ text_of others → entries ≡ others }
+    ensures { (entries others : List Entry) → AreReadable entries → AreReadable others
+        → text_of entries ≡ text_of others → entries ≡ others }
 {}
