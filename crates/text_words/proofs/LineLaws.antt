@@ -40,3 +40,8 @@ pub line_text_cons : (text first : List ℕ) (others : Words)
 line_text_cons text first others =
     ap (λ (t : List ℕ). t ++ 10 ∷ []) (sym (append-join text first others))
     ∙ append_assoc text (join_with_byte 32 (first ∷ others)) (10 ∷ [])
+
+-- a line without its line feed
+pub with_words_join : (text first : List ℕ) (others : Words)
+    → with_words (text ++ first) others ≡ text ++ join_with_byte 32 (first ∷ others)
+with_words_join text first others = sym (append-join text first others)

@@ -33,7 +33,7 @@ word-some (b ∷ bytes) h = not_from_false _ (ne_eqb (suc (length bytes)) 0 (λ 
 -- ---- words of a line
 
 -- joined by spaces, no word has a line feed
-join-apart : (words : Words) → AreWords words → IsApart 10 (join_with_byte 32 words)
+pub join-apart : (words : Words) → AreWords words → IsApart 10 (join_with_byte 32 words)
 join-apart [] h = All-nil (λ b. eqb b 10 ≡ false)
 join-apart (word ∷ []) h = word-apart 10 word (omega arith) h.0
 join-apart (word ∷ next ∷ words) h =

@@ -7,7 +7,7 @@ use crate::tests::building::{OTHER_PAGES, TEXT, WHOLE};
 use crate::tests::paging::{PAGING, REFUSED};
 use crate::tests::rows::Row;
 use crate::tests::running::PROCESSORS;
-use crate::trace::{print_trace, push_entry};
+use crate::trace::{print_entry, print_trace};
 use std::process::Abort;
 use std::str;
 use std::test::Fail;
@@ -16,7 +16,7 @@ use std::test::Fail;
 fn are_printed(rt: &impl Abort, rows: &[Row], text: &mut Vec<u8>) -> Result<(), Fail> {
     for row in rows {
         text.clear();
-        push_entry(&row.entry(), text)?;
+        print_entry(&row.entry(), text)?;
         assert_eq!(rt; text.pop(), Some(b'\n'));
         assert_eq!(rt; str::from_utf8(text)?, row.line());
     }

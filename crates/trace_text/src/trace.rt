@@ -1,7 +1,7 @@
 //! The text of a trace.
 
 ghost use Rattle.std.specs.Prelude.{◌≡◌, ◌++◌, drop, reverse, OnOk, IfOk};
-ghost use Rattle.trace_text.specs.TraceText.{actor_word, answer_words, entry_text, event_words, refusal_words, trace_of};
+ghost use Rattle.trace_text.specs.TraceText.{actor_word, answer_words, entry_text, event_words, refusal_words, spelling, trace_of};
 ghost use Rattle.text_words.specs.Words.{with_words};
 
 use crate::actions::push_action;
@@ -21,21 +21,29 @@ pub fn print_trace(alloc: Global, entries: &[Entry]) -> Result<Vec<u8>, Memory>
     let mut text = Vec::new(alloc);
     push_line(Name("trace"), &[Name("1")], &mut text)?;
     for entry in entries {
-        push_entry(entry, &mut text)?;
+        print_entry(entry, &mut text)?;
     }
     push_line(Name("end"), &[Decimal(entries.len() as u64)], &mut text)?;
     Ok(text)
 }
 
 /// Writes the line of an entry.
-#[tactic(auto, using(text_words::proofs::LineLaws::line_text_cons), unfolding(crate::specs::TraceText::entry_text))]
-pub fn push_entry(entry: &Entry, onto: &mut Vec<u8>) -> Result<(), Memory>
+#[tactic(auto, unfolding(crate::specs::TraceText::entry_text))]
+pub fn print_entry(entry: &Entry, onto: &mut Vec<u8>) -> Result<(), Memory>
     ensures { OnOk result (onto.new.items ≡ onto.old.items ++ entry_text entry.now) }
 {
-    push_actor(&entry.actor, onto)?;
-    push_event(&entry.event, onto)?;
+    print_spelling(entry, onto)?;
     onto.push(b'\n')?;
     Ok(())
+}
+
+/// Writes the line of an entry without its line feed.
+#[tactic(auto, using(text_words::proofs::LineLaws::with_words_join), unfolding(crate::specs::TraceText::spelling))]
+pub fn print_spelling(entry: &Entry, onto: &mut Vec<u8>) -> Result<(), Memory>
+    ensures { OnOk result (onto.new.items ≡ onto.old.items ++ spelling entry.now) }
+{
+    push_actor(&entry.actor, onto)?;
+    push_event(&entry.event, onto)
 }
 
 fn push_actor(actor: &Actor, onto: &mut Vec<u8>) -> Result<(), Memory>

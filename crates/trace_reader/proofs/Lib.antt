@@ -1,0 +1,5 @@
+pub mod TextLaws
+pub mod FollowLaws
+pub mod FaultLaws
+pub mod FeedLaws
+pub mod PieceLaws

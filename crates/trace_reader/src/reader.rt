@@ -1,0 +1,178 @@
+//! The text of a trace is read, whole or in pieces.
+
+ghost use Rattle.std.specs.Prelude.{◌≡◌, ℕ, List, ◌++◌, ◌∷◌, [], length, take, IfOk, MatchBool, MatchOption, OnErr};
+ghost use Rattle.std.specs.Result.{result_map_both};
+ghost use Rattle.sgx_types.specs.declared.entries.Entry.{Entry};
+ghost use Rattle.trace_reader.specs.Faults.{IsFirstFault, Reading, text_of};
+ghost use Rattle.trace_reader.specs.Lines.{CannotFollow, HasNoFeed, IsKept, IsRefused, IsTaken, joined, taken};
+ghost use Rattle.trace_text.specs.Readable.{AreReadable};
+ghost use Rattle.trace_reader.specs.Outcomes.{Feeds, Finishes, Tells};
+
+use crate::lines::{Lines, cut_line};
+use crate::refusals::TraceRefusal;
+use sgx_types::entries::Entry;
+use sgx_types::names::Memory;
+use std::alloc::Global;
+use std::marker::Model;
+
+/// Reads a trace's text in pieces. What it keeps of a text is its entries, and the part of a line whose line feed has not
+/// come.
+#[derive(Drop)]
+pub struct TraceReader {
+    lines: Lines,
+    part: Vec<u8>,
+    fault: Option<u64>,
+}
+
+impl Model for TraceReader {
+    ghost use Rattle.trace_reader.specs.Faults.{Progress};
+
+    ghost Value = { Progress };
+
+    ghost use Rattle.trace_reader.specs.Kept.{IsWhole, progress_of};
+
+    ghost view = { progress_of };
+
+    ghost invariant = { IsWhole };
+}
+
+/// Takes the line whose first part was kept and whose end came now.
+fn take_first(lines: &mut Lines, alloc: Global, part: &[u8], end: &[u8]) -> Result<bool, Memory>
+    requires { IsKept lines.old }
+    ensures kept { IsKept lines.new }
+    ensures front { take (length lines.old.entries.items) lines.new.entries.items ≡ lines.old.entries.items }
+    ensures taken { IfOk result (λ is_next. MatchBool is_next (taken lines.new ≡ taken lines.old ++ (part.now ++ end.now) ∷ [])
+        ((taken lines.new ≡ taken lines.old) × CannotFollow (taken lines.old) (part.now ++ end.now))) }
+{
+    if part.is_empty() {
+        return lines.take_line(alloc, end);
+    }
+    let mut line = part.to_vec(alloc)?;
+    line.extend_from_slice(end)?;
+    lines.take_line(alloc, &line)
+}
+
+/// Takes a line whose first part was kept and whose end came now, and the whole lines behind it; answers the part of a line
+/// that is left. None where no trace goes on with one of them.
+fn take_whole(
+    lines: &mut Lines,
+    alloc: Global,
+    part: &[u8],
+    end: &[u8],
+    behind: &[u8],
+) -> Result<Option<Vec<u8>>, Memory>
+    requires kept { IsKept lines.old }
+    requires part { HasNoFeed part.now }
+    requires end { HasNoFeed end.now }
+    ensures kept { IsKept lines.new }
+    ensures front { take (length lines.old.entries.items) lines.new.entries.items ≡ lines.old.entries.items }
+    ensures taken { IfOk result (λ rest. MatchOption rest
+        (IsRefused (joined (taken lines.old) ++ (part.now ++ end.now) ++ 10 ∷ behind.now) (taken lines.new))
+        (λ rest. IsTaken (joined (taken lines.old) ++ (part.now ++ end.now) ++ 10 ∷ behind.now) (taken lines.new) rest.items)) }
+{
+    if take_first(lines, alloc, part, end)? {
+        match lines.take_lines(alloc, behind)? {
+            Some(rest) => Ok(Some(rest.to_vec(alloc)?)),
+            None => Ok(None),
+        }
+    } else {
+        Ok(None)
+    }
+}
+
+/// Takes the whole lines of a piece and keeps the part behind them, or answers the line of the fault. Where memory is
+/// refused all is as before.
+fn take_piece(
+    lines: &mut Lines,
+    part: &mut Vec<u8>,
+    alloc: Global,
+    piece: &[u8],
+) -> Result<Option<u64>, Memory>
+    requires kept { IsKept lines.old }
+    requires apart { HasNoFeed part.old.items }
+    ensures kept { IsKept lines.new }
+    ensures apart { HasNoFeed part.new.items }
+    ensures taken { IfOk result (λ fault. MatchOption fault
+        ((joined (taken lines.old) ++ part.old.items) ++ piece.now ≡ joined (taken lines.new) ++ part.new.items)
+        (λ line. (more : List ℕ) → IsFirstFault (((joined (taken lines.old) ++ part.old.items) ++ piece.now) ++ more) line)) }
+    ensures lines { OnErr result (taken lines.new ≡ taken lines.old) }
+    ensures part { OnErr result (part.new.items ≡ part.old.items) }
+{
+    let Some((end, behind)) = cut_line(piece) else {
+        part.extend_from_slice(piece)?;
+        return Ok(None);
+    };
+    let entries = lines.entries.len();
+    let stage = lines.stage;
+    match take_whole(lines, alloc, part, end, behind) {
+        Ok(Some(rest)) => {
+            *part = rest;
+            Ok(None)
+        }
+        Ok(None) => Ok(Some(lines.count() + 1)),
+        Err(memory) => {
+            lines.entries.truncate(entries);
+            lines.stage = stage;
+            Err(memory)
+        }
+    }
+}
+
+impl TraceReader {
+    /// A reader of a text of which nothing came yet.
+    pub fn new(alloc: Global) -> TraceReader
+        ensures { result ≡ Reading [] }
+    {
+        TraceReader {
+            lines: Lines::new(alloc),
+            part: Vec::new(alloc),
+            fault: None,
+        }
+    }
+
+    /// Reads the next piece. After a fault each call answers that fault again.
+    pub fn feed(&mut self, alloc: Global, piece: &[u8]) -> Result<(), TraceRefusal>
+        ensures { Feeds self.old piece.now result self.new }
+    {
+        if let Some(line) = self.fault {
+            return Err(TraceRefusal::Fault { line });
+        }
+        match take_piece(&mut self.lines, &mut self.part, alloc, piece) {
+            Ok(None) => Ok(()),
+            Ok(Some(line)) => {
+                self.fault = Some(line);
+                Err(TraceRefusal::Fault { line })
+            }
+            Err(Memory) => Err(TraceRefusal::Memory),
+        }
+    }
+
+    /// The entries, oldest first, where the pieces together are the text of a trace.
+    pub fn finish(self) -> Result<Vec<Entry>, TraceRefusal>
+        ensures { Finishes self (result_map_both (λ entries. entries.items) (λ why. why) result) }
+    {
+        let TraceReader { lines, part, fault } = self;
+        if let Some(line) = fault {
+            return Err(TraceRefusal::Fault { line });
+        }
+        match lines.missing(&part) {
+            None => Ok(lines.entries),
+            Some(line) => Err(TraceRefusal::Fault { line }),
+        }
+    }
+}
+
+/// The entries of a trace's text, oldest first.
+pub fn read_trace(alloc: Global, bytes: &[u8]) -> Result<Vec<Entry>, TraceRefusal>
+    ensures { Tells bytes.now (result_map_both (λ entries. entries.items) (λ why. why) result) }
+{
+    let mut reader = TraceReader::new(alloc);
+    reader.feed(alloc, bytes)?;
+    reader.finish()
+}
+
+/// Two traces of readable entries never have the same text.
+pub fn no_two_traces_share_a_text()
+    ensures { (entries others : List Entry) → AreReadable entries → AreReadable others
+        → text_of entries ≡ text_of others → entries ≡ others }
+{}

@@ -1,0 +1,244 @@
+-- A word that is printed is a word, and is read again as what it was printed of.
+use Rattle.std.proofs.Common.{◌≡◌, ℕ, ◌+◌, ◌*◌, ◌^◌, ◌<◌, ◌≤◌, Bool, true, false, ltb, List, [], ◌∷◌, ◌++◌, Option, Some, None, length, decimal, codes, bytes_eq, refl, sym, ap, ◌∙◌, arith, lit≤, inl, inr, ◌⊎◌}
+use Rattle.std.specs.List.{list_all}
+use Rattle.std.proofs.lemmas.Bool.{lt-ltb, le-leb, lt-leb, cases_lt, false_from_ne_true, and_from, and_parts}
+use Rattle.std.proofs.lemmas.Slice.Eq.{bytes_eq-Decides}
+use Rattle.std.proofs.lemmas.Bool.Decides.{nat_tests}
+use Rattle.std.proofs.lemmas.Fmt.{digits_is_IsNumeral}
+use Rattle.std.specs.Char.{digit_value}
+use Rattle.std.specs.Str.Parse.{AllDigits}
+use Rattle.hex.specs.Hex.{lower_digits}
+use Rattle.hex.proofs.HexLemmas.{length-encode_with}
+use Rattle.sgx_types.specs.declared.entries.Entry.{Entry}
+use Rattle.sgx_types.specs.declared.entries.Event.{Event}
+use Rattle.sgx_types.specs.declared.entries.Event.TheVariants as events
+use Rattle.sgx_types.specs.declared.entries.Actor.{Actor}
+use Rattle.sgx_types.specs.declared.entries.Actor.TheVariants as actors
+use Rattle.sgx_types.specs.declared.entries.Action.{Action}
+use Rattle.sgx_types.specs.declared.entries.Action.TheVariants as actions
+use Rattle.sgx_types.specs.declared.entries.Answer.{Answer}
+use Rattle.sgx_types.specs.declared.entries.Answer.TheVariants as answers
+use Rattle.sgx_types.specs.declared.entries.PageInit.{PageInit}
+use Rattle.sgx_types.specs.declared.entries.PageInit.TheVariants as inits
+use Rattle.sgx_types.specs.declared.entries.Cause.{Cause}
+use Rattle.sgx_types.specs.declared.entries.Cause.TheVariants as causes
+use Rattle.sgx_types.specs.declared.entries.AccessOp.{AccessOp}
+use Rattle.sgx_types.specs.declared.entries.AccessOp.TheVariants as accesses
+use Rattle.sgx_types.specs.declared.entries.PfWhy.{PfWhy}
+use Rattle.sgx_types.specs.declared.entries.PfWhy.TheVariants as faults
+use Rattle.sgx_types.specs.declared.entries.Look.{Look}
+use Rattle.sgx_types.specs.declared.entries.Look.TheVariants as looks
+use Rattle.sgx_types.specs.declared.entries.BusWhy.{BusWhy}
+use Rattle.sgx_types.specs.declared.entries.BusWhy.TheVariants as stops
+use Rattle.sgx_types.specs.declared.refusals.Refusal.{Refusal}
+use Rattle.sgx_types.specs.declared.refusals.Refusal.TheVariants as why
+use Rattle.sgx_types.specs.declared.names.Kind.{Kind}
+use Rattle.sgx_types.specs.declared.names.Kind.TheVariants as kinds
+use Rattle.sgx_types.specs.declared.names.Perm.{Perm}
+use Rattle.sgx_types.specs.declared.names.Frame.{Frame}
+use Rattle.sgx_types.specs.declared.names.Cpu.{Cpu}
+use Rattle.text_words.specs.Words.{Words, digest_word, enclave_word, letter}
+use Rattle.text_words.specs.Reading.{IsDigest, number_of, small_of, letter_of, digest_of}
+use Rattle.text_words.proofs.Numerals.{number_of-decimal}
+use Rattle.text_words.proofs.Splits.{is_word}
+use Rattle.text_words.proofs.WordLaws.{decimal-is_word, digest-is_word, digest_of-encode_lower, letter-is_word, letter_of-letter, small_of-decimal}
+use Rattle.trace_text.specs.TraceText.{access_word, actor_word, cause_word, expect_word, fault_word, kind_word, look_word, perms_word, stop_word}
+use Rattle.trace_text.specs.Readable.{FitsActor, FitsExpect}
+use Rattle.trace_words.specs.Names.{access_of, cause_of, fault_of, kind_of, look_of, perm_of, stop_of}
+use Rattle.trace_words.specs.Reading.{actor_of, byte_of, cpu_of, enclave_of, expect_of, frame_of, short_of}
+
+-- ---- read again
+
+pub short-read : (n : ℕ) → n < 2 ^ 16 → short_of (decimal n) ≡ Some n
+unfolding short_of
+short-read n lt = rw (number_of-decimal n (omega arith), lt-ltb n (2 ^ 16) lt) refl
+
+pub byte-read : (n : ℕ) → n < 2 ^ 8 → byte_of (decimal n) ≡ Some n
+unfolding byte_of
+byte-read n lt = rw (number_of-decimal n (omega arith), lt-ltb n (2 ^ 8) lt) refl
+
+pub frame-read : (n : ℕ) → n < 2 ^ 32 → frame_of (decimal n) ≡ Some (record { 0 = n })
+unfolding frame_of
+frame-read n lt = rw (small_of-decimal n lt) refl
+
+pub cpu-read : (n : ℕ) → n < 16 → cpu_of (decimal n) ≡ Some (record { 0 = n })
+unfolding cpu_of
+cpu-read n lt = rw (number_of-decimal n (omega arith), lt-ltb n 16 lt) refl
+
+-- no digits are a letter
+digits-no-letter : (ds : List ℕ) → AllDigits 10 ds → letter_of ds ≡ None
+unfolding letter_of
+digits-no-letter [] all = refl
+digits-no-letter (c ∷ []) all = let low : digit_value c < 10 = all.0 in grind (arith, nat_tests, low)
+digits-no-letter (c ∷ d ∷ ds) all = refl
+
+enclave-digits : (enclave : ℕ) → enclave < 2 ^ 16 → enclave_of (decimal enclave) ≡ Some enclave
+unfolding enclave_of
+enclave-digits enclave lt =
+    let numeral = digits_is_IsNumeral 10 false (lit≤ tt) (lit≤ tt) enclave (omega arith) in
+    rw (digits-no-letter (decimal enclave) numeral.0.1, short-read enclave lt) refl
+
+enclave-letter : (enclave : ℕ) → 1 ≤ enclave → enclave ≤ 8 → enclave_of (letter enclave) ≡ Some enclave
+unfolding enclave_of
+enclave-letter enclave low high = rw (letter_of-letter enclave (low, high)) refl
+
+pub enclave-read : (enclave : ℕ) → enclave < 2 ^ 16 → enclave_of (enclave_word enclave) ≡ Some enclave
+enclave-read enclave lt = by_range (cases_lt enclave 1) (cases_lt 8 enclave)
+  where
+    by_range : (enclave < 1) ⊎ (1 ≤ enclave) → (8 < enclave) ⊎ (enclave ≤ 8) → enclave_of (enclave_word enclave) ≡ Some enclave
+    by_range (inr low) (inr high) = rw (le-leb 1 enclave low, le-leb enclave 8 high) (enclave-letter enclave low high)
+    by_range (inl low) high = rw (lt-leb 1 enclave low) (enclave-digits enclave lt)
+    by_range (inr low) (inl high) = rw (le-leb 1 enclave low, lt-leb enclave 8 high) (enclave-digits enclave lt)
+
+pub expect-read : (expect : Option (List ℕ)) → FitsExpect expect → expect_of (expect_word expect) ≡ Some expect
+unfolding expect_of
+expect-read None fits = refl
+expect-read (Some digest) fits =
+    let other : bytes_eq (digest_word digest) (codes "-") ≡ false = false_from_ne_true _ (λ e.
+    let same : digest_word digest ≡ codes "-" = (bytes_eq-Decides (digest_word digest) (codes "-")).0 e in
+    let two : length (digest_word digest) ≡ 64 = length-encode_with lower_digits digest ∙ ap (λ (n : ℕ). 2 * n) fits.sized in
+    let one : length (digest_word digest) ≡ 1 = ap length same in
+    omega (arith, two, one)) in
+    rw (other, digest_of-encode_lower digest fits) refl
+
+pub actor-read : (actor : Actor) → FitsActor actor → actor_of (actor_word actor) ≡ Some actor
+unfolding actor_of
+actor-read actors.Builder fits = refl
+actor-read actors.Reclaimer fits = refl
+actor-read (actors.Cpu p) fits = rw (cpu-read p.0 fits) refl
+
+pub kind-read : (kind : Kind) → kind_of (kind_word kind) ≡ Some kind
+unfolding kind_of
+kind-read kinds.Secs = refl
+kind-read kinds.Tcs = refl
+kind-read kinds.Reg = refl
+kind-read kinds.Va = refl
+
+pub cause-read : (cause : Cause) → cause_of (cause_word cause) ≡ Some cause
+unfolding cause_of
+cause-read causes.Timer = refl
+cause-read causes.Fault = refl
+cause-read causes.Kick = refl
+cause-read causes.End = refl
+
+pub access-read : (access : AccessOp) → access_of (access_word access) ≡ Some access
+unfolding access_of
+access-read accesses.Load = refl
+access-read accesses.Store = refl
+access-read accesses.Xadd = refl
+
+pub fault-read : (fault : PfWhy) → fault_of (fault_word fault) ≡ Some fault
+unfolding fault_of
+fault-read faults.Absent = refl
+fault-read faults.WrongType = refl
+fault-read faults.NoPerm = refl
+
+pub look-read : (look : Look) → look_of (look_word look) ≡ Some look
+unfolding look_of
+look-read looks.Young = refl
+look-read looks.Held = refl
+look-read looks.NoRoom = refl
+look-read looks.Taken = refl
+
+pub stop-read : (stop : BusWhy) → stop_of (stop_word stop) ≡ Some stop
+unfolding stop_of
+stop-read stops.GetFailed = refl
+stop-read stops.NoRecord = refl
+stop-read stops.PutFailed = refl
+stop-read stops.Mac = refl
+stop-read stops.Header = refl
+
+pub perm-read : (perm : Perm) → perm_of (perms_word perm) ≡ Some perm
+unfolding perm_of
+perm-read perm = by_bits perm.r perm.w perm.x
+  where
+    by_bits : (r w x : Bool) → let p : Perm = record { r = r; w = w; x = x } in perm_of (perms_word p) ≡ Some p
+    by_bits true true true = refl
+    by_bits true true false = refl
+    by_bits true false true = refl
+    by_bits true false false = refl
+    by_bits false true true = refl
+    by_bits false true false = refl
+    by_bits false false true = refl
+    by_bits false false false = refl
+
+-- ---- words
+
+pub small-is_word : (n : ℕ) → n < 2 ^ 32 → is_word (decimal n) ≡ true
+small-is_word n lt = decimal-is_word n (omega arith)
+
+pub short-is_word : (n : ℕ) → n < 2 ^ 16 → is_word (decimal n) ≡ true
+short-is_word n lt = decimal-is_word n (omega arith)
+
+pub byte-is_word : (n : ℕ) → n < 2 ^ 8 → is_word (decimal n) ≡ true
+byte-is_word n lt = decimal-is_word n (omega arith)
+
+pub cpu-is_word : (n : ℕ) → n < 16 → is_word (decimal n) ≡ true
+cpu-is_word n lt = decimal-is_word n (omega arith)
+
+pub enclave-is_word : (enclave : ℕ) → enclave < 2 ^ 16 → is_word (enclave_word enclave) ≡ true
+enclave-is_word enclave lt = by_range (cases_lt enclave 1) (cases_lt 8 enclave)
+  where
+    by_range : (enclave < 1) ⊎ (1 ≤ enclave) → (8 < enclave) ⊎ (enclave ≤ 8) → is_word (enclave_word enclave) ≡ true
+    by_range (inr low) (inr high) = rw (le-leb 1 enclave low, le-leb enclave 8 high) (letter-is_word enclave)
+    by_range (inl low) high = rw (lt-leb 1 enclave low) (short-is_word enclave lt)
+    by_range (inr low) (inl high) = rw (le-leb 1 enclave low, lt-leb enclave 8 high) (short-is_word enclave lt)
+
+pub expect-is_word : (expect : Option (List ℕ)) → FitsExpect expect → is_word (expect_word expect) ≡ true
+expect-is_word None fits = refl
+expect-is_word (Some digest) fits = digest-is_word digest fits
+
+pub actor-is_word : (actor : Actor) → FitsActor actor → is_word (actor_word actor) ≡ true
+actor-is_word actors.Builder fits = refl
+actor-is_word actors.Reclaimer fits = refl
+actor-is_word (actors.Cpu p) fits =
+    let parts = and_parts (ltb 0 (length (decimal p.0))) (list_all (ltb 32) (decimal p.0)) (cpu-is_word p.0 fits) in
+    and_from _ _ (lt-ltb 0 (length (actor_word (actors.Cpu p))) (omega arith)) parts.1
+
+pub kind-is_word : (kind : Kind) → is_word (kind_word kind) ≡ true
+kind-is_word kinds.Secs = refl
+kind-is_word kinds.Tcs = refl
+kind-is_word kinds.Reg = refl
+kind-is_word kinds.Va = refl
+
+pub cause-is_word : (cause : Cause) → is_word (cause_word cause) ≡ true
+cause-is_word causes.Timer = refl
+cause-is_word causes.Fault = refl
+cause-is_word causes.Kick = refl
+cause-is_word causes.End = refl
+
+pub access-is_word : (access : AccessOp) → is_word (access_word access) ≡ true
+access-is_word accesses.Load = refl
+access-is_word accesses.Store = refl
+access-is_word accesses.Xadd = refl
+
+pub fault-is_word : (fault : PfWhy) → is_word (fault_word fault) ≡ true
+fault-is_word faults.Absent = refl
+fault-is_word faults.WrongType = refl
+fault-is_word faults.NoPerm = refl
+
+pub look-is_word : (look : Look) → is_word (look_word look) ≡ true
+look-is_word looks.Young = refl
+look-is_word looks.Held = refl
+look-is_word looks.NoRoom = refl
+look-is_word looks.Taken = refl
+
+pub stop-is_word : (stop : BusWhy) → is_word (stop_word stop) ≡ true
+stop-is_word stops.GetFailed = refl
+stop-is_word stops.NoRecord = refl
+stop-is_word stops.PutFailed = refl
+stop-is_word stops.Mac = refl
+stop-is_word stops.Header = refl
+
+pub perm-is_word : (perm : Perm) → is_word (perms_word perm) ≡ true
+perm-is_word perm = by_bits perm.r perm.w perm.x
+  where
+    by_bits : (r w x : Bool) → is_word (perms_word (record { r = r; w = w; x = x })) ≡ true
+    by_bits true true true = refl
+    by_bits true true false = refl
+    by_bits true false true = refl
+    by_bits true false false = refl
+    by_bits false true true = refl
+    by_bits false true false = refl
+    by_bits false false true = refl
+    by_bits false false false = refl
