@@ -1,7 +1,7 @@
 -- A line without a fault keeps a draft sound.
-use Rattle.std.proofs.Common.{◌≡◌, ◌≢◌, ℕ, zero, suc, ◌+◌, ◌-◌, ◌^◌, ◌<◌, ◌≤◌, ◌/◌, ◌%◌, ◌==◌, ◌&&◌, ◌||◌, not, eqb, cond, if◌then◌else◌, Bool, true, false, List, [], ◌∷◌, ◌++◌, Option, Some, None, is_some, nat_lt, length, take, sum_by, count_by, All, refl, sym, ap, ◌∙◌, arith, inl, inr}
+use Rattle.std.proofs.Common.{◌≡◌, ℕ, suc, ◌+◌, ◌-◌, ◌^◌, ◌<◌, ◌≤◌, ◌/◌, ◌%◌, ◌==◌, ◌&&◌, ◌||◌, cond, Bool, true, false, List, [], ◌∷◌, ◌++◌, Option, Some, None, is_some, nat_lt, length, take, sum_by, count_by, All, refl, sym, ap, ◌∙◌, arith, inl, inr}
 use Rattle.std.specs.List.{list_any}
-use Rattle.std.proofs.lemmas.Bool.{cases_Bool, ne_eqb, and_parts, and_from, or_cases, ltb-true, leb-true, ltb-false, eqb-true, eq-eqb, false≢true, false_from_ne_true}
+use Rattle.std.proofs.lemmas.Bool.{cases_Bool, ne_eqb, and_parts, ltb-true, leb-true, ltb-false, eqb-true, false≢true}
 use Rattle.std.proofs.lemmas.List.Elements.{All-nil, All-cons, All-head, All-tail, All-push, All-weaker}
 use Rattle.std.proofs.lemmas.List.{length-append}
 use Rattle.std.proofs.lemmas.List.Sums.{sum_by-cons, sum_by_push}
@@ -12,10 +12,8 @@ use Rattle.io_edges.specs.declared.plans.PlanLine.{PlanLine}
 use Rattle.job_grammar.specs.declared.jobs.PageLine.{PageLine}
 use Rattle.job_grammar.specs.declared.jobs.PageLine.TheVariants as pages
 use Rattle.job_grammar.specs.declared.jobs.Op.{Op}
-use Rattle.job_grammar.specs.declared.jobs.Op.TheVariants as kept_ops
-use Rattle.job_grammar.specs.Jobs.{EnclaveView, covers, enclave_at, enclave_pages, first_page, is_added_page, is_tcs_page, lines_at, lines_in, names_tcs, page_count, script_names}
-use Rattle.job_grammar.specs.Valid.{AreValidMarks, IsInnerOffset, IsOpAmong, IsOuterOffset, IsPlanAmong, IsValidCount, IsValidLine}
-use Rattle.job_lines.specs.declared.statements.NamedPage.{NamedPage}
+use Rattle.job_grammar.specs.Jobs.{EnclaveView, enclave_at, enclave_pages, first_page, lines_in, names_tcs, page_count, script_names}
+use Rattle.job_grammar.specs.Valid.{IsOpAmong, IsOuterOffset, IsPlanAmong, IsValidLine}
 use Rattle.job_lines.specs.declared.statements.Start.{Start}
 use Rattle.job_text.specs.declared.tcs_lines.TcsLine.{TcsLine}
 use Rattle.job_lines.specs.declared.statements.Plan.{Plan}
@@ -24,10 +22,9 @@ use Rattle.job_lines.specs.declared.statements.Operation.{Operation}
 use Rattle.job_lines.specs.declared.statements.Operation.TheVariants as ops
 use Rattle.job_lines.specs.declared.statements.Statement.{Statement}
 use Rattle.job_lines.specs.declared.statements.Statement.TheVariants as says
-use Rattle.job_text.specs.Drafts.{Draft, add_digest, add_op, add_page, change_last, empty_draft, has_some, keep, kept_op, kept_page, kept_plan, last, new_enclave}
-use Rattle.job_text.specs.Facts.{HasRoom}
+use Rattle.job_text.specs.Drafts.{Draft, add_digest, add_op, add_page, change_last, empty_draft, has_some, keep, kept_op, kept_plan, last, new_enclave}
 use Rattle.job_lines.specs.Spelled.{IsSpelled, IsSpelledOp, IsSpelledPlan}
-use Rattle.job_text.specs.Faults.{HasNoFault, earlier, is_any_added, is_in_range, is_misplaced, is_missing, is_named_before, is_offset, is_op_in_range, is_out_of_order, is_outer_offset, is_plan_in_range, is_shared, is_too_many, is_twice, latest_part, op_stands, pages_in, part_of, plan_stands}
+use Rattle.job_text.specs.Faults.{HasNoFault, earlier, is_any_added, is_in_range, is_misplaced, is_op_in_range, is_out_of_order, is_outer_offset, is_plan_in_range, is_shared, is_too_many, latest_part, op_stands, pages_in, part_of, plan_stands}
 use Rattle.job_text.specs.Sound.{AreFrames, AreNoted, AreSoundEnclaves, AreSoundPlans, AreSoundScripts, IsNoted, IsSound, IsSoundEnclave, tests}
 use Rattle.job_text.proofs.FaultLaws.{cpu_next, enclave_next, op_fits, plan_fits, reg_fits, some-last, tcs_fits}
 use Rattle.job_text.proofs.LastItem.{enclave-more, length-change_last, ops-more, pages-more, pages-same, sum-same}

@@ -1,19 +1,17 @@
 -- A sound draft that passes the checks of the whole is a valid job.
-use Rattle.std.proofs.Common.{◌≡◌, ℕ, zero, suc, ◌+◌, ◌*◌, ◌-◌, ◌^◌, ◌<◌, ◌≤◌, ◌/◌, ◌&&◌, ◌||◌, ◌⊎◌, not, is_none, nat_lt, Bool, true, false, List, [], ◌∷◌, Option, Some, None, Result, Ok, Err, IfSome, find, length, min, replicate, unwrap_or, All, refl, sym, ap, ◌∙◌, arith, inl, inr}
+use Rattle.std.proofs.Common.{◌≡◌, ℕ, zero, suc, ◌+◌, ◌<◌, ◌≤◌, ◌||◌, ◌⊎◌, not, Bool, true, false, List, [], ◌∷◌, Option, Some, None, Result, Ok, IfSome, find, length, replicate, unwrap_or, All, refl, sym, ◌∙◌, arith, inl, inr}
 use Rattle.std.specs.List.{slice_get}
-use Rattle.std.proofs.lemmas.Bool.{cases_Bool, cases_lt, and_parts, ltb-false, false≢true}
+use Rattle.std.proofs.lemmas.Bool.{cases_Bool, cases_lt, and_parts}
 use Rattle.std.proofs.lemmas.List.Elements.{All-nil, All-cons, All-head, All-replicate, All-tail, All-weaker}
 use Rattle.text_words.specs.Reading.{IsDigest}
 use Rattle.job_grammar.specs.declared.jobs.PageLine.{PageLine}
 use Rattle.job_grammar.specs.declared.jobs.PageLine.TheVariants as pages
-use Rattle.job_grammar.specs.declared.jobs.Marks.{Marks}
-use Rattle.job_grammar.specs.Jobs.{EnclaveView, JobView, default_marks, enclave_at, is_save_page, lines_at, lines_in, needed}
+use Rattle.job_grammar.specs.Jobs.{EnclaveView, JobView, default_marks, is_save_page, lines_at, lines_in, needed}
 use Rattle.job_grammar.specs.Valid.{AreValidMarks, HasSavePages, IsValid, IsValidEnclave}
 use Rattle.job_text.specs.declared.refusals.Fault.{Fault}
-use Rattle.job_lines.specs.declared.statements.Start.{Start}
 use Rattle.job_text.specs.declared.tcs_lines.TcsLine.{TcsLine}
 use Rattle.job_text.specs.Drafts.{Draft, first_start, has_some, job_of}
-use Rattle.job_text.specs.Reading.{are_save_pages, complete, has_save_pages, is_incomplete, unsaved_line, whole}
+use Rattle.job_text.specs.Reading.{are_save_pages, has_save_pages, is_incomplete, unsaved_line, whole}
 use Rattle.job_text.specs.Sound.{AreNoted, IsNoted, IsSound, IsSoundEnclave, IsSoundStart, tests}
 use Rattle.job_text.proofs.WholeLaws.{whole_incomplete, whole_job, whole_none, whole_small, whole_unsaved}
 

@@ -6,7 +6,7 @@ use Rattle.text_words.specs.Reading.{IsDigest}
 use Rattle.io_edges.specs.declared.plans.PlanLine.{PlanLine}
 use Rattle.job_grammar.specs.declared.jobs.Op.{Op}
 use Rattle.job_grammar.specs.declared.jobs.PageLine.{PageLine}
-use Rattle.job_grammar.specs.declared.jobs.PageLine.TheVariants.{Tcs, Reg}
+use Rattle.job_grammar.specs.declared.jobs.PageLine.TheVariants.{Tcs}
 use Rattle.job_grammar.specs.Jobs.{EnclaveView, covers, enclave_pages, script_names}
 use Rattle.job_grammar.specs.Valid.{AreValidMarks, IsValidLine, IsOpAmong, IsPlanAmong}
 use Rattle.job_lines.specs.declared.statements.Start.{Start}

@@ -1,4 +1,4 @@
-use Rattle.std.proofs.Common.{◌≡◌, Option, ℕ, refl, ap, ◌∙◌, unwrap_or}
+use Rattle.std.proofs.Common.{◌≡◌, Option, ℕ, ap, ◌∙◌, unwrap_or}
 use Rattle.job_text.specs.Drafts.{Draft, job_of}
 use Rattle.job_text.proofs.ValidLaws.{whole-valid}
 use Rattle.job_text.proofs.drafts.JobDraft.into_job.Goals as goal
