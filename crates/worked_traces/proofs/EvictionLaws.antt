@@ -1,5 +1,6 @@
 -- What the check does not find by itself of the page that goes out and comes back.
 use Rattle.std.proofs.Common.{Some, None, refl, replicate, arith}
+use lib.Count.{ones}
 use Rattle.sgx_types.specs.Counts.{count_below}
 use Rattle.sgx_types.specs.declared.names.Kind.TheVariants as kinds
 use Rattle.sgx_types.specs.Rules.{Along, EvictRule, RefusalRule}
@@ -9,16 +10,17 @@ use Rattle.worked_traces.specs.Evictions.{came_back, first_slot, sevens}
 use Rattle.worked_traces.specs.Traces.{first_job, first_trace, rw_perm}
 
 first_table : Along (RefusalRule (machine_of first_job)) first_trace
+unfolding ones
 first_table = search arith
 
-out_started : Start
+abbrev out_started : Start
 out_started = record { slot = first_slot; version = 1; loads = None }
 
-in_started : Start
+abbrev in_started : Start
 in_started = record { slot = first_slot; version = 1; loads = Some sevens }
 
 pub came_back_table : Along (RefusalRule (machine_of first_job)) came_back
-unfolding count_below
+unfolding count_below ones
 came_back_table = (
   (refl, record {
     page = sevens;
