@@ -84,16 +84,6 @@ along : (rule : List Entry → Entry → Type 0) (past : List Entry) → Before 
 along rule [] h = tt
 along rule (e ∷ past) h = (h.0, along rule past h.1)
 
-first_along : (rule other : List Entry → Entry → Type 0) (past : List Entry) → Before (AtEntry (λ p e. rule p e × other p e)) past
-    → Along rule past
-first_along rule other [] h = tt
-first_along rule other (e ∷ past) h = (h.0.0, first_along rule other past h.1)
-
-second_along : (rule other : List Entry → Entry → Type 0) (past : List Entry) → Before (AtEntry (λ p e. rule p e × other p e)) past
-    → Along other past
-second_along rule other [] h = tt
-second_along rule other (e ∷ past) h = (h.0.1, second_along rule other past h.1)
-
 placed_along : (rule : List Entry → Entry → Type 0) (P : List Entry → Type 0) (past : List Entry)
     → Before (λ p next. AtEntry rule p next × P p) past
     → Along rule past
@@ -107,9 +97,8 @@ script_along j (e ∷ past) h = (h.0, script_along j past h.1)
 pub driven : (j : JobView) (past : List Entry) → GoesOn j past → IsDriven (machine_of j) j past
 driven j past h = record {
   moves = record {
-    refusal = first_along _ _ past h.refusal.1;
+    refusal = along _ past h.refusal.1;
     flat = along _ past h.flat.1;
-    moves = second_along _ _ past h.refusal.1;
     evict = along _ past h.evict.1;
     fresh = along _ past h.fresh.1;
   };

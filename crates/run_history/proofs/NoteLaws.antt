@@ -17,7 +17,7 @@ use Rattle.run_history.specs.Histories.{GoesOn, Says, is_machines, is_note}
 -- what a rule of the machine says of the place is all that it says of such an entry
 pub note_says : (j : JobView) (past : List Entry) (a : Actor) (ev : Event) (rule : Rule) → is_note ev ≡ true → is_machines rule ≡ true
     → Says j rule past None → Says j rule past (Some (record { actor = a; event = ev }))
-note_says j past a (Age page look) rules.Refusal note own h = (tt, tt)
+note_says j past a (Age page look) rules.Refusal note own h = tt
 note_says j past a (Age page look) rules.Flat note own h = tt
 note_says j past a (Age page look) rules.Fits note own h = (tt, h.1)
 note_says j past a (Age page look) rules.Stale note own h = (tt, h.1)
@@ -25,7 +25,7 @@ note_says j past a (Age page look) rules.Evict note own h = tt
 note_says j past a (Age page look) rules.Fresh note own h = record { rising = tt; reload = tt }
 note_says j past a (Age page look) rules.Sealed note own h = tt
 note_says j past a (Age page look) rules.Measure note own h = tt
-note_says j past a (Kick cpu) rules.Refusal note own h = (tt, tt)
+note_says j past a (Kick cpu) rules.Refusal note own h = tt
 note_says j past a (Kick cpu) rules.Flat note own h = tt
 note_says j past a (Kick cpu) rules.Fits note own h = (tt, h.1)
 note_says j past a (Kick cpu) rules.Stale note own h = (tt, h.1)
@@ -33,7 +33,7 @@ note_says j past a (Kick cpu) rules.Evict note own h = tt
 note_says j past a (Kick cpu) rules.Fresh note own h = record { rising = tt; reload = tt }
 note_says j past a (Kick cpu) rules.Sealed note own h = tt
 note_says j past a (Kick cpu) rules.Measure note own h = tt
-note_says j past a (Bus page reason) rules.Refusal note own h = (tt, tt)
+note_says j past a (Bus page reason) rules.Refusal note own h = tt
 note_says j past a (Bus page reason) rules.Flat note own h = tt
 note_says j past a (Bus page reason) rules.Fits note own h = (tt, h.1)
 note_says j past a (Bus page reason) rules.Stale note own h = (tt, h.1)
@@ -72,7 +72,7 @@ pub note_goes_on : (j : JobView) (past : List Entry) (a : Actor) (ev : Event) �
     → KickRule j past (record { actor = a; event = ev }) → GoesOn j past → GoesOn j (record { actor = a; event = ev } ∷ past)
 note_goes_on j past a (Age page look) note script age kick h = record {
   script = (script, h.script);
-  refusal = (tt, ((tt, tt), h.refusal.1));
+  refusal = (tt, (tt, h.refusal.1));
   flat = (tt, (tt, h.flat.1));
   fits = ((tt, h.fits.0.1), ((tt, h.fits.0.1), h.fits.1));
   stale = ((tt, note_stale past a (Age page look) note h.stale.0.1), ((tt, h.stale.0.1), h.stale.1));
@@ -85,7 +85,7 @@ note_goes_on j past a (Age page look) note script age kick h = record {
 }
 note_goes_on j past a (Kick cpu) note script age kick h = record {
   script = (script, h.script);
-  refusal = (tt, ((tt, tt), h.refusal.1));
+  refusal = (tt, (tt, h.refusal.1));
   flat = (tt, (tt, h.flat.1));
   fits = ((tt, h.fits.0.1), ((tt, h.fits.0.1), h.fits.1));
   stale = ((tt, note_stale past a (Kick cpu) note h.stale.0.1), ((tt, h.stale.0.1), h.stale.1));
@@ -98,7 +98,7 @@ note_goes_on j past a (Kick cpu) note script age kick h = record {
 }
 note_goes_on j past a (Bus page reason) note script age kick h = record {
   script = (script, h.script);
-  refusal = (tt, ((tt, tt), h.refusal.1));
+  refusal = (tt, (tt, h.refusal.1));
   flat = (tt, (tt, h.flat.1));
   fits = ((tt, h.fits.0.1), ((tt, h.fits.0.1), h.fits.1));
   stale = ((tt, note_stale past a (Bus page reason) note h.stale.0.1), ((tt, h.stale.0.1), h.stale.1));

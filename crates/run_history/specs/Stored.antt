@@ -1,6 +1,6 @@
 -- What the calls of a run say of the records: those that are put are sealed records of their pages, and the end of a load tells of the
 -- one that was given. The part on the bytes of the pages stands apart, since it alone supposes that no record was forged.
-use Rattle.std.specs.Prelude.{ℕ, ◌≡◌, List, [], ◌∷◌, Option}
+use Rattle.std.specs.Prelude.{ℕ, ◌≡◌, List, [], ◌∷◌, Option, Some}
 use Rattle.std.specs.Option.{IsSomeAnd}
 use Rattle.sgx_types.specs.declared.entries.Action.TheVariants.{Ewb, Eld}
 use Rattle.sgx_types.specs.declared.entries.Answer.TheVariants.{Moved}
