@@ -394,7 +394,6 @@ shows_refused j keeper past a f refusal can sound s =
     held : is_loading (content past f.0) ≡ true
     held = sym (sound.places.loading f.0) ∙ load_slot_is (open_start past f.0) page slot load
 
-
     arrays : (n : ℕ) (b : Bool) → (f.0 == n) ≡ b → is_va (if b then Free else content past n) ≡ is_va (content past n)
     arrays n true is = sym (subst (λ m. is_va (content past m) ≡ false) (eqb-true f.0 n is) (loading_no_array (content past f.0) held))
     arrays n false is = refl

@@ -92,7 +92,7 @@ row-take has_cpu keywords.OutStore b c d e f g rest = refl
 row-take true keywords.Store b c d e f g rest = refl
 row-take false keywords.Store b c d e f g rest =
     bind-same (plan_word_of b) (λ word. plan_of word (c ∷ d ∷ e ∷ f ∷ g ∷ [])) (λ word. plan_of word (c ∷ d ∷ e ∷ f ∷ g ∷ rest))
-        (λ word. plan_of-take word c d e f g rest)
+    (λ word. plan_of-take word c d e f g rest)
 
 pub statement_of-take : (has_cpu : Bool) (words : Words) → statement_of has_cpu (take 7 words) ≡ statement_of has_cpu words
 unfolding statement_of
@@ -105,4 +105,4 @@ statement_of-take has_cpu (a ∷ b ∷ c ∷ d ∷ e ∷ []) = refl
 statement_of-take has_cpu (a ∷ b ∷ c ∷ d ∷ e ∷ f ∷ []) = refl
 statement_of-take has_cpu (a ∷ b ∷ c ∷ d ∷ e ∷ f ∷ g ∷ rest) =
     bind-same (keyword_of a) (λ word. row has_cpu word (b ∷ c ∷ d ∷ e ∷ f ∷ g ∷ []))
-        (λ word. row has_cpu word (b ∷ c ∷ d ∷ e ∷ f ∷ g ∷ rest)) (λ word. row-take has_cpu word b c d e f g rest)
+    (λ word. row has_cpu word (b ∷ c ∷ d ∷ e ∷ f ∷ g ∷ rest)) (λ word. row-take has_cpu word b c d e f g rest)

@@ -88,8 +88,12 @@ no-plans : (es : List EnclaveView) (plans : List PlanLine) → plans ≡ [] → 
 no-plans es plans e = rw e (record { each = All-nil (IsPlanAmong es); few = omega arith })
 
 no-scripts : (es : List EnclaveView) (scripts : List (List Op)) → scripts ≡ [] → AreSoundScripts es scripts
-no-scripts es scripts e = rw e (record { each = All-nil (All (IsOpAmong es)); few = omega arith; few_ops = omega arith;
-    own = λ enclave number. omega arith })
+no-scripts es scripts e = rw e (record {
+  each = All-nil (All (IsOpAmong es));
+  few = omega arith;
+  few_ops = omega arith;
+  own = λ enclave number. omega arith;
+})
 
 -- ---- options
 
@@ -148,9 +152,10 @@ line-weaker ts more n weaker (pages.Reg first count perm value plain) noted = tt
 noted-weaker : (ts more : List TcsLine) (n : ℕ) (es : List EnclaveView) → ((p : ℕ → ℕ → ℕ → Bool) → All (tests p) more → All (tests p) ts)
     → AreNoted ts n es → AreNoted more n es
 noted-weaker ts more n [] weaker noted = tt
-noted-weaker ts more n (e ∷ es) weaker noted =
-    (All-weaker (IsNoted ts n) (IsNoted more n) (line-weaker ts more n weaker) e.lines noted.0,
-        noted-weaker ts more (n + 1) es weaker noted.1)
+noted-weaker ts more n (e ∷ es) weaker noted = (
+  All-weaker (IsNoted ts n) (IsNoted more n) (line-weaker ts more n weaker) e.lines noted.0,
+  noted-weaker ts more (n + 1) es weaker noted.1,
+)
 
 noted-line : (ts : List TcsLine) (n k : ℕ) (es : List EnclaveView) (line : PageLine) → AreNoted ts n es → n + length es ≡ k + 1
     → IsNoted ts k line → AreNoted ts n (add_page line es)
@@ -174,9 +179,9 @@ line-more e line sound valid free = record {
 page-sound : (ts more : List TcsLine) (es : List EnclaveView) (line : PageLine) → AreSoundEnclaves ts es
     → IsValidLine (pages_in (last es)) line
     → is_any_added (first_page line) (page_count line) (lines_in (last es)) ≡ false → sum_by enclave_pages es + page_count line ≤ 4096
-        → 1 ≤ length es
+    → 1 ≤ length es
     → ((p : ℕ → ℕ → ℕ → Bool) → All (tests p) more → All (tests p) ts) → IsNoted more (length es) line
-        → AreSoundEnclaves more (add_page line es)
+    → AreSoundEnclaves more (add_page line es)
 page-sound ts more es line sound valid free few some weaker noted = record {
   each = All-change_last IsSoundEnclave (λ e. record e { lines = e.lines ++ line ∷ [] }) es sound.each
       (λ e is old. line-more e line old (rw is at valid) (rw is at free));
@@ -213,7 +218,7 @@ enclave-sound d enclave base size sound h letter =
 tcs-sound : (n : ℕ) (d : Draft) (page ossa nssa : ℕ) (plain : Bool) → AreSoundEnclaves d.tcs_lines d.enclaves
     → HasNoFault d (says.Tcs page ossa nssa plain)
     → AreSoundEnclaves (d.tcs_lines ++ record { line = n; enclave = length d.enclaves; ossa = ossa; nssa = nssa } ∷ [])
-        (add_page (pages.Tcs page ossa nssa plain) d.enclaves)
+    (add_page (pages.Tcs page ossa nssa plain) d.enclaves)
 tcs-sound n d page ossa nssa plain sound h =
     let fits = tcs_fits d page ossa nssa plain h in
     page-sound d.tcs_lines _ d.enclaves (pages.Tcs page ossa nssa plain) sound (fits.1, fits.2, omega (arith, fits.0.range), fits.3)
@@ -226,7 +231,7 @@ reg-sound : (d : Draft) (first count : ℕ) (perm : Perm) (value : ℕ) (plain :
 reg-sound d first count perm value plain sound h spelled =
     let room = reg_fits d first count perm value plain h in
     page-sound d.tcs_lines d.tcs_lines d.enclaves (pages.Reg first count perm value plain) sound
-        (room.some, room.range, spelled.0, spelled.1)
+    (room.some, room.range, spelled.0, spelled.1)
     room.once room.few (some-last d.enclaves first (omega (arith, room.some, room.range))) (λ p all. all) tt
 
 -- ---- store lines
@@ -322,10 +327,10 @@ names-own : (d : Draft) (op : Operation) → is_shared d (says.Operation op) ≡
 unfolding is_shared
 names-own d (ops.Enter tcs) own enclave number names =
     (let p = and_parts (tcs.enclave == enclave) (tcs.number == number) names in rw
-        (← eqb-true tcs.enclave enclave p.0, ← eqb-true tcs.number number p.1) own)
+    (← eqb-true tcs.enclave enclave p.0, ← eqb-true tcs.number number p.1) own)
 names-own d (ops.Resume tcs) own enclave number names =
     (let p = and_parts (tcs.enclave == enclave) (tcs.number == number) names in rw
-        (← eqb-true tcs.enclave enclave p.0, ← eqb-true tcs.number number p.1) own)
+    (← eqb-true tcs.enclave enclave p.0, ← eqb-true tcs.number number p.1) own)
 names-own d ops.Exit own enclave number names = absurd (false≢true names)
 names-own d ops.Timer own enclave number names = absurd (false≢true names)
 names-own d (ops.Load off) own enclave number names = absurd (false≢true names)
@@ -358,8 +363,11 @@ cpu-sound d number sound h =
       each = All-push (All (IsOpAmong d.enclaves)) d.scripts [] sound.each (All-nil (IsOpAmong d.enclaves));
       few = omega (arith, next.0, next.1, length-append d.scripts ([] ∷ []));
       few_ops = omega (arith, sum_by_push (λ (script : List Op). length script) d.scripts [], sound.few_ops);
-      own = λ enclave tcs. omega (arith, sum_by_push (λ (script : List Op). cond (script_names enclave tcs script) 1 0) d.scripts [],
-          sound.own enclave tcs);
+      own = λ enclave tcs. omega (
+        arith,
+        sum_by_push (λ (script : List Op). cond (script_names enclave tcs script) 1 0) d.scripts [],
+        sound.own enclave tcs,
+      );
     }
 
 -- ---- a draft and one line more
@@ -433,7 +441,7 @@ keep-sound n d (says.Tcs page ossa nssa plain) sound h spelled =
     with-enclaves d (says.Tcs page ossa nssa plain) _ _ sound h refl (tcs-sound n d page ossa nssa plain sound.enclaves h)
 keep-sound n d (says.Reg first count perm value plain) sound h spelled =
     with-enclaves d (says.Reg first count perm value plain) _ _ sound h refl
-        (reg-sound d first count perm value plain sound.enclaves h spelled)
+    (reg-sound d first count perm value plain sound.enclaves h spelled)
 keep-sound n d (says.Expect digest) sound h spelled =
     with-enclaves d (says.Expect digest) _ _ sound h refl (digest-sound d.tcs_lines d.enclaves digest sound.enclaves spelled)
 keep-sound n d (says.Plan plan) sound h spelled = record {

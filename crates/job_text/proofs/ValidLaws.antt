@@ -61,7 +61,7 @@ enclaves-valid full ts n (e ∷ es) each noted all here =
       expect = first.expect;
     })
     (enclaves-valid full ts (n + 1) es (All-tail IsSoundEnclave e es each) noted.1 all
-        (λ k. let at : n + 1 + k ≡ n + suc k = omega arith in rw at (here (suc k))))
+    (λ k. let at : n + 1 + k ≡ n + suc k = omega arith in rw at (here (suc k))))
 
 -- ---- options
 

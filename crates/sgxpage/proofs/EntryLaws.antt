@@ -47,7 +47,7 @@ module _ (start : List ℕ) (entries : List Entry) (p i : ℕ) (d : Entry) (text
         (reverse (take (i + 1) entries)) p
     replies_more h own replies =
         by_past (λ v. HasReplies (text ++ line_text (reply_words this.event)) (interrupted_after this.event interrupted) start v p)
-            (record {
+        (record {
           text_is =
               ap (λ t. t ++ line_text (reply_words this.event)) h.text_is
               ∙ flat_map_more line_text start (cpu_lines past p) (reply_words this.event)

@@ -49,12 +49,26 @@ init-words (inits.Tcs ossa nssa) fits = (refl, (small-is_word ossa fits.0, (smal
 
 action-words : (action : Action) → FitsAction action → AreWords (action_words action)
 action-words (actions.Epa f) fits = (refl, (small-is_word f.0 fits, tt))
-action-words (actions.Create enclave f base size) fits =
-    (refl, (enclave-is_word enclave fits.0, (small-is_word f.0 fits.1,
-    (hexadecimal-is_word base fits.2, (hexadecimal-is_word size fits.3, tt)))))
-action-words (actions.Add enclave number f kind perm init) fits =
-    (refl, (enclave-is_word enclave fits.0, (small-is_word number fits.1,
-    (small-is_word f.0 fits.2, (kind-is_word kind, (perm-is_word perm, init-words init fits.3))))))
+action-words (actions.Create enclave f base size) fits = (
+  refl,
+  (
+    enclave-is_word enclave fits.0,
+    (
+      small-is_word f.0 fits.1,
+      (hexadecimal-is_word base fits.2, (hexadecimal-is_word size fits.3, tt)),
+    ),
+  ),
+)
+action-words (actions.Add enclave number f kind perm init) fits = (
+  refl,
+  (
+    enclave-is_word enclave fits.0,
+    (
+      small-is_word number fits.1,
+      (small-is_word f.0 fits.2, (kind-is_word kind, (perm-is_word perm, init-words init fits.3))),
+    ),
+  ),
+)
 action-words (actions.Extend f chunk) fits = (refl, (small-is_word f.0 fits.0, (byte-is_word chunk fits.1, tt)))
 action-words (actions.Init enclave expect) fits = (refl, (enclave-is_word enclave fits.0, (expect-is_word expect fits.1, tt)))
 action-words (actions.Enter enclave tcs tf sf) fits =
@@ -78,9 +92,16 @@ action-words (actions.Track enclave) fits = (refl, (enclave-is_word enclave fits
 action-words (actions.EwbStart f slot) fits =
     (refl, (small-is_word f.0 fits.0, (small-is_word slot.frame.0 fits.1.0, (short-is_word slot.index fits.1.1, tt))))
 action-words (actions.Ewb f) fits = (refl, (small-is_word f.0 fits, tt))
-action-words (actions.EldStart f page slot) fits =
-    (refl, (small-is_word f.0 fits.0, (enclave-is_word page.enclave fits.1.0,
-    (small-is_word page.number fits.1.1, (small-is_word slot.frame.0 fits.2.0, (short-is_word slot.index fits.2.1, tt))))))
+action-words (actions.EldStart f page slot) fits = (
+  refl,
+  (
+    small-is_word f.0 fits.0,
+    (
+      enclave-is_word page.enclave fits.1.0,
+      (small-is_word page.number fits.1.1, (small-is_word slot.frame.0 fits.2.0, (short-is_word slot.index fits.2.1, tt))),
+    ),
+  ),
+)
 action-words (actions.Eld f) fits = (refl, (small-is_word f.0 fits, tt))
 
 plain-words : (answer : Answer) → IsPlain answer → AreWords (answer_words answer)
@@ -104,9 +125,13 @@ version-words (answers.Version version) is = (decimal-is_word version is, tt)
 version-words answer is = absurd is
 
 moved-words : (answer : Answer) → IsMoved answer → AreWords (answer_words answer)
-moved-words (answers.Moved page version tag) is =
-    (enclave-is_word page.enclave is.0.0, (small-is_word page.number is.0.1,
-        (decimal-is_word version is.1, (digest-is_word tag is.2, tt))))
+moved-words (answers.Moved page version tag) is = (
+  enclave-is_word page.enclave is.0.0,
+  (
+    small-is_word page.number is.0.1,
+    (decimal-is_word version is.1, (digest-is_word tag is.2, tt)),
+  ),
+)
 moved-words answer is = absurd is
 
 pf-words : (answer : Answer) → IsPf answer → AreWords (answer_words answer)

@@ -50,8 +50,14 @@ action-read (actions.Epa f) rest fits = rw (frame-read f.0 fits) refl
 action-read (actions.Create enclave f base size) rest fits =
     rw (enclave-read enclave fits.0, frame-read f.0 fits.1, number_of-hexadecimal base fits.2, number_of-hexadecimal size fits.3) refl
 action-read (actions.Add enclave number f kind perm init) rest fits =
-    rw (enclave-read enclave fits.0, small_of-decimal number fits.1, frame-read f.0 fits.2, kind-read kind, perm-read perm,
-    init-read init rest fits.3) refl
+    rw (
+      enclave-read enclave fits.0,
+      small_of-decimal number fits.1,
+      frame-read f.0 fits.2,
+      kind-read kind,
+      perm-read perm,
+      init-read init rest fits.3,
+    ) refl
 action-read (actions.Extend f chunk) rest fits = rw (frame-read f.0 fits.0, byte-read chunk fits.1) refl
 action-read (actions.Init enclave expect) rest fits = rw (enclave-read enclave fits.0, expect-read expect fits.1) refl
 action-read (actions.Enter enclave tcs tf sf) rest fits =
@@ -76,8 +82,13 @@ action-read (actions.EwbStart f slot) rest fits =
     rw (frame-read f.0 fits.0, frame-read slot.frame.0 fits.1.0, short-read slot.index fits.1.1) refl
 action-read (actions.Ewb f) rest fits = rw (frame-read f.0 fits) refl
 action-read (actions.EldStart f page slot) rest fits =
-    rw (frame-read f.0 fits.0, enclave-read page.enclave fits.1.0, small_of-decimal page.number fits.1.1,
-    frame-read slot.frame.0 fits.2.0, short-read slot.index fits.2.1) refl
+    rw (
+      frame-read f.0 fits.0,
+      enclave-read page.enclave fits.1.0,
+      small_of-decimal page.number fits.1.1,
+      frame-read slot.frame.0 fits.2.0,
+      short-read slot.index fits.2.1,
+    ) refl
 action-read (actions.Eld f) rest fits = rw (frame-read f.0 fits) refl
 
 -- ---- answers
@@ -110,8 +121,12 @@ version-read answer is = absurd is
 moved-read : (answer : Answer) → IsMoved answer → moved_of (answer_words answer) ≡ Some answer
 unfolding moved_of
 moved-read (answers.Moved page version tag) is =
-    rw (enclave-read page.enclave is.0.0, small_of-decimal page.number is.0.1, number_of-decimal version is.1,
-        digest_of-encode_lower tag is.2) refl
+    rw (
+      enclave-read page.enclave is.0.0,
+      small_of-decimal page.number is.0.1,
+      number_of-decimal version is.1,
+      digest_of-encode_lower tag is.2,
+    ) refl
 moved-read answer is = absurd is
 
 pf-read : (answer : Answer) → IsPf answer → pf_of (answer_words answer) ≡ Some answer

@@ -22,25 +22,37 @@ in_started = record { slot = first_slot; version = 1; loads = Some sevens }
 pub came_back_table : Along (RefusalRule (machine_of first_job)) came_back
 unfolding count_below ones
 came_back_table = (
-  (refl, record {
-    page = sevens;
-    ends = record { start = in_started; opened = refl; loads = refl };
-    version = 1;
-    tag = replicate 32 0;
-    told = refl;
-  }),
-  ((refl, refl), ((refl, record {
-    page = sevens;
-    kind = kinds.Reg;
-    perm = rw_perm;
-    held = refl;
-    start = out_started;
-    opened = refl;
-    writes = refl;
-    version = 1;
-    tag = replicate 32 0;
-    told = refl;
-  }), ((refl, (1, refl)), ((refl, refl), ((refl, refl), first_table))))),
+  (
+    refl,
+    record {
+      page = sevens;
+      ends = record { start = in_started; opened = refl; loads = refl };
+      version = 1;
+      tag = replicate 32 0;
+      told = refl;
+    },
+  ),
+  (
+    (refl, refl),
+    (
+      (
+        refl,
+        record {
+          page = sevens;
+          kind = kinds.Reg;
+          perm = rw_perm;
+          held = refl;
+          start = out_started;
+          opened = refl;
+          writes = refl;
+          version = 1;
+          tag = replicate 32 0;
+          told = refl;
+        },
+      ),
+      ((refl, (1, refl)), ((refl, refl), ((refl, refl), first_table))),
+    ),
+  ),
 )
 
 pub came_back_drained : Along EvictRule came_back

@@ -15,13 +15,13 @@ loop-word-preserved c =
     (YieldsList-from_filter _ (λ word. not (eqb (length word) 0))
     (YieldsList-at c.filter.ensures.source
     (YieldsList-from_slice_split _
-        (λ b. eqb b 32 || eqb b 9) c.args.line.now c.split.ensures.rest c.split.ensures.done c.split.ensures.closure
-        (λ x b q k. search (rules, tests))))
+    (λ b. eqb b 32 || eqb b 9) c.args.line.now c.split.ensures.rest c.split.ensures.done c.split.ensures.closure
+    (λ x b q k. search (rules, tests))))
     c.filter.ensures.closure
     (λ x b q k. search (rules, tests))))
     c.take-word-items.ensures.count)) c.loop-word.yielded _ c.loop-word.yielded_by _ _ c.in-Some.word c.in-Some.is c.next.ensures.steps in
     rw length_push (words-more _ _ _ c.in-Some.word (take 7 (words_of c.args.line.now))
-        (length c.loop-word.yielded) c.loop-word.invariant c.in_ok-push.ensures.items t.0 t.1)
+    (length c.loop-word.yielded) c.loop-word.invariant c.in_ok-push.ensures.items t.0 t.1)
 
 pub returns : goal.returns
 unfolding words_of
@@ -31,8 +31,8 @@ returns c =
     (YieldsList-from_filter _ (λ word. not (eqb (length word) 0))
     (YieldsList-at c.filter.ensures.source
     (YieldsList-from_slice_split _
-        (λ b. eqb b 32 || eqb b 9) c.args.line.now c.split.ensures.rest c.split.ensures.done c.split.ensures.closure
-        (λ x b q k. search (rules, tests))))
+    (λ b. eqb b 32 || eqb b 9) c.args.line.now c.split.ensures.rest c.split.ensures.done c.split.ensures.closure
+    (λ x b q k. search (rules, tests))))
     c.filter.ensures.closure
     (λ x b q k. search (rules, tests))))
     c.take-word-items.ensures.count)) c.loop-word.yielded _ c.loop-word.yielded_by _ _ c.in-None.is c.next.ensures.steps in

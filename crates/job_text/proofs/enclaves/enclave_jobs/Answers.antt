@@ -11,6 +11,6 @@ returns c =
     rw map-id at (map_from_collect c.collect.result c.collect.ensures.ran
     (YieldsList-from_map_by _ enclave_view (λ (e : EnclaveView). e)
     (YieldsList-at c.map.ensures.source (YieldsList-from_vec c.args.drafts.items c.into_iter.ensures.rest
-        (omega (arith, c.into_iter.ensures.len, c.args.drafts.ok.0))))
+    (omega (arith, c.into_iter.ensures.len, c.args.drafts.ok.0))))
     c.map.ensures.closure
     (λ x r q k. search rules)))

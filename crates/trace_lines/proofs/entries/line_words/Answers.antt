@@ -13,5 +13,5 @@ returns c =
     (YieldsList-from_take 16
     (YieldsList-at c.take.ensures.source
     (YieldsList-from_slice_split _ (λ b. eqb b 32) c.args.line.now c.split.ensures.rest c.split.ensures.done c.split.ensures.closure
-        (λ x b q k. search (rules, tests))))
+    (λ x b q k. search (rules, tests))))
     c.take.ensures.count)

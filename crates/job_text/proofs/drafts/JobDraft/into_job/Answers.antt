@@ -8,5 +8,5 @@ new-requires c =
     let given = c.in_default.ensures in
     let valid = whole-valid c.args.after c.args.self (job_of given.0 c.args.self) c.requires given.2 in
     let epc : c.unwrap_or-epc.result ≡ given.0 = c.unwrap_or-epc.ensures
-        ∙ ap (λ (o : Option ℕ). unwrap_or o 0) (ap (λ (d : Draft). d.epc) c.self.view_is ∙ given.1) in
+    ∙ ap (λ (o : Option ℕ). unwrap_or o 0) (ap (λ (d : Draft). d.epc) c.self.view_is ∙ given.1) in
     rw (c.in_ok-parts.ensures, epc) valid
