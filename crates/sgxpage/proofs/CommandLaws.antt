@@ -9,7 +9,6 @@ use Rattle.job_lines.specs.declared.kinds.JobKind.TheVariants.{TooLong}
 use Rattle.job_text.specs.declared.refusals.Fault.{Fault}
 use Rattle.job_text.specs.Reading.{at, read}
 use Rattle.job_text.proofs.ReadLaws.{read_long}
-use Rattle.turn_rules.specs.SmallJobs.{IsSmallJob}
 use Rattle.job_grammar.specs.Jobs.{JobView}
 use Rattle.sgxpage.specs.declared.job_faults.BadJob.{BadJob}
 use Rattle.sgxpage.specs.declared.job_faults.BadJob.TheVariants as bad_jobs
@@ -35,9 +34,6 @@ some_longer n =
     let zero : ℕ = 0 in
     (replicate (n + 1) zero, omega (arith, length-replicate (n + 1) zero))
 
-ok-same : (a b : JobView) → ◌≡◌ {A = Result JobView Fault} (Ok a) (Ok b) → a ≡ b
-ok-same a b e = cc
-
 refused : (bytes : List ℕ) (fault : Fault) → read bytes ≡ Err fault → IsNoJob bytes
     × (bad_jobs.Fault fault.line fault.kind ≡ why_not (read bytes))
 refused bytes fault e = (λ job is. absurd (let two = sym e ∙ is.0 in cc), rw e refl)
@@ -55,13 +51,6 @@ pub fault-read : (left : Option (List ℕ)) (bytes : List ℕ) (line : ℕ) (kin
     → read bytes ≡ Err (at line kind)
     → IsFaultOf left (unread.Bad (bad_jobs.Fault line kind))
 fault-read left bytes line kind same e = (bytes, same, refused bytes (at line kind) e)
-
--- no line is, and the job is of a form that is not run
-pub not-built : (left : Option (List ℕ)) (bytes : List ℕ) (job : JobView) → IfSome left (λ all. bytes ≡ all) → read bytes ≡ Ok job
-    → (IsSmallJob job → ⊥)
-    → IsFaultOf left (unread.Bad bad_jobs.NotYetBuilt)
-not-built left bytes job same e other =
-    (bytes, same, (λ (j : JobView) is. other (rw (ok-same j job (sym is.0 ∙ e)) at is.1), rw e refl))
 
 -- ---- a job that was read, or was not
 

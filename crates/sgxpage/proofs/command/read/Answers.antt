@@ -1,13 +1,18 @@
 use Rattle.std.proofs.Common.{◌≤◌, ◌^◌, length, Err, ap, refl, ◌∙◌, arith}
-use Rattle.sgxpage.proofs.CommandLaws.{takes-all, fault-read, fault-too_long, not-built}
+use Rattle.sgxpage.proofs.CommandLaws.{takes-all, fault-read, fault-too_long}
 use Rattle.sgxpage.proofs.command.read.Goals as goal
 
 pub returns-in-Err-TooLong-clause-fault : goal.returns-in-Err-TooLong-clause-fault
 returns-in-Err-TooLong-clause-fault g c =
     fault-too_long (g.J.Source.left c.args.source.now) (c.in-Err-TooLong.ensures.too_long (ap Err c.in-Err-TooLong.field-0-is))
 
-pub returns-in-Ok-read_job-clause-reads : goal.returns-in-Ok-read_job-clause-reads
-returns-in-Ok-read_job-clause-reads g c =
+pub returns-then-is_small_job-clause-reads : goal.returns-then-is_small_job-clause-reads
+returns-then-is_small_job-clause-reads g c =
+    let short : length c.in-Ok.bytes.items ≤ 2 ^ 24 = omega (arith, c.in-Ok.bytes.ok.0, c.in-Ok.ensures.within) in
+    takes-all (g.J.Source.left c.args.source.now) _ c.in-Ok.bytes.items (2 ^ 24) c.in-Ok.ensures.all short c.in-Ok.ensures.at_end
+
+pub returns-clause-reads : goal.returns-clause-reads
+returns-clause-reads g c =
     let short : length c.in-Ok.bytes.items ≤ 2 ^ 24 = omega (arith, c.in-Ok.bytes.ok.0, c.in-Ok.ensures.within) in
     takes-all (g.J.Source.left c.args.source.now) _ c.in-Ok.bytes.items (2 ^ 24) c.in-Ok.ensures.all short c.in-Ok.ensures.at_end
 
