@@ -11,10 +11,12 @@ use Rattle.sgx_types.specs.Sealed.{Sealed}
 use Rattle.sgx_types.specs.Starts.{Start, open_start}
 use Rattle.seal_record.specs.Records.{Given as GivenRecord, Made}
 use Rattle.seal_record.proofs.RecordLaws.{Unforged-before}
+use Rattle.io_edges.specs.declared.plans.PlanLine.{PlanLine}
+use Rattle.job_grammar.specs.Jobs.{JobView}
 use Rattle.backing_store.specs.Calls.{Call}
 use Rattle.run_history.specs.Calls.{before}
 use Rattle.run_history.specs.Given.{UnforgedRun, gift, given_in, given_more, looked_at, made_in, made_more}
-use Rattle.run_history.specs.Stored.{StoreCalls}
+use Rattle.run_history.specs.Stored.{StoreCalls, StoreTrue}
 
 -- a given record tells a number of records, which had been made
 abbrev TellsUpTo : List Made → GivenRecord → Type 0
@@ -56,3 +58,7 @@ unforged_before key e past calls whole =
 pub stored_before : (key : List ℕ) (e : Entry) (past : List Entry) (calls : List Call) → StoreCalls key (e ∷ past) calls
     → StoreCalls key past (before e.event calls)
 stored_before key e past calls h = record { calls_are = h.calls_are.1; records = h.records.1 }
+
+pub told_before : (j : JobView) (e : Entry) (past : List Entry) (plans : List PlanLine) (calls : List Call)
+    → StoreTrue j (e ∷ past) plans (Some calls) → StoreTrue j past plans (Some (before e.event calls))
+told_before j e past plans calls h = (h.0, stored_before j.key e past calls h.1)

@@ -1,6 +1,6 @@
 -- What the calls of a run say of the records: those that are put are sealed records of their pages, and the end of a load tells of the
 -- one that was given. The part on the bytes of the pages stands apart, since it alone supposes that no record was forged.
-use Rattle.std.specs.Prelude.{ℕ, ◌≡◌, List, [], ◌∷◌, Option, Some}
+use Rattle.std.specs.Prelude.{ℕ, ◌≡◌, List, [], ◌∷◌, Option, Some, IfSome}
 use Rattle.std.specs.Option.{IsSomeAnd}
 use Rattle.sgx_types.specs.declared.entries.Action.TheVariants.{Ewb, Eld}
 use Rattle.sgx_types.specs.declared.entries.Answer.TheVariants.{Moved}
@@ -15,6 +15,8 @@ use Rattle.sgx_types.specs.Layouts.{bytes_of}
 use Rattle.sgx_types.specs.Sealed.{Sealed}
 use Rattle.sgx_types.specs.Starts.{Start, open_start}
 use Rattle.seal_record.specs.Cipher.{cipher, tag}
+use Rattle.io_edges.specs.declared.plans.PlanLine.{PlanLine}
+use Rattle.job_grammar.specs.Jobs.{JobView}
 use Rattle.backing_store.specs.Calls.{Call, Put}
 use Rattle.run_history.specs.Calls.{CallsAre, before}
 use Rattle.run_history.specs.Given.{gift}
@@ -58,6 +60,10 @@ RecordsAre key (e ∷ past) calls =
 pub record StoreCalls (key : List ℕ) (past : List Entry) (calls : List Call) : Type 0 where
   pub calls_are : CallsAre past calls
   pub records : RecordsAre key past calls
+
+-- a store that tells its calls was handed the job's plan lines, and its calls are those
+abbrev pub StoreTrue : JobView → List Entry → List PlanLine → Option (List Call) → Type 0
+StoreTrue j past plans told = IfSome told (λ calls. (plans ≡ j.plans) × StoreCalls j.key past calls)
 
 -- ---- the bytes of what was put
 

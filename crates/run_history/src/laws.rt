@@ -5,6 +5,7 @@ ghost use Rattle.sgx_types.specs.declared.entries.Actor.{Actor};
 ghost use Rattle.sgx_types.specs.declared.entries.Entry.{Entry};
 ghost use Rattle.sgx_types.specs.declared.entries.Event.{Event};
 ghost use Rattle.sgx_types.specs.Rules.{Along, KeepsRules};
+ghost use Rattle.io_edges.specs.declared.plans.PlanLine.{PlanLine};
 ghost use Rattle.measure_log.specs.Rule.{MeasureRule};
 ghost use Rattle.job_grammar.specs.Jobs.{JobView};
 ghost use Rattle.turn_rules.specs.Machines.{machine_of};
@@ -22,7 +23,7 @@ ghost use Rattle.run_history.specs.Calls.{before};
 ghost use Rattle.run_history.specs.declared.rules.Rule.{Rule};
 ghost use Rattle.run_history.specs.Given.{UnforgedRun};
 ghost use Rattle.run_history.specs.Histories.{FailsFirst, GoesOn, History, Keeps, Says, is_machines, is_note};
-ghost use Rattle.run_history.specs.Stored.{StoreCalls};
+ghost use Rattle.run_history.specs.Stored.{StoreCalls, StoreTrue};
 
 /// A history keeps each rule, so a trace that fails somewhere is none. A history is one that goes on.
 pub fn histories_fail_nowhere()
@@ -48,6 +49,8 @@ pub fn runs_without_their_last_entry()
         → UnforgedRun key past (before e.event calls) }
     ensures stored { (key : List ℕ) (e : Entry) (past : List Entry) (calls : List Call) → StoreCalls key (e ∷ past) calls
         → StoreCalls key past (before e.event calls) }
+    ensures told { (j : JobView) (e : Entry) (past : List Entry) (plans : List PlanLine) (calls : List Call)
+        → StoreTrue j (e ∷ past) plans (Some calls) → StoreTrue j past plans (Some (before e.event calls)) }
 {}
 
 /// Of a look, of a kick, and of why a page did not come back, the rules but Script, Age and Kick say nothing. So a history goes on with one
