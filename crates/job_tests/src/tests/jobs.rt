@@ -313,6 +313,7 @@ fn too_long(rt: HostRuntime) -> Result<(), Fail> {
         *byte = b'\n';
     }
     assert_eq!(rt; want_of(rt.alloc(), &bytes)?, Faulty(0, TooLong));
-    assert_eq!(rt; want_of(rt.alloc(), &bytes[1..])?, Faulty(1, Word));
+    bytes.pop();
+    assert_eq!(rt; want_of(rt.alloc(), &bytes)?, Faulty(1, Word));
     Ok(())
 }
