@@ -1,12 +1,13 @@
 //! Which slots are in use.
 
-ghost use Rattle.std.specs.Prelude.{◌≡◌, ◌+◌, ◌<◌, ◌≤◌, ◌++◌, true, false, length, is_some, nat_lt, IfOk, IfSome, IfNone, vec_capacity};
-ghost use Rattle.std.specs.Prelude.{vec_len};
+ghost use Rattle.std.specs.Prelude.{◌≡◌, [], ◌+◌, ◌*◌, ◌<◌, ◌≤◌, ◌^◌, ℕ, true, false, length, is_some, nat_lt, slice_index_or, None, IfOk, IfSome, IfNone};
+ghost use Rattle.slab.specs.Slab.{slab_len};
 ghost use Rattle.version_array.specs.Keeper.{new_keeper, is_added, is_out, count_all, count_out, Adds, Takes, Gives, AllOut};
-ghost use Rattle.version_array.specs.Pages.{first_slots};
+ghost use Rattle.version_array.specs.Keys.{is_taken, count_below, IsCounted, Frees, is_frame};
 
 use crate::va_page::SLOTS;
 use sgx_types::names::{Frame, Memory, SlotAt};
+use slab::Slab;
 use std::alloc::Global;
 use std::marker::Model;
 
@@ -15,8 +16,9 @@ use std::marker::Model;
 #[derive(Debug, Drop)]
 pub struct SlotKeeper {
     frames: Vec<Frame>,
-    // The slots that are not out, as a stack.
-    free: Vec<SlotAt>,
+    // A page has 512 keys, in the order of the slots. A key is taken where its slot is out, and where its page was
+    // not added yet.
+    slots: Slab<()>,
 }
 
 impl Model for SlotKeeper {
@@ -24,7 +26,7 @@ impl Model for SlotKeeper {
 
     ghost Value = { Keeper };
 
-    ghost use Rattle.version_array.specs.Stack.{keeper_of, IsKept};
+    ghost use Rattle.version_array.specs.KeeperKept.{keeper_of, IsKept};
 
     ghost view = { keeper_of };
 
@@ -37,10 +39,10 @@ impl SlotKeeper {
         ensures { IfOk result (λ keeper. keeper ≡ new_keeper pages) }
     {
         let count = pages as usize;
-        Ok(SlotKeeper {
-            frames: Vec::with_capacity(alloc, count)?,
-            free: Vec::with_capacity(alloc, usize::from(SLOTS) * count)?,
-        })
+        let frames = Vec::with_capacity(alloc, count)?;
+        let mut slots = Slab::with_capacity(alloc, usize::from(SLOTS) * count)?;
+        take_all(&mut slots);
+        Ok(SlotKeeper { frames, slots })
     }
 
     /// Adds the 512 slots of the version array page in a frame. None of them is out.
@@ -49,8 +51,9 @@ impl SlotKeeper {
         requires fresh { is_added self.old f.0 ≡ false }
         ensures { Adds self.old f self.new }
     {
+        let first = usize::from(SLOTS) * self.frames.len();
         self.frames.push_reserved(f);
-        push_slots(&mut self.free, f);
+        free_page(&mut self.slots, first);
     }
 
     /// Takes a slot, which is out from then on. None where all are out.
@@ -60,7 +63,15 @@ impl SlotKeeper {
         ensures none { IfNone result (AllOut self.old) }
         ensures same { IfNone result (self.new ≡ self.old) }
     {
-        self.free.pop()
+        if self.slots.len() == self.slots.capacity() {
+            return None;
+        }
+        let key = self.slots.insert_reserved(());
+        let slots = usize::from(SLOTS);
+        Some(SlotAt {
+            frame: self.frames[key / slots],
+            index: (key % slots) as u16,
+        })
     }
 
     /// Gives a slot back, which is out no more.
@@ -68,17 +79,52 @@ impl SlotKeeper {
         requires { is_out self.old at ≡ true }
         ensures { Gives self.old at self.new }
     {
-        self.free.push_reserved(at);
+        let page = page_in(&self.frames, at.frame);
+        self.slots
+            .remove(usize::from(SLOTS) * page + usize::from(at.index));
     }
 }
 
-// Appends the slots of a frame.
-fn push_slots(slots: &mut Vec<SlotAt>, frame: Frame)
-    requires { vec_len slots.old + 512 ≤ vec_capacity slots.old }
-    ensures items { slots.new.items ≡ slots.old.items ++ first_slots frame 512 }
-    ensures capacity { vec_capacity slots.new ≡ vec_capacity slots.old }
+// Takes every key.
+fn take_all(slots: &mut Slab<()>)
+    requires { slots.old.slots ≡ [] }
+    ensures counted { IsCounted slots.new }
+    ensures full { slab_len slots.new ≡ slots.new.capacity }
+    ensures capacity { slots.new.capacity ≡ slots.old.capacity }
+{
+    for _ in 0..slots.capacity() {
+        slots.insert_reserved(());
+    }
+}
+
+// Frees the 512 keys of a page, from its first on.
+fn free_page(slots: &mut Slab<()>, first: usize)
+    requires within { first + 512 ≤ slots.old.capacity }
+    requires few { first + 512 < 2 ^ 64 }
+    requires counted { IsCounted slots.old }
+    requires taken { (key : ℕ) → first ≤ key → key < first + 512 → is_taken slots.old key ≡ true }
+    ensures { Frees slots.old first 512 slots.new }
 {
     for index in 0..SLOTS {
-        slots.push_reserved(SlotAt { frame, index });
+        slots.remove(first + usize::from(index));
     }
+}
+
+// The number of the page in a frame, in the order in which they were added.
+fn page_in(frames: &[Frame], frame: Frame) -> usize
+    requires { is_frame frames.now frame.0 ≡ true }
+    ensures within { result < length frames.now }
+    ensures there { slice_index_or frames.now result frame ≡ frame }
+{
+    // Pages are mostly added in the order of their frames, from frame 0 on.
+    let likely = frame.0 as usize;
+    if likely < frames.len() && frames[likely] == frame {
+        return likely;
+    }
+    for (number, other) in frames.iter().enumerate() {
+        if *other == frame {
+            return number;
+        }
+    }
+    unreachable!()
 }
