@@ -1,0 +1,55 @@
+//! The driver's tables.
+
+ghost use Rattle.std.specs.Prelude.{◌≡◌, IfOk};
+ghost use Rattle.active_list.specs.Active.{are_held};
+ghost use Rattle.driver_tables.specs.Tables.{IsNew};
+
+use crate::counts::page_counts;
+use active_list::active::Active;
+use active_list::kept_records::KeptRecords;
+use active_list::page_states::PageStates;
+use job_grammar::jobs::{Job, Marks};
+use sgx_types::names::Memory;
+use std::alloc::Global;
+use version_array::slot_keeper::SlotKeeper;
+
+/// What the driver keeps of a job: the list of the pages that may be written out and the holds of pages, what became of each page,
+/// the slots for versions, the record that each processor's started load looks at, and the job's numbers. No call but `new` takes
+/// memory, and each takes constant time.
+#[derive(Drop)]
+pub struct Driver {
+    pub active: Active,
+    pub states: PageStates,
+    pub slots: SlotKeeper,
+    pub kept: KeptRecords,
+    /// When the reclaimer works.
+    pub marks: Marks,
+    /// How many processors there are, from 1 to 16.
+    pub cpus: u8,
+}
+
+impl Driver {
+    /// The tables of a job before its first entry: an empty list, no holds, every page absent, no slots, and nothing kept. Each
+    /// table has a place for every page of the job.
+    pub fn new(alloc: Global, job: &Job) -> Result<Driver, Memory>
+        ensures { IfOk result (IsNew job.now) }
+    {
+        let counts = page_counts(alloc, job.enclaves())?;
+        let cpus = job.scripts().len() as u8;
+        Ok(Driver {
+            active: Active::new(alloc, &counts)?,
+            states: PageStates::new(alloc, &counts)?,
+            slots: SlotKeeper::new(alloc, job.va_pages())?,
+            kept: KeptRecords::new(alloc, cpus)?,
+            marks: job.marks(),
+            cpus,
+        })
+    }
+
+    /// Whether every listed page is held. So it is with an empty list.
+    pub fn all_held(&self) -> bool
+        ensures { result ≡ are_held self.now.active }
+    {
+        self.active.all_held()
+    }
+}
