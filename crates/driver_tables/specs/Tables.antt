@@ -1,5 +1,5 @@
 -- The driver's tables say what the entries say.
-use Rattle.std.specs.Prelude.{ℕ, ◌≡◌, ◌≤◌, false, List, ◌∷◌, None, length, map, replicate}
+use Rattle.std.specs.Prelude.{ℕ, ◌≡◌, ◌≤◌, false, List, ◌∷◌, None, length, map, replicate, sum}
 use Rattle.sgx_types.specs.declared.entries.Entry.{Entry}
 use Rattle.sgx_types.specs.declared.names.Page.{Page}
 use Rattle.job_grammar.specs.Jobs.{JobView, va_pages}
@@ -53,6 +53,7 @@ pub record ShowsTables (j : JobView) (d : Driver) (past : List Entry) : Type 0 w
   -- the tables are those of the job's pages and processors
   pub counts : d.states.counts ≡ d.active.counts
   pub of_job : d.active.counts ≡ 0 ∷ page_counts j
+  pub sized : length d.states.states ≡ sum d.states.counts
   pub rooms : length d.kept ≡ d.cpus
   pub marks : d.marks ≡ j.marks
   pub cpus : d.cpus ≡ length j.scripts
