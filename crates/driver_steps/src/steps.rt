@@ -1,0 +1,24 @@
+//! One instruction that takes no memory.
+
+ghost use Rattle.std.specs.Prelude.{◌≡◌, length};
+ghost use Rattle.paging_machine.specs.Parts.{state_of};
+ghost use Rattle.paging_laws.specs.Steps.{CanApply, IsStep, MayNeedMemory};
+ghost use Rattle.driver_steps.specs.Carried.{Carries};
+
+use paging_machine::machine::Machine;
+use sgx_types::entries::{Action, Actor, Entry};
+use std::alloc::Global;
+
+/// One instruction, by its row of this project's instruction table. None of `epa` and `create`, which take memory.
+pub fn step(alloc: Global, machine: &mut Machine, actor: Actor, action: Action) -> Entry
+    requires can { CanApply (length machine.old.cpus) actor action }
+    requires sure { MayNeedMemory action → ⊥ }
+    ensures step { IsStep (state_of machine.old) actor action result (state_of machine.new) }
+    ensures carries { Carries (state_of machine.old) result (state_of machine.new) }
+    ensures cpus { length machine.new.cpus ≡ length machine.old.cpus }
+{
+    match machine.apply(alloc, actor, &action) {
+        Ok(entry) => entry,
+        Err(_) => unreachable!(),
+    }
+}
