@@ -3,10 +3,11 @@
 ghost use Rattle.std.specs.Prelude.{◌≡◌, length};
 ghost use Rattle.paging_machine.specs.Parts.{state_of};
 ghost use Rattle.paging_laws.specs.Steps.{CanApply, IsStep, MayNeedMemory};
+ghost use Rattle.driver_rules.specs.Reclaims.{is_refused};
 ghost use Rattle.driver_steps.specs.Carried.{Carries};
 
 use paging_machine::machine::Machine;
-use sgx_types::entries::{Action, Actor, Entry};
+use sgx_types::entries::{Action, Actor, Entry, Event};
 use std::alloc::Global;
 
 /// One instruction, by its row of this project's instruction table. None of `epa` and `create`, which take memory.
@@ -21,4 +22,11 @@ pub fn step(alloc: Global, machine: &mut Machine, actor: Actor, action: Action) 
         Ok(entry) => entry,
         Err(_) => unreachable!(),
     }
+}
+
+/// Whether an instruction was refused.
+pub fn is_refused(entry: &Entry) -> bool
+    ensures { result ≡ is_refused entry.now.event }
+{
+    matches!(entry.event, Event::Refused { .. })
 }

@@ -1,0 +1,98 @@
+-- What the first half of a fault step does.
+use Rattle.std.specs.Prelude.{ℕ, ◌≡◌, false, if◌then◌else◌, List, Option, Some, None, Result, Ok, Err, slice_set}
+use Rattle.sgx_types.specs.declared.entries.Action.TheVariants as actions
+use Rattle.sgx_types.specs.declared.entries.Actor.TheVariants as actors
+use Rattle.sgx_types.specs.declared.entries.BusWhy.TheVariants as reasons
+use Rattle.sgx_types.specs.declared.entries.Entry.{Entry}
+use Rattle.sgx_types.specs.declared.names.Cpu.{Cpu}
+use Rattle.sgx_types.specs.declared.names.Frame.{Frame}
+use Rattle.sgx_types.specs.declared.names.Page.{Page}
+use Rattle.sgx_types.specs.declared.names.SlotAt.{SlotAt}
+use Rattle.sgx_types.specs.Frames.{least_free}
+use Rattle.sgx_types.specs.Sealed.{Sealed}
+use Rattle.sgx_types.specs.Starts.{Start}
+use Rattle.turn_rules.specs.Script.{frame_at}
+use Rattle.seal_record.specs.declared.unseal.UnsealWork.{UnsealWork}
+use Rattle.paging_laws.specs.State.{State}
+use Rattle.paging_laws.specs.Steps.{IsStep}
+use Rattle.paging_machine.specs.Parts.{Parts, state_of}
+use Rattle.backing_store.specs.Calls.{Call, told_got}
+use Rattle.backing_store.specs.declared.backing.StoreFault.{StoreFault}
+use Rattle.backing_store.specs.declared.backing.StoreFault.TheVariants as faults
+use Rattle.active_list.specs.Keeping.{keeping}
+use Rattle.active_list.specs.States.{with_state}
+use Rattle.active_list.specs.declared.page_states.PageState.{PageState}
+use Rattle.active_list.specs.declared.page_states.PageState.TheVariants as states
+use Rattle.driver_rules.specs.declared.waits.Why.TheVariants as waits
+use Rattle.driver_rules.specs.Reclaims.{is_refused}
+use Rattle.driver_steps.specs.Carried.{Carries}
+use Rattle.driver_tables.specs.declared.driver.Driver.{Driver}
+use Rattle.fault_handler.specs.declared.answers.FaultAnswer.{FaultAnswer}
+use Rattle.fault_handler.specs.declared.answers.FaultAnswer.TheVariants as answers
+
+-- an answer that changes nothing in the tables and in the machine
+pub record IsSaid (said : FaultAnswer) (d : Driver) (m : Parts) (answer : FaultAnswer) (d' : Driver) (m' : Parts) : Type 0 where
+  pub says : answer ≡ said
+  pub driver : d' ≡ d
+  pub machine : m' ≡ m
+
+-- the tables behind a load's start: the page is loading, and the record is kept
+abbrev pub with_load : Driver → Cpu → Page → SlotAt → Frame → Sealed → Driver
+with_load d cpu page slot frame rec = record d {
+  states = with_state d.states page (states.Loading frame slot);
+  kept = slice_set d.kept cpu.0 (Some (keeping page rec));
+}
+
+-- the work opens this record by the machine's key and the version that the start found
+pub record IsToOpen (s : State) (f : ℕ) (rec : Sealed) (work : UnsealWork) : Type 0 where
+  pub brought : work.rec ≡ rec
+  pub key : work.key ≡ s.key
+  pub start : Start
+  pub opened : s.start f ≡ Some start
+  pub version : work.version ≡ start.version
+
+-- a load's start by its row: where it is done, tables and work are the load's; a refused one changes nothing
+pub record IsStarted (cpu : Cpu) (page : Page) (slot : SlotAt) (frame : Frame) (rec : Sealed) (d : Driver) (m : Parts) (answer : FaultAnswer)
+    (d' : Driver) (m' : Parts) : Type 0 where
+  pub entry : Entry
+  pub work : UnsealWork
+  pub says : answer ≡ answers.Started entry work
+  pub step : IsStep (state_of m) (actors.Cpu cpu) (actions.EldStart frame page slot) entry (state_of m')
+  pub carries : Carries (state_of m) entry (state_of m')
+  pub driver : d' ≡ (if is_refused entry.event then d else with_load d cpu page slot frame rec)
+  pub work_is : is_refused entry.event ≡ false → IsToOpen (state_of m') frame.0 rec work
+
+-- by what the store gave
+abbrev pub IsGot : Cpu → Page → SlotAt → Frame → Result (Option Sealed) StoreFault → Driver → Parts → FaultAnswer → Driver → Parts → Type 0
+IsGot cpu page slot frame (Ok (Some rec)) d m answer d' m' = IsStarted cpu page slot frame rec d m answer d' m'
+IsGot cpu page slot frame (Ok None) d m answer d' m' = IsSaid (answers.Bus reasons.NoRecord) d m answer d' m'
+IsGot cpu page slot frame (Err faults.Failed) d m answer d' m' = IsSaid (answers.Bus reasons.GetFailed) d m answer d' m'
+IsGot cpu page slot frame (Err faults.Memory) d m answer d' m' = ⊥
+
+-- the store is asked once
+pub record IsAsked (cpu : Cpu) (page : Page) (slot : SlotAt) (frame : Frame) (d : Driver) (m : Parts) (told : Option (List Call))
+    (answer : FaultAnswer) (d' : Driver) (m' : Parts) (told' : Option (List Call)) : Type 0 where
+  pub got : Result (Option Sealed) StoreFault
+  pub calls : told' ≡ told_got page got told
+  pub does : IsGot cpu page slot frame got d m answer d' m'
+
+-- .. or not at all
+pub record IsSilent (said : FaultAnswer) (d : Driver) (m : Parts) (told : Option (List Call)) (answer : FaultAnswer) (d' : Driver) (m' : Parts)
+    (told' : Option (List Call)) : Type 0 where
+  pub calls : told' ≡ told
+  pub does : IsSaid said d m answer d' m'
+
+-- a page that is away is asked for where a frame is free
+abbrev pub IsFetch : Cpu → Page → SlotAt → Option ℕ → Driver → Parts → Option (List Call) → FaultAnswer → Driver → Parts → Option (List Call)
+    → Type 0
+IsFetch cpu page slot None d m told answer d' m' told' = IsSilent (answers.Again waits.NoFrame) d m told answer d' m' told'
+IsFetch cpu page slot (Some f) d m told answer d' m' told' = IsAsked cpu page slot (frame_at f) d m told answer d' m' told'
+
+-- by what became of the page
+abbrev pub IsResolved : Cpu → Page → PageState → Driver → Parts → Option (List Call) → FaultAnswer → Driver → Parts → Option (List Call)
+    → Type 0
+IsResolved cpu page (states.Here f) d m told answer d' m' told' = IsSilent answers.Here d m told answer d' m' told'
+IsResolved cpu page (states.Lost slot) d m told answer d' m' told' = IsSilent (answers.Bus reasons.PutFailed) d m told answer d' m' told'
+IsResolved cpu page (states.Away slot) d m told answer d' m' told' =
+    IsFetch cpu page slot (least_free (state_of m).frames (state_of m).content) d m told answer d' m' told'
+IsResolved cpu page _ d m told answer d' m' told' = IsSilent (answers.Again (waits.Busy page)) d m told answer d' m' told'

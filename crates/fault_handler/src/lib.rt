@@ -1,0 +1,5 @@
+// What a processor does for a page that is not in a frame: its record is asked for, and loaded.
+#![tactic(auto)]
+
+pub mod answers;
+pub mod resolving;

@@ -1,0 +1,129 @@
+//! The first half of a fault step: a page's record is asked for, and its load starts.
+
+ghost use Rattle.std.specs.Prelude.{◌≡◌, ◌<◌, ◌≤◌, Some, length, option_map, IfOk, OnErr};
+ghost use Rattle.active_list.specs.Places.{IsPlaced};
+ghost use Rattle.active_list.specs.States.{state_of as page_state};
+ghost use Rattle.fault_handler.specs.Resolving.{IsFetch, IsResolved, IsStarted};
+ghost use Rattle.paging_machine.specs.Parts.{state_of};
+ghost use Rattle.sgx_types.specs.Frames.{least_free};
+
+use crate::answers::FaultAnswer;
+use active_list::page_states::PageState;
+use backing_store::backing::{Backing, StoreFault};
+use driver_rules::waits::Why;
+use driver_steps::steps::{is_refused, step};
+use driver_tables::driver::Driver;
+use paging_machine::machine::Machine;
+use seal_record::unseal::UnsealWork;
+use sgx_types::entries::{Action, Actor, BusWhy};
+use sgx_types::names::{Cpu, Frame, Memory, Page, SlotAt};
+use sgx_types::record::Record;
+use std::alloc::Global;
+
+/// The fault step of a processor for a page. Memory is taken before the store is asked, once at most, for the page's record: a
+/// refusal leaves tables, machine and store as they were. The record that the store gave is copied into the room of that
+/// processor, where it stays until the load's end.
+///
+/// Here where the page is in a frame and not on its way out. Again `Busy` where it is on its way out, or is being loaded; again
+/// `NoFrame` where no frame is free. `Bus` with `PutFailed` where the page's last put failed, with `GetFailed` where its get
+/// fails, with `NoRecord` where the store has none.
+pub fn resolve<B: Backing>(
+    alloc: Global,
+    driver: &mut Driver,
+    machine: &mut Machine,
+    store: &mut B,
+    cpu: Cpu,
+    page: Page,
+) -> Result<FaultAnswer, Memory>
+    requires room { cpu.0 < length driver.old.kept }
+    requires placed { IsPlaced driver.old.states.counts page }
+    ensures does { IfOk result (λ answer. IsResolved cpu page (page_state driver.old.states page) driver.old machine.old (B.told store.old)
+        answer driver.new machine.new (B.told store.new)) }
+    ensures cpus { length machine.new.cpus ≡ length machine.old.cpus }
+    ensures spare { B.spare store.new ≡ B.spare store.old }
+    ensures plans { B.plans store.new ≡ B.plans store.old }
+    ensures faults { B.faults store.old ≤ B.faults store.new }
+    ensures driver { OnErr result (driver.new ≡ driver.old) }
+    ensures machine { OnErr result (machine.new ≡ machine.old) }
+    ensures store { OnErr result (store.new ≡ store.old) }
+{
+    match driver.states.state(page) {
+        PageState::Here(_) => Ok(FaultAnswer::Here),
+        PageState::Lost(_) => Ok(FaultAnswer::Bus(BusWhy::PutFailed)),
+        PageState::Away(slot) => fetch(alloc, driver, machine, store, cpu, page, slot),
+        PageState::Absent | PageState::Leaving(_) | PageState::Loading(_, _) => {
+            Ok(FaultAnswer::Again(Why::Busy(page)))
+        }
+    }
+}
+
+// Asks for the record of a page that is away, and starts its load into the least free frame.
+fn fetch<B: Backing>(
+    alloc: Global,
+    driver: &mut Driver,
+    machine: &mut Machine,
+    store: &mut B,
+    cpu: Cpu,
+    page: Page,
+    slot: SlotAt,
+) -> Result<FaultAnswer, Memory>
+    requires room { cpu.0 < length driver.old.kept }
+    requires placed { IsPlaced driver.old.states.counts page }
+    ensures does { IfOk result (λ answer. IsFetch cpu page slot (least_free (state_of machine.old).frames (state_of machine.old).content)
+        driver.old machine.old (B.told store.old) answer driver.new machine.new (B.told store.new)) }
+    ensures cpus { length machine.new.cpus ≡ length machine.old.cpus }
+    ensures spare { B.spare store.new ≡ B.spare store.old }
+    ensures plans { B.plans store.new ≡ B.plans store.old }
+    ensures faults { B.faults store.old ≤ B.faults store.new }
+    ensures driver { OnErr result (driver.new ≡ driver.old) }
+    ensures machine { OnErr result (machine.new ≡ machine.old) }
+    ensures store { OnErr result (store.new ≡ store.old) }
+{
+    let Some(frame) = machine.first_free() else {
+        return Ok(FaultAnswer::Again(Why::NoFrame));
+    };
+    let space = vec![in alloc; 0; 4096]?;
+    match store.get(alloc, page) {
+        Ok(Some(rec)) => Ok(start(alloc, driver, machine, cpu, page, slot, frame, rec, space)),
+        Ok(None) => Ok(FaultAnswer::Bus(BusWhy::NoRecord)),
+        Err(StoreFault::Failed) => Ok(FaultAnswer::Bus(BusWhy::GetFailed)),
+        Err(StoreFault::Memory) => Err(Memory),
+    }
+}
+
+// Starts a page's load, and keeps the record that is to be opened.
+fn start(
+    alloc: Global,
+    driver: &mut Driver,
+    machine: &mut Machine,
+    cpu: Cpu,
+    page: Page,
+    slot: SlotAt,
+    frame: Frame,
+    rec: Record,
+    space: Vec<u8>,
+) -> FaultAnswer
+    requires room { cpu.0 < length driver.old.kept }
+    requires placed { IsPlaced driver.old.states.counts page }
+    requires space { length space.items ≡ 4096 }
+    ensures does { IsStarted cpu page slot frame rec driver.old machine.old result driver.new machine.new }
+    ensures cpus { length machine.new.cpus ≡ length machine.old.cpus }
+{
+    let action = Action::EldStart { frame, page, slot };
+    let entry = step(alloc, machine, Actor::Cpu(cpu), action);
+    let work = UnsealWork {
+        key: [0; 32],
+        version: 0,
+        rec,
+        space,
+    };
+    if is_refused(&entry) {
+        return FaultAnswer::Started { entry, work };
+    }
+    driver
+        .states
+        .set_state(page, PageState::Loading(frame, slot));
+    driver.kept.keep(cpu, page, &work.rec);
+    let work = machine.unseal_input(frame, work);
+    FaultAnswer::Started { entry, work }
+}
