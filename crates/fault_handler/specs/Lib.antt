@@ -1,1 +1,3 @@
 pub mod Resolving
+pub mod Finishing
+pub mod Repeating

@@ -2,4 +2,6 @@
 #![tactic(auto)]
 
 pub mod answers;
+pub mod finishing;
+pub mod repeating;
 pub mod resolving;
