@@ -141,7 +141,7 @@ absent_is (Away slot) h = cc
 
 -- ---- ends of loads
 
-loading_is : (p : Place) (f : ℕ) (slot : SlotAt) → slot_loading p f ≡ Some slot → p ≡ Loading f slot
+pub loading_is : (p : Place) (f : ℕ) (slot : SlotAt) → slot_loading p f ≡ Some slot → p ≡ Loading f slot
 loading_is (Loading n s) f slot h = by_frame (n == f) refl h
   where
     by_frame : (b : Bool) → (n == f) ≡ b → slot_if b s ≡ Some slot → Loading n s ≡ Loading f slot

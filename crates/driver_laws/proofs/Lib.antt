@@ -18,3 +18,6 @@ pub mod StageLaws
 pub mod SpentLaws
 pub mod SmallLaws
 pub mod StartedLaws
+pub mod AloneLaws
+pub mod UsedLaws
+pub mod ReadyLaws

@@ -6,3 +6,4 @@ pub mod Three
 pub mod Agrees
 pub mod Driven
 pub mod Started
+pub mod Used

@@ -1,6 +1,6 @@
 //! Laws of the definitions. Each is the contract of a function without arguments, and so holds for every list of entries.
 
-ghost use Rattle.std.specs.Prelude.{ℕ, ◌≡◌, ◌≤◌, ◌+◌, true, false, List, [], ◌∷◌, Some, length};
+ghost use Rattle.std.specs.Prelude.{ℕ, ◌≡◌, ◌≤◌, ◌+◌, true, false, List, [], ◌∷◌, Option, Some, None, length, nat_le};
 ghost use Rattle.sgx_types.specs.Making.{Making};
 ghost use Rattle.sgx_types.specs.ByEpochs.{IsTrackedBlock};
 ghost use Rattle.sgx_types.specs.declared.entries.Actor.TheVariants as actors;
@@ -9,15 +9,21 @@ ghost use Rattle.sgx_types.specs.declared.names.Cpu.{Cpu};
 ghost use Rattle.sgx_types.specs.declared.names.Page.{Page};
 ghost use Rattle.sgx_types.specs.Epochs.{block_epoch, epoch, older_at};
 ghost use Rattle.sgx_types.specs.Eviction.{is_drained};
-ghost use Rattle.sgx_types.specs.Frames.{is_blocked};
+ghost use Rattle.sgx_types.specs.Frames.{Free, content, is_blocked};
+ghost use Rattle.sgx_types.specs.declared.names.SlotAt.{SlotAt};
+ghost use Rattle.sgx_types.specs.Sights.{sight_at, slot_sight_at};
+ghost use Rattle.sgx_types.specs.Table.{EnclaveSight, eldstart_row, first_of_row, is_made};
+ghost use Rattle.version_array.specs.Keeper.{Keeper};
+ghost use Rattle.page_history.specs.Once.{KeepsMoves};
 ghost use Rattle.job_grammar.specs.Jobs.{JobView};
 ghost use Rattle.sgx_types.specs.Rules.{Along, FlatRule, RefusalRule};
 ghost use Rattle.turn_rules.specs.Script.{IsEnded as SmallEnded, ScriptRule as SmallRule};
 ghost use Rattle.driver_rules.specs.Ages.{AgeRule, KickRule};
+ghost use Rattle.driver_laws.specs.Agrees.{ShowsSlots};
 ghost use Rattle.driver_laws.specs.Driven.{IsDriven};
 ghost use Rattle.driver_laws.specs.Kinds.{CanMove};
 ghost use Rattle.driver_rules.specs.Passes.{First, Tries, keepers, pass, processors_noting};
-ghost use Rattle.driver_rules.specs.Places.{Leaving, place};
+ghost use Rattle.driver_rules.specs.Places.{Away, Leaving, place};
 ghost use Rattle.driver_rules.specs.Scripts.{IsEnded, ScriptRule};
 ghost use Rattle.driver_rules.specs.Stops.{frame_started, last_event};
 ghost use Rattle.driver_rules.specs.Turns.{last_of};
@@ -25,6 +31,7 @@ ghost use Rattle.driver_laws.specs.Started.{frame_loaded};
 ghost use Rattle.driver_laws.specs.Sound.{IsSound};
 ghost use Rattle.driver_laws.specs.Stages.{KeepsPages};
 ghost use Rattle.driver_laws.specs.Three.{IsApart, TcsAreApart, three};
+ghost use Rattle.driver_laws.specs.Used.{SealingAreOpen, SlotsAreUsed, StartTells, StartsAlone};
 ghost use Rattle.driver_laws.specs.Tracks.{IsCalm, IsTracked, IsUntracked, KeepsTracks, OwnRule, TryTells};
 
 /// One entry more, of any kind, keeps places, the list and the slots sound, where it can move its page.
@@ -79,6 +86,7 @@ pub fn histories_are_sound()
         → KeepsTracks past (pass j past) }
     ensures pages { (k : Making) (j : JobView) (past : List Entry) → 1 ≤ k.first_version → IsDriven k j past
         → KeepsPages past (pass j past) }
+    ensures used { (k : Making) (j : JobView) (past : List Entry) → 1 ≤ k.first_version → IsDriven k j past → SlotsAreUsed past }
     ensures three { (k : Making) (j : JobView) (past : List Entry) → 1 ≤ k.first_version → TcsAreApart j → IsDriven k j past → (p : ℕ)
         → IsApart j past p }
 {}
@@ -90,6 +98,26 @@ pub fn three_holds_suffice()
     ensures more { (j : JobView) (past : List Entry) (e : Entry) → TcsAreApart j → IsSound past → ScriptRule j past e → AgeRule j past e
         → ((p : ℕ) → IsApart j past p) → (p : ℕ) → IsApart j (e ∷ past) p }
     ensures most { (j : JobView) (past : List Entry) (p : ℕ) → length (three j past p) ≤ 3 }
+{}
+
+/// One entry more keeps what slots hold: that of a page that is outside a version, and a slot is busy exactly where an open start names
+/// it. So a load of a page that is away, by its slot into a free frame of the EPC, is not refused.
+pub fn slots_stay_used()
+    ensures first { SlotsAreUsed [] }
+    ensures more { (past : List Entry) (e : Entry) → IsSound past → CanMove past e.event → StartTells past e.event → SlotsAreUsed past
+        → SlotsAreUsed (e ∷ past) }
+    ensures told { (k : Making) (past : List Entry) (e : Entry) → 1 ≤ k.first_version → IsSound past → SealingAreOpen past
+        → KeepsMoves k (e ∷ past) → StartTells past e.event }
+    ensures load { (frames : ℕ) (j : JobView) (keeper : Keeper) (past : List Entry) (g : Page) (slot : SlotAt) (f : ℕ)
+        (enclave : Option EnclaveSight) → IsSound past → SlotsAreUsed past → SealingAreOpen past → ShowsSlots j keeper past
+        → place past g ≡ Away slot → content past f ≡ Free → nat_le frames f ≡ false → nat_le frames slot.frame.0 ≡ false
+        → is_made enclave ≡ true
+        → first_of_row (eldstart_row (sight_at frames past f) enclave true (slot_sight_at frames past slot)) ≡ None }
+{}
+
+/// No two open starts name one slot, and none names that of a page that is away.
+pub fn starts_alone()
+    ensures { (past : List Entry) → IsSound past → StartsAlone past }
 {}
 
 /// A processor has an open start exactly where its turn is to end a load, which is that of the start's frame.

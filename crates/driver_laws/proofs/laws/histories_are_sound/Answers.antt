@@ -1,4 +1,5 @@
 use Rattle.driver_laws.proofs.HistoryLaws.{driven_pages, driven_sound}
+use Rattle.driver_laws.proofs.ReadyLaws.{driven_used}
 use Rattle.driver_laws.proofs.TcsLaws.{driven_apart}
 use Rattle.driver_laws.proofs.laws.histories_are_sound.Goals as goal
 
@@ -7,5 +8,6 @@ returns c = record {
   sound = λ k j past positive d. (driven_sound k j past positive d).0;
   tracks = λ k j past positive d. (driven_sound k j past positive d).1;
   pages = driven_pages;
+  used = driven_used;
   three = driven_apart;
 }
