@@ -11,6 +11,7 @@ pub mod OwnLaws
 pub mod HistoryLaws
 pub mod ThreeLaws
 pub mod TcsLaws
+pub mod SlotMoves
 pub mod AgreeLaws
 pub mod MarkLaws
 pub mod StillLaws
