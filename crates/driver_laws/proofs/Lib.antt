@@ -22,3 +22,5 @@ pub mod StartedLaws
 pub mod AloneLaws
 pub mod UsedLaws
 pub mod ReadyLaws
+pub mod CountLaws
+pub mod BuiltLaws

@@ -7,3 +7,4 @@ pub mod Agrees
 pub mod Driven
 pub mod Started
 pub mod Used
+pub mod Counted

@@ -1,6 +1,6 @@
 //! Laws of the definitions. Each is the contract of a function without arguments, and so holds for every list of entries.
 
-ghost use Rattle.std.specs.Prelude.{ℕ, ◌≡◌, ◌≤◌, ◌+◌, true, false, List, [], ◌∷◌, Option, Some, None, length, nat_le};
+ghost use Rattle.std.specs.Prelude.{ℕ, ◌≡◌, ◌≤◌, ◌<◌, ◌+◌, true, false, List, [], ◌∷◌, Option, Some, None, length, nat_le};
 ghost use Rattle.sgx_types.specs.Making.{Making};
 ghost use Rattle.sgx_types.specs.ByEpochs.{IsTrackedBlock};
 ghost use Rattle.sgx_types.specs.declared.entries.Actor.TheVariants as actors;
@@ -13,7 +13,7 @@ ghost use Rattle.sgx_types.specs.Frames.{Free, content, is_blocked};
 ghost use Rattle.sgx_types.specs.declared.names.SlotAt.{SlotAt};
 ghost use Rattle.sgx_types.specs.Sights.{sight_at, slot_sight_at};
 ghost use Rattle.sgx_types.specs.Table.{EnclaveSight, eldstart_row, first_of_row, is_made};
-ghost use Rattle.version_array.specs.Keeper.{Keeper};
+ghost use Rattle.version_array.specs.Keeper.{AllOut, Keeper, count_all, count_out, new_keeper};
 ghost use Rattle.page_history.specs.Once.{KeepsMoves};
 ghost use Rattle.job_grammar.specs.Jobs.{JobView};
 ghost use Rattle.sgx_types.specs.Rules.{Along, FlatRule, RefusalRule};
@@ -28,9 +28,10 @@ ghost use Rattle.driver_rules.specs.Scripts.{IsEnded, ScriptRule};
 ghost use Rattle.driver_rules.specs.Stops.{frame_started, last_event};
 ghost use Rattle.driver_rules.specs.Turns.{last_of};
 ghost use Rattle.driver_laws.specs.Started.{frame_loaded};
-ghost use Rattle.driver_laws.specs.Sound.{IsSound};
+ghost use Rattle.driver_laws.specs.Sound.{IsSound, is_absent};
 ghost use Rattle.driver_laws.specs.Stages.{KeepsPages};
 ghost use Rattle.driver_laws.specs.Three.{IsApart, TcsAreApart, three};
+ghost use Rattle.driver_laws.specs.Counted.{AddsAreBuilt, CountMoves, CountsSlots};
 ghost use Rattle.driver_laws.specs.Used.{SealingAreOpen, SlotsAreUsed, StartTells, StartsAlone};
 ghost use Rattle.driver_laws.specs.Tracks.{IsCalm, IsTracked, IsUntracked, KeepsTracks, OwnRule, TryTells};
 
@@ -113,6 +114,25 @@ pub fn slots_stay_used()
         → place past g ≡ Away slot → content past f ≡ Free → nat_le frames f ≡ false → nat_le frames slot.frame.0 ≡ false
         → is_made enclave ≡ true
         → first_of_row (eldstart_row (sight_at frames past f) enclave true (slot_sight_at frames past slot)) ≡ None }
+{}
+
+/// As many slots are out as pages have one: each entry keeps it.
+pub fn slots_are_counted()
+    ensures first { (pages : ℕ) → CountsSlots (new_keeper pages) [] }
+    ensures more { (old new : Keeper) (past : List Entry) (e : Entry) → IsSound past → CanMove past e.event → StartTells past e.event
+        → CountMoves e.event (count_out old) (count_out new) → CountsSlots old past → CountsSlots new (e ∷ past) }
+{}
+
+/// No more pages are added than the build has steps for. So fewer slots are out than the version array pages have, once a page was added:
+/// a slot is left wherever one is asked for.
+pub fn a_slot_is_left()
+    ensures first { (j : JobView) → AddsAreBuilt j [] }
+    ensures more { (j : JobView) (past : List Entry) (e : Entry) → ScriptRule j past e → AgeRule j past e → AddsAreBuilt j past
+        → AddsAreBuilt j (e ∷ past) }
+    ensures left { (j : JobView) (keeper : Keeper) (past : List Entry) (g : Page) → IsSound past → ShowsSlots j keeper past
+        → CountsSlots keeper past → AddsAreBuilt j past → is_absent (place past g) ≡ false → count_out keeper < count_all keeper }
+    ensures none { (j : JobView) (keeper : Keeper) (past : List Entry) (g : Page) → IsSound past → ShowsSlots j keeper past
+        → CountsSlots keeper past → AddsAreBuilt j past → is_absent (place past g) ≡ false → AllOut keeper → ⊥ }
 {}
 
 /// No two open starts name one slot, and none names that of a page that is away.
