@@ -37,6 +37,9 @@ use Rattle.driver_rules.specs.Scripts.{IsActors, ScriptRule}
 use Rattle.driver_rules.specs.Stops.{is_spent}
 use Rattle.driver_rules.specs.Turns.{Fails, Last, Loads, Other, WasEnded, builder_due, cpu_due, due_after, is_last, last_of, step_turn, turn_due}
 use Rattle.driver_laws.specs.Agrees.{ShowsSlots, has_pages, is_add}
+use Rattle.driver_laws.specs.Driven.{IsDriven}
+use Rattle.sgx_types.specs.Making.{Making}
+use Rattle.driver_laws.proofs.HistoryLaws.{driven_before}
 use Rattle.driver_laws.specs.Counted.{AddsAreBuilt, CountsSlots, has_slot, is_add_step, pages_added, with_added}
 use Rattle.driver_laws.specs.Sound.{IsSound, is_absent}
 use Rattle.driver_laws.proofs.OwnLaws.{OfTurn, is_script, turn_script}
@@ -273,6 +276,10 @@ stays_built j past e script age h = by_actor e.actor script.next age.in_pass
     by_actor actors.Builder n in_pass = by_add (build_step j past e.event n) (is_add e.event) refl
     by_actor (actors.Cpu p) n in_pass = same (none_added e.event (cpu_adds_none j past p.0 e.event n.1))
     by_actor actors.Reclaimer n in_pass = same (none_added e.event (pass_adds_none past (pass j past) e.event in_pass))
+
+pub driven_built : (k : Making) (j : JobView) (past : List Entry) → IsDriven k j past → AddsAreBuilt j past
+driven_built k j [] d = first_built j
+driven_built k j (e ∷ past) d = stays_built j past e d.script.0 d.age.0 (driven_built k j past (driven_before k j e past d))
 
 -- no more pages are added than the job has
 few_pages : (j : JobView) (past : List Entry) → AddsAreBuilt j past → length (pages_added past) ≤ job_pages j

@@ -24,3 +24,5 @@ pub mod UsedLaws
 pub mod ReadyLaws
 pub mod CountLaws
 pub mod BuiltLaws
+pub mod EndLaws
+pub mod LoadLaws

@@ -208,27 +208,46 @@ due_plain j past p =
     either (Plain j past) (is_spent past) Stopped (due_after (last_of past p) (is_last past p) (turn_due j past p)) tt
     (after_plain j past (last_of past p) (is_last past p) (turn_due j past p) (turn_is_plain j past p))
 
-step_plain : (j : JobView) (past : List Entry) (step : BuildStep) (o : Option ℕ) → Plain j past (makes_or waits.NoFrame (with_frame step o))
-step_plain j past builds.Va (Some f) = refl
-step_plain j past (builds.Create e b s) (Some f) = refl
-step_plain j past (builds.Add e n k p i) (Some f) = refl
-step_plain j past (builds.Extend e n c) (Some f) = refl
-step_plain j past (builds.Init e x) (Some f) = refl
-step_plain j past step None = tt
+-- what is due to the builder is an instruction, or nothing
+abbrev pub OfBuild : Due → Type 0
+OfBuild (Makes action) = is_paging action ≡ false
+OfBuild Stopped = Unit {0}
+OfBuild Finished = Unit {0}
+OfBuild (Waits why) = Unit {0}
+OfBuild _ = ⊥
 
-turn_plain : (j : JobView) (past : List Entry) (step : Option BuildStep) → Plain j past (step_turn j past step)
-turn_plain j past None = tt
-turn_plain j past (Some builds.Va) = step_plain j past builds.Va (least_free j.epc (content past))
-turn_plain j past (Some (builds.Create e b s)) = step_plain j past (builds.Create e b s) (least_free j.epc (content past))
-turn_plain j past (Some (builds.Add e n k p i)) = step_plain j past (builds.Add e n k p i) (least_free j.epc (content past))
-turn_plain j past (Some (builds.Extend e n c)) = step_plain j past (builds.Extend e n c) (frame_of past (page_at e n))
-turn_plain j past (Some (builds.Init e x)) = refl
+step_builds : (step : BuildStep) (o : Option ℕ) → OfBuild (makes_or waits.NoFrame (with_frame step o))
+step_builds builds.Va (Some f) = refl
+step_builds (builds.Create e b s) (Some f) = refl
+step_builds (builds.Add e n k p i) (Some f) = refl
+step_builds (builds.Extend e n c) (Some f) = refl
+step_builds (builds.Init e x) (Some f) = refl
+step_builds step None = tt
+
+turn_builds : (j : JobView) (past : List Entry) (step : Option BuildStep) → OfBuild (step_turn j past step)
+turn_builds j past None = tt
+turn_builds j past (Some builds.Va) = step_builds builds.Va (least_free j.epc (content past))
+turn_builds j past (Some (builds.Create e b s)) = step_builds (builds.Create e b s) (least_free j.epc (content past))
+turn_builds j past (Some (builds.Add e n k p i)) = step_builds (builds.Add e n k p i) (least_free j.epc (content past))
+turn_builds j past (Some (builds.Extend e n c)) = step_builds (builds.Extend e n c) (frame_of past (page_at e n))
+turn_builds j past (Some (builds.Init e x)) = refl
+
+-- what the builder does next
+pub build_builds : (j : JobView) (past : List Entry) → OfBuild (builder_due j past)
+build_builds j past =
+    either OfBuild (is_spent past) Stopped (step_turn j past (slice_get (build_of j) (built past))) tt
+    (turn_builds j past (slice_get (build_of j) (built past)))
+
+builds_plain : (j : JobView) (past : List Entry) (d : Due) → OfBuild d → Plain j past d
+builds_plain j past (Makes action) h = h
+builds_plain j past Stopped h = tt
+builds_plain j past Finished h = tt
+builds_plain j past (Waits why) h = tt
+builds_plain j past _ h = absurd h
 
 -- .. nor does the builder
 pub build_plain : (j : JobView) (past : List Entry) → Plain j past (builder_due j past)
-build_plain j past =
-    either (Plain j past) (is_spent past) Stopped (step_turn j past (slice_get (build_of j) (built past))) tt
-    (turn_plain j past (slice_get (build_of j) (built past)))
+build_plain j past = builds_plain j past (builder_due j past) (build_builds j past)
 
 -- ---- whose entries are whose
 

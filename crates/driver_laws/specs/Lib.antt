@@ -8,3 +8,4 @@ pub mod Driven
 pub mod Started
 pub mod Used
 pub mod Counted
+pub mod Loads

@@ -4,7 +4,10 @@ ghost use Rattle.std.specs.Prelude.{ℕ, ◌≡◌, ◌≤◌, ◌<◌, ◌+◌,
 ghost use Rattle.sgx_types.specs.Making.{Making};
 ghost use Rattle.sgx_types.specs.ByEpochs.{IsTrackedBlock};
 ghost use Rattle.sgx_types.specs.declared.entries.Actor.TheVariants as actors;
+ghost use Rattle.sgx_types.specs.declared.entries.Actor.{Actor};
 ghost use Rattle.sgx_types.specs.declared.entries.Entry.{Entry};
+ghost use Rattle.sgx_types.specs.declared.entries.Event.{Event};
+ghost use Rattle.sgx_types.specs.Starts.{open_start};
 ghost use Rattle.sgx_types.specs.declared.names.Cpu.{Cpu};
 ghost use Rattle.sgx_types.specs.declared.names.Page.{Page};
 ghost use Rattle.sgx_types.specs.Epochs.{block_epoch, epoch, older_at};
@@ -23,15 +26,16 @@ ghost use Rattle.driver_laws.specs.Agrees.{ShowsSlots};
 ghost use Rattle.driver_laws.specs.Driven.{IsDriven};
 ghost use Rattle.driver_laws.specs.Kinds.{CanMove};
 ghost use Rattle.driver_rules.specs.Passes.{First, Tries, keepers, pass, processors_noting};
-ghost use Rattle.driver_rules.specs.Places.{Away, Leaving, place};
+ghost use Rattle.driver_rules.specs.Places.{Away, Leaving, Loading, place};
 ghost use Rattle.driver_rules.specs.Scripts.{IsEnded, ScriptRule};
 ghost use Rattle.driver_rules.specs.Stops.{frame_started, last_event};
-ghost use Rattle.driver_rules.specs.Turns.{last_of};
+ghost use Rattle.driver_rules.specs.Turns.{last_of, load_of};
 ghost use Rattle.driver_laws.specs.Started.{frame_loaded};
 ghost use Rattle.driver_laws.specs.Sound.{IsSound, is_absent};
 ghost use Rattle.driver_laws.specs.Stages.{KeepsPages};
 ghost use Rattle.driver_laws.specs.Three.{IsApart, TcsAreApart, three};
 ghost use Rattle.driver_laws.specs.Counted.{AddsAreBuilt, CountMoves, CountsSlots};
+ghost use Rattle.driver_laws.specs.Loads.{IsEndedBy, LoadsAreTheirs, TheirRule, load_ended};
 ghost use Rattle.driver_laws.specs.Used.{SealingAreOpen, SlotsAreUsed, StartTells, StartsAlone};
 ghost use Rattle.driver_laws.specs.Tracks.{IsCalm, IsTracked, IsUntracked, KeepsTracks, OwnRule, TryTells};
 
@@ -80,7 +84,8 @@ pub fn kicks_go_by_epochs()
         → keepers past g ≡ processors_noting first past g.enclave b }
 {}
 
-/// In a history places, the list and the slots are sound, a pass keeps what it says of tracks and of its pages, and three holds suffice.
+/// In a history places, the list and the slots are sound, slots stay used, a pass keeps what it says of tracks and of its pages, each open
+/// start of a load is one processor's, no more pages are added than the build has steps for, and three holds suffice.
 pub fn histories_are_sound()
     ensures sound { (k : Making) (j : JobView) (past : List Entry) → 1 ≤ k.first_version → IsDriven k j past → IsSound past }
     ensures tracks { (k : Making) (j : JobView) (past : List Entry) → 1 ≤ k.first_version → IsDriven k j past
@@ -88,6 +93,8 @@ pub fn histories_are_sound()
     ensures pages { (k : Making) (j : JobView) (past : List Entry) → 1 ≤ k.first_version → IsDriven k j past
         → KeepsPages past (pass j past) }
     ensures used { (k : Making) (j : JobView) (past : List Entry) → 1 ≤ k.first_version → IsDriven k j past → SlotsAreUsed past }
+    ensures loads { (k : Making) (j : JobView) (past : List Entry) → 1 ≤ k.first_version → IsDriven k j past → LoadsAreTheirs past }
+    ensures built { (k : Making) (j : JobView) (past : List Entry) → IsDriven k j past → AddsAreBuilt j past }
     ensures three { (k : Making) (j : JobView) (past : List Entry) → 1 ≤ k.first_version → TcsAreApart j → IsDriven k j past → (p : ℕ)
         → IsApart j past p }
 {}
@@ -144,6 +151,19 @@ pub fn starts_alone()
 pub fn open_starts_are_ended()
     ensures { (j : JobView) (past : List Entry) (c : Cpu) → Along (ScriptRule j) past
         → frame_started (last_event past (actors.Cpu c)) ≡ frame_loaded (last_of past c.0) }
+{}
+
+/// Each open start of a load is of a page that is loading into its frame, and of the one processor whose last entry is that start. By
+/// the rule Script who has a load to end ends it, and nobody else ends one: so a load that ends is that of the processor that ends it.
+pub fn loads_are_theirs()
+    ensures first { LoadsAreTheirs [] }
+    ensures more { (past : List Entry) (e : Entry) → IsSound past → CanMove past e.event → TheirRule past e.actor e.event
+        → LoadsAreTheirs past → LoadsAreTheirs (e ∷ past) }
+    ensures own { (j : JobView) (past : List Entry) (e : Entry) → ScriptRule j past e → TheirRule past e.actor e.event }
+    ensures page { (past : List Entry) (n : ℕ) (g : Page) → IsSound past → load_of (open_start past n) ≡ Some g
+        → (slot : SlotAt) × (place past g ≡ Loading n slot) }
+    ensures ended { (past : List Entry) (actor : Actor) (event : Event) (n : ℕ) → TheirRule past actor event → load_ended event ≡ Some n
+        → IsEndedBy past actor n }
 {}
 
 /// For a job whose pages all fit, the rule Script of `turn_rules` is what the whole rule says: a trace that keeps it, Refusal and Flat
