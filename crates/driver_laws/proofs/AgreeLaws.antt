@@ -92,7 +92,8 @@ pub shows_eldstart : (j : JobView) (keeper : Keeper) (past : List Entry) (a : Ac
     (answer : Answer) → CanMove past (Did (EldStart f page slot) answer) → IsSound past
     → ShowsSlots j keeper past → ShowsSlots j keeper (entry_of a (Did (EldStart f page slot) answer) ∷ past)
 shows_eldstart j keeper past a f page slot answer can sound s =
-    shows_same j keeper past (entry_of a (Did (EldStart f page slot) answer)) s (λ m. not_array past f.0 m (IsLoading page) can.0 refl) s.made
+    shows_same j keeper past (entry_of a (Did (EldStart f page slot) answer)) s
+    (λ m. not_array past f.0 m (IsLoading page) can.0 refl) s.made
     (same_eldstart past a f page slot answer can sound)
     (λ t free. (refl, rw (out_apart keeper slot t (s.used page slot (ap (slot_at (open_start past)) can.1)) free) refl))
 
@@ -230,7 +231,8 @@ shows_eld j old new past a f page version tag slot loading sound gives s = recor
     arrays : (n : ℕ) (b : Bool) → (f.0 == n) ≡ b
         → is_va (if b then reloaded page (added past page) else content past n) ≡ is_va (content past n)
     arrays n true is =
-        by_kind (added past page) ∙ sym (ap (λ m. is_va (content past m)) (sym (eqb-true f.0 n is)) ∙ loading_no_array (content past f.0) held)
+        by_kind (added past page)
+        ∙ sym (ap (λ m. is_va (content past m)) (sym (eqb-true f.0 n is)) ∙ loading_no_array (content past f.0) held)
       where
         held : is_loading (content past f.0) ≡ true
         held =

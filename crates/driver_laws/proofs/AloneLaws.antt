@@ -34,7 +34,8 @@ started past n x s is_open = by_loads x.loads refl
         let w = s.places.writes n (ap is_write_start is_open ∙ ap (λ y. not (is_some y)) is) in
         record { page = w.0; moving = ap frame_moving w.1; names = ap (slot_at (open_start past)) w.1 ∙ ap slot_of_start is_open }
     by_loads (Some g) is =
-        let at = loading_is (place past g) n x.slot (sym (s.places.loads g n) ∙ ap (λ o. load_slot o g) is_open ∙ rw (is, same_page-refl g) refl) in
+        let load : load_slot (Some x) g ≡ Some x.slot = rw (is, same_page-refl g) refl in
+        let at = loading_is (place past g) n x.slot (sym (s.places.loads g n) ∙ ap (λ o. load_slot o g) is_open ∙ load) in
         record { page = g; moving = ap frame_moving at; names = ap (slot_at (open_start past)) at }
 
 pub alone : (past : List Entry) → IsSound past → StartsAlone past

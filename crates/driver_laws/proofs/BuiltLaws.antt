@@ -70,7 +70,8 @@ chunks_none enclave number false = extends_none enclave number (numbers_from 0 1
 page_adds : (enclave number : ℕ) (kind : Kind) (perm : Perm) (init : PageInit) (plain : Bool)
     → adds_in (page_steps enclave number kind perm init plain) ≡ 1
 page_adds enclave number kind perm init plain =
-    adds_more (builds.Add enclave number kind perm init) (chunk_steps enclave number plain) ∙ omega (arith, chunks_none enclave number plain)
+    adds_more (builds.Add enclave number kind perm init) (chunk_steps enclave number plain) ∙ omega
+    (arith, chunks_none enclave number plain)
 
 run_adds : (first count : ℕ) (steps : ℕ → List BuildStep) → ((n : ℕ) → adds_in (steps n) ≡ 1)
     → adds_in (flat_map steps (numbers_from first count)) ≡ count

@@ -19,7 +19,7 @@ use Rattle.sgx_types.specs.declared.names.SlotAt.{SlotAt}
 use Rattle.sgx_types.specs.Frames.{added, page_at, same_page}
 use Rattle.sgx_types.specs.Starts.{open_start}
 use Rattle.version_array.specs.Keeper.{Keeper, count_out, new_keeper}
-use Rattle.driver_rules.specs.Places.{Leaving, Loading, place}
+use Rattle.driver_rules.specs.Places.{Leaving, Loading, place, Absent}
 use Rattle.driver_laws.specs.Counted.{CountMoves, CountsSlots, has_slot, pages_added}
 use Rattle.driver_laws.specs.Kinds.{CanMove}
 use Rattle.driver_laws.specs.Sound.{IsSound, is_absent, slot_at, times}
@@ -105,7 +105,8 @@ counts_add old new past a e n f kind perm init answer can s out c = record {
 
     new_page : (g : Page) → same_page page g ≡ true → times (pages_added past) g ≡ 0
     new_page g same =
-        c.once g ∙ ap (λ b. if b then 1 else 0) (s.added g ∙ ap (λ p. not (is_absent p)) (ap (place past) (sym (same_pages page g same)) ∙ can.1))
+        let absent : place past g ≡ Absent = ap (place past) (sym (same_pages page g same)) ∙ can.1 in
+        c.once g ∙ ap (λ b. if b then 1 else 0) (s.added g ∙ ap (λ p. not (is_absent p)) absent)
 
     by_page : (g : Page) (b : Bool) → same_page page g ≡ b
         → (if b then 1 else 0) + times (pages_added past) g ≡ (if is_some (if b then Some (kind, perm) else added past g) then 1 else 0)

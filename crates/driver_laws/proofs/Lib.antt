@@ -22,6 +22,7 @@ pub mod StartedLaws
 pub mod AloneLaws
 pub mod UsedLaws
 pub mod ReadyLaws
+pub mod RowLaws
 pub mod CountLaws
 pub mod BuiltLaws
 pub mod EndLaws

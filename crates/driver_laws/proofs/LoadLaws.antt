@@ -108,7 +108,8 @@ loads_begin loads last f c page free none h = record {
     by_cpu p n g true k = rw (eq-eqb f n (frame_same f n page g k)) (ap Some (page_same f n page g k))
     by_cpu p n g false k = still p n g (f == n) refl k
 
-    by_two : (p q n : ℕ) (g k : Page) (b : Bool) → (c == p) ≡ b → (if b then Loads f page else last p) ≡ Loads n g → (d : Bool) → (c == q) ≡ d
+    by_two : (p q n : ℕ) (g k : Page) (b : Bool) → (c == p) ≡ b → (if b then Loads f page else last p) ≡ Loads n g
+        → (d : Bool) → (c == q) ≡ d
         → (if d then Loads f page else last q) ≡ Loads n k → p ≡ q
     by_two p q n g k true is_p a true is_q b = sym (eqb-true c p is_p) ∙ eqb-true c q is_q
     by_two p q n g k true is_p a false is_q b = absurd (frame_apart q n k b (eq-eqb f n (frame_same f n page g a)))

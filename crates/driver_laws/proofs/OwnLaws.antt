@@ -113,7 +113,8 @@ enters_script j past e t =
 
 resumes_script : (j : JobView) (past : List Entry) (e t : ℕ) (pages : List Page) → OfTurn j past (resumes j past e t pages)
 resumes_script j past e t pages =
-    with_script j past (first_away past pages) _ (resume_script j past (waits.Busy (page_at e t)) e t (frame_here (place past (page_at e t)))
+    with_script j past (first_away past pages) _
+    (resume_script j past (waits.Busy (page_at e t)) e t (frame_here (place past (page_at e t)))
     (save_frame past (page_at e t) (save_to_resume j past e t)))
 
 fills_script : (j : JobView) (past : List Entry) (n : ℕ) (o : Option ℕ) → OfTurn j past (fills n o)

@@ -1,9 +1,7 @@
--- What the rules say of a write-out, that slots are used in a history, and that a load of a page that is away is not refused.
-use Rattle.std.proofs.Common.{◌≡◌, ℕ, ◌+◌, ◌<◌, ◌≤◌, ◌==◌, ◌&&◌, not, Bool, true, false, if◌then◌else◌, refl, sym, ◌∙◌, ap, subst, List, [], ◌∷◌, Option, Some, None, is_some, nat_le, nat_lt, arith}
-use Rattle.std.proofs.lemmas.Bool.{eqb-true, ltb-true}
-use Rattle.std.specs.List.{list_any}
-use Rattle.sgx_types.proofs.Rows.{none_holds, none_refused}
-use Rattle.sgx_types.proofs.Truths.{both_true, neither}
+-- What the rules say of a write-out; the slot of a page that is away is not busy; slots are used in a history.
+use Rattle.std.proofs.Common.{◌≡◌, ℕ, ◌+◌, ◌<◌, ◌≤◌, not, Bool, true, false, if◌then◌else◌, refl, sym, ◌∙◌, ap, subst, List, [], ◌∷◌, Option, Some, None, is_some, arith}
+use Rattle.sgx_types.proofs.Rows.{none_holds}
+use Rattle.sgx_types.proofs.Truths.{neither}
 use Rattle.sgx_types.specs.declared.entries.Action.TheVariants.{EwbStart, Ewb}
 use Rattle.sgx_types.specs.declared.entries.Answer.{Answer}
 use Rattle.sgx_types.specs.declared.entries.Answer.TheVariants.{Moved}
@@ -12,24 +10,22 @@ use Rattle.sgx_types.specs.declared.entries.Event.{Event}
 use Rattle.sgx_types.specs.declared.entries.Event.TheVariants.{Did}
 use Rattle.sgx_types.specs.declared.names.Page.{Page}
 use Rattle.sgx_types.specs.declared.names.SlotAt.{SlotAt}
-use Rattle.sgx_types.specs.Frames.{Content, Free, IsLoading, IsVa, content, is_sealing}
+use Rattle.sgx_types.specs.Frames.{Content, IsLoading, content, is_sealing}
 use Rattle.sgx_types.specs.Making.{Making}
 use Rattle.sgx_types.specs.Rules.{EvictRule, RefusalRule, RisingRule}
-use Rattle.sgx_types.specs.Table.{EnclaveSight, eldstart_row, first_of_row, is_busy, is_loading as busy_content, is_made, is_va as is_va_in}
-use Rattle.sgx_types.specs.Sights.{row_at, sight_at, slot_sight_at}
-use Rattle.sgx_types.specs.Slots.{is_draw, is_slot_busy, next_version, same_slot, version_in}
+use Rattle.sgx_types.specs.Table.{is_busy, is_loading as busy_content}
+use Rattle.sgx_types.specs.Sights.{row_at, sight_at}
+use Rattle.sgx_types.specs.Slots.{is_draw, is_slot_busy, next_version}
 use Rattle.sgx_types.specs.Starts.{Start, open_start, version_told}
 use Rattle.page_history.specs.Once.{KeepsMoves}
-use Rattle.version_array.specs.Keeper.{Keeper, is_added, is_out}
 use Rattle.job_grammar.specs.Jobs.{JobView}
 use Rattle.driver_rules.specs.Places.{Away, place}
-use Rattle.driver_laws.specs.Agrees.{ShowsSlots, is_va}
 use Rattle.driver_laws.specs.Driven.{IsDriven}
-use Rattle.driver_laws.specs.Sound.{IsSound, is_load_start, is_loading, is_write_start, slot_at, slot_outside}
+use Rattle.driver_laws.specs.Sound.{IsSound, is_load_start, is_loading, is_write_start}
 use Rattle.driver_laws.specs.Used.{SealingAreOpen, SlotsAreUsed, StartTells}
 use Rattle.driver_laws.proofs.HistoryLaws.{can_move, driven_before, driven_pages, driven_sound}
 use Rattle.driver_laws.proofs.SoundLaws.{entry_of}
-use Rattle.driver_laws.proofs.AloneLaws.{alone, free_none}
+use Rattle.driver_laws.proofs.AloneLaws.{alone}
 use Rattle.driver_laws.proofs.UsedLaws.{first_used, stays_used}
 
 -- ---- what the rules say of a write-out
@@ -44,8 +40,8 @@ first_below first (e ∷ past) = by_draw (is_draw e.event) (first_below first pa
     by_draw false h = h
 
 -- no start of a frame is open that is not busy
-idle_none : (past : List Entry) (n : ℕ) → IsSound past → SealingAreOpen past → is_sealing past n ≡ false → is_loading (content past n) ≡ false
-    → open_start past n ≡ None
+idle_none : (past : List Entry) (n : ℕ) → IsSound past → SealingAreOpen past → is_sealing past n ≡ false
+    → is_loading (content past n) ≡ false → open_start past n ≡ None
 idle_none past n s sealing no_write no_load = by_start (open_start past n) (sym (sealing n) ∙ no_write) (s.places.loading n ∙ no_load)
   where
     by_loads : (o : Option Page) → not (is_some o) ≡ false → is_some o ≡ false → ⊥
@@ -90,51 +86,6 @@ away_idle past g slot s u at = by_test (is_slot_busy past slot) refl
     by_test true is =
         let o = u.busy.named slot is in absurd ((alone past s).away o.frame o.start g o.is_open (at ∙ ap Away (sym o.names)))
     by_test false is = refl
-
--- a version array page's slot stands in such a frame, and below its end
-record IsInPage (past : List Entry) (slot : SlotAt) : Type 0 where
-  pub array : is_va (content past slot.frame.0) ≡ true
-  pub within : nat_lt 511 slot.index ≡ false
-
-in_page : (j : JobView) (keeper : Keeper) (past : List Entry) (slot : SlotAt) → ShowsSlots j keeper past → is_out keeper slot ≡ true
-    → IsInPage past slot
-in_page j keeper past slot shows out =
-    let ours = (both_true (is_added keeper slot.frame.0 && nat_lt slot.index 512) (not (list_any (same_slot slot) keeper.free)) out).0 in
-    let two = both_true (is_added keeper slot.frame.0) (nat_lt slot.index 512) ours in
-    record { array = sym (shows.frames slot.frame.0) ∙ two.0; within = by_test (nat_lt 511 slot.index) refl (ltb-true slot.index 512 two.1) }
-  where
-    by_test : (b : Bool) → nat_lt 511 slot.index ≡ b → slot.index < 512 → b ≡ false
-    by_test false is low = refl
-    by_test true is low = let high = ltb-true 511 slot.index is in absurd (omega (arith, high, low))
-
--- a load of a page that is away, by its slot into a free frame of the EPC, is not refused
-pub load_goes : (frames : ℕ) (j : JobView) (keeper : Keeper) (past : List Entry) (g : Page) (slot : SlotAt) (f : ℕ) (enclave : Option EnclaveSight)
-    → IsSound past → SlotsAreUsed past → SealingAreOpen past → ShowsSlots j keeper past → place past g ≡ Away slot
-    → content past f ≡ Free → nat_le frames f ≡ false → nat_le frames slot.frame.0 ≡ false → is_made enclave ≡ true
-    → first_of_row (eldstart_row (sight_at frames past f) enclave true (slot_sight_at frames past slot)) ≡ None
-load_goes frames j keeper past g slot f enclave s u sealing shows at free low slot_low made =
-    none_refused (eldstart_row (sight_at frames past f) enclave true (slot_sight_at frames past slot))
-    (rw (low, slot_low, page.within) refl, (rw made refl, (refl, (rw (settled, free, away_idle past g slot s u at) refl, (rw free refl, (array, (some, tt)))))))
-  where
-    page : IsInPage past slot
-    page = in_page j keeper past slot shows (shows.used g slot (ap (slot_at (open_start past)) at))
-
-    settled : is_sealing past f ≡ false
-    settled = sealing f ∙ ap is_write_start (free_none past f s free)
-
-    array : not (is_va_in (content past slot.frame.0)) ≡ false
-    array = ap not (same_test (content past slot.frame.0) ∙ page.array)
-      where
-        same_test : (c : Content) → is_va_in c ≡ is_va c
-        same_test IsVa = refl
-        same_test _ = refl
-
-    some : (version_in past slot == 0) ≡ false
-    some = by_test (version_in past slot == 0) refl (u.filled g slot (ap slot_outside at))
-      where
-        by_test : (b : Bool) → (version_in past slot == 0) ≡ b → 0 < version_in past slot → b ≡ false
-        by_test false is low_version = refl
-        by_test true is low_version = let none = eqb-true (version_in past slot) 0 is in absurd (omega (arith, none, low_version))
 
 -- ---- all along
 

@@ -157,8 +157,8 @@ same_refused past a f refusal can sound g = by_load (is_load_of (open_start past
 
 -- ---- a page gets a slot, and loses it
 
-pub slot_started : (past : List Entry) (a : Actor) (f : Frame) (slot : SlotAt) (answer : Answer) (page : Page) → place past page ≡ Leaving f.0
-    → slot_of (entry_of a (Did (EwbStart f slot) answer) ∷ past) page ≡ Some slot
+pub slot_started : (past : List Entry) (a : Actor) (f : Frame) (slot : SlotAt) (answer : Answer) (page : Page)
+    → place past page ≡ Leaving f.0 → slot_of (entry_of a (Did (EwbStart f slot) answer) ∷ past) page ≡ Some slot
 slot_started past a f slot answer page at = rw (at, eq-eqb f.0 f.0 refl) refl
 
 pub slot_started_other : (past : List Entry) (a : Actor) (f : Frame) (slot : SlotAt) (answer : Answer) (page g : Page) → IsSound past

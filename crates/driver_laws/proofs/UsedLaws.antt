@@ -76,11 +76,13 @@ busy_closed opened busy f x its is_open names apart h = rw names record {
     now : ℕ → Option Start
     now n = if f == n then None else opened n
 
-    other : (slot : SlotAt) (n : ℕ) (y : Start) (b : Bool) → same_slot x.slot slot ≡ false → y.slot ≡ slot → (f == n) ≡ b → opened n ≡ Some y
+    other : (slot : SlotAt) (n : ℕ) (y : Start) (b : Bool) → same_slot x.slot slot ≡ false → y.slot ≡ slot → (f == n) ≡ b
+        → opened n ≡ Some y
         → (if b then None else opened n) ≡ Some y
     other slot n y true apart_slots mine is k =
         let same : x ≡ y = some_same (sym is_open ∙ ap opened (eqb-true f n is) ∙ k) in
-        absurd (false≢true (sym apart_slots ∙ subst (λ t. same_slot x.slot t ≡ true) (ap (λ (z : Start). z.slot) same ∙ mine) (same_slot-refl x.slot)))
+        let equal : x.slot ≡ slot = ap (λ (z : Start). z.slot) same ∙ mine in
+        absurd (false≢true (sym apart_slots ∙ subst (λ t. same_slot x.slot t ≡ true) equal (same_slot-refl x.slot)))
       where
         some_same : Some x ≡ Some y → x ≡ y
         some_same e = cc
@@ -194,7 +196,8 @@ used_out past a f page version tag told s u =
     let is_open = told.1 in
     record {
       filled =
-          filled_out (place past) (open_start past) (version_in past) f.0 page x (open_slot past f.0) version is_open (named past f.0 x is_open)
+          filled_out (place past) (open_start past) (version_in past) f.0 page x (open_slot past f.0) version is_open
+          (named past f.0 x is_open)
           (subst (λ v. 0 < v) (sym told.3) (u.drawn f.0 x is_open told.2)) u.filled;
       busy = closed_busy past f.0 x s u is_open;
       drawn = drawn_closed (open_start past) f.0 u.drawn;

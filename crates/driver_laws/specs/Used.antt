@@ -1,6 +1,6 @@
 -- What the entries give of slots as long as each entry is the driver's: the slot of a page that is outside holds a version, a slot is
 -- busy exactly by an open start that names it, and no two starts name one slot.
-use Rattle.std.specs.Prelude.{ℕ, ◌≡◌, ◌<◌, Bool, true, List, Option, Some, None}
+use Rattle.std.specs.Prelude.{ℕ, ◌≡◌, ◌<◌, not, Bool, true, List, Option, Some, None}
 use Rattle.sgx_types.specs.declared.entries.Action.TheVariants.{EwbStart, Ewb}
 use Rattle.sgx_types.specs.declared.entries.Answer.TheVariants.{Moved}
 use Rattle.sgx_types.specs.declared.entries.Entry.{Entry}
@@ -10,6 +10,8 @@ use Rattle.sgx_types.specs.declared.names.Page.{Page}
 use Rattle.sgx_types.specs.declared.names.SlotAt.{SlotAt}
 use Rattle.sgx_types.specs.Frames.{is_sealing}
 use Rattle.sgx_types.specs.Slots.{is_slot_busy, version_in}
+use Rattle.sgx_types.specs.declared.refusals.Refusal.TheVariants as why
+use Rattle.sgx_types.specs.Table.{Case, DrainSight, allowed, when, ◌otherwise◌}
 use Rattle.sgx_types.specs.Starts.{Start, open_start, version_told}
 use Rattle.driver_rules.specs.Places.{Away, Place, place}
 use Rattle.driver_laws.specs.Sound.{is_write_start, slot_outside}
@@ -59,3 +61,12 @@ pub record StartsAlone (past : List Entry) : Type 0 where
   pub apart : (m n : ℕ) (x y : Start) → open_start past m ≡ Some x → open_start past n ≡ Some y → x.slot ≡ y.slot → m ≡ n
   -- none names that of a page that is away
   pub away : (n : ℕ) (x : Start) (g : Page) → open_start past n ≡ Some x → place past g ≡ Away x.slot → ⊥
+
+-- ---- what is left to refuse
+
+-- .. a write-out of a page that was taken and blocked, by its tracking and by whether all versions were drawn
+abbrev pub left_to_refuse : DrainSight → Bool → List Case
+left_to_refuse drain is_spent =
+    when (not drain.is_drained) (why.NotTracked drain.epoch drain.kept_back)
+    otherwise when is_spent why.VersionSpent
+    otherwise allowed

@@ -1,6 +1,6 @@
 //! Laws of the definitions. Each is the contract of a function without arguments, and so holds for every list of entries.
 
-ghost use Rattle.std.specs.Prelude.{ℕ, ◌≡◌, ◌≤◌, ◌<◌, ◌+◌, true, false, List, [], ◌∷◌, Option, Some, None, length, nat_le};
+ghost use Rattle.std.specs.Prelude.{ℕ, ◌≡◌, ◌≤◌, ◌<◌, ◌+◌, Bool, true, false, List, [], ◌∷◌, Option, Some, None, length, nat_le};
 ghost use Rattle.sgx_types.specs.Making.{Making};
 ghost use Rattle.sgx_types.specs.ByEpochs.{IsTrackedBlock};
 ghost use Rattle.sgx_types.specs.declared.entries.Actor.TheVariants as actors;
@@ -15,14 +15,14 @@ ghost use Rattle.sgx_types.specs.Eviction.{is_drained};
 ghost use Rattle.sgx_types.specs.Frames.{Free, content, is_blocked};
 ghost use Rattle.sgx_types.specs.declared.names.SlotAt.{SlotAt};
 ghost use Rattle.sgx_types.specs.Sights.{sight_at, slot_sight_at};
-ghost use Rattle.sgx_types.specs.Table.{EnclaveSight, eldstart_row, first_of_row, is_made};
-ghost use Rattle.version_array.specs.Keeper.{AllOut, Keeper, count_all, count_out, new_keeper};
+ghost use Rattle.sgx_types.specs.Table.{DrainSight, EnclaveSight, eldstart_row, ewbstart_row, first_of_row, is_made};
+ghost use Rattle.version_array.specs.Keeper.{AllOut, Keeper, count_all, count_out, is_ours, is_out, new_keeper};
 ghost use Rattle.page_history.specs.Once.{KeepsMoves};
 ghost use Rattle.job_grammar.specs.Jobs.{JobView};
-ghost use Rattle.sgx_types.specs.Rules.{Along, FlatRule, RefusalRule};
+ghost use Rattle.sgx_types.specs.Rules.{Along, FitsRule, FlatRule, RefusalRule};
 ghost use Rattle.turn_rules.specs.Script.{IsEnded as SmallEnded, ScriptRule as SmallRule};
 ghost use Rattle.driver_rules.specs.Ages.{AgeRule, KickRule};
-ghost use Rattle.driver_laws.specs.Agrees.{ShowsSlots};
+ghost use Rattle.driver_laws.specs.Agrees.{ShowsSlots, is_va};
 ghost use Rattle.driver_laws.specs.Driven.{IsDriven};
 ghost use Rattle.driver_laws.specs.Kinds.{CanMove};
 ghost use Rattle.driver_rules.specs.Passes.{First, Tries, keepers, pass, processors_noting};
@@ -32,11 +32,11 @@ ghost use Rattle.driver_rules.specs.Stops.{frame_started, last_event};
 ghost use Rattle.driver_rules.specs.Turns.{last_of, load_of};
 ghost use Rattle.driver_laws.specs.Started.{frame_loaded};
 ghost use Rattle.driver_laws.specs.Sound.{IsSound, is_absent};
-ghost use Rattle.driver_laws.specs.Stages.{KeepsPages};
+ghost use Rattle.driver_laws.specs.Stages.{IsTaken, KeepsPages};
 ghost use Rattle.driver_laws.specs.Three.{IsApart, TcsAreApart, three};
 ghost use Rattle.driver_laws.specs.Counted.{AddsAreBuilt, CountMoves, CountsSlots};
 ghost use Rattle.driver_laws.specs.Loads.{IsEndedBy, LoadsAreTheirs, TheirRule, load_ended};
-ghost use Rattle.driver_laws.specs.Used.{SealingAreOpen, SlotsAreUsed, StartTells, StartsAlone};
+ghost use Rattle.driver_laws.specs.Used.{SealingAreOpen, SlotsAreUsed, StartTells, StartsAlone, left_to_refuse};
 ghost use Rattle.driver_laws.specs.Tracks.{IsCalm, IsTracked, IsUntracked, KeepsTracks, OwnRule, TryTells};
 
 /// One entry more, of any kind, keeps places, the list and the slots sound, where it can move its page.
@@ -109,18 +109,31 @@ pub fn three_holds_suffice()
 {}
 
 /// One entry more keeps what slots hold: that of a page that is outside a version, and a slot is busy exactly where an open start names
-/// it. So a load of a page that is away, by its slot into a free frame of the EPC, is not refused.
+/// it.
 pub fn slots_stay_used()
     ensures first { SlotsAreUsed [] }
     ensures more { (past : List Entry) (e : Entry) → IsSound past → CanMove past e.event → StartTells past e.event → SlotsAreUsed past
         → SlotsAreUsed (e ∷ past) }
     ensures told { (k : Making) (past : List Entry) (e : Entry) → 1 ≤ k.first_version → IsSound past → SealingAreOpen past
         → KeepsMoves k (e ∷ past) → StartTells past e.event }
+{}
+
+/// A load of a page that is away, by its slot into a free frame of the EPC, is not refused. A try to write out a page that was taken and
+/// blocked, into a slot that is not out, is refused only for want of a track, or of a version. Version array pages are in frames of the
+/// EPC.
+pub fn moves_are_lawful()
     ensures load { (frames : ℕ) (j : JobView) (keeper : Keeper) (past : List Entry) (g : Page) (slot : SlotAt) (f : ℕ)
         (enclave : Option EnclaveSight) → IsSound past → SlotsAreUsed past → SealingAreOpen past → ShowsSlots j keeper past
         → place past g ≡ Away slot → content past f ≡ Free → nat_le frames f ≡ false → nat_le frames slot.frame.0 ≡ false
         → is_made enclave ≡ true
         → first_of_row (eldstart_row (sight_at frames past f) enclave true (slot_sight_at frames past slot)) ≡ None }
+    ensures out { (frames : ℕ) (j : JobView) (keeper : Keeper) (past : List Entry) (g : Page) (slot : SlotAt) (w : IsTaken past true g)
+        (drain : DrainSight) (is_spent : Bool) → IsSound past → SealingAreOpen past → ShowsSlots j keeper past
+        → is_ours keeper slot ≡ true → is_out keeper slot ≡ false → nat_le frames w.frame ≡ false → nat_le frames slot.frame.0 ≡ false
+        → first_of_row (ewbstart_row (sight_at frames past w.frame) (slot_sight_at frames past slot) drain is_spent)
+        ≡ first_of_row (left_to_refuse drain is_spent) }
+    ensures array { (frames : ℕ) (past : List Entry) (n : ℕ) → Along (FitsRule frames) past → is_va (content past n) ≡ true
+        → nat_le frames n ≡ false }
 {}
 
 /// As many slots are out as pages have one: each entry keeps it.
