@@ -17,7 +17,6 @@ use Rattle.sgx_types.specs.Table.{is_busy, is_loading as busy_content}
 use Rattle.sgx_types.specs.Sights.{row_at, sight_at}
 use Rattle.sgx_types.specs.Slots.{is_draw, is_slot_busy, next_version}
 use Rattle.sgx_types.specs.Starts.{Start, open_start, version_told}
-use Rattle.page_history.specs.Once.{KeepsMoves}
 use Rattle.job_grammar.specs.Jobs.{JobView}
 use Rattle.driver_rules.specs.Places.{Away, place}
 use Rattle.driver_laws.specs.Driven.{IsDriven}
@@ -58,8 +57,8 @@ table_loading _ h = refl
 
 -- by the rules what a write-out tells is so
 pub start_tells : (k : Making) (past : List Entry) (e : Entry) → 1 ≤ k.first_version → IsSound past → SealingAreOpen past
-    → KeepsMoves k (e ∷ past) → StartTells past e.event
-start_tells k past e positive s sealing keeps = by_event e.event keeps.refusal.0 keeps.evict.0 keeps.fresh.0.rising
+    → RefusalRule k past e → EvictRule past e → RisingRule k.first_version past e → StartTells past e.event
+start_tells k past e positive s sealing = by_event e.event
   where
     by_event : (ev : Event) → RefusalRule k past (entry_of e.actor ev) → EvictRule past (entry_of e.actor ev)
         → RisingRule k.first_version past (entry_of e.actor ev) → StartTells past ev
@@ -95,5 +94,6 @@ driven_used k j (e ∷ past) positive d =
     let before = driven_before k j e past d in
     let s = (driven_sound k j past positive before).0 in
     let can = can_move k j past e positive s d.moves d.fits.0 d.script.0 d.age.0 in
-    let told = start_tells k past e positive s (driven_pages k j past positive before).sealing d.moves in
+    let told = start_tells k past e positive s (driven_pages k j past positive before).sealing d.moves.refusal.0 d.moves.evict.0
+    d.moves.fresh.0.rising in
     stays_used past e s can told (driven_used k j past positive before)

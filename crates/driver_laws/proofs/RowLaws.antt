@@ -4,12 +4,12 @@ use Rattle.std.proofs.lemmas.Bool.{eq-eqb, eqb-true, false≢true, leb-true, ltb
 use Rattle.std.specs.List.{list_any}
 use Rattle.sgx_types.proofs.Rows.{none_refused}
 use Rattle.sgx_types.proofs.Truths.{both_true}
-use Rattle.sgx_types.specs.Frames.{added, Content, content, Free, held_after, Holds, is_blocked, is_free, is_page, is_sealing, IsLoading, IsVa, page_at, put_by, reloaded, SecsOf}
+use Rattle.sgx_types.specs.Frames.{Content, Free, Holds, IsLoading, IsVa, SecsOf, added, content, held_after, is_blocked, is_free, is_page, is_sealing, page_at, put_by, reloaded}
 use Rattle.sgx_types.specs.Rules.{Along, FitsRule}
 use Rattle.sgx_types.specs.Sights.{sight_at, slot_sight_at}
 use Rattle.sgx_types.specs.Slots.{is_slot_busy, same_slot, version_in}
 use Rattle.sgx_types.specs.Starts.{open_start}
-use Rattle.sgx_types.specs.Table.{DrainSight, eldstart_row, EnclaveSight, ewbstart_row, first_of_row, FrameSight, is_busy, is_loading as busy_content, is_made, is_out_of_range, is_secs, is_va as is_va_in}
+use Rattle.sgx_types.specs.Table.{DrainSight, EnclaveSight, FrameSight, eldstart_row, ewbstart_row, first_of_row, is_busy, is_loading as busy_content, is_made, is_out_of_range, is_secs, is_va as is_va_in}
 use Rattle.sgx_types.specs.declared.entries.Action.TheVariants.{Add, Create, Eld, EldStart, Epa, Ewb}
 use Rattle.sgx_types.specs.declared.entries.Answer.TheVariants.{Moved}
 use Rattle.sgx_types.specs.declared.entries.Entry.{Entry}
@@ -19,13 +19,13 @@ use Rattle.sgx_types.specs.declared.names.Kind.{Kind}
 use Rattle.sgx_types.specs.declared.names.Page.{Page}
 use Rattle.sgx_types.specs.declared.names.Perm.{Perm}
 use Rattle.sgx_types.specs.declared.names.SlotAt.{SlotAt}
-use Rattle.version_array.specs.Keeper.{is_added, is_ours, is_out, Keeper}
+use Rattle.version_array.specs.Keeper.{Keeper, is_added, is_ours, is_out}
 use Rattle.job_grammar.specs.Jobs.{JobView}
 use Rattle.driver_rules.specs.Places.{Away, Leaving, place}
-use Rattle.driver_laws.specs.Agrees.{is_va, ShowsSlots}
-use Rattle.driver_laws.specs.Sound.{is_write_start, IsSound, slot_at, slot_outside}
+use Rattle.driver_laws.specs.Agrees.{ShowsSlots, is_va}
+use Rattle.driver_laws.specs.Sound.{IsSound, is_write_start, slot_at, slot_outside}
 use Rattle.driver_laws.specs.Stages.{IsTaken}
-use Rattle.driver_laws.specs.Used.{left_to_refuse, SealingAreOpen, SlotsAreUsed}
+use Rattle.driver_laws.specs.Used.{SealingAreOpen, SlotsAreUsed, left_to_refuse}
 use Rattle.driver_laws.proofs.AloneLaws.{free_none}
 use Rattle.driver_laws.proofs.ReadyLaws.{away_idle}
 use Rattle.driver_laws.proofs.SoundLaws.{entry_of}

@@ -17,9 +17,8 @@ ghost use Rattle.sgx_types.specs.declared.names.SlotAt.{SlotAt};
 ghost use Rattle.sgx_types.specs.Sights.{sight_at, slot_sight_at};
 ghost use Rattle.sgx_types.specs.Table.{DrainSight, EnclaveSight, eldstart_row, ewbstart_row, first_of_row, is_made};
 ghost use Rattle.version_array.specs.Keeper.{AllOut, Keeper, count_all, count_out, is_ours, is_out, new_keeper};
-ghost use Rattle.page_history.specs.Once.{KeepsMoves};
 ghost use Rattle.job_grammar.specs.Jobs.{JobView};
-ghost use Rattle.sgx_types.specs.Rules.{Along, FitsRule, FlatRule, RefusalRule};
+ghost use Rattle.sgx_types.specs.Rules.{Along, EvictRule, FitsRule, FlatRule, RefusalRule, RisingRule};
 ghost use Rattle.turn_rules.specs.Script.{IsEnded as SmallEnded, ScriptRule as SmallRule};
 ghost use Rattle.driver_rules.specs.Ages.{AgeRule, KickRule};
 ghost use Rattle.driver_laws.specs.Agrees.{ShowsSlots, is_va};
@@ -115,7 +114,7 @@ pub fn slots_stay_used()
     ensures more { (past : List Entry) (e : Entry) → IsSound past → CanMove past e.event → StartTells past e.event → SlotsAreUsed past
         → SlotsAreUsed (e ∷ past) }
     ensures told { (k : Making) (past : List Entry) (e : Entry) → 1 ≤ k.first_version → IsSound past → SealingAreOpen past
-        → KeepsMoves k (e ∷ past) → StartTells past e.event }
+        → RefusalRule k past e → EvictRule past e → RisingRule k.first_version past e → StartTells past e.event }
 {}
 
 /// A load of a page that is away, by its slot into a free frame of the EPC, is not refused. A try to write out a page that was taken and
