@@ -12,7 +12,6 @@ use Rattle.sgx_types.specs.declared.entries.Entry.{Entry}
 use Rattle.sgx_types.specs.declared.entries.Event.{Event}
 use Rattle.sgx_types.specs.declared.entries.Event.TheVariants.{Did, Refused, Age}
 use Rattle.sgx_types.specs.declared.entries.Look.{Look}
-use Rattle.sgx_types.specs.declared.entries.Look.TheVariants as looks
 use Rattle.sgx_types.specs.declared.entries.PageInit.{PageInit}
 use Rattle.sgx_types.specs.declared.names.Frame.{Frame}
 use Rattle.sgx_types.specs.declared.names.Kind.{Kind}
@@ -22,18 +21,19 @@ use Rattle.sgx_types.specs.declared.names.SlotAt.{SlotAt}
 use Rattle.sgx_types.specs.declared.refusals.Refusal.{Refusal}
 use Rattle.sgx_types.specs.Frames.{Content, Free, Holds, IsLoading, IsVa, SecsOf, added, content, is_page, page_at, reloaded, same_page}
 use Rattle.sgx_types.specs.Slots.{is_slot_busy, names_slot, open_slot, same_slot, version_in}
-use Rattle.sgx_types.specs.Starts.{Start, is_load_of, open_start, version_told}
+use Rattle.sgx_types.specs.Starts.{Start, open_start, version_told}
 use Rattle.version_array.specs.Keeper.{Adds, Gives, Keeper, Takes, is_added, is_out}
 use Rattle.job_grammar.specs.Jobs.{JobView, va_pages}
 use Rattle.driver_laws.specs.Agrees.{ShowsSlots, has_pages, is_va}
 use Rattle.driver_laws.specs.Kinds.{CanMove, is_quiet}
-use Rattle.driver_rules.specs.Places.{Absent, Away, Here, Leaving, Loading, Place, after_look, back_to, gone_to, place}
+use Rattle.driver_rules.specs.Places.{Absent, Away, Here, Leaving, Loading, Place, place}
 use Rattle.sgx_types.specs.Slots.{slot_of as starts_slot}
 use Rattle.driver_laws.specs.Sound.{IsSound, is_loading, load_slot, slot_at, slot_loading, slot_of, stands_in}
-use Rattle.driver_laws.proofs.PlaceLaws.{load_no_page, load_slot_is, one_page, same_page-refl}
-use Rattle.driver_laws.proofs.SlotLaws.{none_open}
+use Rattle.driver_laws.proofs.PlaceLaws.{load_slot_is, same_page-refl}
+use Rattle.driver_laws.proofs.SlotLaws.{same_slot-refl}
 use Rattle.driver_laws.proofs.ThreeLaws.{or_left, or_right}
 use Rattle.driver_laws.proofs.SoundLaws.{entry_of, load_start, named}
+use Rattle.driver_laws.proofs.SlotMoves.{SameSlots, closed_load, frame_apart, same_add, same_age, same_eldstart, same_ewb, same_refused}
 
 -- a slot that is not out is no page's, so a write-out may begin with it
 pub kept_is_free : (j : JobView) (keeper : Keeper) (past : List Entry) (slot : SlotAt) → ShowsSlots j keeper past
@@ -41,13 +41,6 @@ pub kept_is_free : (j : JobView) (keeper : Keeper) (past : List Entry) (slot : S
 kept_is_free j keeper past slot s free g at = false≢true (sym free ∙ s.used g slot at)
 
 -- ---- in general
-
-same_slot-refl : (slot : SlotAt) → same_slot slot slot ≡ true
-same_slot-refl slot = rw (eq-eqb slot.frame.0 slot.frame.0 refl, eq-eqb slot.index slot.index refl) refl
-
--- each page has the slot that it had
-abbrev SameSlots : List Entry → Entry → Type 0
-SameSlots past e = (g : Page) → slot_of (e ∷ past) g ≡ slot_of past g
 
 -- an entry that leaves the pages' slots, what stands in slots, and the version array pages
 shows_same : (j : JobView) (keeper : Keeper) (past : List Entry) (e : Entry) → ShowsSlots j keeper past
@@ -83,16 +76,6 @@ out_apart keeper mine slot out free = by_test (same_slot mine slot) refl
 
 -- ---- entries
 
--- a page's place by a test on the page
-by_page : (past now : List Entry) (opened : ℕ → Option Start) (a g : Page) (to : Place) (slot : Option SlotAt) → slot_of past a ≡ slot
-    → slot_at opened to ≡ slot → ((h : Page) → same_page a h ≡ false → slot_at opened (place past h) ≡ slot_of past h)
-    → slot_at opened (if same_page a g then to else place past g) ≡ slot_of past g
-by_page past now opened a g to slot before after others = by_test (same_page a g) refl
-  where
-    by_test : (b : Bool) → same_page a g ≡ b → slot_at opened (if b then to else place past g) ≡ slot_of past g
-    by_test true is = after ∙ sym before ∙ ap (slot_of past) (same_pages a g is)
-    by_test false is = others g is
-
 -- a page is added, once all version array pages are made
 pub shows_add : (j : JobView) (keeper : Keeper) (past : List Entry) (a : Actor) (e n : ℕ) (f : Frame) (kind : Kind) (perm : Perm)
     (init : PageInit) (answer : Answer) → CanMove past (Did (Add e n f kind perm init) answer)
@@ -101,7 +84,7 @@ pub shows_add : (j : JobView) (keeper : Keeper) (past : List Entry) (a : Actor) 
 shows_add j keeper past a e n f kind perm init answer can made s =
     shows_same j keeper past (entry_of a (Did (Add e n f kind perm init) answer)) s
     (λ m. not_array past f.0 m (Holds (page_at e n) kind perm) can.0 refl) (λ h. made)
-    (λ g. by_page past past (open_start past) (page_at e n) g (Here f.0) None (ap (slot_at (open_start past)) can.1) refl (λ h other. refl))
+    (same_add past a e n f kind perm init answer can)
     (λ slot free. (refl, refl))
 
 -- a load starts
@@ -109,32 +92,10 @@ pub shows_eldstart : (j : JobView) (keeper : Keeper) (past : List Entry) (a : Ac
     (answer : Answer) → CanMove past (Did (EldStart f page slot) answer) → IsSound past
     → ShowsSlots j keeper past → ShowsSlots j keeper (entry_of a (Did (EldStart f page slot) answer) ∷ past)
 shows_eldstart j keeper past a f page slot answer can sound s =
-    shows_same j keeper past (entry_of a (Did (EldStart f page slot) answer)) s (λ m. not_array past f.0 m (IsLoading page) can.0 refl) s.made
-    (λ g. by_page past past now page g (Loading f.0 slot) (Some slot) (ap (slot_at (open_start past)) can.1) refl
-    (λ h other. kept h (place past h) refl))
+    shows_same j keeper past (entry_of a (Did (EldStart f page slot) answer)) s
+    (λ m. not_array past f.0 m (IsLoading page) can.0 refl) s.made
+    (same_eldstart past a f page slot answer can sound)
     (λ t free. (refl, rw (out_apart keeper slot t (s.used page slot (ap (slot_at (open_start past)) can.1)) free) refl))
-  where
-    now : ℕ → Option Start
-    now n = if f.0 == n then Some (record { slot = slot; version = version_told answer; loads = Some page }) else open_start past n
-
-    kept : (h : Page) (p : Place) → place past h ≡ p → slot_at now p ≡ slot_at (open_start past) p
-    kept h (Leaving n) at = ap slot_of_open (other_frame n (f.0 == n) refl at)
-      where
-        slot_of_open : Option Start → Option SlotAt
-        slot_of_open o = slot_at (λ m. o) (Leaving n)
-
-        other_frame : (m : ℕ) (b : Bool) → (f.0 == m) ≡ b → place past h ≡ Leaving m
-            → (if b then Some
-            (record { slot = slot; version = version_told answer; loads = Some page }) else open_start past m) ≡ open_start past m
-        other_frame m true is here =
-            let holds : is_page (content past f.0) h ≡ true =
-            sound.places.frames h f.0 ∙ ap (λ q. stands_in q f.0) here ∙ rw (eqb-true f.0 m is) (eq-eqb m m refl) in
-            absurd (false≢true (sym (ap (λ c. is_page c h) can.0) ∙ holds))
-        other_frame m false is here = refl
-    kept h (Away t) at = refl
-    kept h (Loading n t) at = refl
-    kept h (Here n) at = refl
-    kept h Absent at = refl
 
 -- a frame that loads is no version array page
 loading_no_array : (c : Content) → is_loading c ≡ true → is_va c ≡ false
@@ -151,30 +112,6 @@ page_no_array Free g h = cc
 page_no_array IsVa g h = cc
 page_no_array (SecsOf e) g h = cc
 page_no_array (IsLoading page) g h = cc
-
--- a page that leaves from a frame is the one that stands there
-same_leaving : (past : List Entry) (g h : Page) (f : ℕ) → IsSound past → place past g ≡ Leaving f → place past h ≡ Leaving f
-    → same_page g h ≡ true
-same_leaving past g h f s at_g at_h = one_page (content past f) g h (stood g at_g) (stood h at_h)
-  where
-    stood : (x : Page) → place past x ≡ Leaving f → is_page (content past f) x ≡ true
-    stood x at = s.places.frames x f ∙ ap (λ q. stands_in q f) at ∙ eq-eqb f f refl
-
--- the slot of a page of another frame is by another start
-frame_apart : (past : List Entry) (now : ℕ → Option Start) (f : ℕ) (h : Page) → ((n : ℕ) → (f == n) ≡ false → now n ≡ open_start past n)
-    → (place past h ≡ Leaving f → ⊥) → slot_at now (place past h) ≡ slot_of past h
-frame_apart past now f h kept other = by_place (place past h) refl
-  where
-    by_frame : (n : ℕ) (b : Bool) → (f == n) ≡ b → place past h ≡ Leaving n → starts_slot (now n) ≡ starts_slot (open_start past n)
-    by_frame n true is at = absurd (other (at ∙ ap Leaving (sym (eqb-true f n is))))
-    by_frame n false is at = ap starts_slot (kept n is)
-
-    by_place : (p : Place) → place past h ≡ p → slot_at now p ≡ slot_at (open_start past) p
-    by_place (Leaving n) at = by_frame n (f == n) refl at
-    by_place (Away t) at = refl
-    by_place (Loading n t) at = refl
-    by_place (Here n) at = refl
-    by_place Absent at = refl
 
 -- ---- a page goes out
 
@@ -242,7 +179,7 @@ pub shows_ewb : (j : JobView) (keeper : Keeper) (past : List Entry) (a : Actor) 
     → ShowsSlots j keeper (entry_of a (Did (Ewb f) (Moved page version tag)) ∷ past)
 shows_ewb j keeper past a f page version tag can sound s =
     shows_same j keeper past (entry_of a (Did (Ewb f) (Moved page version tag))) s (λ n. arrays n (f.0 == n) refl) s.made
-    (λ g. slots g (same_page page g) refl)
+    (same_ewb past a f page version tag can sound)
     (λ t free. (
       rw (named past f.0 x can.1.1, out_apart keeper x.slot t mine free) refl,
       rw
@@ -261,15 +198,6 @@ shows_ewb j keeper past a f page version tag can sound s =
     arrays : (n : ℕ) (b : Bool) → (f.0 == n) ≡ b → is_va (if b then Free else content past n) ≡ is_va (content past n)
     arrays n true is = sym (page_no_array (content past n) page (sound.places.frames page n ∙ ap (λ q. stands_in q n) can.0 ∙ is))
     arrays n false is = refl
-
-    now : ℕ → Option Start
-    now n = if f.0 == n then None else open_start past n
-
-    slots : (g : Page) (b : Bool) → same_page page g ≡ b
-        → slot_at now (if b then gone_to (open_start past f.0) (place past g) else place past g) ≡ slot_of past g
-    slots g true is = ap (λ o. slot_at now (gone_to o (place past g))) can.1.1 ∙ sym before ∙ ap (slot_of past) (same_pages page g is)
-    slots g false is =
-        frame_apart past now f.0 g (λ n other. rw other refl) (λ here. false≢true (sym is ∙ same_leaving past page g f.0 sound can.0 here))
 
 -- ---- a page comes back
 
@@ -297,22 +225,14 @@ shows_eld j old new past a f page version tag slot loading sound gives s = recor
     now : ℕ → Option Start
     now n = if f.0 == n then None else open_start past n
 
-    leaving_apart : (h : Page) → place past h ≡ Leaving f.0 → ⊥
-    leaving_apart h here =
-        let holds : is_page (content past f.0) h ≡ true =
-        sound.places.frames h f.0 ∙ ap (λ q. stands_in q f.0) here ∙ eq-eqb f.0 f.0 refl in
-        let load : load_slot (open_start past f.0) page ≡ Some slot =
-        sound.places.loads page f.0 ∙ ap (λ q. slot_loading q f.0) loading ∙ rw (eq-eqb f.0 f.0 refl) refl in
-        false≢true (sym
-        (load_no_page (content past f.0) h (sym (sound.places.loading f.0) ∙ load_slot_is (open_start past f.0) page slot load)) ∙ holds)
-
     kept : (h : Page) → slot_at now (place past h) ≡ slot_of past h
-    kept h = frame_apart past now f.0 h (λ n other. rw other refl) (leaving_apart h)
+    kept h = closed_load past f.0 page h slot sound loading
 
     arrays : (n : ℕ) (b : Bool) → (f.0 == n) ≡ b
         → is_va (if b then reloaded page (added past page) else content past n) ≡ is_va (content past n)
     arrays n true is =
-        by_kind (added past page) ∙ sym (ap (λ m. is_va (content past m)) (sym (eqb-true f.0 n is)) ∙ loading_no_array (content past f.0) held)
+        by_kind (added past page)
+        ∙ sym (ap (λ m. is_va (content past m)) (sym (eqb-true f.0 n is)) ∙ loading_no_array (content past f.0) held)
       where
         held : is_loading (content past f.0) ≡ true
         held =
@@ -370,7 +290,7 @@ pub shows_refused : (j : JobView) (keeper : Keeper) (past : List Entry) (a : Act
     → ShowsSlots j keeper (entry_of a (Refused (Eld f) refusal) ∷ past)
 shows_refused j keeper past a f refusal can sound s =
     shows_same j keeper past (entry_of a (Refused (Eld f) refusal)) s (λ n. arrays n (f.0 == n) refl) s.made
-    (λ g. slots g (is_load_of (open_start past f.0) g))
+    (same_refused past a f refusal can sound)
     (λ t free. (refl, rw (names, out_apart keeper slot t mine free) refl))
   where
     page : Page
@@ -397,29 +317,6 @@ shows_refused j keeper past a f refusal can sound s =
     arrays : (n : ℕ) (b : Bool) → (f.0 == n) ≡ b → is_va (if b then Free else content past n) ≡ is_va (content past n)
     arrays n true is = sym (subst (λ m. is_va (content past m) ≡ false) (eqb-true f.0 n is) (loading_no_array (content past f.0) held))
     arrays n false is = refl
-
-    now : ℕ → Option Start
-    now n = if f.0 == n then None else open_start past n
-
-    leaving_apart : (h : Page) → place past h ≡ Leaving f.0 → ⊥
-    leaving_apart h here =
-        let holds : is_page (content past f.0) h ≡ true =
-        sound.places.frames h f.0 ∙ ap (λ q. stands_in q f.0) here ∙ eq-eqb f.0 f.0 refl in
-        false≢true (sym (load_no_page (content past f.0) h held) ∙ holds)
-
-    kept : (h : Page) → slot_at now (place past h) ≡ slot_of past h
-    kept h = frame_apart past now f.0 h (λ n other. rw other refl) (leaving_apart h)
-
-    back : (p : Place) → slot_at now (back_to p) ≡ slot_at now p
-    back Absent = refl
-    back (Here n) = refl
-    back (Leaving n) = refl
-    back (Loading n t) = refl
-    back (Away t) = refl
-
-    slots : (g : Page) (b : Bool) → slot_at now (if b then back_to (place past g) else place past g) ≡ slot_of past g
-    slots g true = back (place past g) ∙ kept g
-    slots g false = kept g
 
 -- ---- the version array pages
 
@@ -461,21 +358,7 @@ shows_create j keeper past a e f base size answer free s =
 pub shows_age : (j : JobView) (keeper : Keeper) (past : List Entry) (a : Actor) (page : Page) (look : Look) → IsSound past
     → ShowsSlots j keeper past → ShowsSlots j keeper (entry_of a (Age page look) ∷ past)
 shows_age j keeper past a page look sound s =
-    shows_same j keeper past (entry_of a (Age page look)) s (λ n. refl) s.made (λ g. slots g (same_page page g)) (λ t k. (refl, refl))
-  where
-    looked : (l : Look) (g : Page) (p : Place) → place past g ≡ p → slot_at (open_start past) (after_look l p) ≡ slot_at (open_start past) p
-    looked looks.Taken g (Here n) at = ap starts_slot (none_open (place past) (content past) (open_start past) g n sound.places at)
-    looked looks.Taken g Absent at = refl
-    looked looks.Taken g (Leaving n) at = refl
-    looked looks.Taken g (Loading n t) at = refl
-    looked looks.Taken g (Away t) at = refl
-    looked looks.Young g p at = refl
-    looked looks.Held g p at = refl
-    looked looks.NoRoom g p at = refl
-
-    slots : (g : Page) (b : Bool) → slot_at (open_start past) (if b then after_look look (place past g) else place past g) ≡ slot_of past g
-    slots g true = looked look g (place past g) refl
-    slots g false = refl
+    shows_same j keeper past (entry_of a (Age page look)) s (λ n. refl) s.made (same_age past a page look sound) (λ t k. (refl, refl))
 
 -- an entry that moves no page, takes no frame and starts nothing
 abbrev pub is_slotless : Event → Bool

@@ -141,7 +141,7 @@ absent_is (Away slot) h = cc
 
 -- ---- ends of loads
 
-loading_is : (p : Place) (f : ℕ) (slot : SlotAt) → slot_loading p f ≡ Some slot → p ≡ Loading f slot
+pub loading_is : (p : Place) (f : ℕ) (slot : SlotAt) → slot_loading p f ≡ Some slot → p ≡ Loading f slot
 loading_is (Loading n s) f slot h = by_frame (n == f) refl h
   where
     by_frame : (b : Bool) → (n == f) ≡ b → slot_if b s ≡ Some slot → Loading n s ≡ Loading f slot
@@ -276,7 +276,8 @@ can_move k j past e positive s keeps fits script age = by_event e.event keeps.re
     same_told : (page other : Page) (v w : ℕ) (t u : List ℕ) → Moved page v t ≡ Moved other w u → page ≡ other
     same_told page other v w t u h = cc
 
-    by_event : (ev : Event) → RefusalRule k past (record { actor = e.actor; event = ev }) → FitsRule k.frames past (record { actor = e.actor; event = ev })
+    by_event : (ev : Event) → RefusalRule k past (record { actor = e.actor; event = ev })
+        → FitsRule k.frames past (record { actor = e.actor; event = ev })
         → ScriptRule j past (record { actor = e.actor; event = ev }) → AgeRule j past (record { actor = e.actor; event = ev })
         → CanMove past ev
     by_event (Did (actions.Epa f) answer) refusal fit sc ag = fit.1

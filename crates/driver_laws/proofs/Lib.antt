@@ -11,6 +11,7 @@ pub mod OwnLaws
 pub mod HistoryLaws
 pub mod ThreeLaws
 pub mod TcsLaws
+pub mod SlotMoves
 pub mod AgreeLaws
 pub mod MarkLaws
 pub mod StillLaws
@@ -18,3 +19,11 @@ pub mod StageLaws
 pub mod SpentLaws
 pub mod SmallLaws
 pub mod StartedLaws
+pub mod AloneLaws
+pub mod UsedLaws
+pub mod ReadyLaws
+pub mod RowLaws
+pub mod CountLaws
+pub mod BuiltLaws
+pub mod EndLaws
+pub mod LoadLaws

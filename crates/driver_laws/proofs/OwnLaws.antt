@@ -47,7 +47,26 @@ is_paging (actions.EldStart f page slot) = true
 is_paging (actions.Eld f) = true
 is_paging _ = false
 
--- .. and a load is begun only for a page that is away, by its slot, into the least free frame
+-- .. and one that a processor's script asks for, or what follows from it
+abbrev pub is_script : Action → Bool
+is_script (actions.Epa f) = false
+is_script (actions.Create enclave f base size) = false
+is_script (actions.Add enclave number f kind perm init) = false
+is_script (actions.Extend f chunk) = false
+is_script (actions.Init enclave expect) = false
+is_script action = not (is_paging action)
+
+-- a processor with no open start makes only such, or begins a load of a page that is away
+abbrev pub OfTurn : JobView → List Entry → Due → Type 0
+OfTurn j past (Makes action) = is_script action ≡ true
+OfTurn j past (Ends action) = ⊥
+OfTurn j past (Fetches g slot free) = (place past g ≡ Away slot) × (free ≡ least_free j.epc (content past))
+OfTurn j past (LooksAt page held young) = ⊥
+OfTurn j past (TriesOut n) = ⊥
+OfTurn j past (KicksAll cpus) = ⊥
+OfTurn j past _ = Unit {0}
+
+-- what is due moves no page but by a load, and a load is begun only for a page that is away, by its slot, into the least free frame
 abbrev pub Plain : JobView → List Entry → Due → Type 0
 Plain j past (Makes action) = is_paging action ≡ false
 Plain j past (Ends action) = (f : Frame) × (action ≡ actions.Eld f)
@@ -57,92 +76,125 @@ Plain j past (TriesOut n) = ⊥
 Plain j past (KicksAll cpus) = ⊥
 Plain j past _ = Unit {0}
 
-either : (j : JobView) (past : List Entry) (b : Bool) (x y : Due) → Plain j past x → Plain j past y → Plain j past (if b then x else y)
-either j past true x y h k = h
-either j past false x y h k = k
+either : (P : Due → Type 0) (b : Bool) (x y : Due) → P x → P y → P (if b then x else y)
+either P true x y h k = h
+either P false x y h k = k
 
-fetch_plain : (j : JobView) (past : List Entry) (g : Page) → Plain j past (fetches j.epc past g (place past g))
-fetch_plain j past g = by_place (place past g) refl
+fetch_script : (j : JobView) (past : List Entry) (g : Page) → OfTurn j past (fetches j.epc past g (place past g))
+fetch_script j past g = by_place (place past g) refl
   where
-    by_place : (at : Place) → place past g ≡ at → Plain j past (fetches j.epc past g at)
+    by_place : (at : Place) → place past g ≡ at → OfTurn j past (fetches j.epc past g at)
     by_place (Away slot) is = (is, refl)
     by_place Absent is = tt
     by_place (Here f) is = tt
     by_place (Leaving f) is = tt
     by_place (Loading f slot) is = tt
 
-with_plain : (j : JobView) (past : List Entry) (o : Option Page) (d : Due) → Plain j past d → Plain j past (with_pages j past o d)
-with_plain j past None d h = h
-with_plain j past (Some g) d h = fetch_plain j past g
+with_script : (j : JobView) (past : List Entry) (o : Option Page) (d : Due) → OfTurn j past d → OfTurn j past (with_pages j past o d)
+with_script j past None d h = h
+with_script j past (Some g) d h = fetch_script j past g
 
-enter_plain : (j : JobView) (past : List Entry) (why : Why) (e t : ℕ) (tf sf : Option ℕ)
-    → Plain j past (makes_or why (enter_with e t tf sf))
-enter_plain j past why e t (Some tf) (Some sf) = refl
-enter_plain j past why e t (Some tf) None = tt
-enter_plain j past why e t None sf = tt
+enter_script : (j : JobView) (past : List Entry) (why : Why) (e t : ℕ) (tf sf : Option ℕ)
+    → OfTurn j past (makes_or why (enter_with e t tf sf))
+enter_script j past why e t (Some tf) (Some sf) = refl
+enter_script j past why e t (Some tf) None = tt
+enter_script j past why e t None sf = tt
 
-resume_plain : (j : JobView) (past : List Entry) (why : Why) (e t : ℕ) (tf sf : Option ℕ)
-    → Plain j past (makes_or why (resume_with e t tf sf))
-resume_plain j past why e t (Some tf) (Some sf) = refl
-resume_plain j past why e t (Some tf) None = tt
-resume_plain j past why e t None sf = tt
+resume_script : (j : JobView) (past : List Entry) (why : Why) (e t : ℕ) (tf sf : Option ℕ)
+    → OfTurn j past (makes_or why (resume_with e t tf sf))
+resume_script j past why e t (Some tf) (Some sf) = refl
+resume_script j past why e t (Some tf) None = tt
+resume_script j past why e t None sf = tt
 
-enters_plain : (j : JobView) (past : List Entry) (e t : ℕ) → Plain j past (enters j past e t)
-enters_plain j past e t =
-    with_plain j past (first_away past (needs_to_enter j past e t)) _ (enter_plain j past (waits.Busy (page_at e t)) e t
+enters_script : (j : JobView) (past : List Entry) (e t : ℕ) → OfTurn j past (enters j past e t)
+enters_script j past e t =
+    with_script j past (first_away past (needs_to_enter j past e t)) _ (enter_script j past (waits.Busy (page_at e t)) e t
     (frame_here (place past (page_at e t))) (save_frame past (page_at e t) (save_to_enter j past e t)))
 
-resumes_plain : (j : JobView) (past : List Entry) (e t : ℕ) (pages : List Page) → Plain j past (resumes j past e t pages)
-resumes_plain j past e t pages =
-    with_plain j past (first_away past pages) _ (resume_plain j past (waits.Busy (page_at e t)) e t (frame_here (place past (page_at e t)))
+resumes_script : (j : JobView) (past : List Entry) (e t : ℕ) (pages : List Page) → OfTurn j past (resumes j past e t pages)
+resumes_script j past e t pages =
+    with_script j past (first_away past pages) _
+    (resume_script j past (waits.Busy (page_at e t)) e t (frame_here (place past (page_at e t)))
     (save_frame past (page_at e t) (save_to_resume j past e t)))
 
-fills_plain : (j : JobView) (past : List Entry) (n : ℕ) (o : Option ℕ) → Plain j past (fills n o)
-fills_plain j past n None = refl
-fills_plain j past n (Some f) = refl
+fills_script : (j : JobView) (past : List Entry) (n : ℕ) (o : Option ℕ) → OfTurn j past (fills n o)
+fills_script j past n None = refl
+fills_script j past n (Some f) = refl
 
-access_plain : (j : JobView) (past : List Entry) (p : ℕ) (o : Option Stay) (op : AccessOp) (off : ℕ) (access : Action)
-    → is_paging access ≡ false → Plain j past (accesses_by past p o op off access)
-access_plain j past p None op off access h = h
-access_plain j past p (Some s) op off access h =
-    either j past (not (is_lawful_access (added past (at_offset s.seat.enclave off)) op)) _ _ refl
-    (either j past (holds_number (translations past p) _) (Makes access) _ h
-    (fills_plain j past _ (frame_here (place past (at_offset s.seat.enclave off)))))
+access_script : (j : JobView) (past : List Entry) (p : ℕ) (o : Option Stay) (op : AccessOp) (off : ℕ) (access : Action)
+    → is_script access ≡ true → OfTurn j past (accesses_by past p o op off access)
+access_script j past p None op off access h = h
+access_script j past p (Some s) op off access h =
+    either (OfTurn j past) (not (is_lawful_access (added past (at_offset s.seat.enclave off)) op)) _ _ refl
+    (either (OfTurn j past) (holds_number (translations past p) _) (Makes access) _ h
+    (fills_script j past _ (frame_here (place past (at_offset s.seat.enclave off)))))
 
-op_plain : (j : JobView) (past : List Entry) (p : ℕ) (op : Op) → Plain j past (op_turn j past p op)
-op_plain j past p (ops.Enter e t) = either j past (is_turned_away past p e) _ (enters j past e t) refl (enters_plain j past e t)
-op_plain j past p (ops.Resume e t) =
-    either j past (is_turned_away past p e) _ (resumes j past e t (needs_to_resume j past e t)) refl
-    (resumes_plain j past e t (needs_to_resume j past e t))
-op_plain j past p ops.Exit = refl
-op_plain j past p ops.Timer = refl
-op_plain j past p (ops.Load off) = access_plain j past p (stay past p) accesses.Load off (actions.Load off) refl
-op_plain j past p (ops.Store off v) = access_plain j past p (stay past p) accesses.Store off (actions.Store off v) refl
-op_plain j past p (ops.Xadd off v) = access_plain j past p (stay past p) accesses.Xadd off (actions.Xadd off v) refl
-op_plain j past p (ops.Set v) = refl
-op_plain j past p (ops.Plus v) = refl
-op_plain j past p (ops.OutLoad e off) = refl
-op_plain j past p (ops.OutStore e off v) = refl
+op_script : (j : JobView) (past : List Entry) (p : ℕ) (op : Op) → OfTurn j past (op_turn j past p op)
+op_script j past p (ops.Enter e t) = either (OfTurn j past) (is_turned_away past p e) _ (enters j past e t) refl (enters_script j past e t)
+op_script j past p (ops.Resume e t) =
+    either (OfTurn j past) (is_turned_away past p e) _ (resumes j past e t (needs_to_resume j past e t)) refl
+    (resumes_script j past e t (needs_to_resume j past e t))
+op_script j past p ops.Exit = refl
+op_script j past p ops.Timer = refl
+op_script j past p (ops.Load off) = access_script j past p (stay past p) accesses.Load off (actions.Load off) refl
+op_script j past p (ops.Store off v) = access_script j past p (stay past p) accesses.Store off (actions.Store off v) refl
+op_script j past p (ops.Xadd off v) = access_script j past p (stay past p) accesses.Xadd off (actions.Xadd off v) refl
+op_script j past p (ops.Set v) = refl
+op_script j past p (ops.Plus v) = refl
+op_script j past p (ops.OutLoad e off) = refl
+op_script j past p (ops.OutStore e off v) = refl
 
-outside_plain : (j : JobView) (past : List Entry) (p : ℕ) (i : Option Interruption) (op : Option Op)
-    → Plain j past (outside_turn j past p i op)
-outside_plain j past p i None = tt
-outside_plain j past p (Some i) (Some op) = resumes_plain j past i.enclave i.tcs (needs_after j past p i)
-outside_plain j past p None (Some op) = op_plain j past p op
+outside_script : (j : JobView) (past : List Entry) (p : ℕ) (i : Option Interruption) (op : Option Op)
+    → OfTurn j past (outside_turn j past p i op)
+outside_script j past p i None = tt
+outside_script j past p (Some i) (Some op) = resumes_script j past i.enclave i.tcs (needs_after j past p i)
+outside_script j past p None (Some op) = op_script j past p op
 
-inside_plain : (j : JobView) (past : List Entry) (p : ℕ) (b : Bool) (op : Option Op) → Plain j past (inside_turn j past p b op)
-inside_plain j past p true op = refl
-inside_plain j past p false None = refl
-inside_plain j past p false (Some op) = op_plain j past p op
+inside_script : (j : JobView) (past : List Entry) (p : ℕ) (b : Bool) (op : Option Op) → OfTurn j past (inside_turn j past p b op)
+inside_script j past p true op = refl
+inside_script j past p false None = refl
+inside_script j past p false (Some op) = op_script j past p op
 
-stay_plain : (j : JobView) (past : List Entry) (p : ℕ) (o : Option Stay) → Plain j past (stay_turn j past p o)
-stay_plain j past p None = outside_plain j past p (interruption past p) (next_op j past p)
-stay_plain j past p (Some s) = inside_plain j past p (is_kicked past p) (next_op j past p)
+stay_script : (j : JobView) (past : List Entry) (p : ℕ) (o : Option Stay) → OfTurn j past (stay_turn j past p o)
+stay_script j past p None = outside_script j past p (interruption past p) (next_op j past p)
+stay_script j past p (Some s) = inside_script j past p (is_kicked past p) (next_op j past p)
 
-early_plain : (j : JobView) (past : List Entry) (o : Option Stay) (op : Option Op) → Plain j past (early_turn o op)
-early_plain j past None None = tt
-early_plain j past None (Some op) = tt
-early_plain j past (Some s) op = tt
+early_script : (j : JobView) (past : List Entry) (o : Option Stay) (op : Option Op) → OfTurn j past (early_turn o op)
+early_script j past None None = tt
+early_script j past None (Some op) = tt
+early_script j past (Some s) op = tt
+
+-- what a processor does next with no open start
+pub turn_script : (j : JobView) (past : List Entry) (p : ℕ) → OfTurn j past (turn_due j past p)
+turn_script j past p =
+    either (OfTurn j past) (is_built j past) (stay_turn j past p (stay past p)) (early_turn (stay past p) (next_op j past p))
+    (stay_script j past p (stay past p)) (early_script j past (stay past p) (next_op j past p))
+
+paging_none : (action : Action) → is_script action ≡ true → is_paging action ≡ false
+paging_none (actions.Epa f) h = refl
+paging_none (actions.Create enclave f base size) h = refl
+paging_none (actions.Add enclave number f kind perm init) h = refl
+paging_none (actions.Extend f chunk) h = refl
+paging_none (actions.Init enclave expect) h = refl
+paging_none (actions.Block f) h = cc
+paging_none (actions.Track enclave) h = cc
+paging_none (actions.EwbStart f slot) h = cc
+paging_none (actions.Ewb f) h = cc
+paging_none (actions.EldStart f page slot) h = cc
+paging_none (actions.Eld f) h = cc
+paging_none _ h = refl
+
+plain_of : (j : JobView) (past : List Entry) (d : Due) → OfTurn j past d → Plain j past d
+plain_of j past (Makes action) h = paging_none action h
+plain_of j past (Ends action) h = absurd h
+plain_of j past (Fetches g slot free) h = h
+plain_of j past (LooksAt page held young) h = absurd h
+plain_of j past (TriesOut n) h = absurd h
+plain_of j past (KicksAll cpus) h = absurd h
+plain_of j past _ h = tt
+
+turn_is_plain : (j : JobView) (past : List Entry) (p : ℕ) → Plain j past (turn_due j past p)
+turn_is_plain j past p = plain_of j past (turn_due j past p) (turn_script j past p)
 
 after_plain : (j : JobView) (past : List Entry) (l : Last) (b : Bool) (d : Due) → Plain j past d → Plain j past (due_after l b d)
 after_plain j past (Loads f page) b d h = (frame_at f, refl)
@@ -154,32 +206,49 @@ after_plain j past Other b d h = h
 -- a processor makes no such instruction
 pub due_plain : (j : JobView) (past : List Entry) (p : ℕ) → Plain j past (cpu_due j past p)
 due_plain j past p =
-    either j past (is_spent past) Stopped (due_after (last_of past p) (is_last past p) (turn_due j past p)) tt
-    (after_plain j past (last_of past p) (is_last past p) (turn_due j past p)
-    (either j past (is_built j past) (stay_turn j past p (stay past p)) (early_turn (stay past p) (next_op j past p))
-    (stay_plain j past p (stay past p)) (early_plain j past (stay past p) (next_op j past p))))
+    either (Plain j past) (is_spent past) Stopped (due_after (last_of past p) (is_last past p) (turn_due j past p)) tt
+    (after_plain j past (last_of past p) (is_last past p) (turn_due j past p) (turn_is_plain j past p))
 
-step_plain : (j : JobView) (past : List Entry) (step : BuildStep) (o : Option ℕ) → Plain j past (makes_or waits.NoFrame (with_frame step o))
-step_plain j past builds.Va (Some f) = refl
-step_plain j past (builds.Create e b s) (Some f) = refl
-step_plain j past (builds.Add e n k p i) (Some f) = refl
-step_plain j past (builds.Extend e n c) (Some f) = refl
-step_plain j past (builds.Init e x) (Some f) = refl
-step_plain j past step None = tt
+-- what is due to the builder is an instruction, or nothing
+abbrev pub OfBuild : Due → Type 0
+OfBuild (Makes action) = is_paging action ≡ false
+OfBuild Stopped = Unit {0}
+OfBuild Finished = Unit {0}
+OfBuild (Waits why) = Unit {0}
+OfBuild _ = ⊥
 
-turn_plain : (j : JobView) (past : List Entry) (step : Option BuildStep) → Plain j past (step_turn j past step)
-turn_plain j past None = tt
-turn_plain j past (Some builds.Va) = step_plain j past builds.Va (least_free j.epc (content past))
-turn_plain j past (Some (builds.Create e b s)) = step_plain j past (builds.Create e b s) (least_free j.epc (content past))
-turn_plain j past (Some (builds.Add e n k p i)) = step_plain j past (builds.Add e n k p i) (least_free j.epc (content past))
-turn_plain j past (Some (builds.Extend e n c)) = step_plain j past (builds.Extend e n c) (frame_of past (page_at e n))
-turn_plain j past (Some (builds.Init e x)) = refl
+step_builds : (step : BuildStep) (o : Option ℕ) → OfBuild (makes_or waits.NoFrame (with_frame step o))
+step_builds builds.Va (Some f) = refl
+step_builds (builds.Create e b s) (Some f) = refl
+step_builds (builds.Add e n k p i) (Some f) = refl
+step_builds (builds.Extend e n c) (Some f) = refl
+step_builds (builds.Init e x) (Some f) = refl
+step_builds step None = tt
+
+turn_builds : (j : JobView) (past : List Entry) (step : Option BuildStep) → OfBuild (step_turn j past step)
+turn_builds j past None = tt
+turn_builds j past (Some builds.Va) = step_builds builds.Va (least_free j.epc (content past))
+turn_builds j past (Some (builds.Create e b s)) = step_builds (builds.Create e b s) (least_free j.epc (content past))
+turn_builds j past (Some (builds.Add e n k p i)) = step_builds (builds.Add e n k p i) (least_free j.epc (content past))
+turn_builds j past (Some (builds.Extend e n c)) = step_builds (builds.Extend e n c) (frame_of past (page_at e n))
+turn_builds j past (Some (builds.Init e x)) = refl
+
+-- what the builder does next
+pub build_builds : (j : JobView) (past : List Entry) → OfBuild (builder_due j past)
+build_builds j past =
+    either OfBuild (is_spent past) Stopped (step_turn j past (slice_get (build_of j) (built past))) tt
+    (turn_builds j past (slice_get (build_of j) (built past)))
+
+builds_plain : (j : JobView) (past : List Entry) (d : Due) → OfBuild d → Plain j past d
+builds_plain j past (Makes action) h = h
+builds_plain j past Stopped h = tt
+builds_plain j past Finished h = tt
+builds_plain j past (Waits why) h = tt
+builds_plain j past _ h = absurd h
 
 -- .. nor does the builder
 pub build_plain : (j : JobView) (past : List Entry) → Plain j past (builder_due j past)
-build_plain j past =
-    either j past (is_spent past) Stopped (step_turn j past (slice_get (build_of j) (built past))) tt
-    (turn_plain j past (slice_get (build_of j) (built past)))
+build_plain j past = builds_plain j past (builder_due j past) (build_builds j past)
 
 -- ---- whose entries are whose
 

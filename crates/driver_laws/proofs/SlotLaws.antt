@@ -285,7 +285,7 @@ outside_refused at opened f g slot = by_load (is_load_of (opened f) g)
     by_load false k = k
 
 -- the slot of another page that is outside is another slot
-other_slot : (at : Page → Place) (opened : ℕ → Option Start) (a g : Page) (mine slot : SlotAt) → SlotsAreApart at opened
+pub other_slot : (at : Page → Place) (opened : ℕ → Option Start) (a g : Page) (mine slot : SlotAt) → SlotsAreApart at opened
     → slot_at opened (at a) ≡ Some mine → same_page a g ≡ false → slot_outside (at g) ≡ Some slot
     → same_slot mine slot ≡ false
 other_slot at opened a g mine slot h at_a other k = by_slot (same_slot mine slot) refl
@@ -296,7 +296,7 @@ other_slot at opened a g mine slot h at_a other k = by_slot (same_slot mine slot
         absurd (false≢true (sym other ∙ subst (λ y. same_page a y ≡ true) same (same_page-refl a)))
     by_slot false is = is
 
-same_slot-refl : (slot : SlotAt) → same_slot slot slot ≡ true
+pub same_slot-refl : (slot : SlotAt) → same_slot slot slot ≡ true
 same_slot-refl slot = rw (eq-eqb slot.frame.0 slot.frame.0 refl, eq-eqb slot.index slot.index refl) refl
 
 -- a page went out under a version

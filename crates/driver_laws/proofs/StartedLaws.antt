@@ -21,7 +21,7 @@ use Rattle.driver_laws.specs.Tracks.{is_reclaimers}
 use Rattle.driver_laws.specs.Started.{frame_loaded}
 use Rattle.driver_laws.proofs.OwnLaws.{script_own}
 
-fails_none : (o : Option Page) (r : Refusal) → frame_loaded (fails_with o r) ≡ None
+pub fails_none : (o : Option Page) (r : Refusal) → frame_loaded (fails_with o r) ≡ None
 fails_none (Some page) (why.MacFail given computed) = refl
 fails_none (Some page) (why.BadHeader enclave address flags) = refl
 fails_none (Some page) _ = refl

@@ -6,3 +6,6 @@ pub mod Three
 pub mod Agrees
 pub mod Driven
 pub mod Started
+pub mod Used
+pub mod Counted
+pub mod Loads

@@ -1,30 +1,41 @@
 //! Laws of the definitions. Each is the contract of a function without arguments, and so holds for every list of entries.
 
-ghost use Rattle.std.specs.Prelude.{ℕ, ◌≡◌, ◌≤◌, ◌+◌, true, false, List, [], ◌∷◌, Some, length};
+ghost use Rattle.std.specs.Prelude.{ℕ, ◌≡◌, ◌≤◌, ◌<◌, ◌+◌, Bool, true, false, List, [], ◌∷◌, Option, Some, None, length, nat_le};
 ghost use Rattle.sgx_types.specs.Making.{Making};
 ghost use Rattle.sgx_types.specs.ByEpochs.{IsTrackedBlock};
 ghost use Rattle.sgx_types.specs.declared.entries.Actor.TheVariants as actors;
+ghost use Rattle.sgx_types.specs.declared.entries.Actor.{Actor};
 ghost use Rattle.sgx_types.specs.declared.entries.Entry.{Entry};
+ghost use Rattle.sgx_types.specs.declared.entries.Event.{Event};
+ghost use Rattle.sgx_types.specs.Starts.{open_start};
 ghost use Rattle.sgx_types.specs.declared.names.Cpu.{Cpu};
 ghost use Rattle.sgx_types.specs.declared.names.Page.{Page};
 ghost use Rattle.sgx_types.specs.Epochs.{block_epoch, epoch, older_at};
 ghost use Rattle.sgx_types.specs.Eviction.{is_drained};
-ghost use Rattle.sgx_types.specs.Frames.{is_blocked};
+ghost use Rattle.sgx_types.specs.Frames.{Free, content, is_blocked};
+ghost use Rattle.sgx_types.specs.declared.names.SlotAt.{SlotAt};
+ghost use Rattle.sgx_types.specs.Sights.{sight_at, slot_sight_at};
+ghost use Rattle.sgx_types.specs.Table.{DrainSight, EnclaveSight, eldstart_row, ewbstart_row, first_of_row, is_made};
+ghost use Rattle.version_array.specs.Keeper.{AllOut, Keeper, count_all, count_out, is_ours, is_out, new_keeper};
 ghost use Rattle.job_grammar.specs.Jobs.{JobView};
-ghost use Rattle.sgx_types.specs.Rules.{Along, FlatRule, RefusalRule};
+ghost use Rattle.sgx_types.specs.Rules.{Along, EvictRule, FitsRule, FlatRule, RefusalRule, RisingRule};
 ghost use Rattle.turn_rules.specs.Script.{IsEnded as SmallEnded, ScriptRule as SmallRule};
 ghost use Rattle.driver_rules.specs.Ages.{AgeRule, KickRule};
+ghost use Rattle.driver_laws.specs.Agrees.{ShowsSlots, is_va};
 ghost use Rattle.driver_laws.specs.Driven.{IsDriven};
 ghost use Rattle.driver_laws.specs.Kinds.{CanMove};
 ghost use Rattle.driver_rules.specs.Passes.{First, Tries, keepers, pass, processors_noting};
-ghost use Rattle.driver_rules.specs.Places.{Leaving, place};
+ghost use Rattle.driver_rules.specs.Places.{Away, Leaving, Loading, place};
 ghost use Rattle.driver_rules.specs.Scripts.{IsEnded, ScriptRule};
 ghost use Rattle.driver_rules.specs.Stops.{frame_started, last_event};
-ghost use Rattle.driver_rules.specs.Turns.{last_of};
+ghost use Rattle.driver_rules.specs.Turns.{last_of, load_of};
 ghost use Rattle.driver_laws.specs.Started.{frame_loaded};
-ghost use Rattle.driver_laws.specs.Sound.{IsSound};
-ghost use Rattle.driver_laws.specs.Stages.{KeepsPages};
+ghost use Rattle.driver_laws.specs.Sound.{IsSound, is_absent};
+ghost use Rattle.driver_laws.specs.Stages.{IsTaken, KeepsPages};
 ghost use Rattle.driver_laws.specs.Three.{IsApart, TcsAreApart, three};
+ghost use Rattle.driver_laws.specs.Counted.{AddsAreBuilt, CountMoves, CountsSlots};
+ghost use Rattle.driver_laws.specs.Loads.{IsEndedBy, LoadsAreTheirs, TheirRule, load_ended};
+ghost use Rattle.driver_laws.specs.Used.{SealingAreOpen, SlotsAreUsed, StartTells, StartsAlone, left_to_refuse};
 ghost use Rattle.driver_laws.specs.Tracks.{IsCalm, IsTracked, IsUntracked, KeepsTracks, OwnRule, TryTells};
 
 /// One entry more, of any kind, keeps places, the list and the slots sound, where it can move its page.
@@ -72,13 +83,17 @@ pub fn kicks_go_by_epochs()
         → keepers past g ≡ processors_noting first past g.enclave b }
 {}
 
-/// In a history places, the list and the slots are sound, a pass keeps what it says of tracks and of its pages, and three holds suffice.
+/// In a history places, the list and the slots are sound, slots stay used, a pass keeps what it says of tracks and of its pages, each open
+/// start of a load is one processor's, no more pages are added than the build has steps for, and three holds suffice.
 pub fn histories_are_sound()
     ensures sound { (k : Making) (j : JobView) (past : List Entry) → 1 ≤ k.first_version → IsDriven k j past → IsSound past }
     ensures tracks { (k : Making) (j : JobView) (past : List Entry) → 1 ≤ k.first_version → IsDriven k j past
         → KeepsTracks past (pass j past) }
     ensures pages { (k : Making) (j : JobView) (past : List Entry) → 1 ≤ k.first_version → IsDriven k j past
         → KeepsPages past (pass j past) }
+    ensures used { (k : Making) (j : JobView) (past : List Entry) → 1 ≤ k.first_version → IsDriven k j past → SlotsAreUsed past }
+    ensures loads { (k : Making) (j : JobView) (past : List Entry) → 1 ≤ k.first_version → IsDriven k j past → LoadsAreTheirs past }
+    ensures built { (k : Making) (j : JobView) (past : List Entry) → IsDriven k j past → AddsAreBuilt j past }
     ensures three { (k : Making) (j : JobView) (past : List Entry) → 1 ≤ k.first_version → TcsAreApart j → IsDriven k j past → (p : ℕ)
         → IsApart j past p }
 {}
@@ -92,10 +107,75 @@ pub fn three_holds_suffice()
     ensures most { (j : JobView) (past : List Entry) (p : ℕ) → length (three j past p) ≤ 3 }
 {}
 
+/// One entry more keeps what slots hold: that of a page that is outside a version, and a slot is busy exactly where an open start names
+/// it.
+pub fn slots_stay_used()
+    ensures first { SlotsAreUsed [] }
+    ensures more { (past : List Entry) (e : Entry) → IsSound past → CanMove past e.event → StartTells past e.event → SlotsAreUsed past
+        → SlotsAreUsed (e ∷ past) }
+    ensures told { (k : Making) (past : List Entry) (e : Entry) → 1 ≤ k.first_version → IsSound past → SealingAreOpen past
+        → RefusalRule k past e → EvictRule past e → RisingRule k.first_version past e → StartTells past e.event }
+{}
+
+/// A load of a page that is away, by its slot into a free frame of the EPC, is not refused. A try to write out a page that was taken and
+/// blocked, into a slot that is not out, is refused only for want of a track, or of a version. Version array pages are in frames of the
+/// EPC.
+pub fn moves_are_lawful()
+    ensures load { (frames : ℕ) (j : JobView) (keeper : Keeper) (past : List Entry) (g : Page) (slot : SlotAt) (f : ℕ)
+        (enclave : Option EnclaveSight) → IsSound past → SlotsAreUsed past → SealingAreOpen past → ShowsSlots j keeper past
+        → place past g ≡ Away slot → content past f ≡ Free → nat_le frames f ≡ false → nat_le frames slot.frame.0 ≡ false
+        → is_made enclave ≡ true
+        → first_of_row (eldstart_row (sight_at frames past f) enclave true (slot_sight_at frames past slot)) ≡ None }
+    ensures out { (frames : ℕ) (j : JobView) (keeper : Keeper) (past : List Entry) (g : Page) (slot : SlotAt) (w : IsTaken past true g)
+        (drain : DrainSight) (is_spent : Bool) → IsSound past → SealingAreOpen past → ShowsSlots j keeper past
+        → is_ours keeper slot ≡ true → is_out keeper slot ≡ false → nat_le frames w.frame ≡ false → nat_le frames slot.frame.0 ≡ false
+        → first_of_row (ewbstart_row (sight_at frames past w.frame) (slot_sight_at frames past slot) drain is_spent)
+        ≡ first_of_row (left_to_refuse drain is_spent) }
+    ensures array { (frames : ℕ) (past : List Entry) (n : ℕ) → Along (FitsRule frames) past → is_va (content past n) ≡ true
+        → nat_le frames n ≡ false }
+{}
+
+/// As many slots are out as pages have one: each entry keeps it.
+pub fn slots_are_counted()
+    ensures first { (pages : ℕ) → CountsSlots (new_keeper pages) [] }
+    ensures more { (old new : Keeper) (past : List Entry) (e : Entry) → IsSound past → CanMove past e.event → StartTells past e.event
+        → CountMoves e.event (count_out old) (count_out new) → CountsSlots old past → CountsSlots new (e ∷ past) }
+{}
+
+/// No more pages are added than the build has steps for. So fewer slots are out than the version array pages have, once a page was added:
+/// a slot is left wherever one is asked for.
+pub fn a_slot_is_left()
+    ensures first { (j : JobView) → AddsAreBuilt j [] }
+    ensures more { (j : JobView) (past : List Entry) (e : Entry) → ScriptRule j past e → AgeRule j past e → AddsAreBuilt j past
+        → AddsAreBuilt j (e ∷ past) }
+    ensures left { (j : JobView) (keeper : Keeper) (past : List Entry) (g : Page) → IsSound past → ShowsSlots j keeper past
+        → CountsSlots keeper past → AddsAreBuilt j past → is_absent (place past g) ≡ false → count_out keeper < count_all keeper }
+    ensures none { (j : JobView) (keeper : Keeper) (past : List Entry) (g : Page) → IsSound past → ShowsSlots j keeper past
+        → CountsSlots keeper past → AddsAreBuilt j past → is_absent (place past g) ≡ false → AllOut keeper → ⊥ }
+{}
+
+/// No two open starts name one slot, and none names that of a page that is away.
+pub fn starts_alone()
+    ensures { (past : List Entry) → IsSound past → StartsAlone past }
+{}
+
 /// A processor has an open start exactly where its turn is to end a load, which is that of the start's frame.
 pub fn open_starts_are_ended()
     ensures { (j : JobView) (past : List Entry) (c : Cpu) → Along (ScriptRule j) past
         → frame_started (last_event past (actors.Cpu c)) ≡ frame_loaded (last_of past c.0) }
+{}
+
+/// Each open start of a load is of a page that is loading into its frame, and of the one processor whose last entry is that start. By
+/// the rule Script who has a load to end ends it, and nobody else ends one: so a load that ends is that of the processor that ends it.
+pub fn loads_are_theirs()
+    ensures first { LoadsAreTheirs [] }
+    ensures more { (past : List Entry) (e : Entry) → IsSound past → CanMove past e.event → TheirRule past e.actor e.event
+        → LoadsAreTheirs past → LoadsAreTheirs (e ∷ past) }
+    ensures own { (j : JobView) (past : List Entry) (e : Entry) → ScriptRule j past e → TheirRule past e.actor e.event }
+    ensures page { (past : List Entry) (n : ℕ) (g : Page) → IsSound past → load_of (open_start past n) ≡ Some g
+        → (slot : SlotAt) × (place past g ≡ Loading n slot) }
+    ensures ended { (past : List Entry) (actor : Actor) (event : Event) (n : ℕ) → TheirRule past actor event → load_ended event ≡ Some n
+        → IsEndedBy past actor n }
 {}
 
 /// For a job whose pages all fit, the rule Script of `turn_rules` is what the whole rule says: a trace that keeps it, Refusal and Flat

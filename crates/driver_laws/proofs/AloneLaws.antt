@@ -1,0 +1,81 @@
+-- No two open starts name one slot, none names that of a page that is away, and none is of a free frame.
+use Rattle.std.proofs.Common.{◌≡◌, ℕ, not, refl, sym, ◌∙◌, ap, List, Option, Some, None, is_some}
+use Rattle.std.proofs.lemmas.Bool.{eq-eqb, false≢true}
+use Rattle.sgx_types.specs.declared.entries.Entry.{Entry}
+use Rattle.sgx_types.specs.declared.names.Page.{Page}
+use Rattle.sgx_types.specs.declared.names.SlotAt.{SlotAt}
+use Rattle.sgx_types.specs.Frames.{Free, content, is_page}
+use Rattle.sgx_types.specs.Slots.{slot_of as slot_of_start}
+use Rattle.sgx_types.specs.Starts.{Start, open_start}
+use Rattle.driver_rules.specs.Places.{Away, Leaving, Loading, Place, place}
+use Rattle.driver_laws.specs.Sound.{IsSound, is_load_start, is_loading, is_write_start, load_slot, slot_at, slot_of, stands_in}
+use Rattle.driver_laws.specs.Used.{StartsAlone}
+use Rattle.driver_laws.proofs.HistoryLaws.{loading_is}
+use Rattle.driver_laws.proofs.PlaceLaws.{same_page-refl}
+
+-- the frame from which a page goes, or into which it comes
+abbrev frame_moving : Place → Option ℕ
+frame_moving (Leaving n) = Some n
+frame_moving (Loading n slot) = Some n
+frame_moving _ = None
+
+-- a page with a start, by its slot
+record IsStarted (past : List Entry) (n : ℕ) (slot : SlotAt) : Type 0 where
+  pub page : Page
+  pub moving : frame_moving (place past page) ≡ Some n
+  pub names : slot_of past page ≡ Some slot
+
+-- an open start is that of a page
+started : (past : List Entry) (n : ℕ) (x : Start) → IsSound past → open_start past n ≡ Some x → IsStarted past n x.slot
+started past n x s is_open = by_loads x.loads refl
+  where
+    by_loads : (o : Option Page) → x.loads ≡ o → IsStarted past n x.slot
+    by_loads None is =
+        let w = s.places.writes n (ap is_write_start is_open ∙ ap (λ y. not (is_some y)) is) in
+        record { page = w.0; moving = ap frame_moving w.1; names = ap (slot_at (open_start past)) w.1 ∙ ap slot_of_start is_open }
+    by_loads (Some g) is =
+        let load : load_slot (Some x) g ≡ Some x.slot = rw (is, same_page-refl g) refl in
+        let at = loading_is (place past g) n x.slot (sym (s.places.loads g n) ∙ ap (λ o. load_slot o g) is_open ∙ load) in
+        record { page = g; moving = ap frame_moving at; names = ap (slot_at (open_start past)) at }
+
+pub alone : (past : List Entry) → IsSound past → StartsAlone past
+alone past s = record { apart = apart; away = away }
+  where
+    some_same : (m n : ℕ) → Some m ≡ Some n → m ≡ n
+    some_same m n h = cc
+
+    apart : (m n : ℕ) (x y : Start) → open_start past m ≡ Some x → open_start past n ≡ Some y → x.slot ≡ y.slot → m ≡ n
+    apart m n x y open_x open_y same =
+        let a = started past m x s open_x in
+        let b = started past n y s open_y in
+        let one = s.apart a.page b.page y.slot (a.names ∙ ap Some same) b.names in
+        some_same m n (sym a.moving ∙ ap (λ g. frame_moving (place past g)) one ∙ b.moving)
+
+    away : (n : ℕ) (x : Start) (g : Page) → open_start past n ≡ Some x → place past g ≡ Away x.slot → ⊥
+    away n x g is_open at =
+        let a = started past n x s is_open in
+        let one = s.apart a.page g x.slot a.names (ap (slot_at (open_start past)) at) in
+        none_some (sym (ap frame_moving at) ∙ ap (λ h. frame_moving (place past h)) (sym one) ∙ a.moving)
+      where
+        none_some : None ≡ Some n → ⊥
+        none_some h = cc
+
+-- no start of a free frame is open
+pub free_none : (past : List Entry) (n : ℕ) → IsSound past → content past n ≡ Free → open_start past n ≡ None
+free_none past n s free = by_start (open_start past n) refl
+  where
+    no_page : (x : Start) → x.loads ≡ None → open_start past n ≡ Some x → ⊥
+    no_page x is is_open =
+        let w = s.places.writes n (ap is_write_start is_open ∙ ap (λ y. not (is_some y)) is) in
+        false≢true (sym (ap (λ c. is_page c w.0) free) ∙ s.places.frames w.0 n ∙ ap (λ p. stands_in p n) w.1 ∙ eq-eqb n n refl)
+
+    no_load : (x : Start) (g : Page) → x.loads ≡ Some g → open_start past n ≡ Some x → ⊥
+    no_load x g is is_open = false≢true (sym (s.places.loading n ∙ ap is_loading free) ∙ ap is_load_start is_open ∙ ap is_some is)
+
+    by_loads : (x : Start) (o : Option Page) → x.loads ≡ o → open_start past n ≡ Some x → ⊥
+    by_loads x None = no_page x
+    by_loads x (Some g) = no_load x g
+
+    by_start : (o : Option Start) → open_start past n ≡ o → open_start past n ≡ None
+    by_start None is_open = is_open
+    by_start (Some x) is_open = absurd (by_loads x x.loads refl is_open)

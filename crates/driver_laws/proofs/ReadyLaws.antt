@@ -1,0 +1,99 @@
+-- What the rules say of a write-out; the slot of a page that is away is not busy; slots are used in a history.
+use Rattle.std.proofs.Common.{◌≡◌, ℕ, ◌+◌, ◌<◌, ◌≤◌, not, Bool, true, false, if◌then◌else◌, refl, sym, ◌∙◌, ap, subst, List, [], ◌∷◌, Option, Some, None, is_some, arith}
+use Rattle.sgx_types.proofs.Rows.{none_holds}
+use Rattle.sgx_types.proofs.Truths.{neither}
+use Rattle.sgx_types.specs.declared.entries.Action.TheVariants.{EwbStart, Ewb}
+use Rattle.sgx_types.specs.declared.entries.Answer.{Answer}
+use Rattle.sgx_types.specs.declared.entries.Answer.TheVariants.{Moved}
+use Rattle.sgx_types.specs.declared.entries.Entry.{Entry}
+use Rattle.sgx_types.specs.declared.entries.Event.{Event}
+use Rattle.sgx_types.specs.declared.entries.Event.TheVariants.{Did}
+use Rattle.sgx_types.specs.declared.names.Page.{Page}
+use Rattle.sgx_types.specs.declared.names.SlotAt.{SlotAt}
+use Rattle.sgx_types.specs.Frames.{Content, IsLoading, content, is_sealing}
+use Rattle.sgx_types.specs.Making.{Making}
+use Rattle.sgx_types.specs.Rules.{EvictRule, RefusalRule, RisingRule}
+use Rattle.sgx_types.specs.Table.{is_busy, is_loading as busy_content}
+use Rattle.sgx_types.specs.Sights.{row_at, sight_at}
+use Rattle.sgx_types.specs.Slots.{is_draw, is_slot_busy, next_version}
+use Rattle.sgx_types.specs.Starts.{Start, open_start, version_told}
+use Rattle.job_grammar.specs.Jobs.{JobView}
+use Rattle.driver_rules.specs.Places.{Away, place}
+use Rattle.driver_laws.specs.Driven.{IsDriven}
+use Rattle.driver_laws.specs.Sound.{IsSound, is_load_start, is_loading, is_write_start}
+use Rattle.driver_laws.specs.Used.{SealingAreOpen, SlotsAreUsed, StartTells}
+use Rattle.driver_laws.proofs.HistoryLaws.{can_move, driven_before, driven_pages, driven_sound}
+use Rattle.driver_laws.proofs.SoundLaws.{entry_of}
+use Rattle.driver_laws.proofs.AloneLaws.{alone}
+use Rattle.driver_laws.proofs.UsedLaws.{first_used, stays_used}
+
+-- ---- what the rules say of a write-out
+
+first_below : (first : ℕ) (past : List Entry) → first ≤ next_version first past
+first_below first [] = omega arith
+first_below first (e ∷ past) = by_draw (is_draw e.event) (first_below first past)
+  where
+    by_draw : (b : Bool) → first ≤ next_version first past
+        → first ≤ (if b then next_version first past + 1 else next_version first past)
+    by_draw true h = omega (arith, h)
+    by_draw false h = h
+
+-- no start of a frame is open that is not busy
+idle_none : (past : List Entry) (n : ℕ) → IsSound past → SealingAreOpen past → is_sealing past n ≡ false
+    → is_loading (content past n) ≡ false → open_start past n ≡ None
+idle_none past n s sealing no_write no_load = by_start (open_start past n) (sym (sealing n) ∙ no_write) (s.places.loading n ∙ no_load)
+  where
+    by_loads : (o : Option Page) → not (is_some o) ≡ false → is_some o ≡ false → ⊥
+    by_loads None h k = cc
+    by_loads (Some g) h k = cc
+
+    by_start : (o : Option Start) → is_write_start o ≡ false → is_load_start o ≡ false → o ≡ None
+    by_start None h k = refl
+    by_start (Some x) h k = absurd (by_loads x.loads h k)
+
+table_loading : (c : Content) → busy_content c ≡ false → is_loading c ≡ false
+table_loading (IsLoading page) h = h
+table_loading _ h = refl
+
+-- by the rules what a write-out tells is so
+pub start_tells : (k : Making) (past : List Entry) (e : Entry) → 1 ≤ k.first_version → IsSound past → SealingAreOpen past
+    → RefusalRule k past e → EvictRule past e → RisingRule k.first_version past e → StartTells past e.event
+start_tells k past e positive s sealing = by_event e.event
+  where
+    by_event : (ev : Event) → RefusalRule k past (entry_of e.actor ev) → EvictRule past (entry_of e.actor ev)
+        → RisingRule k.first_version past (entry_of e.actor ev) → StartTells past ev
+    by_event (Did (EwbStart f slot) answer) refusal evict rising =
+        let row = none_holds (row_at k past e.actor (EwbStart f slot)) refusal.0 in
+        let idle = neither (is_busy (sight_at k.frames past f.0)) (is_slot_busy past slot) row.1.0 in
+        let two = neither (is_sealing past f.0) (busy_content (content past f.0)) idle.0 in
+        let low = first_below k.first_version past in (
+          idle_none past f.0 s sealing two.0 (table_loading (content past f.0) two.1),
+          subst (λ (x : Answer). 0 < version_told x) (sym rising) (omega (arith, low, positive)),
+        )
+    by_event (Did (Ewb f) (Moved page version tag)) refusal evict rising =
+        (record { slot = evict.slot; version = version; loads = None }, evict.opened, refl, refl)
+    by_event _ refusal evict rising = tt
+
+-- ---- what it is for
+
+-- the slot of a page that is away is not busy
+pub away_idle : (past : List Entry) (g : Page) (slot : SlotAt) → IsSound past → SlotsAreUsed past → place past g ≡ Away slot
+    → is_slot_busy past slot ≡ false
+away_idle past g slot s u at = by_test (is_slot_busy past slot) refl
+  where
+    by_test : (b : Bool) → is_slot_busy past slot ≡ b → b ≡ false
+    by_test true is =
+        let o = u.busy.named slot is in absurd ((alone past s).away o.frame o.start g o.is_open (at ∙ ap Away (sym o.names)))
+    by_test false is = refl
+
+-- ---- all along
+
+pub driven_used : (k : Making) (j : JobView) (past : List Entry) → 1 ≤ k.first_version → IsDriven k j past → SlotsAreUsed past
+driven_used k j [] positive d = first_used
+driven_used k j (e ∷ past) positive d =
+    let before = driven_before k j e past d in
+    let s = (driven_sound k j past positive before).0 in
+    let can = can_move k j past e positive s d.moves d.fits.0 d.script.0 d.age.0 in
+    let told = start_tells k past e positive s (driven_pages k j past positive before).sealing d.moves.refusal.0 d.moves.evict.0
+    d.moves.fresh.0.rising in
+    stays_used past e s can told (driven_used k j past positive before)
