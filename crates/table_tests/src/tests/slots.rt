@@ -37,7 +37,7 @@ fn renew(rt: &impl Abort, keeper: &mut SlotKeeper, times: u32) -> Option<SlotAt>
     last
 }
 
-// A search for the slot that is not out would take minutes.
+// Of 32,768 slots all but one are out, which is taken and given back. A search for it would make more than 10^10 steps.
 #[test]
 fn a_million_slots_are_handed_out(rt: HostRuntime) -> Result<(), Fail> {
     let mut keeper = SlotKeeper::new(rt.alloc(), PAGES)?;
