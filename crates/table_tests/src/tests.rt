@@ -1,0 +1,7 @@
+mod holds;
+mod lists;
+mod long;
+mod records;
+mod slots;
+mod states;
+mod world;

@@ -1,0 +1,50 @@
+ghost use Rattle.std.specs.Prelude.{◌≡◌};
+ghost use Rattle.version_array.specs.Keeper.{new_keeper};
+
+use sgx_types::names::{Frame, SlotAt};
+use std::process::Abort;
+use std::test::Fail;
+use version_array::slot_keeper::SlotKeeper;
+
+const PAGES: u32 = 64;
+
+const TIMES: u32 = 1_000_000;
+
+fn add_each(keeper: &mut SlotKeeper)
+    requires { keeper.old ≡ new_keeper 64 }
+{
+    for number in 0..PAGES {
+        keeper.add(Frame(number));
+    }
+}
+
+// Takes so many slots.
+fn take_each(rt: &impl Abort, keeper: &mut SlotKeeper, times: u32) {
+    for _ in 0..times {
+        assert!(rt; keeper.take().is_some());
+    }
+}
+
+// Takes a slot and gives it back, so many times, and tells the last.
+fn renew(rt: &impl Abort, keeper: &mut SlotKeeper, times: u32) -> Option<SlotAt> {
+    let mut last = None;
+    for _ in 0..times {
+        last = keeper.take();
+        if let Some(slot) = last {
+            keeper.give(slot);
+        }
+    }
+    last
+}
+
+// Of 32,768 slots all but one are out, which is taken and given back. A search for it would make more than 10^10 steps.
+#[test]
+fn a_million_slots_are_handed_out(rt: HostRuntime) -> Result<(), Fail> {
+    let mut keeper = SlotKeeper::new(rt.alloc(), PAGES)?;
+    add_each(&mut keeper);
+    take_each(&rt, &mut keeper, 512 * PAGES - 1);
+    assert!(rt; renew(&rt, &mut keeper, TIMES).is_some());
+    take_each(&rt, &mut keeper, 1);
+    assert!(rt; keeper.take().is_none());
+    Ok(())
+}
