@@ -132,11 +132,23 @@ kick p = record { actor = Reclaimer; event = events.Kick (record { 0 = p }) }
 abbrev pub block : Actor → ℕ → Entry
 block actor f = did actor (actions.Block (frame_at f)) answers.Plain
 
+-- .. is refused, since it is blocked already
+abbrev pub block_refused : Actor → ℕ → Entry
+block_refused actor f = refused actor (actions.Block (frame_at f)) why.BlkState
+
 abbrev pub track : Actor → Entry
 track actor = did actor (actions.Track 1) answers.Plain
 
 abbrev pub track_refused : Actor → Entry
 track_refused actor = refused actor (actions.Track 1) why.EpochSpent
+
+-- .. is refused, since so many processors inside are older
+abbrev pub track_kept : Actor → ℕ → Entry
+track_kept actor older = refused actor (actions.Track 1) (why.PrevTrk older)
+
+-- a track of an enclave that is not there is refused
+abbrev pub other_track : Actor → Entry
+other_track actor = refused actor (actions.Track 2) why.Absent
 
 -- a write-out of frame f into slot i begins, with this version
 abbrev pub start_out : Actor → ℕ → ℕ → ℕ → Entry
@@ -145,6 +157,10 @@ start_out actor f i version = did actor (actions.EwbStart (frame_at f) (slot_at 
 -- .. is refused, at this epoch, so many processors keeping the page back
 abbrev pub try_refused : Actor → ℕ → ℕ → ℕ → ℕ → Entry
 try_refused actor f i epoch older = refused actor (actions.EwbStart (frame_at f) (slot_at i)) (why.NotTracked epoch older)
+
+-- .. since a write-out of the frame, or into the slot, has begun
+abbrev pub busy_out : Actor → ℕ → ℕ → Entry
+busy_out actor f i = refused actor (actions.EwbStart (frame_at f) (slot_at i)) why.Conflict
 
 -- .. or is refused, since the last version was drawn
 abbrev pub last_version : Actor → ℕ → ℕ → Entry

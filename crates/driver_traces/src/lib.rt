@@ -5,6 +5,7 @@
 
 pub mod calls;
 pub mod dues;
+pub mod laws;
 pub mod right;
 pub mod wrong_ages;
 pub mod wrong_kicks;

@@ -1,0 +1,102 @@
+-- What the test of a fault tells.
+use Rattle.std.proofs.Common.{◌≡◌, ◌<◌, ◌&&◌, not, Bool, true, false, refl, List, Some, None, arith}
+use Rattle.std.proofs.lemmas.Bool.{false≢true}
+use Rattle.sgx_types.specs.declared.entries.Entry.{Entry}
+use Rattle.sgx_types.proofs.Truths.{both_true}
+use Rattle.job_grammar.specs.Jobs.{JobView}
+use Rattle.driver_rules.specs.Decided.{keeps_age, keeps_kick, keeps_script}
+use Rattle.driver_rules.proofs.DecidedLaws.{age_tells, kick_tells, script_tells}
+use Rattle.run_history.specs.declared.rules.Rule.{Rule}
+use Rattle.run_history.specs.declared.rules.Rule.TheVariants as rules
+use Rattle.run_history.specs.Histories.{FailsHere, Says, is_machines, rank}
+use Rattle.driver_traces.specs.Faults.{breaks_first, keeps_machines}
+use Rattle.driver_traces.specs.Lawful.{is_lawful, is_misdone}
+use Rattle.driver_traces.specs.Settled.{is_settled}
+use Rattle.driver_traces.proofs.LawfulLaws.{lawful_says, misdone_breaks}
+use Rattle.driver_traces.proofs.SettledLaws.{settled}
+
+-- what a rule of the machine says of a place alone
+says_of_place : (j : JobView) (past : List Entry) (rule : Rule) → is_settled j past ≡ true → is_machines rule ≡ true → Says j rule past None
+says_of_place j past rules.Refusal h own = tt
+says_of_place j past rules.Flat h own = tt
+says_of_place j past rules.Fits h own = (tt, (settled j past h).0)
+says_of_place j past rules.Stale h own = (tt, (settled j past h).1)
+says_of_place j past rules.Evict h own = tt
+says_of_place j past rules.Fresh h own = tt
+says_of_place j past rules.Sealed h own = tt
+says_of_place j past rules.Measure h own = tt
+says_of_place j past rules.Script h own = cc
+says_of_place j past rules.Age h own = cc
+says_of_place j past rules.Kick h own = cc
+
+pub machines_say : (j : JobView) (past : List Entry) (e : Entry) → keeps_machines j past e ≡ true → (rule : Rule) → is_machines rule ≡ true
+    → Says j rule past (Some e)
+machines_say j past e h rule own =
+    let k = both_true (is_lawful j past e.actor e.event) (is_settled j past) h in
+    lawful_says j past e.actor e.event rule k.0 own (says_of_place j past rule k.1 own)
+
+-- where a test does not pass, what it tells is not so
+refuted : (b : Bool) (P : Type 0) → (P → b ≡ true) → not b ≡ true → P → ⊥
+refuted true P told h x = false≢true h
+refuted false P told h x = false≢true (told x)
+
+before_refusal : (j : JobView) (past : List Entry) (e : Entry) → keeps_script j past e ≡ true → (r : Rule) → rank r < 1
+    → Says j r past (Some e)
+before_refusal j past e script rules.Script low = (script_tells j past e).0 script
+before_refusal j past e script rules.Refusal low = absurd (omega (arith, low))
+before_refusal j past e script rules.Flat low = absurd (omega (arith, low))
+before_refusal j past e script rules.Fits low = absurd (omega (arith, low))
+before_refusal j past e script rules.Stale low = absurd (omega (arith, low))
+before_refusal j past e script rules.Evict low = absurd (omega (arith, low))
+before_refusal j past e script rules.Fresh low = absurd (omega (arith, low))
+before_refusal j past e script rules.Sealed low = absurd (omega (arith, low))
+before_refusal j past e script rules.Measure low = absurd (omega (arith, low))
+before_refusal j past e script rules.Age low = absurd (omega (arith, low))
+before_refusal j past e script rules.Kick low = absurd (omega (arith, low))
+
+before_age : (j : JobView) (past : List Entry) (e : Entry) → keeps_script j past e ≡ true → keeps_machines j past e ≡ true → (r : Rule)
+    → rank r < 9 → Says j r past (Some e)
+before_age j past e script machines rules.Script low = (script_tells j past e).0 script
+before_age j past e script machines rules.Age low = absurd (omega (arith, low))
+before_age j past e script machines rules.Kick low = absurd (omega (arith, low))
+before_age j past e script machines rules.Refusal low = machines_say j past e machines rules.Refusal refl
+before_age j past e script machines rules.Flat low = machines_say j past e machines rules.Flat refl
+before_age j past e script machines rules.Fits low = machines_say j past e machines rules.Fits refl
+before_age j past e script machines rules.Stale low = machines_say j past e machines rules.Stale refl
+before_age j past e script machines rules.Evict low = machines_say j past e machines rules.Evict refl
+before_age j past e script machines rules.Fresh low = machines_say j past e machines rules.Fresh refl
+before_age j past e script machines rules.Sealed low = machines_say j past e machines rules.Sealed refl
+before_age j past e script machines rules.Measure low = machines_say j past e machines rules.Measure refl
+
+pub first_broken : (j : JobView) (past : List Entry) (e : Entry) (rule : Rule) → breaks_first rule j past e ≡ true
+    → FailsHere j past (Some e) rule
+first_broken j past e rules.Script h = record {
+  earlier = λ r low. absurd (omega (arith, low));
+  fails = refuted (keeps_script j past e) _ (script_tells j past e).1 h;
+}
+first_broken j past e rules.Refusal h =
+    let k = both_true (keeps_script j past e) (is_misdone j past e.actor e.event) h in record {
+      earlier = before_refusal j past e k.0;
+      fails = misdone_breaks j past e.actor e.event k.1;
+    }
+first_broken j past e rules.Age h =
+    let k = both_true (keeps_script j past e) (keeps_machines j past e && not (keeps_age j past e)) h in
+    let l = both_true (keeps_machines j past e) (not (keeps_age j past e)) k.1 in record {
+      earlier = before_age j past e k.0 l.0;
+      fails = refuted (keeps_age j past e) _ (age_tells j past e).1 l.1;
+    }
+first_broken j past e rules.Kick h =
+    let k = both_true (keeps_script j past e) (keeps_machines j past e && (keeps_age j past e && not (keeps_kick j past e))) h in
+    let l = both_true (keeps_machines j past e) (keeps_age j past e && not (keeps_kick j past e)) k.1 in
+    let m = both_true (keeps_age j past e) (not (keeps_kick j past e)) l.1 in record {
+      earlier = before_kick k.0 l.0 m.0;
+      fails = refuted (keeps_kick j past e) _ (kick_tells j past e).1 m.1;
+    }
+  where
+    before_kick : keeps_script j past e ≡ true → keeps_machines j past e ≡ true → keeps_age j past e ≡ true → (r : Rule) → rank r < 10
+        → Says j r past (Some e)
+    before_kick script machines age rules.Age low = (age_tells j past e).0 age
+    before_kick script machines age rules.Kick low = absurd (omega (arith, low))
+    before_kick script machines age rules.Script low = (script_tells j past e).0 script
+    before_kick script machines age r low = before_age j past e script machines r (omega (arith, low))
+first_broken j past e _ h = absurd (false≢true h)
