@@ -1,18 +1,24 @@
 -- What the test of a fault tells.
-use Rattle.std.proofs.Common.{◌≡◌, ◌<◌, ◌&&◌, not, Bool, true, false, refl, List, Some, None, arith}
+use Rattle.std.proofs.Common.{is_none, ◌≡◌, ◌<◌, ◌&&◌, not, Bool, true, false, refl, List, Some, None, arith}
 use Rattle.std.proofs.lemmas.Bool.{false≢true}
+use Rattle.sgx_types.specs.declared.entries.Action.TheVariants.{Init}
+use Rattle.sgx_types.specs.declared.entries.Actor.{Actor}
 use Rattle.sgx_types.specs.declared.entries.Entry.{Entry}
+use Rattle.sgx_types.specs.Flat.{accepts, flat}
 use Rattle.sgx_types.proofs.Truths.{both_true}
+use Rattle.measure_log.specs.Rule.{measurement}
 use Rattle.job_grammar.specs.Jobs.{JobView}
+use Rattle.turn_rules.specs.Machines.{machine_of}
 use Rattle.driver_rules.specs.Decided.{keeps_age, keeps_kick, keeps_script}
 use Rattle.driver_rules.proofs.DecidedLaws.{age_tells, kick_tells, script_tells}
 use Rattle.run_history.specs.declared.rules.Rule.{Rule}
 use Rattle.run_history.specs.declared.rules.Rule.TheVariants as rules
 use Rattle.run_history.specs.Histories.{FailsHere, Says, is_machines, rank}
 use Rattle.driver_traces.specs.Faults.{breaks_first, keeps_machines}
-use Rattle.driver_traces.specs.Lawful.{is_lawful, is_misdone}
+use Rattle.driver_traces.specs.Lawful.{case_at, is_lawful, is_misdone}
 use Rattle.driver_traces.specs.Settled.{is_settled}
-use Rattle.driver_traces.proofs.LawfulLaws.{lawful_says, misdone_breaks}
+use Rattle.driver_traces.specs.Words.{measured_init}
+use Rattle.driver_traces.proofs.LawfulLaws.{lawful_says, misdone_breaks, no_case}
 use Rattle.driver_traces.proofs.SettledLaws.{settled}
 
 -- what a rule of the machine says of a place alone
@@ -54,19 +60,19 @@ before_refusal j past e script rules.Measure low = absurd (omega (arith, low))
 before_refusal j past e script rules.Age low = absurd (omega (arith, low))
 before_refusal j past e script rules.Kick low = absurd (omega (arith, low))
 
-before_age : (j : JobView) (past : List Entry) (e : Entry) → keeps_script j past e ≡ true → keeps_machines j past e ≡ true → (r : Rule)
-    → rank r < 9 → Says j r past (Some e)
+before_age : (j : JobView) (past : List Entry) (e : Entry) → keeps_script j past e ≡ true
+    → ((rule : Rule) → is_machines rule ≡ true → Says j rule past (Some e)) → (r : Rule) → rank r < 9 → Says j r past (Some e)
 before_age j past e script machines rules.Script low = (script_tells j past e).0 script
 before_age j past e script machines rules.Age low = absurd (omega (arith, low))
 before_age j past e script machines rules.Kick low = absurd (omega (arith, low))
-before_age j past e script machines rules.Refusal low = machines_say j past e machines rules.Refusal refl
-before_age j past e script machines rules.Flat low = machines_say j past e machines rules.Flat refl
-before_age j past e script machines rules.Fits low = machines_say j past e machines rules.Fits refl
-before_age j past e script machines rules.Stale low = machines_say j past e machines rules.Stale refl
-before_age j past e script machines rules.Evict low = machines_say j past e machines rules.Evict refl
-before_age j past e script machines rules.Fresh low = machines_say j past e machines rules.Fresh refl
-before_age j past e script machines rules.Sealed low = machines_say j past e machines rules.Sealed refl
-before_age j past e script machines rules.Measure low = machines_say j past e machines rules.Measure refl
+before_age j past e script machines rules.Refusal low = machines rules.Refusal refl
+before_age j past e script machines rules.Flat low = machines rules.Flat refl
+before_age j past e script machines rules.Fits low = machines rules.Fits refl
+before_age j past e script machines rules.Stale low = machines rules.Stale refl
+before_age j past e script machines rules.Evict low = machines rules.Evict refl
+before_age j past e script machines rules.Fresh low = machines rules.Fresh refl
+before_age j past e script machines rules.Sealed low = machines rules.Sealed refl
+before_age j past e script machines rules.Measure low = machines rules.Measure refl
 
 pub first_broken : (j : JobView) (past : List Entry) (e : Entry) (rule : Rule) → breaks_first rule j past e ≡ true
     → FailsHere j past (Some e) rule
@@ -82,7 +88,7 @@ first_broken j past e rules.Refusal h =
 first_broken j past e rules.Age h =
     let k = both_true (keeps_script j past e) (keeps_machines j past e && not (keeps_age j past e)) h in
     let l = both_true (keeps_machines j past e) (not (keeps_age j past e)) k.1 in record {
-      earlier = before_age j past e k.0 l.0;
+      earlier = before_age j past e k.0 (machines_say j past e l.0);
       fails = refuted (keeps_age j past e) _ (age_tells j past e).1 l.1;
     }
 first_broken j past e rules.Kick h =
@@ -98,5 +104,29 @@ first_broken j past e rules.Kick h =
     before_kick script machines age rules.Age low = (age_tells j past e).0 age
     before_kick script machines age rules.Kick low = absurd (omega (arith, low))
     before_kick script machines age rules.Script low = (script_tells j past e).0 script
-    before_kick script machines age r low = before_age j past e script machines r (omega (arith, low))
+    before_kick script machines age r low = before_age j past e script (machines_say j past e machines) r (omega (arith, low))
 first_broken j past e _ h = absurd (false≢true h)
+
+-- an `init` that answers its enclave's measurement
+init_says : (j : JobView) (past : List Entry) (a : Actor) → is_none (case_at (machine_of j) past a (Init 1 None)) ≡ true
+    → accepts (flat past) a (Init 1 None) ≡ true → (rule : Rule) → is_machines rule ≡ true → Says j rule past None
+    → Says j rule past (Some (measured_init a past))
+init_says j past a row taken rules.Refusal own h = (no_case (case_at (machine_of j) past a (Init 1 None)) row, (measurement past 1, refl))
+init_says j past a row taken rules.Flat own h = λ seen. record { taken = taken; same = refl }
+init_says j past a row taken rules.Fits own h = ((tt, tt), h.1)
+init_says j past a row taken rules.Stale own h = (tt, h.1)
+init_says j past a row taken rules.Evict own h = tt
+init_says j past a row taken rules.Fresh own h = record { rising = tt; reload = tt }
+init_says j past a row taken rules.Sealed own h = tt
+init_says j past a row taken rules.Measure own h = (refl, tt)
+init_says j past a row taken rules.Script own h = cc
+init_says j past a row taken rules.Age own h = cc
+init_says j past a row taken rules.Kick own h = cc
+
+pub init_breaks_age : (j : JobView) (past : List Entry) (a : Actor) → keeps_script j past (measured_init a past) ≡ true
+    → is_none (case_at (machine_of j) past a (Init 1 None)) ≡ true → accepts (flat past) a (Init 1 None) ≡ true → is_settled j past ≡ true
+    → not (keeps_age j past (measured_init a past)) ≡ true → FailsHere j past (Some (measured_init a past)) rules.Age
+init_breaks_age j past a script row taken place broken = record {
+  earlier = before_age j past (measured_init a past) script (λ rule own. init_says j past a row taken rule own (says_of_place j past rule place own));
+  fails = refuted (keeps_age j past (measured_init a past)) _ (age_tells j past (measured_init a past)).1 broken;
+}

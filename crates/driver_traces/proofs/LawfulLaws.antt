@@ -28,7 +28,7 @@ use Rattle.driver_traces.specs.Lawful.{case_at, is_case, is_fit, is_lawful, is_m
 
 -- ---- an instruction that is done without an answer
 
-no_case : (o : Option Refusal) → is_none o ≡ true → o ≡ None
+pub no_case : (o : Option Refusal) → is_none o ≡ true → o ≡ None
 no_case None h = refl
 no_case (Some refusal) h = cc
 
@@ -112,8 +112,8 @@ same_case _ _ h = absurd (false≢true h)
 
 -- ---- what is lawful
 
-did_says : (j : JobView) (past : List Entry) (a : Actor) (action : Action) (rule : Rule) → is_none (case_at (machine_of j) past a action) ≡ true
-    → is_fit j.epc past a action ≡ true → is_machines rule ≡ true → Says j rule past None
+did_says : (j : JobView) (past : List Entry) (a : Actor) (action : Action) (rule : Rule)
+    → is_none (case_at (machine_of j) past a action) ≡ true → is_fit j.epc past a action ≡ true → is_machines rule ≡ true → Says j rule past None
     → Says j rule past (Some (record { actor = a; event = Did action answers.Plain }))
 did_says j past a action rules.Refusal row fit own h = (no_case (case_at (machine_of j) past a action) row, formed j.epc past a action fit)
 did_says j past a action rules.Flat row fit own h = flat_keeps j.epc past a action fit

@@ -138,8 +138,8 @@ current : (past : List Entry) (enclave : ℕ) (xs : List BareTranslation) → ar
     → All (λ x. IsCurrent enclave x (content past x.frame) (is_sealing past x.frame)) xs
 current past enclave [] h = All-nil (λ x. IsCurrent enclave x (content past x.frame) (is_sealing past x.frame))
 current past enclave (x ∷ xs) h =
-    let k =
-    both_true (is_page (content past x.frame) (page_at enclave x.number) && not (is_sealing past x.frame)) (are_current past enclave xs) h in
+    let leads = is_page (content past x.frame) (page_at enclave x.number) && not (is_sealing past x.frame) in
+    let k = both_true leads (are_current past enclave xs) h in
     let l = both_true (is_page (content past x.frame) (page_at enclave x.number)) (not (is_sealing past x.frame)) k.0 in
     All-cons (λ y. IsCurrent enclave y (content past y.frame) (is_sealing past y.frame)) x xs
     (record { page = l.0; settled = untrue (is_sealing past x.frame) l.1 }) (current past enclave xs k.1)

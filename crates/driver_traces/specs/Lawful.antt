@@ -1,6 +1,6 @@
 -- The rules Refusal, Flat, Fits, Stale, Evict, Fresh, Sealed and Measure as tests of an entry: one passes only where the entry keeps all
--- eight, one only where it breaks Refusal. They tell of looks and kicks, and of the instructions that the wrong entries here are, and pass at
--- no others.
+-- eight, one only where it breaks Refusal. They tell of looks and kicks, and of the instructions that the wrong entries here are, and
+-- pass at no others.
 use Rattle.std.specs.Prelude.{ℕ, ◌==◌, ◌&&◌, Bool, true, false, List, Option, Some, is_none, is_some, nat_lt}
 use Rattle.sgx_types.specs.declared.entries.Action.{Action}
 use Rattle.sgx_types.specs.declared.entries.Action.TheVariants.{Epa, Create, Add, Aex, Block, Track, EwbStart, Ewb}

@@ -1,6 +1,6 @@
 -- Short words for jobs and entries of one enclave, by which the worked traces are written: slots are of the version array page in frame 0,
 -- and tags are left empty, since none of the rules here looks at them.
-use Rattle.std.specs.Prelude.{ℕ, [], true, false, None}
+use Rattle.std.specs.Prelude.{ℕ, List, [], true, false, None}
 use Rattle.sgx_types.specs.declared.entries.AccessOp.{AccessOp}
 use Rattle.sgx_types.specs.declared.entries.Action.{Action}
 use Rattle.sgx_types.specs.declared.entries.Action.TheVariants as actions
@@ -21,6 +21,7 @@ use Rattle.sgx_types.specs.declared.names.SlotAt.{SlotAt}
 use Rattle.sgx_types.specs.declared.refusals.Refusal.{Refusal}
 use Rattle.sgx_types.specs.declared.refusals.Refusal.TheVariants as why
 use Rattle.sgx_types.specs.Frames.{no_perm, page_at}
+use Rattle.measure_log.specs.Rule.{measurement}
 use Rattle.turn_rules.specs.Script.{frame_at}
 
 abbrev pub rw_perm : Perm
@@ -67,6 +68,10 @@ extend actor f chunk = did actor (actions.Extend (frame_at f) chunk) answers.Pla
 
 abbrev pub init : Actor → Entry
 init actor = did actor (actions.Init 1 None) (answers.Hash [])
+
+-- .. and answers its measurement, as the entries before say
+abbrev pub measured_init : Actor → List Entry → Entry
+measured_init actor past = did actor (actions.Init 1 None) (answers.Hash (measurement past 1))
 
 -- ---- processors
 
@@ -146,7 +151,10 @@ track_refused actor = refused actor (actions.Track 1) why.EpochSpent
 abbrev pub track_kept : Actor → ℕ → Entry
 track_kept actor older = refused actor (actions.Track 1) (why.PrevTrk older)
 
--- a track of an enclave that is not there is refused
+-- a track of an enclave that is not there, done or refused
+abbrev pub other_track_done : Actor → Entry
+other_track_done actor = did actor (actions.Track 2) answers.Plain
+
 abbrev pub other_track : Actor → Entry
 other_track actor = refused actor (actions.Track 2) why.Absent
 

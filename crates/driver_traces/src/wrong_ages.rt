@@ -1,15 +1,17 @@
-//! Entries of the reclaimer that break the rule Age. Script holds at each.
+//! Entries of the reclaimer that break the rule Age, and no rule before it. Another program names Age at most of them; the others are written
+//! by hand.
 
-ghost use Rattle.std.specs.Prelude.{◌≡◌, true};
+ghost use Rattle.std.specs.Prelude.{◌≡◌, true, Some};
 ghost use Rattle.sgx_types.specs.declared.entries.Actor.TheVariants.{Reclaimer};
 ghost use Rattle.sgx_types.specs.declared.entries.Look.TheVariants as looks;
 ghost use Rattle.run_history.specs.declared.rules.Rule.TheVariants as rules;
+ghost use Rattle.run_history.specs.Histories.{FailsHere};
 ghost use Rattle.driver_traces.specs.BusTrace.{bus_job, bus_trace};
 ghost use Rattle.driver_traces.specs.KickTrace.{kick_job, kick_trace};
 ghost use Rattle.driver_traces.specs.MeasuredTrace.{measured_job, measured_trace};
 ghost use Rattle.driver_traces.specs.PairTrace.{pair_job, pair_trace};
 ghost use Rattle.driver_traces.specs.Faults.{breaks_first, first_of};
-ghost use Rattle.driver_traces.specs.Words.{add_reg, age, block, block_refused, create, epa, kick, track, try_refused};
+ghost use Rattle.driver_traces.specs.Words.{add_reg, age, block, block_refused, create, epa, kick, measured_init, track, try_refused};
 
 pub fn a_look_names_the_head()
     ensures held { breaks_first rules.Age kick_job (first_of 69 kick_trace) (age 1 looks.Held) ≡ true }
@@ -28,7 +30,7 @@ pub fn a_look_tells_what_is_so()
     ensures unused_young { breaks_first rules.Age kick_job (first_of 8 kick_trace) (age 1 looks.Young) ≡ true }
 {}
 
-/// Written by hand: enough frames are free.
+/// Enough frames are free.
 pub fn a_pass_is_begun_by_who_works()
     ensures works { breaks_first rules.Age kick_job (first_of 3 kick_trace) (age 0 looks.Taken) ≡ true }
     ensures measured { breaks_first rules.Age measured_job (first_of 3 measured_trace) (age 0 looks.Taken) ≡ true }
@@ -46,7 +48,6 @@ pub fn the_taken_pages_are_blocked_in_order()
     ensures none { breaks_first rules.Age bus_job (first_of 14 bus_trace) (block Reclaimer 3) ≡ true }
 {}
 
-/// The second row is written by hand.
 pub fn the_taken_pages_are_tried_in_order()
     ensures look { breaks_first rules.Age pair_job (first_of 106 pair_trace) (age 0 looks.Held) ≡ true }
     ensures order { breaks_first rules.Age kick_job (first_of 11 kick_trace) (try_refused Reclaimer 3 0 1 0) ≡ true }
@@ -63,4 +64,9 @@ pub fn the_reclaimer_builds_nothing()
     ensures add { breaks_first rules.Age kick_job (first_of 28 kick_trace) (add_reg Reclaimer 6 3 7) ≡ true }
     ensures create { breaks_first rules.Age bus_job (first_of 1 bus_trace) (create Reclaimer 1) ≡ true }
     ensures epa { breaks_first rules.Age measured_job (first_of 0 measured_trace) (epa Reclaimer 0) ≡ true }
+{}
+
+/// The digest is the one of the enclave's log, so that Measure holds too.
+pub fn the_reclaimer_initialises_nothing()
+    ensures { FailsHere measured_job (first_of 33 measured_trace) (Some (measured_init Reclaimer (first_of 33 measured_trace))) rules.Age }
 {}

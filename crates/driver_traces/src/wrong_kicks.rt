@@ -1,4 +1,4 @@
-//! Entries that break the rule Kick. Script and Age hold at each.
+//! Entries that break the rule Kick, and no rule before it. Another program names Kick at half of them; the others are written by hand.
 
 ghost use Rattle.std.specs.Prelude.{◌≡◌, true};
 ghost use Rattle.sgx_types.specs.declared.entries.Actor.TheVariants.{Reclaimer};
@@ -22,7 +22,6 @@ pub fn a_track_is_followed_by_the_second_try()
     ensures early { breaks_first rules.Kick bus_job (first_of 31 bus_trace) (track Reclaimer) ≡ true }
 {}
 
-/// The second and third rows are written by hand.
 pub fn a_second_refusal_is_answered_by_the_kicks()
     ensures other { breaks_first rules.Kick kick_job (first_of 114 kick_trace) (kick 1) ≡ true }
     ensures none { breaks_first rules.Kick kick_job (first_of 114 kick_trace) (try_refused Reclaimer 3 2 8 1) ≡ true }
@@ -35,7 +34,7 @@ pub fn a_processor_is_kicked_once()
     ensures pair { breaks_first rules.Kick pair_job (first_of 108 pair_trace) (kick 1) ≡ true }
 {}
 
-/// Written by hand: both are kicked, rising, with nothing between the two.
+/// Both are kicked, rising, with nothing between the two.
 pub fn the_kicks_stand_next_to_each_other()
     ensures order { breaks_first rules.Kick crowd_job (first_of 19 crowd_trace) (kick 1) ≡ true }
     ensures one { breaks_first rules.Kick crowd_job (first_of 20 crowd_trace) (try_refused Reclaimer 6 0 2 2) ≡ true }
@@ -43,7 +42,6 @@ pub fn the_kicks_stand_next_to_each_other()
     ensures twice { breaks_first rules.Kick crowd_job (first_of 20 crowd_trace) (kick 0) ≡ true }
 {}
 
-/// The second row is written by hand.
 pub fn the_third_try_is_the_last()
     ensures refused { breaks_first rules.Kick pair_job (first_of 108 pair_trace) (try_refused Reclaimer 3 5 7 1) ≡ true }
     ensures track { breaks_first rules.Kick kick_job (first_of 115 kick_trace) (track_kept Reclaimer 1) ≡ true }
