@@ -1,5 +1,5 @@
 -- What the test of a fault tells.
-use Rattle.std.proofs.Common.{is_none, ◌≡◌, ◌<◌, ◌&&◌, not, Bool, true, false, refl, List, Some, None, arith}
+use Rattle.std.proofs.Common.{is_none, ◌≡◌, ◌<◌, ◌&&◌, not, Bool, true, false, refl, List, [], ◌∷◌, Some, None, arith}
 use Rattle.std.proofs.lemmas.Bool.{false≢true}
 use Rattle.sgx_types.specs.declared.entries.Action.TheVariants.{Init}
 use Rattle.sgx_types.specs.declared.entries.Actor.{Actor}
@@ -9,16 +9,16 @@ use Rattle.sgx_types.proofs.Truths.{both_true}
 use Rattle.measure_log.specs.Rule.{measurement}
 use Rattle.job_grammar.specs.Jobs.{JobView}
 use Rattle.turn_rules.specs.Machines.{machine_of}
-use Rattle.driver_rules.specs.Decided.{keeps_age, keeps_kick, keeps_script}
+use Rattle.driver_rules.specs.Decided.{all_along, keeps_age, keeps_kick, keeps_script}
 use Rattle.driver_rules.proofs.DecidedLaws.{age_tells, kick_tells, script_tells}
 use Rattle.run_history.specs.declared.rules.Rule.{Rule}
 use Rattle.run_history.specs.declared.rules.Rule.TheVariants as rules
-use Rattle.run_history.specs.Histories.{FailsHere, Says, is_machines, rank}
-use Rattle.driver_traces.specs.Faults.{breaks_first, keeps_machines}
-use Rattle.driver_traces.specs.Lawful.{case_at, is_lawful, is_misdone}
+use Rattle.run_history.specs.Histories.{Before, FailsHere, Keeps, Says, is_machines, rank}
+use Rattle.driver_traces.specs.Faults.{breaks_first, keeps_all_six, keeps_machines, keeps_six_there}
+use Rattle.driver_traces.specs.Lawful.{case_at, is_lawful, is_misdone, is_of_six, keeps_six}
 use Rattle.driver_traces.specs.Settled.{is_settled}
 use Rattle.driver_traces.specs.Words.{measured_init}
-use Rattle.driver_traces.proofs.LawfulLaws.{lawful_says, misdone_breaks, no_case}
+use Rattle.driver_traces.proofs.LawfulLaws.{lawful_says, misdone_breaks, no_case, six_say}
 use Rattle.driver_traces.proofs.SettledLaws.{settled}
 
 -- what a rule of the machine says of a place alone
@@ -40,6 +40,34 @@ pub machines_say : (j : JobView) (past : List Entry) (e : Entry) → keeps_machi
 machines_say j past e h rule own =
     let k = both_true (is_lawful j past e.actor e.event) (is_settled j past) h in
     lawful_says j past e.actor e.event rule k.0 own (says_of_place j past rule k.1 own)
+
+-- ---- along a trace
+
+six_before : (j : JobView) (past : List Entry) (rule : Rule) → all_along (keeps_six_there j) past ≡ true → is_of_six rule ≡ true
+    → is_machines rule ≡ true → Before (Says j rule) past
+six_before j [] rule h six own = tt
+six_before j (e ∷ past) rule h six own =
+    let k = both_true (keeps_six_there j past e) (all_along (keeps_six_there j) past) h in
+    let l = both_true (keeps_six j past e.actor e.event) (is_settled j past) k.0 in
+    (six_say j past e.actor e.event rule l.0 six (says_of_place j past rule l.1 own), six_before j past rule k.1 six own)
+
+machines_of_six : (rule : Rule) → is_of_six rule ≡ true → is_machines rule ≡ true
+machines_of_six rules.Refusal h = refl
+machines_of_six rules.Flat h = refl
+machines_of_six rules.Fits h = refl
+machines_of_six rules.Stale h = refl
+machines_of_six rules.Evict h = refl
+machines_of_six rules.Fresh h = refl
+machines_of_six _ h = absurd (false≢true h)
+
+pub six_kept : (j : JobView) (past : List Entry) → keeps_all_six j past ≡ true → (rule : Rule) → is_of_six rule ≡ true
+    → Keeps j rule past
+six_kept j past h rule six =
+    let k = both_true (is_settled j past) (all_along (keeps_six_there j) past) h in
+    let own = machines_of_six rule six in
+    (says_of_place j past rule k.0 own, six_before j past rule k.1 six own)
+
+-- ---- which rule is broken first
 
 -- where a test does not pass, what it tells is not so
 refuted : (b : Bool) (P : Type 0) → (P → b ≡ true) → not b ≡ true → P → ⊥
@@ -127,6 +155,7 @@ pub init_breaks_age : (j : JobView) (past : List Entry) (a : Actor) → keeps_sc
     → is_none (case_at (machine_of j) past a (Init 1 None)) ≡ true → accepts (flat past) a (Init 1 None) ≡ true → is_settled j past ≡ true
     → not (keeps_age j past (measured_init a past)) ≡ true → FailsHere j past (Some (measured_init a past)) rules.Age
 init_breaks_age j past a script row taken place broken = record {
-  earlier = before_age j past (measured_init a past) script (λ rule own. init_says j past a row taken rule own (says_of_place j past rule place own));
+  earlier = before_age j past (measured_init a past) script (λ rule own. init_says j past a row taken rule own
+      (says_of_place j past rule place own));
   fails = refuted (keeps_age j past (measured_init a past)) _ (age_tells j past (measured_init a past)).1 broken;
 }

@@ -2,10 +2,10 @@
 use Rattle.std.specs.Prelude.{ℕ, ◌-◌, ◌&&◌, Bool, true, false, not, List, [], ◌∷◌, drop, length}
 use Rattle.sgx_types.specs.declared.entries.Entry.{Entry}
 use Rattle.job_grammar.specs.Jobs.{JobView}
-use Rattle.driver_rules.specs.Decided.{keeps_age, keeps_kick, keeps_script}
+use Rattle.driver_rules.specs.Decided.{all_along, keeps_age, keeps_kick, keeps_script}
 use Rattle.run_history.specs.declared.rules.Rule.{Rule}
 use Rattle.run_history.specs.declared.rules.Rule.TheVariants as rules
-use Rattle.driver_traces.specs.Lawful.{is_lawful, is_misdone}
+use Rattle.driver_traces.specs.Lawful.{is_lawful, is_misdone, keeps_six}
 use Rattle.driver_traces.specs.Settled.{is_settled}
 
 -- Refusal, Flat, Fits, Stale, Evict, Fresh, Sealed and Measure hold of an entry and of those before it
@@ -24,6 +24,14 @@ breaks_first _ j past e = false
 abbrev pub keeps_all : JobView → List Entry → Bool
 keeps_all j [] = true
 keeps_all j (e ∷ past) = (keeps_script j past e && (keeps_age j past e && keeps_kick j past e)) && keeps_all j past
+
+-- the six rules hold of an entry and of those before it
+abbrev pub keeps_six_there : JobView → List Entry → Entry → Bool
+keeps_six_there j past e = keeps_six j past e.actor e.event && is_settled j past
+
+-- Refusal, Flat, Fits, Stale, Evict and Fresh hold at each entry and at the end
+abbrev pub keeps_all_six : JobView → List Entry → Bool
+keeps_all_six j past = is_settled j past && all_along (keeps_six_there j) past
 
 -- the first so many entries of a trace
 abbrev pub first_of : ℕ → List Entry → List Entry

@@ -1,6 +1,6 @@
 -- Short words for jobs and entries of one enclave, by which the worked traces are written: slots are of the version array page in frame 0,
 -- and tags are left empty, since none of the rules here looks at them.
-use Rattle.std.specs.Prelude.{ℕ, List, [], true, false, None}
+use Rattle.std.specs.Prelude.{ℕ, List, [], ◌∷◌, true, false, None}
 use Rattle.sgx_types.specs.declared.entries.AccessOp.{AccessOp}
 use Rattle.sgx_types.specs.declared.entries.Action.{Action}
 use Rattle.sgx_types.specs.declared.entries.Action.TheVariants as actions
@@ -119,9 +119,9 @@ start_back actor f n i version = did actor (actions.EldStart (frame_at f) (page_
 abbrev pub back : Actor → ℕ → ℕ → ℕ → Entry
 back actor f n version = did actor (actions.Eld (frame_at f)) (answers.Moved (page_at 1 n) version [])
 
--- .. or is refused for its tag
+-- .. or is refused for its tag: the two differ, and that is all that a rule here asks of them
 abbrev pub back_refused : Actor → ℕ → Entry
-back_refused actor f = refused actor (actions.Eld (frame_at f)) (why.MacFail [] [])
+back_refused actor f = refused actor (actions.Eld (frame_at f)) (why.MacFail [] (0 ∷ []))
 
 abbrev pub bus : ℕ → ℕ → BusWhy → Entry
 bus p n reason = record { actor = cpu p; event = events.Bus (page_at 1 n) reason }

@@ -1,5 +1,5 @@
-//! Entries of the reclaimer that break the rule Age, and no rule before it. Another program names Age at most of them; the others are written
-//! by hand.
+//! Entries of the reclaimer that break the rule Age, and no rule before it. Another program names Age at most of them; the others are
+//! written by hand.
 
 ghost use Rattle.std.specs.Prelude.{◌≡◌, true, Some};
 ghost use Rattle.sgx_types.specs.declared.entries.Actor.TheVariants.{Reclaimer};

@@ -1,5 +1,5 @@
-//! Entries that are done where the table refuses them, and an end of a write-out that was not started: they break the rule Refusal, and Script
-//! holds at each. But for the track at the last epoch they are written by hand.
+//! Entries that are done where the table refuses them, and an end of a write-out that was not started: they break the rule Refusal, and
+//! Script holds at each. But for the track at the last epoch they are written by hand.
 
 ghost use Rattle.std.specs.Prelude.{◌≡◌, true};
 ghost use Rattle.sgx_types.specs.declared.entries.Actor.TheVariants.{Reclaimer};
