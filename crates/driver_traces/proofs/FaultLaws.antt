@@ -1,5 +1,5 @@
 -- What the test of a fault tells.
-use Rattle.std.proofs.Common.{is_none, ◌≡◌, ◌<◌, ◌&&◌, not, Bool, true, false, refl, List, [], ◌∷◌, Some, None, arith}
+use Rattle.std.proofs.Common.{is_none, ◌≡◌, ◌<◌, ◌&&◌, not, Bool, true, false, refl, List, [], ◌∷◌, Some, None, length, arith}
 use Rattle.std.proofs.lemmas.Bool.{false≢true}
 use Rattle.sgx_types.specs.declared.entries.Action.TheVariants.{Init}
 use Rattle.sgx_types.specs.declared.entries.Actor.{Actor}
@@ -9,12 +9,12 @@ use Rattle.sgx_types.proofs.Truths.{both_true}
 use Rattle.measure_log.specs.Rule.{measurement}
 use Rattle.job_grammar.specs.Jobs.{JobView}
 use Rattle.turn_rules.specs.Machines.{machine_of}
-use Rattle.driver_rules.specs.Decided.{all_along, keeps_age, keeps_kick, keeps_script}
-use Rattle.driver_rules.proofs.DecidedLaws.{age_tells, kick_tells, script_tells}
+use Rattle.driver_rules.specs.Decided.{all_along, is_ended, keeps_age, keeps_kick, keeps_script}
+use Rattle.driver_rules.proofs.DecidedLaws.{age_tells, ended_tells, kick_tells, script_tells}
 use Rattle.run_history.specs.declared.rules.Rule.{Rule}
 use Rattle.run_history.specs.declared.rules.Rule.TheVariants as rules
-use Rattle.run_history.specs.Histories.{Before, FailsHere, Keeps, Says, is_machines, rank}
-use Rattle.driver_traces.specs.Faults.{breaks_first, keeps_all_six, keeps_machines, keeps_six_there}
+use Rattle.run_history.specs.Histories.{Before, FailsFirst, FailsHere, History, Keeps, Says, is_machines, rank}
+use Rattle.driver_traces.specs.Faults.{breaks_at_last, breaks_first, is_history, keeps_eleven, keeps_all_six, keeps_machines, keeps_six_there}
 use Rattle.driver_traces.specs.Lawful.{case_at, is_lawful, is_misdone, is_of_six, keeps_six}
 use Rattle.driver_traces.specs.Settled.{is_settled}
 use Rattle.driver_traces.specs.Words.{measured_init}
@@ -159,3 +159,61 @@ init_breaks_age j past a script row taken place broken = record {
       (says_of_place j past rule place own));
   fails = refuted (keeps_age j past (measured_init a past)) _ (age_tells j past (measured_init a past)).1 broken;
 }
+
+-- ---- whole histories, and where a trace fails first
+
+says_eleven : (j : JobView) (past : List Entry) (e : Entry) (rule : Rule) → keeps_eleven j past e ≡ true → Says j rule past (Some e)
+says_eleven j past e rule h =
+    let one = both_true (keeps_machines j past e) (keeps_script j past e && (keeps_age j past e && keeps_kick j past e)) h in
+    let two = both_true (keeps_script j past e) (keeps_age j past e && keeps_kick j past e) one.1 in
+    let three = both_true (keeps_age j past e) (keeps_kick j past e) two.1 in
+    by_rule one.0 two.0 three.0 three.1 rule
+  where
+    by_rule : keeps_machines j past e ≡ true → keeps_script j past e ≡ true → keeps_age j past e ≡ true → keeps_kick j past e ≡ true
+        → (rule : Rule) → Says j rule past (Some e)
+    by_rule machines script age kick rules.Script = (script_tells j past e).0 script
+    by_rule machines script age kick rules.Age = (age_tells j past e).0 age
+    by_rule machines script age kick rules.Kick = (kick_tells j past e).0 kick
+    by_rule machines script age kick rules.Refusal = machines_say j past e machines rules.Refusal refl
+    by_rule machines script age kick rules.Flat = machines_say j past e machines rules.Flat refl
+    by_rule machines script age kick rules.Fits = machines_say j past e machines rules.Fits refl
+    by_rule machines script age kick rules.Stale = machines_say j past e machines rules.Stale refl
+    by_rule machines script age kick rules.Evict = machines_say j past e machines rules.Evict refl
+    by_rule machines script age kick rules.Fresh = machines_say j past e machines rules.Fresh refl
+    by_rule machines script age kick rules.Sealed = machines_say j past e machines rules.Sealed refl
+    by_rule machines script age kick rules.Measure = machines_say j past e machines rules.Measure refl
+
+eleven_before : (j : JobView) (past : List Entry) (rule : Rule) → all_along (keeps_eleven j) past ≡ true → Before (Says j rule) past
+eleven_before j [] rule h = tt
+eleven_before j (e ∷ past) rule h =
+    let k = both_true (keeps_eleven j past e) (all_along (keeps_eleven j) past) h in
+    (says_eleven j past e rule k.0, eleven_before j past rule k.1)
+
+pub whole_history : (j : JobView) (past : List Entry) → is_history j past ≡ true → History j past
+whole_history j past h =
+    let k = both_true (is_settled j past && is_ended j past) (all_along (keeps_eleven j) past) h in
+    let l = both_true (is_settled j past) (is_ended j past) k.0 in record {
+      script = ((ended_tells j past).0 l.1, eleven_before j past rules.Script k.1);
+      refusal = (tt, eleven_before j past rules.Refusal k.1);
+      flat = (tt, eleven_before j past rules.Flat k.1);
+      fits = (says_of_place j past rules.Fits l.0 refl, eleven_before j past rules.Fits k.1);
+      stale = (says_of_place j past rules.Stale l.0 refl, eleven_before j past rules.Stale k.1);
+      evict = (tt, eleven_before j past rules.Evict k.1);
+      fresh = (tt, eleven_before j past rules.Fresh k.1);
+      sealed = (tt, eleven_before j past rules.Sealed k.1);
+      measure = (tt, eleven_before j past rules.Measure k.1);
+      age = (tt, eleven_before j past rules.Age k.1);
+      kick = (tt, eleven_before j past rules.Kick k.1);
+    }
+
+pub fails_at_last : (j : JobView) (past : List Entry) (e : Entry) (rule : Rule) → breaks_at_last rule j past e ≡ true
+    → FailsFirst j (e ∷ past) (length past) rule
+fails_at_last j past e rule h =
+    let k = both_true (breaks_first rule j past e) (all_along (keeps_eleven j) past) h in record {
+      past = past;
+      next = Some e;
+      is_place = ([], refl);
+      placed = refl;
+      before = λ r. eleven_before j past r k.1;
+      here = first_broken j past e rule k.0;
+    }

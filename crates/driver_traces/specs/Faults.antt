@@ -2,7 +2,7 @@
 use Rattle.std.specs.Prelude.{ℕ, ◌-◌, ◌&&◌, Bool, true, false, not, List, [], ◌∷◌, drop, length}
 use Rattle.sgx_types.specs.declared.entries.Entry.{Entry}
 use Rattle.job_grammar.specs.Jobs.{JobView}
-use Rattle.driver_rules.specs.Decided.{all_along, keeps_age, keeps_kick, keeps_script}
+use Rattle.driver_rules.specs.Decided.{all_along, is_ended, keeps_age, keeps_kick, keeps_script}
 use Rattle.run_history.specs.declared.rules.Rule.{Rule}
 use Rattle.run_history.specs.declared.rules.Rule.TheVariants as rules
 use Rattle.driver_traces.specs.Lawful.{is_lawful, is_misdone, keeps_six}
@@ -32,6 +32,18 @@ keeps_six_there j past e = keeps_six j past e.actor e.event && is_settled j past
 -- Refusal, Flat, Fits, Stale, Evict and Fresh hold at each entry and at the end
 abbrev pub keeps_all_six : JobView → List Entry → Bool
 keeps_all_six j past = is_settled j past && all_along (keeps_six_there j) past
+
+-- all eleven rules hold of an entry, which tells no digest, and of those before it
+abbrev pub keeps_eleven : JobView → List Entry → Entry → Bool
+keeps_eleven j past e = keeps_machines j past e && (keeps_script j past e && (keeps_age j past e && keeps_kick j past e))
+
+-- .. at each entry and at the end
+abbrev pub is_history : JobView → List Entry → Bool
+is_history j past = (is_settled j past && is_ended j past) && all_along (keeps_eleven j) past
+
+-- .. at each entry before this one, which breaks this rule and none before it
+abbrev pub breaks_at_last : Rule → JobView → List Entry → Entry → Bool
+breaks_at_last rule j past e = breaks_first rule j past e && all_along (keeps_eleven j) past
 
 -- the first so many entries of a trace
 abbrev pub first_of : ℕ → List Entry → List Entry

@@ -7,6 +7,7 @@ pub mod calls;
 pub mod dues;
 pub mod laws;
 pub mod right;
+pub mod whole_traces;
 pub mod wrong_ages;
 pub mod wrong_kicks;
 pub mod wrong_scripts;
