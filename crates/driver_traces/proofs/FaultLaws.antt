@@ -18,7 +18,7 @@ use Rattle.driver_traces.specs.Faults.{breaks_at_last, breaks_first, is_history,
 use Rattle.driver_traces.specs.Lawful.{case_at, is_lawful, is_misdone, is_of_six, keeps_six}
 use Rattle.driver_traces.specs.Settled.{is_settled}
 use Rattle.driver_traces.specs.Words.{measured_init}
-use Rattle.driver_traces.proofs.LawfulLaws.{lawful_says, misdone_breaks, no_case, six_say}
+use Rattle.driver_traces.proofs.LawfulLaws.{lawful_says, misdone_breaks, none_of, six_say}
 use Rattle.driver_traces.proofs.SettledLaws.{settled}
 
 -- what a rule of the machine says of a place alone
@@ -139,7 +139,7 @@ first_broken j past e _ h = absurd (false≢true h)
 init_says : (j : JobView) (past : List Entry) (a : Actor) → is_none (case_at (machine_of j) past a (Init 1 None)) ≡ true
     → accepts (flat past) a (Init 1 None) ≡ true → (rule : Rule) → is_machines rule ≡ true → Says j rule past None
     → Says j rule past (Some (measured_init a past))
-init_says j past a row taken rules.Refusal own h = (no_case (case_at (machine_of j) past a (Init 1 None)) row, (measurement past 1, refl))
+init_says j past a row taken rules.Refusal own h = (none_of (case_at (machine_of j) past a (Init 1 None)) row, (measurement past 1, refl))
 init_says j past a row taken rules.Flat own h = λ seen. record { taken = taken; same = refl }
 init_says j past a row taken rules.Fits own h = ((tt, tt), h.1)
 init_says j past a row taken rules.Stale own h = (tt, h.1)

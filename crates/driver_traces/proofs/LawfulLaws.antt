@@ -35,6 +35,13 @@ use Rattle.run_history.specs.declared.rules.Rule.TheVariants as rules
 use Rattle.run_history.specs.Histories.{Says, is_machines}
 use Rattle.driver_traces.specs.Lawful.{case_at, goes_out, is_case, is_ended_in, is_ended_out, is_formed, is_in_slot, is_lawful, is_misdone, is_out, is_reload, is_rising, is_unfit, is_write_out, keeps_evict, keeps_fits, keeps_flat, keeps_fresh, keeps_refusal, keeps_six, keeps_stale, names_frames, same_answer, same_fault, takes_free, tells_digest, is_of_six}
 
+pub none_of : {T : Type 0} (o : Option T) → is_none o ≡ true → o ≡ None
+none_of None h = refl
+none_of (Some x) h = cc
+
+pub is_below : (m n : ℕ) → nat_lt m n ≡ true → m < n
+is_below m n h = grind arith
+
 -- ---- lists of numbers, by the digest of an `init`
 
 numbers_equal : (a b : List ℕ) → same_numbers a b ≡ true → a ≡ b
@@ -48,10 +55,6 @@ numbers_refl a = action-refl (Init 0 (Some a))
 
 -- ---- Refusal
 
-pub no_case : (o : Option Refusal) → is_none o ≡ true → o ≡ None
-no_case None h = refl
-no_case (Some refusal) h = cc
-
 same_case : (o c : Option Refusal) → is_case o c ≡ true → o ≡ c
 same_case None None h = refl
 same_case (Some (why.NotTracked epoch older)) (Some (why.NotTracked e o)) h =
@@ -63,10 +66,6 @@ same_case (Some why.Conflict) (Some why.Conflict) h = refl
 same_case (Some why.EpochSpent) (Some why.EpochSpent) h = refl
 same_case (Some why.VersionSpent) (Some why.VersionSpent) h = refl
 same_case _ _ h = absurd (false≢true h)
-
-no_page : (o : Option Page) → is_none o ≡ true → o ≡ None
-no_page None h = refl
-no_page (Some page) h = cc
 
 some_page : (o : Option Page) (page : Page) → loads_page o page ≡ true → o ≡ Some page
 some_page None page h = cc
@@ -82,7 +81,7 @@ ended_out past n page version tag (Holds g kind perm) (Some start) held opened h
       held = subst (λ q. content past n ≡ Holds q kind perm) (same_pages g page k.0) held;
       start = start;
       opened = opened;
-      writes = no_page start.loads k.1;
+      writes = none_of start.loads k.1;
       version = version;
       tag = tag;
       told = refl;
@@ -146,7 +145,7 @@ refusal_tells : (k : Making) (past : List Entry) (a : Actor) (ev : Event) → ke
     → RefusalRule k past (record { actor = a; event = ev })
 refusal_tells k past a (Did action answer) h =
     let t = both_true (is_none (case_at k past a action)) (is_formed past action answer) h in
-    (no_case (case_at k past a action) t.0, formed past action answer t.1)
+    (none_of (case_at k past a action) t.0, formed past action answer t.1)
 refusal_tells k past a (Refused (Ewb f) refusal) h = absurd (false≢true h)
 refusal_tells k past a (Refused (Eld f) refusal) h = not_back past f.0 (open_start past f.0) refusal refl h
 refusal_tells k past a (Refused action refusal) h = same_case (case_at k past a action) (case_of action refusal) h
@@ -199,9 +198,6 @@ flat_tells past a (Kick cpu) h = tt
 flat_tells past a (Bus page reason) h = tt
 
 -- ---- Fits
-
-is_below : (m n : ℕ) → nat_lt m n ≡ true → m < n
-is_below m n h = grind arith
 
 both_below : (m n frames : ℕ) → (nat_lt m frames && nat_lt n frames) ≡ true → (m < frames) × (n < frames)
 both_below m n frames h =
@@ -275,7 +271,7 @@ written_out (Some start) version h =
       opened = λ i. Some (record {
         slot = start.slot;
         version = eqb-true start.version version k.0 i;
-        loads = no_page start.loads k.1 i;
+        loads = none_of start.loads k.1 i;
       });
     }
 

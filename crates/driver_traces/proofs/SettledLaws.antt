@@ -1,5 +1,5 @@
 -- What the tests of a place tell.
-use Rattle.std.proofs.Common.{◌≡◌, ℕ, zero, suc, ◌<◌, ◌≤◌, ◌==◌, ◌&&◌, ◌||◌, not, nat_lt, Bool, true, false, refl, sym, subst, List, [], ◌∷◌, Option, Some, None, IfSome, length, arith, ◌⊎◌, inl, inr}
+use Rattle.std.proofs.Common.{◌≡◌, ℕ, zero, suc, ◌<◌, ◌≤◌, ◌==◌, ◌&&◌, ◌||◌, not, Bool, true, false, refl, sym, subst, List, [], ◌∷◌, Option, Some, None, IfSome, length, arith, ◌⊎◌, inl, inr}
 use Rattle.std.specs.List.{All}
 use Rattle.std.proofs.lemmas.Bool.{eqb-true, false≢true, cases_lt}
 use Rattle.std.proofs.lemmas.List.Elements.{All-cons, All-nil}
@@ -22,13 +22,11 @@ use Rattle.driver_rules.specs.Decided.{all_along}
 use Rattle.driver_rules.specs.Same.{same_kind, same_perm}
 use Rattle.driver_rules.proofs.SameLaws.{action-true}
 use Rattle.driver_traces.specs.Settled.{acts_below, all_below, are_apart, are_current, holds_same, is_actor_below, is_held_still, is_none_stale, is_page_once, is_put_below, is_settled, is_still, is_undisturbed, puts_below}
+use Rattle.driver_traces.proofs.LawfulLaws.{is_below}
 
 untrue : (b : Bool) → not b ≡ true → b ≡ false
 untrue true h = absurd (false≢true h)
 untrue false h = refl
-
-is_below : (m n : ℕ) → nat_lt m n ≡ true → m < n
-is_below m n h = grind arith
 
 last_or : (test : ℕ → Bool) (n k : ℕ) → test n ≡ true → (k < n → test k ≡ true) → k < suc n → (k < n) ⊎ (n ≤ k) → test k ≡ true
 last_or test n k last lower low (inl less) = lower less
