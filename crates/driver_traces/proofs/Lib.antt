@@ -1,0 +1,3 @@
+pub mod LawfulLaws
+pub mod SettledLaws
+pub mod FaultLaws

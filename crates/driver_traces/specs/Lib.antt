@@ -12,4 +12,6 @@ pub mod RoomTrace
 pub mod ReplayTrace
 pub mod VersionTrace
 pub mod StoreCalls
+pub mod Lawful
+pub mod Settled
 pub mod Faults

@@ -1,6 +1,6 @@
 -- Short words for jobs and entries of one enclave, by which the worked traces are written: slots are of the version array page in frame 0,
 -- and tags are left empty, since none of the rules here looks at them.
-use Rattle.std.specs.Prelude.{ℕ, [], true, false, None}
+use Rattle.std.specs.Prelude.{ℕ, List, [], ◌∷◌, true, false, None}
 use Rattle.sgx_types.specs.declared.entries.AccessOp.{AccessOp}
 use Rattle.sgx_types.specs.declared.entries.Action.{Action}
 use Rattle.sgx_types.specs.declared.entries.Action.TheVariants as actions
@@ -21,6 +21,7 @@ use Rattle.sgx_types.specs.declared.names.SlotAt.{SlotAt}
 use Rattle.sgx_types.specs.declared.refusals.Refusal.{Refusal}
 use Rattle.sgx_types.specs.declared.refusals.Refusal.TheVariants as why
 use Rattle.sgx_types.specs.Frames.{no_perm, page_at}
+use Rattle.measure_log.specs.Rule.{measurement}
 use Rattle.turn_rules.specs.Script.{frame_at}
 
 abbrev pub rw_perm : Perm
@@ -68,6 +69,10 @@ extend actor f chunk = did actor (actions.Extend (frame_at f) chunk) answers.Pla
 abbrev pub init : Actor → Entry
 init actor = did actor (actions.Init 1 None) (answers.Hash [])
 
+-- .. and answers its measurement, as the entries before say
+abbrev pub measured_init : Actor → List Entry → Entry
+measured_init actor past = did actor (actions.Init 1 None) (answers.Hash (measurement past 1))
+
 -- ---- processors
 
 abbrev pub enter : Actor → ℕ → ℕ → ℕ → ℕ → Entry
@@ -114,9 +119,9 @@ start_back actor f n i version = did actor (actions.EldStart (frame_at f) (page_
 abbrev pub back : Actor → ℕ → ℕ → ℕ → Entry
 back actor f n version = did actor (actions.Eld (frame_at f)) (answers.Moved (page_at 1 n) version [])
 
--- .. or is refused for its tag
+-- .. or is refused for its tag: the two differ, and that is all that a rule here asks of them
 abbrev pub back_refused : Actor → ℕ → Entry
-back_refused actor f = refused actor (actions.Eld (frame_at f)) (why.MacFail [] [])
+back_refused actor f = refused actor (actions.Eld (frame_at f)) (why.MacFail [] (0 ∷ []))
 
 abbrev pub bus : ℕ → ℕ → BusWhy → Entry
 bus p n reason = record { actor = cpu p; event = events.Bus (page_at 1 n) reason }
@@ -132,11 +137,26 @@ kick p = record { actor = Reclaimer; event = events.Kick (record { 0 = p }) }
 abbrev pub block : Actor → ℕ → Entry
 block actor f = did actor (actions.Block (frame_at f)) answers.Plain
 
+-- .. is refused, since it is blocked already
+abbrev pub block_refused : Actor → ℕ → Entry
+block_refused actor f = refused actor (actions.Block (frame_at f)) why.BlkState
+
 abbrev pub track : Actor → Entry
 track actor = did actor (actions.Track 1) answers.Plain
 
 abbrev pub track_refused : Actor → Entry
 track_refused actor = refused actor (actions.Track 1) why.EpochSpent
+
+-- .. is refused, since so many processors inside are older
+abbrev pub track_kept : Actor → ℕ → Entry
+track_kept actor older = refused actor (actions.Track 1) (why.PrevTrk older)
+
+-- a track of an enclave that is not there, done or refused
+abbrev pub other_track_done : Actor → Entry
+other_track_done actor = did actor (actions.Track 2) answers.Plain
+
+abbrev pub other_track : Actor → Entry
+other_track actor = refused actor (actions.Track 2) why.Absent
 
 -- a write-out of frame f into slot i begins, with this version
 abbrev pub start_out : Actor → ℕ → ℕ → ℕ → Entry
@@ -145,6 +165,10 @@ start_out actor f i version = did actor (actions.EwbStart (frame_at f) (slot_at 
 -- .. is refused, at this epoch, so many processors keeping the page back
 abbrev pub try_refused : Actor → ℕ → ℕ → ℕ → ℕ → Entry
 try_refused actor f i epoch older = refused actor (actions.EwbStart (frame_at f) (slot_at i)) (why.NotTracked epoch older)
+
+-- .. since a write-out of the frame, or into the slot, has begun
+abbrev pub busy_out : Actor → ℕ → ℕ → Entry
+busy_out actor f i = refused actor (actions.EwbStart (frame_at f) (slot_at i)) why.Conflict
 
 -- .. or is refused, since the last version was drawn
 abbrev pub last_version : Actor → ℕ → ℕ → Entry

@@ -1,0 +1,11 @@
+use Rattle.std.proofs.Common.{refl}
+use lib.Count.{ones}
+use Rattle.sgx_types.specs.declared.entries.Actor.TheVariants.{Reclaimer}
+use Rattle.driver_traces.specs.Faults.{first_of}
+use Rattle.driver_traces.specs.MeasuredTrace.{measured_job, measured_trace}
+use Rattle.driver_traces.proofs.FaultLaws.{init_breaks_age}
+use Rattle.driver_traces.proofs.wrong_ages.the_reclaimer_initialises_nothing.Goals as goal
+
+pub returns : goal.returns
+unfolding ones
+returns c = init_breaks_age measured_job (first_of 33 measured_trace) Reclaimer refl refl refl refl refl
