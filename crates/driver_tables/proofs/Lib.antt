@@ -1,2 +1,3 @@
 pub mod CountLaws
 pub mod ShowLaws
+pub mod LoadShowLaws

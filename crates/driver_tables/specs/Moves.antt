@@ -1,11 +1,14 @@
 -- What the entries that move a page change in the driver's tables.
-use Rattle.std.specs.Prelude.{◌≡◌}
+use Rattle.std.specs.Prelude.{◌≡◌, Some, slice_set}
+use Rattle.sgx_types.specs.declared.names.Cpu.{Cpu}
 use Rattle.sgx_types.specs.declared.names.Frame.{Frame}
 use Rattle.sgx_types.specs.declared.names.Page.{Page}
 use Rattle.sgx_types.specs.declared.names.SlotAt.{SlotAt}
+use Rattle.sgx_types.specs.Sealed.{Sealed}
 use Rattle.sgx_types.specs.declared.entries.Look.{Look}
 use Rattle.sgx_types.specs.declared.entries.Look.TheVariants as looks
 use Rattle.active_list.specs.Active.{Removes, pushed, turned}
+use Rattle.active_list.specs.Keeping.{keeping}
 use Rattle.active_list.specs.States.{state_of, with_state}
 use Rattle.active_list.specs.declared.page_states.PageState.{PageState}
 use Rattle.active_list.specs.declared.page_states.PageState.TheVariants.{Away, Here, Leaving, Loading}
@@ -33,3 +36,10 @@ IsLooked old page _ new = new ≡ record old { active = turned old.active }
 pub record IsLoaded (old : Driver) (page : Page) (frame : Frame) (slot : SlotAt) (new : Driver) : Type 0 where
   pub slots : Gives old.slots slot new.slots
   pub others : new ≡ record old { active = pushed old.active page; states = with_state old.states page (Here frame); slots = new.slots }
+
+-- the tables behind a load's start: the page is loading, and its record is kept
+abbrev pub with_load : Driver → Cpu → Page → SlotAt → Frame → Sealed → Driver
+with_load d cpu page slot frame rec = record d {
+  states = with_state d.states page (Loading frame slot);
+  kept = slice_set d.kept cpu.0 (Some (keeping page rec));
+}

@@ -1,2 +1,4 @@
 pub mod StartLaws
 pub mod FinishLaws
+pub mod LoadRows
+pub mod DueLaws

@@ -21,7 +21,8 @@ use Rattle.paging_machine.specs.Parts.{Parts, state_of}
 use Rattle.driver_rules.specs.Reclaims.{is_refused}
 use Rattle.driver_steps.specs.Carried.{Carries}
 use Rattle.driver_tables.specs.declared.driver.Driver.{Driver}
-use Rattle.fault_handler.specs.Resolving.{IsStarted, IsToOpen, with_load}
+use Rattle.fault_handler.specs.Resolving.{IsStarted, IsToOpen}
+use Rattle.driver_tables.specs.Moves.{with_load}
 use Rattle.fault_handler.specs.declared.answers.FaultAnswer.TheVariants as answers
 
 -- where it is not refused, the frame waits for the page

@@ -1,3 +1,5 @@
 pub mod Resolving
 pub mod Finishing
 pub mod Repeating
+pub mod Ready
+pub mod Due

@@ -1,5 +1,5 @@
 -- What the first half of a fault step does.
-use Rattle.std.specs.Prelude.{ℕ, ◌≡◌, false, if◌then◌else◌, List, Option, Some, None, Result, Ok, Err, slice_set}
+use Rattle.std.specs.Prelude.{ℕ, ◌≡◌, false, if◌then◌else◌, List, Option, Some, None, Result, Ok, Err}
 use Rattle.sgx_types.specs.declared.entries.Action.TheVariants as actions
 use Rattle.sgx_types.specs.declared.entries.Actor.TheVariants as actors
 use Rattle.sgx_types.specs.declared.entries.BusWhy.TheVariants as reasons
@@ -19,14 +19,13 @@ use Rattle.paging_machine.specs.Parts.{Parts, state_of}
 use Rattle.backing_store.specs.Calls.{Call, told_got}
 use Rattle.backing_store.specs.declared.backing.StoreFault.{StoreFault}
 use Rattle.backing_store.specs.declared.backing.StoreFault.TheVariants as faults
-use Rattle.active_list.specs.Keeping.{keeping}
-use Rattle.active_list.specs.States.{with_state}
 use Rattle.active_list.specs.declared.page_states.PageState.{PageState}
 use Rattle.active_list.specs.declared.page_states.PageState.TheVariants as states
 use Rattle.driver_rules.specs.declared.waits.Why.TheVariants as waits
 use Rattle.driver_rules.specs.Reclaims.{is_refused}
 use Rattle.driver_steps.specs.Carried.{Carries}
 use Rattle.driver_tables.specs.declared.driver.Driver.{Driver}
+use Rattle.driver_tables.specs.Moves.{with_load}
 use Rattle.fault_handler.specs.declared.answers.FaultAnswer.{FaultAnswer}
 use Rattle.fault_handler.specs.declared.answers.FaultAnswer.TheVariants as answers
 
@@ -35,13 +34,6 @@ pub record IsSaid (said : FaultAnswer) (d : Driver) (m : Parts) (answer : FaultA
   pub says : answer ≡ said
   pub driver : d' ≡ d
   pub machine : m' ≡ m
-
--- the tables behind a load's start: the page is loading, and the record is kept
-abbrev pub with_load : Driver → Cpu → Page → SlotAt → Frame → Sealed → Driver
-with_load d cpu page slot frame rec = record d {
-  states = with_state d.states page (states.Loading frame slot);
-  kept = slice_set d.kept cpu.0 (Some (keeping page rec));
-}
 
 -- the work opens this record by the machine's key and the version that the start found
 pub record IsToOpen (s : State) (f : ℕ) (rec : Sealed) (work : UnsealWork) : Type 0 where

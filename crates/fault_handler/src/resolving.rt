@@ -1,8 +1,13 @@
 //! The first half of a fault step: a page's record is asked for, and its load starts.
 
-ghost use Rattle.std.specs.Prelude.{◌≡◌, ◌<◌, ◌≤◌, Some, length, option_map, IfOk, OnErr};
+ghost use Rattle.std.specs.Prelude.{List, ◌≡◌, ◌<◌, ◌≤◌, Some, length, option_map, IfOk, OnErr};
 ghost use Rattle.active_list.specs.Places.{IsPlaced};
 ghost use Rattle.active_list.specs.States.{state_of as page_state};
+ghost use Rattle.sgx_types.specs.Making.{Making};
+ghost use Rattle.sgx_types.specs.declared.entries.Entry.{Entry};
+ghost use Rattle.job_grammar.specs.Jobs.{JobView};
+ghost use Rattle.fault_handler.specs.Due.{IsRight};
+ghost use Rattle.fault_handler.specs.Ready.{IsReady};
 ghost use Rattle.fault_handler.specs.Resolving.{IsFetch, IsResolved, IsStarted};
 ghost use Rattle.paging_machine.specs.Parts.{state_of};
 ghost use Rattle.sgx_types.specs.Frames.{least_free};
@@ -28,6 +33,32 @@ use std::alloc::Global;
 /// `NoFrame` where no frame is free. `Bus` with `PutFailed` where the page's last put failed, with `GetFailed` where its get
 /// fails, with `NoRecord` where the store has none.
 pub fn resolve<B: Backing>(
+    alloc: Global,
+    driver: &mut Driver,
+    machine: &mut Machine,
+    store: &mut B,
+    cpu: Cpu,
+    page: Page,
+) -> Result<FaultAnswer, Memory>
+    requires room { cpu.0 < length driver.old.kept }
+    requires placed { IsPlaced driver.old.states.counts page }
+    ensures does { IfOk result (λ answer. IsResolved cpu page (page_state driver.old.states page) driver.old machine.old (B.told store.old)
+        answer driver.new machine.new (B.told store.new)) }
+    ensures right { IfOk result (λ answer. (made : Making) (j : JobView) (past : List Entry) → IsReady made j past driver.old machine.old
+        → IsRight j past cpu page answer driver.new) }
+    ensures cpus { length machine.new.cpus ≡ length machine.old.cpus }
+    ensures spare { B.spare store.new ≡ B.spare store.old }
+    ensures plans { B.plans store.new ≡ B.plans store.old }
+    ensures faults { B.faults store.old ≤ B.faults store.new }
+    ensures driver { OnErr result (driver.new ≡ driver.old) }
+    ensures machine { OnErr result (machine.new ≡ machine.old) }
+    ensures store { OnErr result (store.new ≡ store.old) }
+{
+    resolve_by(alloc, driver, machine, store, cpu, page)
+}
+
+// The step, by what became of the page.
+fn resolve_by<B: Backing>(
     alloc: Global,
     driver: &mut Driver,
     machine: &mut Machine,

@@ -1,0 +1,165 @@
+-- The driver's tables behind the entries of a processor's load.
+use Rattle.std.proofs.Common.{◌≡◌, ℕ, ◌<◌, ◌++◌, Bool, true, false, List, [], ◌∷◌, Option, None, Some, length, map, slice_set, refl, sym, ap, subst, ◌∙◌}
+use Rattle.std.proofs.lemmas.Bool.{eqb-true, eqb-false}
+use Rattle.std.proofs.lemmas.List.{get_or-set_other, get_or-set_same, length-set}
+use Rattle.sgx_types.specs.declared.entries.Actor.TheVariants as actors
+use Rattle.sgx_types.specs.declared.entries.Action.TheVariants.{Eld, EldStart}
+use Rattle.sgx_types.specs.declared.entries.Answer.{Answer}
+use Rattle.sgx_types.specs.declared.entries.Answer.TheVariants.{Moved}
+use Rattle.sgx_types.specs.declared.entries.BusWhy.{BusWhy}
+use Rattle.sgx_types.specs.declared.entries.Entry.{Entry}
+use Rattle.sgx_types.specs.declared.entries.Event.{Event}
+use Rattle.sgx_types.specs.declared.entries.Event.TheVariants.{Bus, Did, Refused}
+use Rattle.sgx_types.specs.declared.names.Cpu.{Cpu}
+use Rattle.sgx_types.specs.declared.names.Frame.{Frame}
+use Rattle.sgx_types.specs.declared.names.Page.{Page}
+use Rattle.sgx_types.specs.declared.names.SlotAt.{SlotAt}
+use Rattle.sgx_types.specs.declared.refusals.Refusal.{Refusal}
+use Rattle.sgx_types.specs.declared.refusals.Refusal.TheVariants as why
+use Rattle.sgx_types.specs.Processors.{is_by}
+use Rattle.sgx_types.specs.Sealed.{Sealed}
+use Rattle.sgx_types.specs.Starts.{open_start}
+use Rattle.job_grammar.specs.Jobs.{JobView}
+use Rattle.active_list.specs.declared.ring.Listed as ring
+use Rattle.active_list.specs.declared.page_states.PageState.TheVariants as states
+use Rattle.active_list.specs.Keeping.{Kept, keeping, kept_at, page_kept}
+use Rattle.active_list.specs.Places.{IsPlaced}
+use Rattle.active_list.specs.States.{with_state}
+use Rattle.driver_rules.specs.Places.{Loading, place}
+use Rattle.driver_rules.specs.Turns.{fails_with, last_by, last_of, load_of}
+use Rattle.driver_laws.specs.Agrees.{ShowsSlots, loaded_by}
+use Rattle.driver_laws.specs.Kinds.{CanMove}
+use Rattle.driver_laws.specs.Sound.{IsSound}
+use Rattle.driver_laws.proofs.AgreeLaws.{shows_eld, shows_eldstart, shows_quiet, shows_refused}
+use Rattle.driver_laws.proofs.MarkLaws.{listed-eld, listed-quiet}
+use Rattle.driver_laws.proofs.MoveLaws.{loads-other, place-eld, place-eld-other, place-eld-refused, place-eld-refused-other, place-eldstart, place-eldstart-other, place-quiet}
+use Rattle.driver_laws.proofs.SoundLaws.{entry_of}
+use Rattle.driver_tables.specs.declared.driver.Driver.{Driver}
+use Rattle.driver_tables.specs.Moves.{IsLoaded, with_load}
+use Rattle.driver_tables.specs.Tables.{ShowsTables, listed}
+use Rattle.driver_tables.proofs.ShowLaws.{shows_moved, shows_still}
+
+-- ---- copies
+
+-- what is kept for a processor is set by its own entry
+copies_set : (kept : List (Option Kept)) (past : List Entry) (c : Cpu) (ev : Event) (new : Option Kept)
+    → ((p : ℕ) → page_kept (kept_at kept p) ≡ loaded_by (last_of past p)) → c.0 < length kept
+    → page_kept new ≡ loaded_by (last_by ev (open_start past)) → (p : ℕ)
+    → page_kept (kept_at (slice_set kept c.0 new) p) ≡ loaded_by (last_of (entry_of (actors.Cpu c) ev ∷ past) p)
+copies_set kept past c ev new copies room own p = by_test (is_by p (actors.Cpu c)) refl
+  where
+    by_test : (b : Bool) → is_by p (actors.Cpu c) ≡ b
+        → page_kept (kept_at (slice_set kept c.0 new) p) ≡ loaded_by (last_of (entry_of (actors.Cpu c) ev ∷ past) p)
+    by_test true is =
+        ap (λ q. page_kept (kept_at (slice_set kept c.0 new) q)) (sym (eqb-true c.0 p is))
+        ∙ ap page_kept (get_or-set_same kept c.0 new None room) ∙ own ∙ rw is refl
+    by_test false is =
+        ap page_kept (get_or-set_other kept c.0 p new None (λ k. eqb-false c.0 p is (sym k))) ∙ copies p
+        ∙ sym (ap loaded_by (loads-other past (entry_of (actors.Cpu c) ev) p is))
+
+-- nothing is kept before and behind
+copies_none : (kept : List (Option Kept)) (past : List Entry) (c : Cpu) (ev : Event)
+    → ((p : ℕ) → page_kept (kept_at kept p) ≡ loaded_by (last_of past p)) → loaded_by (last_of past c.0) ≡ None
+    → loaded_by (last_by ev (open_start past)) ≡ None → (p : ℕ)
+    → page_kept (kept_at kept p) ≡ loaded_by (last_of (entry_of (actors.Cpu c) ev ∷ past) p)
+copies_none kept past c ev copies idle own p = by_test (is_by p (actors.Cpu c)) refl
+  where
+    by_test : (b : Bool) → is_by p (actors.Cpu c) ≡ b → page_kept (kept_at kept p) ≡ loaded_by (last_of (entry_of (actors.Cpu c) ev ∷ past) p)
+    by_test true is =
+        copies p ∙ ap (λ q. loaded_by (last_of past q)) (sym (eqb-true c.0 p is)) ∙ idle ∙ sym own ∙ rw is refl
+    by_test false is = copies p ∙ sym (ap loaded_by (loads-other past (entry_of (actors.Cpu c) ev) p is))
+
+-- ---- a load
+
+pub shows_load_start : (j : JobView) (d : Driver) (past : List Entry) (c : Cpu) (f : Frame) (page : Page) (slot : SlotAt) (answer : Answer)
+    (rec : Sealed) → CanMove past (Did (EldStart f page slot) answer) → IsSound past → IsPlaced d.states.counts page → c.0 < length d.kept
+    → ShowsTables j d past
+    → ShowsTables j (with_load d c page slot f rec) (entry_of (actors.Cpu c) (Did (EldStart f page slot) answer) ∷ past)
+shows_load_start j d past c f page slot answer rec can sound here room t =
+    shows_moved j d (with_load d c page slot f rec) past (entry_of (actors.Cpu c) (Did (EldStart f page slot) answer)) page
+    (states.Loading f slot) t here
+    (record {
+      here = place-eldstart past (actors.Cpu c) f page slot answer;
+      others = λ q other. place-eldstart-other past (actors.Cpu c) f page q slot answer other;
+    }) refl (record { active = refl; rooms = length-set d.kept c.0 (Some (keeping page rec)); marks = refl; cpus = refl }) (record {
+      list = t.list ∙ sym (listed-quiet past (entry_of (actors.Cpu c) (Did (EldStart f page slot) answer)) refl);
+      slots = shows_eldstart j d.slots past (actors.Cpu c) f page slot answer can sound t.slots;
+      copies = copies_set d.kept past c (Did (EldStart f page slot) answer) (Some (keeping page rec)) t.copies room refl;
+    })
+
+-- the end of a load that was not refused
+pub shows_load_end : (j : JobView) (old new : Driver) (past : List Entry) (c : Cpu) (f : Frame) (page : Page) (version : ℕ) (tag : List ℕ)
+    (slot : SlotAt) → CanMove past (Did (Eld f) (Moved page version tag)) → place past page ≡ Loading f.0 slot → IsSound past
+    → IsPlaced old.states.counts page → c.0 < length old.kept → ShowsTables j old past
+    → IsLoaded (record old { kept = slice_set old.kept c.0 None }) page f slot new
+    → ShowsTables j new (entry_of (actors.Cpu c) (Did (Eld f) (Moved page version tag)) ∷ past)
+shows_load_end j old new past c f page version tag slot can at sound here room t is =
+    shows_moved j old new past (entry_of (actors.Cpu c) (Did (Eld f) (Moved page version tag))) page (states.Here f) t here
+    (record {
+      here = place-eld past (actors.Cpu c) f page version tag;
+      others = λ q other. place-eld-other past (actors.Cpu c) f page q version tag other;
+    }) (ap (λ (d : Driver). d.states) is.others) (record {
+      active = ap (λ (d : Driver). d.active.counts) is.others;
+      rooms = ap (λ (d : Driver). length d.kept) is.others ∙ length-set old.kept c.0 None;
+      marks = ap (λ (d : Driver). d.marks) is.others;
+      cpus = ap (λ (d : Driver). d.cpus) is.others;
+    }) (record {
+      list =
+          ap (λ (d : Driver). map listed d.active.pages) is.others ∙ map_push old.active.pages
+          ∙ ap (λ xs. xs ++ record { page = page; young = false } ∷ []) t.list
+          ∙ sym (listed-eld past (actors.Cpu c) f page version tag can sound);
+      slots = shows_eld j old.slots new.slots past (actors.Cpu c) f page version tag slot at sound is.slots t.slots;
+      copies = λ p. ap (λ (d : Driver). page_kept (kept_at d.kept p)) is.others
+          ∙ copies_set old.kept past c (Did (Eld f) (Moved page version tag)) None t.copies room refl p;
+    })
+  where
+    map_push : (xs : List ring.Listed)
+        → map listed (xs ++ record { page = page; young = false } ∷ []) ≡ map listed xs ++ record { page = page; young = false } ∷ []
+    map_push [] = refl
+    map_push (x ∷ xs) = ap (λ zs. listed x ∷ zs) (map_push xs)
+
+-- what a refusal leaves is no load
+no_load : (page : Option Page) (refusal : Refusal) → loaded_by (fails_with page refusal) ≡ None
+no_load None refusal = refl
+no_load (Some page) (why.MacFail given computed) = refl
+no_load (Some page) (why.BadHeader enclave address flags) = refl
+no_load (Some page) _ = refl
+
+-- the end of one that was
+pub shows_load_refused : (j : JobView) (old new : Driver) (past : List Entry) (c : Cpu) (f : Frame) (page : Page) (slot : SlotAt)
+    (refusal : Refusal) → CanMove past (Refused (Eld f) refusal) → place past page ≡ Loading f.0 slot → IsSound past
+    → IsPlaced old.states.counts page → c.0 < length old.kept → ShowsTables j old past
+    → new ≡ record old { states = with_state old.states page (states.Away slot); kept = slice_set old.kept c.0 None }
+    → ShowsTables j new (entry_of (actors.Cpu c) (Refused (Eld f) refusal) ∷ past)
+shows_load_refused j old new past c f page slot refusal can at sound here room t only =
+    shows_moved j old new past (entry_of (actors.Cpu c) (Refused (Eld f) refusal)) page (states.Away slot) t here
+    (record {
+      here = place-eld-refused past (actors.Cpu c) f refusal page slot sound at;
+      others = λ q other. place-eld-refused-other past (actors.Cpu c) f refusal page q slot sound at other;
+    }) (ap (λ (d : Driver). d.states) only) (record {
+      active = ap (λ (d : Driver). d.active.counts) only;
+      rooms = ap (λ (d : Driver). length d.kept) only ∙ length-set old.kept c.0 None;
+      marks = ap (λ (d : Driver). d.marks) only;
+      cpus = ap (λ (d : Driver). d.cpus) only;
+    }) (record {
+      list =
+          ap (λ (d : Driver). map listed d.active.pages) only ∙ t.list
+          ∙ sym (listed-quiet past (entry_of (actors.Cpu c) (Refused (Eld f) refusal)) refl);
+      slots =
+          subst (λ k. ShowsSlots j k (entry_of (actors.Cpu c) (Refused (Eld f) refusal) ∷ past)) (sym (ap (λ (d : Driver). d.slots) only))
+          (shows_refused j old.slots past (actors.Cpu c) f refusal can sound t.slots);
+      copies = λ p. ap (λ (d : Driver). page_kept (kept_at d.kept p)) only
+          ∙ copies_set old.kept past c (Refused (Eld f) refusal) None t.copies room (sym (no_load (load_of (open_start past f.0)) refusal)) p;
+    })
+
+-- a processor that loads nothing tells why a page did not come back
+pub shows_bus : (j : JobView) (d : Driver) (past : List Entry) (c : Cpu) (page : Page) (why : BusWhy)
+    → loaded_by (last_of past c.0) ≡ None → ShowsTables j d past → ShowsTables j d (entry_of (actors.Cpu c) (Bus page why) ∷ past)
+shows_bus j d past c page why idle t =
+    shows_still j d d past (entry_of (actors.Cpu c) (Bus page why)) t
+    (λ q. place-quiet past (entry_of (actors.Cpu c) (Bus page why)) q refl) refl
+    (record { active = refl; rooms = refl; marks = refl; cpus = refl }) (record {
+      list = t.list ∙ sym (listed-quiet past (entry_of (actors.Cpu c) (Bus page why)) refl);
+      slots = shows_quiet j d.slots past (entry_of (actors.Cpu c) (Bus page why)) refl t.slots;
+      copies = copies_none d.kept past c (Bus page why) t.copies idle refl;
+    })
