@@ -21,19 +21,19 @@ use Rattle.sgx_types.specs.declared.names.SlotAt.{SlotAt}
 use Rattle.sgx_types.specs.declared.refusals.Refusal.{Refusal}
 use Rattle.sgx_types.specs.Frames.{Content, Free, Holds, IsLoading, IsVa, SecsOf, added, content, is_page, page_at, reloaded, same_page}
 use Rattle.sgx_types.specs.Slots.{is_slot_busy, names_slot, open_slot, same_slot, version_in}
-use Rattle.sgx_types.specs.Starts.{Start, open_start, version_told}
+use Rattle.sgx_types.specs.Starts.{Start, open_start}
 use Rattle.version_array.specs.Keeper.{Adds, Gives, Keeper, Takes, is_added, is_out}
 use Rattle.job_grammar.specs.Jobs.{JobView, va_pages}
 use Rattle.driver_laws.specs.Agrees.{ShowsSlots, has_pages, is_va}
 use Rattle.driver_laws.specs.Kinds.{CanMove, is_quiet}
-use Rattle.driver_rules.specs.Places.{Absent, Away, Here, Leaving, Loading, Place, place}
+use Rattle.driver_rules.specs.Places.{Leaving, Loading, place}
 use Rattle.sgx_types.specs.Slots.{slot_of as starts_slot}
 use Rattle.driver_laws.specs.Sound.{IsSound, is_loading, load_slot, slot_at, slot_loading, slot_of, stands_in}
 use Rattle.driver_laws.proofs.PlaceLaws.{load_slot_is, same_page-refl}
 use Rattle.driver_laws.proofs.SlotLaws.{same_slot-refl}
 use Rattle.driver_laws.proofs.ThreeLaws.{or_left, or_right}
 use Rattle.driver_laws.proofs.SoundLaws.{entry_of, load_start, named}
-use Rattle.driver_laws.proofs.SlotMoves.{SameSlots, closed_load, frame_apart, same_add, same_age, same_eldstart, same_ewb, same_refused}
+use Rattle.driver_laws.proofs.SlotMoves.{SameSlots, same_add, same_age, same_eldstart, same_ewb, same_refused, slot_back, slot_back_other, slot_started, slot_started_other}
 
 -- a slot that is not out is no page's, so a write-out may begin with it
 pub kept_is_free : (j : JobView) (keeper : Keeper) (past : List Entry) (slot : SlotAt) → ShowsSlots j keeper past
@@ -115,6 +115,12 @@ page_no_array (IsLoading page) g h = cc
 
 -- ---- a page goes out
 
+none_some : (slot : SlotAt) → None ≡ Some slot → ⊥
+none_some slot h = cc
+
+some_same : (slot other : SlotAt) → Some slot ≡ Some other → slot ≡ other
+some_same slot other h = cc
+
 -- a start takes a slot of the keeper
 pub shows_ewbstart : (j : JobView) (old new : Keeper) (past : List Entry) (a : Actor) (f : Frame) (slot : SlotAt) (answer : Answer)
     (page : Page) → place past page ≡ Leaving f.0 → open_start past f.0 ≡ None → IsSound past → Takes old slot new
@@ -123,49 +129,39 @@ shows_ewbstart j old new past a f slot answer page at none sound takes s = recor
   frames = λ n. ap (λ fs. list_any (λ (x : Frame). x.0 == n) fs) takes.frames ∙ s.frames n;
   made = λ h. ap (λ fs. length fs) takes.frames ∙ s.made h;
   out = λ t k. by_out t (same_slot slot t) refl (sym (takes.out t) ∙ k);
-  used = λ g t k. takes.out t ∙ by_used g t (place past g) refl k;
+  used = λ g t k. takes.out t ∙ by_used g t (same_page page g) refl k;
   empty = λ t k. by_empty t (same_slot slot t) refl (is_out old t) refl (sym (takes.out t) ∙ k);
 }
   where
-    now : ℕ → Option Start
-    now n = if f.0 == n then Some (record { slot = slot; version = version_told answer; loads = None }) else open_start past n
+    entry : Entry
+    entry = entry_of a (Did (EwbStart f slot) answer)
 
-    kept : (n : ℕ) → (f.0 == n) ≡ false → now n ≡ open_start past n
-    kept n other = rw other refl
+    before : slot_of past page ≡ None
+    before = ap (slot_at (open_start past)) at ∙ ap starts_slot none
 
-    mine : slot_at now (place past page) ≡ Some slot
-    mine = rw (at, eq-eqb f.0 f.0 refl) refl
+    mine : slot_of (entry ∷ past) page ≡ Some slot
+    mine = slot_started past a f slot answer page at
 
-    apart : (h : Page) (t : SlotAt) → slot_of past h ≡ Some t → place past h ≡ Leaving f.0 → ⊥
-    apart h t k here = none_some (sym (ap (slot_at (open_start past)) here ∙ ap starts_slot none) ∙ k)
-      where
-        none_some : None ≡ Some t → ⊥
-        none_some e = cc
+    others : (g : Page) → same_page page g ≡ false → slot_of (entry ∷ past) g ≡ slot_of past g
+    others g = slot_started_other past a f slot answer page g sound at
+
+    apart : (g : Page) (t : SlotAt) (b : Bool) → same_page page g ≡ b → slot_of past g ≡ Some t → same_page page g ≡ false
+    apart g t true is k = absurd (none_some t (sym before ∙ ap (slot_of past) (same_pages page g is) ∙ k))
+    apart g t false is k = is
 
     by_out : (t : SlotAt) (b : Bool) → same_slot slot t ≡ b → (b || is_out old t) ≡ true
-        → (g : Page) × (slot_at now (place past g) ≡ Some t)
+        → (g : Page) × (slot_of (entry ∷ past) g ≡ Some t)
     by_out t true is k = (page, mine ∙ ap Some (same_slots slot t is))
-    by_out t false is k = let owner = s.out t k in (owner.0, frame_apart past now f.0 owner.0 kept (apart owner.0 t owner.1) ∙ owner.1)
+    by_out t false is k =
+        let owner = s.out t k in
+        (owner.0, others owner.0 (apart owner.0 t (same_page page owner.0) refl owner.1) ∙ owner.1)
 
-    by_frame : (g : Page) (t : SlotAt) (n : ℕ) (b : Bool) → (f.0 == n) ≡ b → place past g ≡ Leaving n
-        → starts_slot (if b then Some (record { slot = slot; version = version_told answer; loads = None }) else open_start past n) ≡ Some t
+    by_used : (g : Page) (t : SlotAt) (b : Bool) → same_page page g ≡ b → slot_of (entry ∷ past) g ≡ Some t
         → (same_slot slot t || is_out old t) ≡ true
-    by_frame g t n true is here k =
-        let same : slot ≡ t =
-        cc in or_left (same_slot slot t) (is_out old t) (subst (λ u. same_slot slot u ≡ true) same (same_slot-refl slot))
-    by_frame g t n false is here k = or_right (same_slot slot t) (is_out old t) (s.used g t (ap (slot_at (open_start past)) here ∙ k))
-
-    by_used : (g : Page) (t : SlotAt) (p : Place) → place past g ≡ p → slot_at now (place past g) ≡ Some t
-        → (same_slot slot t || is_out old t) ≡ true
-    by_used g t (Leaving n) here k = by_frame g t n (f.0 == n) refl here (sym (ap (slot_at now) here) ∙ k)
-    by_used g t (Away u) here k =
-        or_right (same_slot slot t) (is_out old t) (s.used g t (ap (slot_at (open_start past)) here ∙ sym (ap (slot_at now) here) ∙ k))
-    by_used g t (Loading n u) here k =
-        or_right (same_slot slot t) (is_out old t) (s.used g t (ap (slot_at (open_start past)) here ∙ sym (ap (slot_at now) here) ∙ k))
-    by_used g t (Here n) here k =
-        or_right (same_slot slot t) (is_out old t) (s.used g t (ap (slot_at (open_start past)) here ∙ sym (ap (slot_at now) here) ∙ k))
-    by_used g t Absent here k =
-        or_right (same_slot slot t) (is_out old t) (s.used g t (ap (slot_at (open_start past)) here ∙ sym (ap (slot_at now) here) ∙ k))
+    by_used g t true is k =
+        let same = some_same slot t (sym mine ∙ ap (slot_of (entry ∷ past)) (same_pages page g is) ∙ k) in
+        or_left (same_slot slot t) (is_out old t) (subst (λ u. same_slot slot u ≡ true) same (same_slot-refl slot))
+    by_used g t false is k = or_right (same_slot slot t) (is_out old t) (s.used g t (sym (others g is) ∙ k))
 
     by_empty : (t : SlotAt) (b : Bool) → same_slot slot t ≡ b → (c : Bool) → is_out old t ≡ c → (b || c) ≡ false
         → (version_in past t ≡ 0) × ((if same_slot slot t then true else is_slot_busy past t) ≡ false)
@@ -222,11 +218,11 @@ shows_eld j old new past a f page version tag slot loading sound gives s = recor
     mine : slot_of past page ≡ Some slot
     mine = ap (slot_at (open_start past)) loading
 
-    now : ℕ → Option Start
-    now n = if f.0 == n then None else open_start past n
+    entry : Entry
+    entry = entry_of a (Did (Eld f) (Moved page version tag))
 
-    kept : (h : Page) → slot_at now (place past h) ≡ slot_of past h
-    kept h = closed_load past f.0 page h slot sound loading
+    others : (g : Page) → same_page page g ≡ false → slot_of (entry ∷ past) g ≡ slot_of past g
+    others g = slot_back_other past a f page g version tag slot sound loading
 
     arrays : (n : ℕ) (b : Bool) → (f.0 == n) ≡ b
         → is_va (if b then reloaded page (added past page) else content past n) ≡ is_va (content past n)
@@ -244,39 +240,36 @@ shows_eld j old new past a f page version tag slot loading sound gives s = recor
         by_kind (Some k) = refl
     arrays n false is = refl
 
+    -- the page of another slot is another page
+    apart : (g : Page) (t : SlotAt) (b : Bool) → same_page page g ≡ b → same_slot slot t ≡ false → slot_of past g ≡ Some t
+        → same_page page g ≡ false
+    apart g t true is other k =
+        let equal = some_same slot t (sym mine ∙ ap (slot_of past) (same_pages page g is) ∙ k) in
+        absurd (false≢true (sym other ∙ subst (λ u. same_slot slot u ≡ true) equal (same_slot-refl slot)))
+    apart g t false is other k = is
+
+    -- .. and the slot of another page is another slot
+    slots_apart : (g : Page) (t : SlotAt) (b : Bool) → same_slot slot t ≡ b → same_page page g ≡ false → slot_of past g ≡ Some t
+        → same_slot slot t ≡ false
+    slots_apart g t true is other k =
+        let owner : page ≡ g = sound.apart page g t (mine ∙ ap Some (same_slots slot t is)) k in
+        absurd (false≢true (sym other ∙ subst (λ h. same_page page h ≡ true) owner (same_page-refl page)))
+    slots_apart g t false is other k = is
+
     by_out : (t : SlotAt) (b : Bool) → same_slot slot t ≡ b → (not b && is_out old t) ≡ true
-        → (g : Page) × (slot_at now (if same_page page g then Here f.0 else place past g) ≡ Some t)
+        → (g : Page) × (slot_of (entry ∷ past) g ≡ Some t)
     by_out t true is k = cc
     by_out t false is k =
         let owner = s.out t k in
-        (owner.0, by_owner owner.0 owner.1 (same_page page owner.0) refl)
-      where
-        by_owner : (g : Page) → slot_of past g ≡ Some t → (b : Bool) → same_page page g ≡ b
-            → slot_at now (if b then Here f.0 else place past g) ≡ Some t
-        by_owner g has true same =
-            let equal : slot ≡ t = some_same (sym mine ∙ ap (slot_of past) (same_pages page g same) ∙ has) in
-            absurd (false≢true (sym is ∙ subst (λ u. same_slot slot u ≡ true) equal (same_slot-refl slot)))
-          where
-            some_same : Some slot ≡ Some t → slot ≡ t
-            some_same e = cc
-        by_owner g has false same = kept g ∙ has
+        (owner.0, others owner.0 (apart owner.0 t (same_page page owner.0) refl is owner.1) ∙ owner.1)
 
-    by_used : (g : Page) (t : SlotAt) (b : Bool) → same_page page g ≡ b → slot_at now (if b then Here f.0 else place past g) ≡ Some t
+    by_used : (g : Page) (t : SlotAt) (b : Bool) → same_page page g ≡ b → slot_of (entry ∷ past) g ≡ Some t
         → (not (same_slot slot t) && is_out old t) ≡ true
-    by_used g t true same k = cc
+    by_used g t true same k =
+        absurd (none_some t (sym (slot_back past a f page version tag) ∙ ap (slot_of (entry ∷ past)) (same_pages page g same) ∙ k))
     by_used g t false same k =
-        let before : slot_of past g ≡ Some t = sym (kept g) ∙ k in
-        both_are (not (same_slot slot t)) (is_out old t) (ap not (by_slot before (same_slot slot t) refl)) (s.used g t before)
-      where
-        both_are : (x y : Bool) → x ≡ true → y ≡ true → (x && y) ≡ true
-        both_are true y h l = l
-        both_are false y h l = cc
-
-        by_slot : slot_of past g ≡ Some t → (c : Bool) → same_slot slot t ≡ c → same_slot slot t ≡ false
-        by_slot has true is =
-            let owner : page ≡ g = sound.apart page g t (mine ∙ ap Some (same_slots slot t is)) has in
-            absurd (false≢true (sym same ∙ subst (λ h. same_page page h ≡ true) owner (same_page-refl page)))
-        by_slot has false is = is
+        let before : slot_of past g ≡ Some t = sym (others g same) ∙ k in
+        rw (slots_apart g t (same_slot slot t) refl same before) (s.used g t before)
 
     by_empty : (t : SlotAt) (b : Bool) → same_slot slot t ≡ b → (not b && is_out old t) ≡ false
         → ((if names_slot (open_slot past f.0) t then 0 else version_in past t) ≡ 0) ×

@@ -27,3 +27,4 @@ pub mod CountLaws
 pub mod BuiltLaws
 pub mod EndLaws
 pub mod LoadLaws
+pub mod KeepLaws

@@ -9,3 +9,4 @@ pub mod Started
 pub mod Used
 pub mod Counted
 pub mod Loads
+pub mod Keeps

@@ -34,6 +34,7 @@ ghost use Rattle.driver_laws.specs.Sound.{IsSound, is_absent};
 ghost use Rattle.driver_laws.specs.Stages.{IsTaken, KeepsPages};
 ghost use Rattle.driver_laws.specs.Three.{IsApart, TcsAreApart, three};
 ghost use Rattle.driver_laws.specs.Counted.{AddsAreBuilt, CountMoves, CountsSlots};
+ghost use Rattle.driver_laws.specs.Keeps.{ArraysFirst, KeeperMoves};
 ghost use Rattle.driver_laws.specs.Loads.{IsEndedBy, LoadsAreTheirs, TheirRule, load_ended};
 ghost use Rattle.driver_laws.specs.Used.{SealingAreOpen, SlotsAreUsed, StartTells, StartsAlone, left_to_refuse};
 ghost use Rattle.driver_laws.specs.Tracks.{IsCalm, IsTracked, IsUntracked, KeepsTracks, OwnRule, TryTells};
@@ -133,6 +134,16 @@ pub fn moves_are_lawful()
         ≡ first_of_row (left_to_refuse drain is_spent) }
     ensures array { (frames : ℕ) (past : List Entry) (n : ℕ) → Along (FitsRule frames) past → is_va (content past n) ≡ true
         → nat_le frames n ≡ false }
+{}
+
+/// The keeper of the version slots agrees with the entries: one entry more keeps it, where the keeper moves with it.
+pub fn the_keeper_agrees()
+    ensures first { (j : JobView) (pages : ℕ) → ShowsSlots j (new_keeper pages) [] }
+    ensures more { (j : JobView) (old new : Keeper) (past : List Entry) (e : Entry) → IsSound past → CanMove past e.event
+        → StartTells past e.event → ArraysFirst j old past e.event → KeeperMoves past e.event old new → ShowsSlots j old past
+        → ShowsSlots j new (e ∷ past) }
+    ensures counted { (past : List Entry) (event : Event) (old new : Keeper) → KeeperMoves past event old new
+        → CountMoves event (count_out old) (count_out new) }
 {}
 
 /// As many slots are out as pages have one: each entry keeps it.
