@@ -2,3 +2,4 @@ pub mod StartLaws
 pub mod FinishLaws
 pub mod LoadRows
 pub mod DueLaws
+pub mod EndLaws

@@ -3,20 +3,24 @@ use Rattle.std.specs.Prelude.{◌≡◌, true, false, List, ◌∷◌, None}
 use Rattle.sgx_types.specs.declared.entries.Actor.TheVariants as actors
 use Rattle.sgx_types.specs.declared.entries.Entry.{Entry}
 use Rattle.sgx_types.specs.declared.entries.Event.TheVariants.{Bus}
+use Rattle.sgx_types.specs.declared.entries.Action.TheVariants.{Eld}
 use Rattle.sgx_types.specs.declared.names.Cpu.{Cpu}
+use Rattle.sgx_types.specs.declared.names.Frame.{Frame}
 use Rattle.sgx_types.specs.declared.names.Page.{Page}
 use Rattle.sgx_types.specs.Rules.{LoadsAwayRule}
 use Rattle.job_grammar.specs.Jobs.{JobView}
 use Rattle.driver_rules.specs.declared.waits.Why.{Why}
 use Rattle.driver_rules.specs.declared.waits.Why.TheVariants as waits
-use Rattle.driver_rules.specs.Dues.{Due, Fetches, IsNext, Waits}
+use Rattle.driver_rules.specs.Dues.{Due, Ends, Fetches, IsNext, Waits}
 use Rattle.driver_rules.specs.Places.{is_here, place}
 use Rattle.driver_rules.specs.Reclaims.{is_refused}
-use Rattle.driver_rules.specs.Turns.{fetches, last_of}
+use Rattle.driver_rules.specs.Turns.{Fails, fetches, last_of}
 use Rattle.driver_laws.specs.Agrees.{loaded_by}
 use Rattle.driver_laws.specs.Kinds.{CanMove}
 use Rattle.driver_tables.specs.declared.driver.Driver.{Driver}
 use Rattle.driver_tables.specs.Tables.{ShowsTables}
+use Rattle.fault_handler.specs.declared.answers.Loaded.{Loaded}
+use Rattle.fault_handler.specs.declared.answers.Loaded.TheVariants as ends
 use Rattle.fault_handler.specs.declared.answers.FaultAnswer.{FaultAnswer}
 use Rattle.fault_handler.specs.declared.answers.FaultAnswer.TheVariants as answers
 
@@ -56,3 +60,22 @@ pub record IsRight (j : JobView) (past : List Entry) (cpu : Cpu) (page : Page) (
   pub due : IsAnswer j past cpu page answer
   pub kept : Keeps past answer
   pub shows : loaded_by (last_of past cpu.0) ≡ None → ShowsAfter j past cpu page answer d
+
+-- the end of a load by the rules: a load that is back, or a refusal by which the bus is due next
+abbrev pub IsEnd : List Entry → Cpu → Page → Frame → Entry → Loaded → Type 0
+IsEnd past cpu page frame e (ends.Here entry) = (entry ≡ e) × (is_refused e.event ≡ false)
+IsEnd past cpu page frame e (ends.Bus entry why) = (entry ≡ e) × (last_of (e ∷ past) cpu.0 ≡ Fails page why)
+
+-- the tables behind its entry, and behind the bus that follows a refusal
+abbrev pub ShowsEnd : JobView → List Entry → Cpu → Page → Loaded → Driver → Type 0
+ShowsEnd j past cpu page (ends.Here e) d = ShowsTables j d (e ∷ past)
+ShowsEnd j past cpu page (ends.Bus e why) d =
+    ShowsTables j d (e ∷ past) × ShowsTables j d (record { actor = actors.Cpu cpu; event = Bus page why } ∷ e ∷ past)
+
+pub record IsRightEnd (j : JobView) (past : List Entry) (cpu : Cpu) (page : Page) (frame : Frame) (loaded : Loaded) (d : Driver) : Type 0 where
+  pub entry : Entry
+  pub actor : entry.actor ≡ actors.Cpu cpu
+  pub due : IsNext (Ends (Eld frame)) entry.event
+  pub end : IsEnd past cpu page frame entry loaded
+  pub kept : CanMove past entry.event
+  pub shows : ShowsEnd j past cpu page loaded d

@@ -5,6 +5,7 @@ use Rattle.sgx_types.specs.Making.{Making}
 use Rattle.job_grammar.specs.Jobs.{JobView}
 use Rattle.paging_laws.specs.Shape.{ShapeWithRules}
 use Rattle.paging_machine.specs.Parts.{Parts, state_of}
+use Rattle.driver_laws.specs.Loads.{LoadsAreTheirs}
 use Rattle.driver_laws.specs.Sound.{IsSound}
 use Rattle.driver_laws.specs.Used.{SealingAreOpen, SlotsAreUsed}
 use Rattle.driver_tables.specs.declared.driver.Driver.{Driver}
@@ -15,5 +16,6 @@ pub record IsReady (made : Making) (j : JobView) (past : List Entry) (d : Driver
   pub sound : IsSound past
   pub used : SlotsAreUsed past
   pub sealing : SealingAreOpen past
+  pub theirs : LoadsAreTheirs past
   pub shows : ShowsTables j d past
   pub frames : made.frames ≡ j.epc

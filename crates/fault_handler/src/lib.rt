@@ -3,5 +3,6 @@
 
 pub mod answers;
 pub mod finishing;
+pub mod laws;
 pub mod repeating;
 pub mod resolving;

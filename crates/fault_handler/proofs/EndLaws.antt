@@ -1,0 +1,302 @@
+-- The end of a load is what is due, and what its entry keeps.
+use Rattle.std.proofs.Common.{◌≡◌, ℕ, ◌+◌, ◌<◌, not, Bool, true, false, if◌then◌else◌, List, [], ◌∷◌, Option, None, Some, MatchOption, ⊎_elim, ◌⊎◌, inl, inr, length, map, is_some, refl, sym, ap, subst, ◌∙◌, arith}
+use Rattle.std.proofs.lemmas.Bool.{eq-eqb, false≢true}
+use Rattle.std.specs.Str.{bytes_eq}
+use Rattle.sgx_types.proofs.Pages.{same_pages}
+use Rattle.sgx_types.specs.declared.entries.Action.TheVariants.{Eld}
+use Rattle.sgx_types.specs.declared.entries.Actor.TheVariants as actors
+use Rattle.sgx_types.specs.declared.entries.Answer.TheVariants.{Moved}
+use Rattle.sgx_types.specs.declared.entries.Entry.{Entry}
+use Rattle.sgx_types.specs.declared.entries.Event.TheVariants.{Did, Refused}
+use Rattle.sgx_types.specs.declared.names.Cpu.{Cpu}
+use Rattle.sgx_types.specs.declared.names.Frame.{Frame}
+use Rattle.sgx_types.specs.declared.names.Page.{Page}
+use Rattle.sgx_types.specs.declared.names.SlotAt.{SlotAt}
+use Rattle.sgx_types.specs.declared.refusals.Refusal.{Refusal}
+use Rattle.sgx_types.specs.declared.refusals.Refusal.TheVariants as why
+use Rattle.sgx_types.specs.Frames.{Content, Free, Holds, IsLoading, IsVa, SecsOf, content, same_page}
+use Rattle.sgx_types.specs.Making.{Making}
+use Rattle.sgx_types.specs.Sealed.{Sealed}
+use Rattle.sgx_types.specs.Starts.{Start, open_start}
+use Rattle.sgx_types.specs.Table as table
+use Rattle.sgx_types.specs.Table.{first_of_row}
+use Rattle.epcm_entry.specs.Words.{words_of}
+use Rattle.job_grammar.specs.Jobs.{JobView}
+use Rattle.active_list.specs.declared.ring.Listed as ring
+use Rattle.active_list.specs.Keeping.{Kept, keeping, kept_at, page_kept}
+use Rattle.active_list.specs.Places.{IsPlaced}
+use Rattle.active_list.specs.Ring.{is_listed}
+use Rattle.active_list.specs.States.{state_of as page_state}
+use Rattle.active_list.specs.declared.page_states.PageState.{PageState}
+use Rattle.active_list.specs.declared.page_states.PageState.TheVariants as states
+use Rattle.seal_record.specs.Cipher.{cipher, tag}
+use Rattle.seal_record.specs.Row.{eld_row, is_header}
+use Rattle.paging_laws.specs.State.{State, after_eld, after_failed_eld}
+use Rattle.paging_laws.specs.Steps.{commit_row, did_by, refused_by}
+use Rattle.paging_laws.proofs.ColumnLaws.{content_is, start_is}
+use Rattle.paging_machine.specs.Parts.{Parts, state_of}
+use Rattle.driver_rules.specs.Places.{Loading, active, place}
+use Rattle.driver_rules.specs.Dues.{Ends, IsNext}
+use Rattle.driver_rules.specs.Reclaims.{is_refused}
+use Rattle.driver_rules.specs.Turns.{Fails, Loads, fails_with, last_of, load_of}
+use Rattle.driver_laws.specs.Agrees.{Listed, loaded_by, marked}
+use Rattle.driver_laws.specs.Kinds.{CanMove}
+use Rattle.driver_laws.specs.Sound.{is_absent, is_load_start, is_loading, once_here, slot_at, times}
+use Rattle.driver_laws.proofs.LoadLaws.{loading_place}
+use Rattle.driver_laws.proofs.PlaceLaws.{same_page-refl}
+use Rattle.driver_tables.specs.declared.driver.Driver.{Driver}
+use Rattle.driver_tables.specs.Tables.{ShowsTables, listed, place_in}
+use Rattle.driver_tables.proofs.LoadShowLaws.{shows_bus, shows_load_end, shows_load_refused}
+use Rattle.fault_handler.specs.declared.answers.Loaded.{Loaded}
+use Rattle.fault_handler.specs.Due.{IsRightEnd}
+use Rattle.fault_handler.specs.Finishing.{CanFinish, IsFinished, bus_why}
+use Rattle.fault_handler.specs.Ready.{IsReady}
+
+-- ---- what is known of a page that loads
+
+-- a page that is in no list
+not_listed : (xs : List ring.Listed) (past : List Entry) (ys : List Page) (g : Page) → map listed xs ≡ map (marked past) ys
+    → times ys g ≡ 0 → is_listed xs g ≡ false
+not_listed [] past ys g same none = refl
+not_listed (x ∷ xs) past [] g same none = cc
+not_listed (x ∷ xs) past (y ∷ ys) g same none = by_head (same_page y g) refl none (not_listed xs past ys g rest)
+  where
+    page_same : x.page ≡ y
+    page_same = ap (λ (l : List Listed). head_page x.page l) same
+      where
+        head_page : Page → List Listed → Page
+        head_page other [] = other
+        head_page other (z ∷ zs) = z.page
+
+    rest : map listed xs ≡ map (marked past) ys
+    rest = ap tail_of same
+      where
+        tail_of : List Listed → List Listed
+        tail_of [] = []
+        tail_of (z ∷ zs) = zs
+
+    other : (b : Bool) → same_page g x.page ≡ b → same_page y g ≡ false → b ≡ false
+    other true is k = absurd (false≢true (sym k ∙ (ap (λ p. same_page p g) (sym page_same ∙ sym (same_pages g x.page is)) ∙ same_page-refl g)))
+    other false is k = refl
+
+    by_head : (b : Bool) → same_page y g ≡ b → (if b then 1 else 0) + times ys g ≡ 0 → (times ys g ≡ 0 → is_listed xs g ≡ false)
+        → is_listed (x ∷ xs) g ≡ false
+    by_head true is k more = absurd (omega (arith, k))
+    by_head false is k more = rw (other (same_page g x.page) refl is) (more (let none_left : 0 + times ys g ≡ 0 = k in omega (arith, none_left)))
+
+-- a state by its place
+record IsLoadingState (s : PageState) (n : ℕ) (slot : SlotAt) : Type 0 where
+  frame : Frame
+  state : s ≡ states.Loading frame slot
+  number : frame.0 ≡ n
+
+loading_state : (s : PageState) (n : ℕ) (slot : SlotAt) → place_in s ≡ Loading n slot → IsLoadingState s n slot
+loading_state (states.Loading f t) n slot h = record { frame = f; state = ap (states.Loading f) (slots f.0 n t slot h); number = frames f.0 n t slot h }
+  where
+    slots : (a b : ℕ) (x y : SlotAt) → Loading a x ≡ Loading b y → x ≡ y
+    slots a b x y k = cc
+
+    frames : (a b : ℕ) (x y : SlotAt) → Loading a x ≡ Loading b y → a ≡ b
+    frames a b x y k = cc
+loading_state states.Absent n slot h = cc
+loading_state (states.Here f) n slot h = cc
+loading_state (states.Leaving f) n slot h = cc
+loading_state (states.Away t) n slot h = cc
+loading_state (states.Lost t) n slot h = cc
+
+-- what is kept, by its page
+record IsKeptFor (k : Option Kept) (page : Page) : Type 0 where
+  rec : Sealed
+  kept : k ≡ Some (keeping page rec)
+
+kept_for : (k : Option Kept) (page : Page) → page_kept k ≡ Some page → IsKeptFor k page
+kept_for None page h = cc
+kept_for (Some k) page h = record { rec = k.sealed; kept = ap (λ p. Some (keeping p k.sealed)) (pages k.page page h) }
+  where
+    pages : (a b : Page) → Some a ≡ Some b → a ≡ b
+    pages a b e = cc
+
+module _ (made : Making) (j : JobView) (past : List Entry) (d : Driver) (m : Parts) (r : IsReady made j past d m) (cpu : Cpu) (page : Page)
+    (n : ℕ) (last : last_of past cpu.0 ≡ Loads n page) where
+  opens : load_of (open_start past n) ≡ Some page
+  opens = r.theirs.started cpu.0 n page last
+
+  at : (slot : SlotAt) × (place past page ≡ Loading n slot)
+  at = loading_place past n page r.sound opens
+
+  placed : IsPlaced d.states.counts page
+  placed = r.shows.placed page (ap is_absent at.1)
+
+  state_is : IsLoadingState (page_state d.states page) n at.0
+  state_is = loading_state (page_state d.states page) n at.0 (r.shows.states page placed ∙ at.1)
+
+  copy : IsKeptFor (kept_at d.kept cpu.0) page
+  copy = kept_for (kept_at d.kept cpu.0) page (r.shows.copies cpu.0 ∙ ap loaded_by last)
+
+  waits : table.is_loading ((state_of m).content n) ≡ true
+  waits =
+      ap table.is_loading (content_is r.follows.shape.columns n) ∙ tests (content past n) ∙ sym (r.sound.places.loading n)
+      ∙ by_start (open_start past n) opens
+    where
+      tests : (c : Content) → table.is_loading c ≡ is_loading c
+      tests Free = refl
+      tests IsVa = refl
+      tests (SecsOf e) = refl
+      tests (Holds g kind perm) = refl
+      tests (IsLoading g) = refl
+
+      by_start : (o : Option Start) → load_of o ≡ Some page → is_load_start o ≡ true
+      by_start None h = cc
+      by_start (Some x) h = ap is_some h
+
+  -- a processor that has a load to end can end it
+  pub can_finish : cpu.0 < length d.kept → CanFinish cpu page d m
+  can_finish room = record {
+    frame = state_is.frame;
+    slot = at.0;
+    tables = record {
+      loading = state_is.state;
+      placed = subst (λ counts. IsPlaced counts page) r.shows.counts placed;
+      counts = r.shows.counts;
+      absent = not_listed d.active.pages past (active past) page r.shows.list (r.sound.list page ∙ ap once_here at.1);
+      out = r.shows.slots.used page at.0 (ap (slot_at (open_start past)) at.1);
+    };
+    room = room;
+    kept = copy.rec;
+    copy = copy.kept;
+    waits = subst (λ k. table.is_loading ((state_of m).content k) ≡ true) (sym state_is.number) waits;
+  }
+
+-- ---- the entry
+
+-- a load that was not refused
+pub record IsDoneEnd (cpu : Cpu) (f : Frame) (page : Page) (e : Entry) : Type 0 where
+  pub version : ℕ
+  pub tag : List ℕ
+  pub is : e ≡ did_by (actors.Cpu cpu) (Eld f) (Moved page version tag)
+
+-- .. and one that was, for one of two reasons
+pub record IsRefusedEnd (cpu : Cpu) (f : Frame) (page : Page) (e : Entry) : Type 0 where
+  pub refusal : Refusal
+  pub is : e ≡ refused_by (actors.Cpu cpu) (Eld f) refusal
+  pub fails : fails_with (Some page) refusal ≡ Fails page (bus_why e.event)
+
+-- the row's refusals
+row_fails : (rec : Sealed) (computed : List ℕ) (header : _) (page : Page) (cpu : Cpu) (f : Frame) (refusal : Refusal)
+    → first_of_row (eld_row rec computed header) ≡ Some refusal
+    → fails_with (Some page) refusal ≡ Fails page (bus_why (Refused (Eld f) refusal))
+row_fails rec computed header page cpu f refusal h = by_tag (not (bytes_eq rec.tag computed)) (not (is_header header rec.header)) h
+  where
+    by_header : (c : Bool)
+        → (if c then Some (why.BadHeader rec.header.enclave rec.header.address rec.header.flags) else None) ≡ Some refusal
+        → fails_with (Some page) refusal ≡ Fails page (bus_why (Refused (Eld f) refusal))
+    by_header true k = subst (λ x. fails_with (Some page) x ≡ Fails page (bus_why (Refused (Eld f) x))) (some_same _ refusal k) refl
+      where
+        some_same : (a b : Refusal) → Some a ≡ Some b → a ≡ b
+        some_same a b e = cc
+    by_header false k = cc
+
+    by_tag : (b c : Bool)
+        → (if b then Some (why.MacFail rec.tag computed) else if c then Some (why.BadHeader rec.header.enclave rec.header.address rec.header.flags)
+        else None) ≡ Some refusal → fails_with (Some page) refusal ≡ Fails page (bus_why (Refused (Eld f) refusal))
+    by_tag true c k = subst (λ x. fails_with (Some page) x ≡ Fails page (bus_why (Refused (Eld f) x))) (some_same _ refusal k) refl
+      where
+        some_same : (a b : Refusal) → Some a ≡ Some b → a ≡ b
+        some_same a b e = cc
+    by_tag false c k = by_header c k
+
+module _ (made : Making) (j : JobView) (past : List Entry) (d d' : Driver) (m : Parts) (t : State) (r : IsReady made j past d m) (cpu : Cpu)
+    (page : Page) (f : Frame) (slot : SlotAt) (loading : place past page ≡ Loading f.0 slot) (last : last_of past cpu.0 ≡ Loads f.0 page)
+    (room : cpu.0 < length d.kept) (loaded : Loaded) (rec : Sealed)
+    (is : IsFinished cpu page slot f rec d (state_of m) loaded d' t) where
+  here : IsPlaced d.states.counts page
+  here = r.shows.placed page (ap is_absent loading)
+
+  opened_here : load_of (open_start past f.0) ≡ Some page
+  opened_here = r.theirs.started cpu.0 f.0 page last
+
+  -- the page for which the frame waits is this one
+  same_coming : is.reloaded.coming.page ≡ page
+  same_coming = some_same is.reloaded.coming.page page
+      (sym is.reloaded.coming.loads ∙ ap load_of (sym is.reloaded.coming.opened ∙ start_is r.follows.shape.columns f.0) ∙ opened_here)
+    where
+      some_same : (a b : Page) → Some a ≡ Some b → a ≡ b
+      some_same a b e = cc
+
+  -- it is known of the entry which of the two it is
+  by_entry : IsDoneEnd cpu f page is.entry ⊎ IsRefusedEnd cpu f page is.entry
+  by_entry =
+      by_row (t ≡ after_eld (state_of m) f.0 is.reloaded.coming.start is.reloaded.coming.page is.reloaded.coming.kind is.reloaded.coming.perm
+      (words_of (cipher (state_of m).key is.reloaded.coming.start.version rec.cipher)))
+      (λ refusal. t ≡ after_failed_eld (state_of m) f.0 is.reloaded.coming.start)
+      (first_of_row (commit_row (state_of m) f.0 is.reloaded.coming rec)) refl is.reloaded.row
+    where
+      by_row : (X : Type 0) (Y : Refusal → Type 0) (o : Option Refusal)
+          → first_of_row (commit_row (state_of m) f.0 is.reloaded.coming rec) ≡ o
+          → MatchOption o ((is.entry ≡ did_by (actors.Cpu cpu) (Eld f) (Moved is.reloaded.coming.page is.reloaded.coming.start.version rec.tag)) × X)
+          (λ refusal. (is.entry ≡ refused_by (actors.Cpu cpu) (Eld f) refusal) × Y refusal)
+          → IsDoneEnd cpu f page is.entry ⊎ IsRefusedEnd cpu f page is.entry
+      by_row X Y None row k =
+          inl (record {
+            version = is.reloaded.coming.start.version;
+            tag = rec.tag;
+            is = k.0 ∙ ap (λ p. did_by (actors.Cpu cpu) (Eld f) (Moved p is.reloaded.coming.start.version rec.tag)) same_coming;
+          })
+      by_row X Y (Some refusal) row k =
+          inr (record {
+            refusal = refusal;
+            is = k.0;
+            fails =
+                row_fails rec (tag (state_of m).key is.reloaded.coming.start.version rec.header rec.cipher) (Some is.reloaded.coming.header)
+                page cpu f refusal row ∙ ap (λ (e : Entry). Fails page (bus_why e.event)) (sym k.0);
+          })
+
+  done : IsDoneEnd cpu f page is.entry → IsRightEnd j past cpu page f loaded d'
+  done k =
+      let went = is.ends.1 (ap (λ (e : Entry). is_refused e.event) k.is) in
+      let can : CanMove past (Did (Eld f) (Moved page k.version k.tag)) = (slot, loading) in
+      subst (λ l. IsRightEnd j past cpu page f l d') (sym went.0) (record {
+        entry = is.entry;
+        actor = ap (λ (e : Entry). e.actor) k.is;
+        due = subst (λ (e : Entry). IsNext (Ends (Eld f)) e.event) (sym k.is) refl;
+        end = (refl, ap (λ (e : Entry). is_refused e.event) k.is);
+        kept = subst (λ (e : Entry). CanMove past e.event) (sym k.is) can;
+        shows = subst (λ (e : Entry). ShowsTables j d' (e ∷ past)) (sym k.is)
+            (shows_load_end j d d' past cpu f page k.version k.tag slot can loading r.sound here room r.shows went.1);
+      })
+
+  refused : IsRefusedEnd cpu f page is.entry → IsRightEnd j past cpu page f loaded d'
+  refused k =
+      let went = is.ends.0 (ap (λ (e : Entry). is_refused e.event) k.is) in
+      let can : CanMove past (Refused (Eld f) k.refusal) = (page, slot, loading) in
+      let shown : ShowsTables j d' (is.entry ∷ past) = subst (λ (e : Entry). ShowsTables j d' (e ∷ past)) (sym k.is)
+      (shows_load_refused j d d' past cpu f page slot k.refusal can loading r.sound here room r.shows went.1) in
+      let fails : last_of (is.entry ∷ past) cpu.0 ≡ Fails page (bus_why is.entry.event) =
+      ap (λ (e : Entry). last_of (e ∷ past) cpu.0) k.is ∙ rw (eq-eqb cpu.0 cpu.0 refl, opened_here) refl ∙ k.fails in
+      subst (λ l. IsRightEnd j past cpu page f l d') (sym went.0) (record {
+        entry = is.entry;
+        actor = ap (λ (e : Entry). e.actor) k.is;
+        due = subst (λ (e : Entry). IsNext (Ends (Eld f)) e.event) (sym k.is) refl;
+        end = (refl, fails);
+        kept = subst (λ (e : Entry). CanMove past e.event) (sym k.is) can;
+        shows = (shown, shows_bus j d' (is.entry ∷ past) cpu page (bus_why is.entry.event) (ap loaded_by fails) shown);
+      })
+
+  pub end_right : IsRightEnd j past cpu page f loaded d'
+  end_right = ⊎_elim done refused by_entry
+
+-- the end of the load that a processor has still to end
+pub finish_right : (made : Making) (j : JobView) (past : List Entry) (d d' : Driver) (m : Parts) (t : State) (r : IsReady made j past d m)
+    (cpu : Cpu) (page : Page) (can : CanFinish cpu page d m) (n : ℕ) → last_of past cpu.0 ≡ Loads n page → (loaded : Loaded)
+    → IsFinished cpu page can.slot can.frame can.kept d (state_of m) loaded d' t → IsRightEnd j past cpu page can.frame loaded d'
+finish_right made j past d d' m t r cpu page can n last loaded is =
+    end_right made j past d d' m t r cpu page can.frame can.slot loading (last ∙ ap (λ k. Loads k page) same) can.room loaded can.kept is
+  where
+    loading : place past page ≡ Loading can.frame.0 can.slot
+    loading = sym (r.shows.states page (placed made j past d m r cpu page n last)) ∙ ap place_in can.tables.loading
+
+    same : n ≡ can.frame.0
+    same = frames n can.frame.0 (at made j past d m r cpu page n last).0 can.slot (sym (at made j past d m r cpu page n last).1 ∙ loading)
+      where
+        frames : (a b : ℕ) (x y : SlotAt) → Loading a x ≡ Loading b y → a ≡ b
+        frames a b x y k = cc
