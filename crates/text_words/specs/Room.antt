@@ -18,6 +18,6 @@ words_room (word ∷ others) = 1 + word_room word + words_room others
 abbrev pub LacksRoom : ℕ → Vec ℕ → Type 0
 LacksRoom n text = vec_capacity text < vec_len text + n
 
--- of a text's room at most n bytes were used
+-- a text has at most n bytes more than before, in no less memory
 abbrev pub UsesRoom : ℕ → Vec ℕ → Vec ℕ → Type 0
-UsesRoom n old new = vec_capacity old + vec_len new ≤ vec_capacity new + vec_len old + n
+UsesRoom n old new = (vec_len new ≤ vec_len old + n) × (vec_capacity old ≤ vec_capacity new)
