@@ -2,4 +2,6 @@
 #![tactic(auto)]
 
 pub mod pieces;
+#[cfg(test)]
+mod tests;
 pub mod ungiven;
