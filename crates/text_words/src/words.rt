@@ -1,8 +1,9 @@
 //! Words that are printed.
 
-ghost use Rattle.std.specs.Prelude.{◌≡◌, ◌≤◌, ◌<◌, ◌∷◌, ◌++◌, false, map, OnOk};
+ghost use Rattle.std.specs.Prelude.{◌≡◌, ◌+◌, ◌≤◌, ◌<◌, ◌∷◌, ◌++◌, false, map, OnErr, OnOk};
 ghost use Rattle.std.specs.Fmt.{digits, digit_glyph};
 ghost use Rattle.text_words.specs.Words.{digest_word, enclave_word, hexadecimal, line_text, with_words, word_text};
+ghost use Rattle.text_words.specs.Room.{LacksRoom, UsesRoom, word_room, words_room};
 
 use sgx_types::names::{Frame, Memory};
 
@@ -42,7 +43,9 @@ fn digit(value: u64) -> u8
 fn push_digits(number: u64, base: u64, onto: &mut Vec<u8>) -> Result<(), Memory>
     requires least { 2 ≤ base }
     requires most { base ≤ 16 }
-    ensures { OnOk result (onto.new.items ≡ onto.old.items ++ digits base false number) }
+    ensures text { OnOk result (onto.new.items ≡ onto.old.items ++ digits base false number) }
+    ensures full { OnErr result (LacksRoom 64 onto.old) }
+    ensures room { OnOk result (UsesRoom 64 onto.old onto.new) }
 {
     let mut digits = [0; 64];
     let mut start = digits.len();
@@ -60,14 +63,18 @@ fn push_digits(number: u64, base: u64, onto: &mut Vec<u8>) -> Result<(), Memory>
 }
 
 fn push_hexadecimal(number: u64, onto: &mut Vec<u8>) -> Result<(), Memory>
-    ensures { OnOk result (onto.new.items ≡ onto.old.items ++ hexadecimal number) }
+    ensures text { OnOk result (onto.new.items ≡ onto.old.items ++ hexadecimal number) }
+    ensures full { OnErr result (LacksRoom 66 onto.old) }
+    ensures room { OnOk result (UsesRoom 66 onto.old onto.new) }
 {
     onto.extend_from_slice(b"0x")?;
     push_digits(number, 16, onto)
 }
 
 fn push_enclave(enclave: u64, onto: &mut Vec<u8>) -> Result<(), Memory>
-    ensures { OnOk result (onto.new.items ≡ onto.old.items ++ enclave_word enclave) }
+    ensures text { OnOk result (onto.new.items ≡ onto.old.items ++ enclave_word enclave) }
+    ensures full { OnErr result (LacksRoom 64 onto.old) }
+    ensures room { OnOk result (UsesRoom 64 onto.old onto.new) }
 {
     match enclave {
         1..=8 => {
@@ -79,7 +86,9 @@ fn push_enclave(enclave: u64, onto: &mut Vec<u8>) -> Result<(), Memory>
 }
 
 fn push_digest(digest: [u8; 32], onto: &mut Vec<u8>) -> Result<(), Memory>
-    ensures { OnOk result (onto.new.items ≡ onto.old.items ++ digest_word digest) }
+    ensures text { OnOk result (onto.new.items ≡ onto.old.items ++ digest_word digest) }
+    ensures full { OnErr result (LacksRoom 64 onto.old) }
+    ensures room { OnOk result (UsesRoom 64 onto.old onto.new) }
 {
     let mut digits = [0; 64];
     hex::encode_to_slice(digest, &mut digits).unwrap();
@@ -89,7 +98,9 @@ fn push_digest(digest: [u8; 32], onto: &mut Vec<u8>) -> Result<(), Memory>
 
 /// Writes a word, with no space before it.
 pub fn push_word(word: Word, onto: &mut Vec<u8>) -> Result<(), Memory>
-    ensures { OnOk result (onto.new.items ≡ onto.old.items ++ word_text word) }
+    ensures text { OnOk result (onto.new.items ≡ onto.old.items ++ word_text word) }
+    ensures full { OnErr result (LacksRoom (word_room word) onto.old) }
+    ensures room { OnOk result (UsesRoom (word_room word) onto.old onto.new) }
 {
     match word {
         Word::Name(name) => {
@@ -104,9 +115,11 @@ pub fn push_word(word: Word, onto: &mut Vec<u8>) -> Result<(), Memory>
 }
 
 /// Writes words with a space before each.
-#[tactic(auto, using(crate::proofs::LineLaws::with_words_more))]
+#[tactic(auto, using(crate::proofs::LineLaws::with_words_more, crate::proofs::RoomLaws::words_room_more, crate::proofs::RoomLaws::words_room_next))]
 pub fn push_words(words: &[Word], onto: &mut Vec<u8>) -> Result<(), Memory>
-    ensures { OnOk result (onto.new.items ≡ with_words onto.old.items (map word_text words.now)) }
+    ensures text { OnOk result (onto.new.items ≡ with_words onto.old.items (map word_text words.now)) }
+    ensures full { OnErr result (LacksRoom (words_room words.now) onto.old) }
+    ensures room { OnOk result (UsesRoom (words_room words.now) onto.old onto.new) }
 {
     for word in words {
         onto.push(b' ')?;
@@ -118,8 +131,10 @@ pub fn push_words(words: &[Word], onto: &mut Vec<u8>) -> Result<(), Memory>
 /// Writes a line of words, the first of which is given by itself.
 #[tactic(auto, using(crate::proofs::LineLaws::line_text_cons))]
 pub fn push_line(first: Word, others: &[Word], onto: &mut Vec<u8>) -> Result<(), Memory>
-    ensures { OnOk result (
+    ensures text { OnOk result (
         onto.new.items ≡ onto.old.items ++ line_text (word_text first ∷ map word_text others.now)) }
+    ensures full { OnErr result (LacksRoom (words_room (first ∷ others.now)) onto.old) }
+    ensures room { OnOk result (UsesRoom (words_room (first ∷ others.now)) onto.old onto.new) }
 {
     push_word(first, onto)?;
     push_words(others, onto)?;

@@ -1,11 +1,13 @@
 //! The words of instructions, answers and refusals.
 
-ghost use Rattle.std.specs.Prelude.{◌≡◌, [], ◌∷◌, OnOk};
+ghost use Rattle.std.specs.Prelude.{◌≡◌, ◌+◌, [], ◌∷◌, length, OnErr, OnOk};
 ghost use Rattle.std.specs.Fmt.{decimal};
+ghost use Rattle.text_words.specs.Room.{LacksRoom, UsesRoom};
 ghost use Rattle.text_words.specs.Words.{enclave_word, hexadecimal, with_words};
 ghost use Rattle.trace_text.specs.TraceText.{action_words, init_words};
 
 use crate::names::{access_name, cause_name, kind_name, perms_name};
+use crate::room::ACTION_ROOM;
 use sgx_types::entries::{AccessOp, Action, PageInit};
 use sgx_types::names::{Frame, Kind, Memory, Page, Perm, SlotAt};
 use text_words::words::Word::{Decimal, Digest, Enclave, Hexadecimal, Name};
@@ -13,7 +15,9 @@ use text_words::words::push_words;
 
 /// Writes an instruction's words: its name, and its operands in their order.
 pub(crate) fn push_action(action: &Action, onto: &mut Vec<u8>) -> Result<(), Memory>
-    ensures { OnOk result (onto.new.items ≡ with_words onto.old.items (action_words action.now)) }
+    ensures text { OnOk result (onto.new.items ≡ with_words onto.old.items (action_words action.now)) }
+    ensures full { OnErr result (LacksRoom ACTION_ROOM onto.old) }
+    ensures room { OnOk result (UsesRoom ACTION_ROOM onto.old onto.new) }
 {
     match *action {
         Action::Epa { frame } => push_words(&[Name("epa"), frame.into()], onto),
@@ -76,9 +80,11 @@ fn push_create(
     size: u64,
     onto: &mut Vec<u8>,
 ) -> Result<(), Memory>
-    ensures { OnOk result (
+    ensures text { OnOk result (
         onto.new.items ≡ with_words onto.old.items
         (action_words (Action.Create enclave frame base size))) }
+    ensures full { OnErr result (LacksRoom ACTION_ROOM onto.old) }
+    ensures room { OnOk result (UsesRoom ACTION_ROOM onto.old onto.new) }
 {
     push_words(
         &[
@@ -101,9 +107,11 @@ fn push_add(
     init: PageInit,
     onto: &mut Vec<u8>,
 ) -> Result<(), Memory>
-    ensures { OnOk result (
+    ensures text { OnOk result (
         onto.new.items ≡ with_words onto.old.items
         (action_words (Action.Add enclave number frame kind perm init))) }
+    ensures full { OnErr result (LacksRoom ACTION_ROOM onto.old) }
+    ensures room { OnOk result (UsesRoom ACTION_ROOM onto.old onto.new) }
 {
     push_words(
         &[
@@ -120,7 +128,9 @@ fn push_add(
 }
 
 fn push_page_init(init: PageInit, onto: &mut Vec<u8>) -> Result<(), Memory>
-    ensures { OnOk result (onto.new.items ≡ with_words onto.old.items (init_words init)) }
+    ensures text { OnOk result (onto.new.items ≡ with_words onto.old.items (init_words init)) }
+    ensures full { OnErr result (LacksRoom 150 onto.old) }
+    ensures room { OnOk result (UsesRoom 150 onto.old onto.new) }
 {
     match init {
         PageInit::Words(value) => push_words(&[Name("words"), Decimal(value)], onto),
@@ -132,15 +142,19 @@ fn push_page_init(init: PageInit, onto: &mut Vec<u8>) -> Result<(), Memory>
 }
 
 fn push_extend(frame: Frame, chunk: u8, onto: &mut Vec<u8>) -> Result<(), Memory>
-    ensures { OnOk result (
+    ensures text { OnOk result (
         onto.new.items ≡ with_words onto.old.items (action_words (Action.Extend frame chunk))) }
+    ensures full { OnErr result (LacksRoom ACTION_ROOM onto.old) }
+    ensures room { OnOk result (UsesRoom ACTION_ROOM onto.old onto.new) }
 {
     push_words(&[Name("extend"), frame.into(), Decimal(chunk.into())], onto)
 }
 
 fn push_init(enclave: u16, expect: Option<[u8; 32]>, onto: &mut Vec<u8>) -> Result<(), Memory>
-    ensures { OnOk result (
+    ensures text { OnOk result (
         onto.new.items ≡ with_words onto.old.items (action_words (Action.Init enclave expect))) }
+    ensures full { OnErr result (LacksRoom ACTION_ROOM onto.old) }
+    ensures room { OnOk result (UsesRoom ACTION_ROOM onto.old onto.new) }
 {
     let expected = match expect {
         None => Name("-"),
@@ -158,10 +172,12 @@ fn push_entering(
     ssa_frame: Frame,
     onto: &mut Vec<u8>,
 ) -> Result<(), Memory>
-    ensures { OnOk result (
+    ensures text { OnOk result (
         onto.new.items ≡ with_words onto.old.items
         (name.now ∷ enclave_word enclave ∷ decimal tcs
         ∷ decimal tcs_frame.0 ∷ decimal ssa_frame.0 ∷ [])) }
+    ensures full { OnErr result (LacksRoom (length name.now + 300) onto.old) }
+    ensures room { OnOk result (UsesRoom (length name.now + 300) onto.old onto.new) }
 {
     push_words(
         &[
@@ -176,23 +192,29 @@ fn push_entering(
 }
 
 fn push_fill(number: u32, frame: Frame, onto: &mut Vec<u8>) -> Result<(), Memory>
-    ensures { OnOk result (
+    ensures text { OnOk result (
         onto.new.items ≡ with_words onto.old.items (action_words (Action.Fill number frame))) }
+    ensures full { OnErr result (LacksRoom ACTION_ROOM onto.old) }
+    ensures room { OnOk result (UsesRoom ACTION_ROOM onto.old onto.new) }
 {
     push_words(&[Name("fill"), Decimal(number.into()), frame.into()], onto)
 }
 
 fn push_write(name: &'static str, off: u64, value: u64, onto: &mut Vec<u8>) -> Result<(), Memory>
-    ensures { OnOk result (
+    ensures text { OnOk result (
         onto.new.items ≡ with_words onto.old.items
         (name.now ∷ hexadecimal off ∷ decimal value ∷ [])) }
+    ensures full { OnErr result (LacksRoom (length name.now + 300) onto.old) }
+    ensures room { OnOk result (UsesRoom (length name.now + 300) onto.old onto.new) }
 {
     push_words(&[Name(name), Hexadecimal(off), Decimal(value)], onto)
 }
 
 fn push_pf(access: AccessOp, off: u64, onto: &mut Vec<u8>) -> Result<(), Memory>
-    ensures { OnOk result (
+    ensures text { OnOk result (
         onto.new.items ≡ with_words onto.old.items (action_words (Action.Pf access off))) }
+    ensures full { OnErr result (LacksRoom ACTION_ROOM onto.old) }
+    ensures room { OnOk result (UsesRoom ACTION_ROOM onto.old onto.new) }
 {
     push_words(
         &[Name("pf"), Name(access_name(access)), Hexadecimal(off)],
@@ -201,8 +223,10 @@ fn push_pf(access: AccessOp, off: u64, onto: &mut Vec<u8>) -> Result<(), Memory>
 }
 
 fn push_outload(enclave: u16, off: u64, onto: &mut Vec<u8>) -> Result<(), Memory>
-    ensures { OnOk result (
+    ensures text { OnOk result (
         onto.new.items ≡ with_words onto.old.items (action_words (Action.OutLoad enclave off))) }
+    ensures full { OnErr result (LacksRoom ACTION_ROOM onto.old) }
+    ensures room { OnOk result (UsesRoom ACTION_ROOM onto.old onto.new) }
 {
     push_words(
         &[Name("outload"), Enclave(enclave.into()), Hexadecimal(off)],
@@ -211,9 +235,11 @@ fn push_outload(enclave: u16, off: u64, onto: &mut Vec<u8>) -> Result<(), Memory
 }
 
 fn push_outstore(enclave: u16, off: u64, value: u64, onto: &mut Vec<u8>) -> Result<(), Memory>
-    ensures { OnOk result (
+    ensures text { OnOk result (
         onto.new.items ≡ with_words onto.old.items
         (action_words (Action.OutStore enclave off value))) }
+    ensures full { OnErr result (LacksRoom ACTION_ROOM onto.old) }
+    ensures room { OnOk result (UsesRoom ACTION_ROOM onto.old onto.new) }
 {
     push_words(
         &[
@@ -227,8 +253,10 @@ fn push_outstore(enclave: u16, off: u64, value: u64, onto: &mut Vec<u8>) -> Resu
 }
 
 fn push_ewbstart(frame: Frame, slot: SlotAt, onto: &mut Vec<u8>) -> Result<(), Memory>
-    ensures { OnOk result (
+    ensures text { OnOk result (
         onto.new.items ≡ with_words onto.old.items (action_words (Action.EwbStart frame slot))) }
+    ensures full { OnErr result (LacksRoom ACTION_ROOM onto.old) }
+    ensures room { OnOk result (UsesRoom ACTION_ROOM onto.old onto.new) }
 {
     push_words(
         &[
@@ -242,9 +270,11 @@ fn push_ewbstart(frame: Frame, slot: SlotAt, onto: &mut Vec<u8>) -> Result<(), M
 }
 
 fn push_eldstart(frame: Frame, page: Page, slot: SlotAt, onto: &mut Vec<u8>) -> Result<(), Memory>
-    ensures { OnOk result (
+    ensures text { OnOk result (
         onto.new.items ≡ with_words onto.old.items
         (action_words (Action.EldStart frame page slot))) }
+    ensures full { OnErr result (LacksRoom ACTION_ROOM onto.old) }
+    ensures room { OnOk result (UsesRoom ACTION_ROOM onto.old onto.new) }
 {
     push_words(
         &[

@@ -3,6 +3,7 @@
 
 mod actions;
 pub mod names;
+pub mod room;
 #[cfg(test)]
 mod tests;
 pub mod trace;

@@ -1,15 +1,17 @@
 //! The words for the cases of an enum.
 
-ghost use Rattle.std.specs.Prelude.{◌≡◌, [], ◌∷◌};
+ghost use Rattle.std.specs.Prelude.{◌≡◌, ◌≤◌, [], ◌∷◌, length};
 ghost use Rattle.trace_text.specs.TraceText.{access_word, cause_word, fault_word, kind_word, look_word, perms_word, refusal_name};
 ghost use Rattle.trace_text.specs.TraceText.{stop_word};
 
+use crate::room::LONGEST_NAME;
 use sgx_types::entries::{AccessOp, BusWhy, Cause, Look, PfWhy};
 use sgx_types::names::{Kind, Perm};
 use sgx_types::refusals::Refusal;
 
 pub(crate) fn kind_name(kind: Kind) -> &'static str
-    ensures { result.now ≡ kind_word kind }
+    ensures name { result.now ≡ kind_word kind }
+    ensures short { length result.now ≤ LONGEST_NAME }
 {
     match kind {
         Kind::Secs => "secs",
@@ -20,7 +22,8 @@ pub(crate) fn kind_name(kind: Kind) -> &'static str
 }
 
 pub(crate) fn perms_name(perm: Perm) -> &'static str
-    ensures { result.now ≡ perms_word perm }
+    ensures name { result.now ≡ perms_word perm }
+    ensures short { length result.now ≤ LONGEST_NAME }
 {
     match (perm.r, perm.w, perm.x) {
         (false, false, false) => "-",
@@ -35,7 +38,8 @@ pub(crate) fn perms_name(perm: Perm) -> &'static str
 }
 
 pub(crate) fn cause_name(cause: Cause) -> &'static str
-    ensures { result.now ≡ cause_word cause }
+    ensures name { result.now ≡ cause_word cause }
+    ensures short { length result.now ≤ LONGEST_NAME }
 {
     match cause {
         Cause::Timer => "timer",
@@ -46,7 +50,8 @@ pub(crate) fn cause_name(cause: Cause) -> &'static str
 }
 
 pub(crate) fn access_name(access: AccessOp) -> &'static str
-    ensures { result.now ≡ access_word access }
+    ensures name { result.now ≡ access_word access }
+    ensures short { length result.now ≤ LONGEST_NAME }
 {
     match access {
         AccessOp::Load => "load",
@@ -56,7 +61,8 @@ pub(crate) fn access_name(access: AccessOp) -> &'static str
 }
 
 pub fn fault_name(fault: PfWhy) -> &'static str
-    ensures { result.now ≡ fault_word fault }
+    ensures name { result.now ≡ fault_word fault }
+    ensures short { length result.now ≤ LONGEST_NAME }
 {
     match fault {
         PfWhy::Absent => "absent",
@@ -66,7 +72,8 @@ pub fn fault_name(fault: PfWhy) -> &'static str
 }
 
 pub(crate) fn look_name(look: Look) -> &'static str
-    ensures { result.now ≡ look_word look }
+    ensures name { result.now ≡ look_word look }
+    ensures short { length result.now ≤ LONGEST_NAME }
 {
     match look {
         Look::Young => "young",
@@ -77,7 +84,8 @@ pub(crate) fn look_name(look: Look) -> &'static str
 }
 
 pub(crate) fn stop_name(stop: BusWhy) -> &'static str
-    ensures { result.now ≡ stop_word stop }
+    ensures name { result.now ≡ stop_word stop }
+    ensures short { length result.now ≤ LONGEST_NAME }
 {
     match stop {
         BusWhy::GetFailed => "get",
@@ -90,7 +98,8 @@ pub(crate) fn stop_name(stop: BusWhy) -> &'static str
 
 /// The name of a refusal, without its numbers.
 pub fn refusal_name(refusal: &Refusal) -> &'static str
-    ensures { refusal_name refusal.now ≡ result.now ∷ [] }
+    ensures name { refusal_name refusal.now ≡ result.now ∷ [] }
+    ensures short { length result.now ≤ LONGEST_NAME }
 {
     match refusal {
         Refusal::PgInvld => "PgInvld",

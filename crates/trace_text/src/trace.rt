@@ -1,11 +1,13 @@
 //! The text of a trace.
 
-ghost use Rattle.std.specs.Prelude.{◌≡◌, ◌++◌, drop, reverse, OnOk, IfOk};
-ghost use Rattle.trace_text.specs.TraceText.{actor_word, answer_words, entry_text, event_words, refusal_words, spelling, trace_of};
+ghost use Rattle.std.specs.Prelude.{◌≡◌, ◌++◌, drop, reverse, OnErr, OnOk, IfOk};
+ghost use Rattle.trace_text.specs.TraceText.{actor_word, answer_words, entry_text, event_words, first_line, last_line, refusal_words, spelling, trace_of};
+ghost use Rattle.text_words.specs.Room.{LacksRoom, UsesRoom};
 ghost use Rattle.text_words.specs.Words.{with_words};
 
 use crate::actions::push_action;
 use crate::names::{fault_name, look_name, refusal_name, stop_name};
+use crate::room::{ACTOR_ROOM, ANSWER_ROOM, EVENT_ROOM, LONGEST_LINE, SPELLING_ROOM};
 use sgx_types::entries::{Actor, Answer, Entry, Event};
 use sgx_types::names::Memory;
 use sgx_types::refusals::Refusal;
@@ -19,18 +21,38 @@ pub fn print_trace(alloc: Global, entries: &[Entry]) -> Result<Vec<u8>, Memory>
     ensures { IfOk result (λ text. text.items ≡ trace_of (reverse entries.now)) }
 {
     let mut text = Vec::new(alloc);
-    push_line(Name("trace"), &[Name("1")], &mut text)?;
+    print_first_line(&mut text)?;
     for entry in entries {
         print_entry(entry, &mut text)?;
     }
-    push_line(Name("end"), &[Decimal(entries.len() as u64)], &mut text)?;
+    print_last_line(entries.len(), &mut text)?;
     Ok(text)
+}
+
+/// Writes the line before the entries.
+pub fn print_first_line(onto: &mut Vec<u8>) -> Result<(), Memory>
+    ensures text { OnOk result (onto.new.items ≡ onto.old.items ++ first_line) }
+    ensures full { OnErr result (LacksRoom LONGEST_LINE onto.old) }
+    ensures room { OnOk result (UsesRoom LONGEST_LINE onto.old onto.new) }
+{
+    push_line(Name("trace"), &[Name("1")], onto)
+}
+
+/// Writes the line behind so many entries.
+pub fn print_last_line(entries: usize, onto: &mut Vec<u8>) -> Result<(), Memory>
+    ensures text { OnOk result (onto.new.items ≡ onto.old.items ++ last_line entries) }
+    ensures full { OnErr result (LacksRoom LONGEST_LINE onto.old) }
+    ensures room { OnOk result (UsesRoom LONGEST_LINE onto.old onto.new) }
+{
+    push_line(Name("end"), &[Decimal(entries as u64)], onto)
 }
 
 /// Writes the line of an entry.
 #[tactic(auto, unfolding(crate::specs::TraceText::entry_text))]
 pub fn print_entry(entry: &Entry, onto: &mut Vec<u8>) -> Result<(), Memory>
-    ensures { OnOk result (onto.new.items ≡ onto.old.items ++ entry_text entry.now) }
+    ensures text { OnOk result (onto.new.items ≡ onto.old.items ++ entry_text entry.now) }
+    ensures full { OnErr result (LacksRoom LONGEST_LINE onto.old) }
+    ensures room { OnOk result (UsesRoom LONGEST_LINE onto.old onto.new) }
 {
     print_spelling(entry, onto)?;
     onto.push(b'\n')?;
@@ -40,14 +62,18 @@ pub fn print_entry(entry: &Entry, onto: &mut Vec<u8>) -> Result<(), Memory>
 /// Writes the line of an entry without its line feed.
 #[tactic(auto, using(text_words::proofs::LineLaws::with_words_join), unfolding(crate::specs::TraceText::spelling))]
 pub fn print_spelling(entry: &Entry, onto: &mut Vec<u8>) -> Result<(), Memory>
-    ensures { OnOk result (onto.new.items ≡ onto.old.items ++ spelling entry.now) }
+    ensures text { OnOk result (onto.new.items ≡ onto.old.items ++ spelling entry.now) }
+    ensures full { OnErr result (LacksRoom SPELLING_ROOM onto.old) }
+    ensures room { OnOk result (UsesRoom SPELLING_ROOM onto.old onto.new) }
 {
     push_actor(&entry.actor, onto)?;
     push_event(&entry.event, onto)
 }
 
 fn push_actor(actor: &Actor, onto: &mut Vec<u8>) -> Result<(), Memory>
-    ensures { OnOk result (onto.new.items ≡ onto.old.items ++ actor_word actor.now) }
+    ensures text { OnOk result (onto.new.items ≡ onto.old.items ++ actor_word actor.now) }
+    ensures full { OnErr result (LacksRoom ACTOR_ROOM onto.old) }
+    ensures room { OnOk result (UsesRoom ACTOR_ROOM onto.old onto.new) }
 {
     match *actor {
         Actor::Builder => push_word(Name("b"), onto),
@@ -61,7 +87,9 @@ fn push_actor(actor: &Actor, onto: &mut Vec<u8>) -> Result<(), Memory>
 
 #[tactic(auto, using(text_words::proofs::LineLaws::with_words_append))]
 fn push_event(event: &Event, onto: &mut Vec<u8>) -> Result<(), Memory>
-    ensures { OnOk result (onto.new.items ≡ with_words onto.old.items (event_words event.now)) }
+    ensures text { OnOk result (onto.new.items ≡ with_words onto.old.items (event_words event.now)) }
+    ensures full { OnErr result (LacksRoom EVENT_ROOM onto.old) }
+    ensures room { OnOk result (UsesRoom EVENT_ROOM onto.old onto.new) }
 {
     match *event {
         Event::Did { action, answer } => {
@@ -96,7 +124,9 @@ fn push_event(event: &Event, onto: &mut Vec<u8>) -> Result<(), Memory>
 }
 
 fn push_answer(answer: &Answer, onto: &mut Vec<u8>) -> Result<(), Memory>
-    ensures { OnOk result (onto.new.items ≡ with_words onto.old.items (answer_words answer.now)) }
+    ensures text { OnOk result (onto.new.items ≡ with_words onto.old.items (answer_words answer.now)) }
+    ensures full { OnErr result (LacksRoom ANSWER_ROOM onto.old) }
+    ensures room { OnOk result (UsesRoom ANSWER_ROOM onto.old onto.new) }
 {
     match *answer {
         Answer::Plain => Ok(()),
@@ -120,15 +150,19 @@ fn push_answer(answer: &Answer, onto: &mut Vec<u8>) -> Result<(), Memory>
 /// Writes a refusal's name and its numbers.
 #[tactic(auto, using(text_words::proofs::LineLaws::with_words_named))]
 fn push_refusal(refusal: &Refusal, onto: &mut Vec<u8>) -> Result<(), Memory>
-    ensures { OnOk result (onto.new.items ≡ with_words onto.old.items (refusal_words refusal.now)) }
+    ensures text { OnOk result (onto.new.items ≡ with_words onto.old.items (refusal_words refusal.now)) }
+    ensures full { OnErr result (LacksRoom ANSWER_ROOM onto.old) }
+    ensures room { OnOk result (UsesRoom ANSWER_ROOM onto.old onto.new) }
 {
     push_words(&[Name(refusal_name(refusal))], onto)?;
     push_refusal_fields(refusal, onto)
 }
 
 fn push_refusal_fields(refusal: &Refusal, onto: &mut Vec<u8>) -> Result<(), Memory>
-    ensures { OnOk result (
+    ensures text { OnOk result (
         onto.new.items ≡ with_words onto.old.items (drop 1 (refusal_words refusal.now))) }
+    ensures full { OnErr result (LacksRoom 250 onto.old) }
+    ensures room { OnOk result (UsesRoom 250 onto.old onto.new) }
 {
     match *refusal {
         Refusal::PrevTrk { older } => push_words(&[Decimal(older.into())], onto),
