@@ -1,0 +1,13 @@
+pub mod EnclaveLeads
+pub mod Leads
+pub mod LineTexts
+pub mod ListLaws
+pub mod PartLaws
+pub mod Plain
+pub mod Printable
+pub mod ReadsBack
+pub mod RunLeads
+pub mod Sizes
+pub mod Spellings
+pub mod Stands
+pub mod TextLaws

@@ -1,0 +1,6 @@
+// The canonical text of a job, and that reading it gives the job.
+#![tactic(auto)]
+
+mod lines;
+pub mod printer;
+mod statements;
