@@ -3,3 +3,4 @@ pub mod FinishLaws
 pub mod LoadRows
 pub mod DueLaws
 pub mod EndLaws
+pub mod OwnRecords
