@@ -1,3 +1,4 @@
 pub mod CountLaws
 pub mod ShowLaws
 pub mod LoadShowLaws
+pub mod FirstLaws
