@@ -24,7 +24,9 @@ pub mod UsedLaws
 pub mod ReadyLaws
 pub mod RowLaws
 pub mod CountLaws
+pub mod StepLaws
 pub mod BuiltLaws
+pub mod ArrayLaws
 pub mod EndLaws
 pub mod LoadLaws
 pub mod KeepLaws

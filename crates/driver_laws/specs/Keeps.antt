@@ -1,13 +1,16 @@
 -- How the keeper of the version slots moves with each kind of entry.
-use Rattle.std.specs.Prelude.{◌≡◌, false, List, Some, length}
+use Rattle.std.specs.Prelude.{◌≡◌, Bool, true, false, List, Some, count_by, length, take}
 use Rattle.sgx_types.specs.declared.entries.Action.TheVariants.{Epa, Add, EwbStart, Eld}
 use Rattle.sgx_types.specs.declared.entries.Entry.{Entry}
 use Rattle.sgx_types.specs.declared.entries.Event.{Event}
-use Rattle.sgx_types.specs.declared.entries.Event.TheVariants.{Did}
+use Rattle.sgx_types.specs.declared.entries.Event.TheVariants.{Did, Refused}
 use Rattle.sgx_types.specs.declared.names.SlotAt.{SlotAt}
 use Rattle.sgx_types.specs.Slots.{open_slot}
 use Rattle.version_array.specs.Keeper.{Adds, Gives, Keeper, Takes, count_out, is_out}
 use Rattle.job_grammar.specs.Jobs.{JobView, va_pages}
+use Rattle.turn_rules.specs.declared.steps.BuildStep.{BuildStep}
+use Rattle.turn_rules.specs.declared.steps.BuildStep.TheVariants as builds
+use Rattle.turn_rules.specs.Script.{build_of, built}
 use Rattle.driver_laws.specs.Agrees.{has_pages}
 
 -- the same slots are out, of the same pages
@@ -29,3 +32,20 @@ abbrev pub ArraysFirst : JobView → Keeper → List Entry → Event → Type 0
 ArraysFirst j keeper past (Did (Epa f) answer) = has_pages past ≡ false
 ArraysFirst j keeper past (Did (Add enclave number f kind perm init) answer) = length keeper.frames ≡ va_pages j
 ArraysFirst j keeper past _ = Unit {0}
+
+-- a step of the build makes a version array page
+abbrev pub is_va_step : BuildStep → Bool
+is_va_step builds.Va = true
+is_va_step _ = false
+
+abbrev pub is_epa : Event → Bool
+is_epa (Did (Epa f) answer) = true
+is_epa _ = false
+
+abbrev pub is_epa_refused : Event → Bool
+is_epa_refused (Refused (Epa f) refusal) = true
+is_epa_refused _ = false
+
+-- as many version array pages were made as the builder's steps till now make
+abbrev pub ArraysAreBuilt : JobView → Keeper → List Entry → Type 0
+ArraysAreBuilt j keeper past = length keeper.frames ≡ count_by is_va_step (take (built past) (build_of j))

@@ -34,7 +34,7 @@ ghost use Rattle.driver_laws.specs.Sound.{IsSound, is_absent};
 ghost use Rattle.driver_laws.specs.Stages.{IsTaken, KeepsPages};
 ghost use Rattle.driver_laws.specs.Three.{IsApart, TcsAreApart, three};
 ghost use Rattle.driver_laws.specs.Counted.{AddsAreBuilt, CountMoves, CountsSlots};
-ghost use Rattle.driver_laws.specs.Keeps.{ArraysFirst, KeeperMoves};
+ghost use Rattle.driver_laws.specs.Keeps.{ArraysAreBuilt, ArraysFirst, KeeperMoves, is_epa_refused};
 ghost use Rattle.driver_laws.specs.Loads.{IsEndedBy, LoadsAreTheirs, TheirRule, load_ended};
 ghost use Rattle.driver_laws.specs.Used.{SealingAreOpen, SlotsAreUsed, StartTells, StartsAlone, left_to_refuse};
 ghost use Rattle.driver_laws.specs.Tracks.{IsCalm, IsTracked, IsUntracked, KeepsTracks, OwnRule, TryTells};
@@ -144,6 +144,16 @@ pub fn the_keeper_agrees()
         → ShowsSlots j new (e ∷ past) }
     ensures counted { (past : List Entry) (event : Event) (old new : Keeper) → KeeperMoves past event old new
         → CountMoves event (count_out old) (count_out new) }
+{}
+
+/// By the build's order the version array pages are made first, all of them before a page is added: as many were made as the builder's
+/// steps till now make, where none was refused.
+pub fn arrays_come_first()
+    ensures first { (j : JobView) (pages : ℕ) → ArraysAreBuilt j (new_keeper pages) [] }
+    ensures more { (j : JobView) (old new : Keeper) (past : List Entry) (e : Entry) → ScriptRule j past e → AgeRule j past e
+        → is_epa_refused e.event ≡ false → KeeperMoves past e.event old new → ArraysAreBuilt j old past → ArraysAreBuilt j new (e ∷ past) }
+    ensures order { (j : JobView) (keeper : Keeper) (past : List Entry) (e : Entry) → ScriptRule j past e → AgeRule j past e
+        → AddsAreBuilt j past → ArraysAreBuilt j keeper past → ArraysFirst j keeper past e.event }
 {}
 
 /// As many slots are out as pages have one: each entry keeps it.
