@@ -1,27 +1,28 @@
 -- The driver's tables before a job's first entry.
-use Rattle.std.proofs.Common.{rules, ◌≡◌, ℕ, ◌+◌, ◌≤◌, Bool, true, false, List, [], ◌∷◌, Option, None, Some, length, map, replicate, sum, get_or, refl, sym, ap, subst, ◌∙◌, arith}
-use Rattle.std.proofs.lemmas.List.{get_or-replicate, length-replicate}
+use Rattle.std.proofs.Common.{◌≡◌, ℕ, ◌≤◌, Bool, true, false, [], ◌∷◌, None, length, map, replicate, sum, get_or, leb, refl, sym, ap, subst, ◌∙◌, arith}
+use Rattle.std.proofs.lemmas.List.{get_or-replicate, get_or_past, length-replicate}
 use Rattle.std.proofs.lemmas.List.Sums.{sum_by-cons}
-use Rattle.std.proofs.lemmas.Bool.{false≢true}
-use Rattle.sgx_types.specs.declared.names.Page.{Page}
+use Rattle.std.proofs.lemmas.Bool.{false≢true, leb-true}
 use Rattle.job_grammar.specs.Jobs.{JobView, va_pages}
 use Rattle.job_grammar.specs.Valid.{IsValid}
-use Rattle.active_list.specs.Active.{new_active}
-use Rattle.active_list.specs.Keeping.{Kept, kept_at, page_kept}
-use Rattle.active_list.specs.Places.{IsPlaced, place_of}
-use Rattle.active_list.specs.States.{StateTable, all_absent, state_of}
-use Rattle.active_list.specs.declared.page_states.PageState.{PageState}
+use Rattle.active_list.specs.Keeping.{kept_at, page_kept}
+use Rattle.active_list.specs.Places.{place_of}
+use Rattle.active_list.specs.States.{state_of}
 use Rattle.active_list.specs.declared.page_states.PageState.TheVariants as states
-use Rattle.version_array.specs.Keeper.{Keeper, new_keeper}
-use Rattle.driver_rules.specs.Places.{Absent}
+use Rattle.version_array.specs.Keeper.{new_keeper}
 use Rattle.driver_laws.specs.Agrees.{ShowsSlots}
 use Rattle.driver_tables.specs.declared.driver.Driver.{Driver}
 use Rattle.driver_tables.specs.Counts.{page_counts}
-use Rattle.driver_tables.specs.Tables.{IsNew, ShowsTables, place_in}
+use Rattle.driver_tables.specs.Tables.{IsNew, ShowsTables, listed, place_in}
 
 -- a place of a table that is the same everywhere
 all_same : {A : Type 0} (n : ℕ) (x : A) (i : ℕ) → get_or (replicate n x) i x ≡ x
-all_same n x i = search rules
+all_same n x i = by_test (leb n i) refl
+  where
+    by_test : (b : Bool) → leb n i ≡ b → get_or (replicate n x) i x ≡ x
+    by_test true is =
+        get_or_past (replicate n x) i x (let high : n ≤ i = leb-true n i is in let len = length-replicate n x in omega (arith, high, len))
+    by_test false is = get_or-replicate n i x x (grind (arith, is))
 
 slots_first : (j : JobView) (pages : ℕ) → ShowsSlots j (new_keeper pages) []
 slots_first j pages = record {
@@ -34,7 +35,7 @@ slots_first j pages = record {
 
 pub shows_first : (j : JobView) (d : Driver) → IsValid j → IsNew j d → ShowsTables j d []
 shows_first j d v new = record {
-  list = ap (λ a. map _ a.pages) new.active;
+  list = ap (λ a. map listed a.pages) new.active;
   states = λ g h. ap (λ s. place_in (state_of s g)) new.states ∙ ap place_in (all_same (sum (page_counts j)) states.Absent (place_of (0 ∷ page_counts j) g));
   placed = λ g h. absurd (false≢true (sym h));
   slots = subst (λ k. ShowsSlots j k []) (sym new.slots) (slots_first j (va_pages j));
@@ -49,4 +50,6 @@ shows_first j d v new = record {
 }
   where
     sizes : length (replicate (sum (page_counts j)) states.Absent) ≡ sum (0 ∷ page_counts j)
-    sizes = length-replicate (sum (page_counts j)) states.Absent ∙ sym (sum_by-cons (λ x. x) 0 (page_counts j))
+    sizes =
+        let len : length (replicate (sum (page_counts j)) states.Absent) ≡ sum (page_counts j) = length-replicate (sum (page_counts j)) states.Absent in
+        omega (arith, len, sum_by-cons (λ x. x) 0 (page_counts j))

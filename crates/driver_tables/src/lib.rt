@@ -3,4 +3,5 @@
 
 mod counts;
 pub mod driver;
+pub mod laws;
 pub mod moves;

@@ -1,0 +1,33 @@
+-- What an entry has to be, so that driver and machine agree on the entries with it.
+use Rattle.std.specs.Prelude.{◌≡◌, List, ◌∷◌, length}
+use Rattle.sgx_types.specs.declared.entries.Entry.{Entry}
+use Rattle.sgx_types.specs.Making.{Making}
+use Rattle.job_grammar.specs.Jobs.{JobView}
+use Rattle.version_array.specs.Keeper.{count_out}
+use Rattle.paging_laws.specs.Shape.{FitsApart, ShapeWithRules}
+use Rattle.paging_machine.specs.Parts.{Parts, state_of}
+use Rattle.driver_rules.specs.Ages.{AgeRule, KickRule}
+use Rattle.driver_rules.specs.Scripts.{ScriptRule}
+use Rattle.driver_laws.specs.Counted.{CountMoves}
+use Rattle.driver_laws.specs.Kinds.{CanMove}
+use Rattle.driver_laws.specs.Tracks.{TryTells}
+use Rattle.driver_laws.specs.Used.{StartTells}
+use Rattle.driver_tables.specs.declared.driver.Driver.{Driver}
+use Rattle.driver_tables.specs.Tables.{ShowsTables}
+
+pub record IsNextOf (made : Making) (j : JobView) (past : List Entry) (d : Driver) (m : Parts) (e : Entry) (d' : Driver) (m' : Parts) : Type 0 where
+  -- it is its actor's next, by the rules
+  pub script : ScriptRule j past e
+  pub age : AgeRule j past e
+  pub kick : KickRule j past e
+  -- it can move its page, and what it tells of a try and of a start is so
+  pub can : CanMove past e.event
+  pub tries : TryTells past e.event
+  pub starts : StartTells past e.event
+  -- the machine goes on with it, by its own clauses
+  pub follows : ShapeWithRules made (state_of m') (e ∷ past)
+  pub fits : FitsApart made.frames (e ∷ past)
+  pub cpus : length m'.cpus ≡ length m.cpus
+  -- and so do the tables
+  pub shows : ShowsTables j d' (e ∷ past)
+  pub counts : CountMoves e.event (count_out d.slots) (count_out d'.slots)

@@ -1,0 +1,17 @@
+//! That driver and machine go on to agree. A law is the contract of a function without arguments.
+
+ghost use Rattle.std.specs.Prelude.{List, ◌∷◌};
+ghost use Rattle.driver_steps.specs.Agrees.{Agrees};
+ghost use Rattle.driver_steps.specs.Asked.{IsNextOf};
+ghost use Rattle.driver_tables.specs.declared.driver.Driver.{Driver};
+ghost use Rattle.job_grammar.specs.Jobs.{JobView};
+ghost use Rattle.paging_machine.specs.Parts.{Parts};
+ghost use Rattle.sgx_types.specs.Making.{Making};
+ghost use Rattle.sgx_types.specs.declared.entries.Entry.{Entry};
+
+/// Where driver and machine agree on some entries, they agree on one entry more of any actor and any kind, which is that actor's next by
+/// the rules, as long as machine and tables show it.
+pub fn agrees_goes_on()
+    ensures { (made : Making) (j : JobView) (past : List Entry) (d d' : Driver) (m m' : Parts) (e : Entry) → Agrees made j past d m
+        → IsNextOf made j past d m e d' m' → Agrees made j (e ∷ past) d' m' }
+{}

@@ -1,0 +1,5 @@
+use Rattle.driver_tables.proofs.FirstLaws.{shows_first}
+use Rattle.driver_tables.proofs.laws.tables_begin.Goals as goal
+
+pub returns : goal.returns
+returns c j d v new = shows_first j d v new
