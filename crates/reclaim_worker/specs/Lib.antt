@@ -1,0 +1,11 @@
+pub mod Looked
+pub mod Tables
+pub mod Answers
+pub mod Standing
+pub mod Tried
+pub mod Scans
+pub mod Moves
+pub mod Turning
+pub mod Ready
+pub mod Kept
+pub mod After
