@@ -1,5 +1,5 @@
 -- What the pass stands for behind a look and behind a block.
-use Rattle.std.proofs.Common.{◌≡◌, ℕ, zero, suc, ◌+◌, ◌-◌, ◌<◌, ◌≤◌, true, false, refl, sym, ◌∙◌, ap, subst, List, [], ◌∷◌, ◌++◌, drop, length, nat_lt, Some, arith}
+use Rattle.std.proofs.Common.{◌≡◌, ◌⊎◌, inl, inr, ℕ, zero, suc, ◌+◌, ◌-◌, ◌<◌, ◌≤◌, true, false, refl, sym, ◌∙◌, ap, subst, List, [], ◌∷◌, ◌++◌, drop, length, nat_lt, Some, arith}
 use Rattle.std.proofs.lemmas.Bool.{eq-eqb}
 use Rattle.sgx_types.specs.declared.entries.Action.TheVariants.{Block, EwbStart, Track}
 use Rattle.sgx_types.specs.declared.entries.Action.{Action}
@@ -14,7 +14,7 @@ use Rattle.driver_rules.specs.Passes as passes
 use Rattle.reclaim_worker.specs.declared.turns.Form as forms_of
 use Rattle.sgx_types.specs.declared.entries.Answer.TheVariants as answers
 use Rattle.sgx_types.specs.declared.entries.Entry.{Entry}
-use Rattle.sgx_types.specs.declared.entries.Event.TheVariants.{Did, Refused, Age}
+use Rattle.sgx_types.specs.declared.entries.Event.TheVariants.{Did, Refused, Age, Kick}
 use Rattle.sgx_types.specs.declared.entries.Look.{Look}
 use Rattle.sgx_types.specs.declared.entries.Look.TheVariants as looks
 use Rattle.sgx_types.specs.declared.names.Page.{Page}
@@ -24,9 +24,10 @@ use Rattle.active_list.specs.declared.page_states.PageState.{PageState}
 use Rattle.active_list.specs.declared.page_states.PageState.TheVariants as states
 use Rattle.active_list.specs.States.{state_of}
 use Rattle.driver_rules.specs.Ages.{head_of}
-use Rattle.driver_rules.specs.Passes.{Between, Blocking, First, Scan, Sealing, Second, ToKick, ToTrack, Tries, block_on, next_tries, scan_on, scanned, taken_by}
+use Rattle.driver_rules.specs.Passes.{Third, decided, free_count, keepers, kicks_on, pass, pass_after, Between, Blocking, First, Scan, Sealing, Second, ToKick, ToTrack, Tries, block_on, next_tries, scan_on, scanned, taken_by}
 use Rattle.driver_rules.specs.Places.{Here, Leaving, active, place}
-use Rattle.driver_laws.specs.Sound.{IsSound, is_absent}
+use Rattle.sgx_types.specs.Starts.{open_start}
+use Rattle.driver_laws.specs.Sound.{slot_at, slot_of, IsSound, is_absent}
 use Rattle.driver_laws.proofs.MoveLaws.{place-quiet, place-taken}
 use Rattle.driver_laws.proofs.SoundLaws.{head_here}
 use Rattle.sgx_types.specs.declared.entries.Actor.TheVariants as actors
@@ -38,6 +39,7 @@ use Rattle.reclaim_worker.specs.declared.turns.PassTurn.{PassTurn}
 use Rattle.reclaim_worker.specs.declared.turns.Taken.{Taken}
 use Rattle.reclaim_worker.specs.Answers.{by_reclaimer}
 use Rattle.reclaim_worker.specs.Moves.{after_block}
+use Rattle.reclaim_worker.specs.After.{cpu_of, kicked_past}
 use Rattle.reclaim_worker.specs.Scans.{IsScan, after_look, frame_in, taken_with}
 use Rattle.reclaim_worker.specs.Standing.{AreInFrames, IsForm, StandsFor, pages_in}
 use Rattle.reclaim_worker.specs.Tables.{Shows}
@@ -171,10 +173,16 @@ module _ (first : ℕ) (j : JobView) (past : List Entry) (taken : List Taken) (n
   stands : (h : List Entry) (form : forms_of.Form) (block : ℕ) (to : passes.Form) → With h form block to → AreInFrames h (drop next taken) → StandsFor first h taken (phases.Tries next form block) (Tries one.page (pages_in rest) to)
   stands h form block to fits at = (record { one = one; rest = rest; due = is; to = to; fits = fits; same = refl }, at)
 
-  -- a start
-  pub started_after : (form : forms_of.Form) (block : ℕ) (to : passes.Form) (slot : SlotAt) (answer : Answer)
-      → StandsFor first (by_reclaimer (Did (EwbStart one.frame slot) answer) ∷ past) taken (phases.Tries next forms.Sealing block) (Tries one.page (pages_in rest) Sealing)
-  started_after form block to slot answer = stands (by_reclaimer (Did (EwbStart one.frame slot) answer) ∷ past) forms.Sealing block Sealing refl (frames_tried past (EwbStart one.frame slot) answer (drop next taken) refl frames)
+  -- a start, which names the slot
+  pub started_after : (to : passes.Form) (slot : SlotAt) (answer : Answer)
+      → StandsFor first (by_reclaimer (Did (EwbStart one.frame slot) answer) ∷ past) taken (phases.Sealing next slot) (Tries one.page (pages_in rest) Sealing)
+  started_after to slot answer = (record { one = one; rest = rest; due = is; same = refl; named = named }, frames_tried past (EwbStart one.frame slot) answer (drop next taken) refl frames)
+    where
+      at : place past one.page ≡ Leaving one.frame.0
+      at = (subst (AreInFrames past) is frames).0
+
+      named : slot_of (by_reclaimer (Did (EwbStart one.frame slot) answer) ∷ past) one.page ≡ Some slot
+      named = ap (slot_at (open_start (by_reclaimer (Did (EwbStart one.frame slot) answer) ∷ past))) at ∙ rw (eq-eqb one.frame.0 one.frame.0 refl) refl
 
   -- the first refusal, which tells the enclave's epoch
   pub refused_after : (slot : SlotAt) (e o : ℕ) → e ≡ epoch first past one.page.enclave
@@ -190,3 +198,35 @@ module _ (first : ℕ) (j : JobView) (past : List Entry) (taken : List Taken) (n
   pub track_after : (block : ℕ) → block ≡ epoch first past one.page.enclave
       → StandsFor first (by_reclaimer (Did (Track one.page.enclave) answers.Plain) ∷ past) taken (phases.Tries next forms.Second block) (Tries one.page (pages_in rest) Second)
   track_after block told = stands (by_reclaimer (Did (Track one.page.enclave) answers.Plain) ∷ past) forms.Second block Second (refl, rw (eq-eqb one.page.enclave one.page.enclave refl) (ap (λ n. n + 1) told)) (frames_tried past (Track one.page.enclave) answers.Plain (drop next taken) refl frames)
+
+  -- the kicks
+  abbrev kick : ℕ → Entry
+  kick p = by_reclaimer (Kick (cpu_of p))
+
+  kicks_still : (ps : List ℕ) (h : List Entry) (ts : List Taken) → AreInFrames h ts → AreInFrames (kicked_past ps h) ts
+  kicks_still [] h ts k = k
+  kicks_still (p ∷ ps) h ts k = kicks_still ps (kick p ∷ h) ts (one_more ts k)
+    where
+      one_more : (ts : List Taken) → AreInFrames h ts → AreInFrames (kick p ∷ h) ts
+      one_more [] k = tt
+      one_more (t ∷ ts) k = (k.0, one_more ts k.1)
+
+  kicks_track : (ps : List ℕ) (h : List Entry) (e : ℕ) → epoch first (kicked_past ps h) e ≡ epoch first h e
+  kicks_track [] h e = refl
+  kicks_track (p ∷ ps) h e = kicks_track ps (kick p ∷ h) e
+
+  -- with these left
+  kicks_left : (ps : List ℕ) (h : List Entry) → pass j h ≡ Tries one.page (pages_in rest) (kicks_on ps) → pass j (kicked_past ps h) ≡ Tries one.page (pages_in rest) Third
+  kicks_left [] h k = k
+  kicks_left (p ∷ ps) h k = kicks_left ps (kick p ∷ h) (ap (λ x. decided j (free_count j.epc (kick p ∷ h)) (pass_after j h actors.Reclaimer (Kick (cpu_of p)) x)) k)
+
+  pub kicks_after : (ps : List ℕ) (block : ℕ) → keepers past one.page ≡ ps → block + 1 ≡ epoch first past one.page.enclave → pass j past ≡ Tries one.page (pages_in rest) ToKick
+      → StandsFor first (kicked_past ps past) taken (phases.Tries next forms.Third block) (pass j (kicked_past ps past))
+  kicks_after [] block none told k = (record { one = one; rest = rest; due = is; to = ToKick; fits = (inr (refl, none), told); same = k }, frames)
+  kicks_after (p ∷ ps) block some told k = (
+    record { one = one; rest = rest; due = is; to = Third; fits = (inl refl, told ∙ sym (kicks_track (p ∷ ps) past one.page.enclave)); same = kicks_left ps (kick p ∷ past) (then ∙ ap (λ qs. Tries one.page (pages_in rest) (kicks_on (drop 1 qs))) some) },
+    kicks_still (p ∷ ps) past (drop next taken) frames,
+  )
+    where
+      then : pass j (kick p ∷ past) ≡ Tries one.page (pages_in rest) (kicks_on (drop 1 (keepers past one.page)))
+      then = ap (λ x. decided j (free_count j.epc (kick p ∷ past)) (pass_after j past actors.Reclaimer (Kick (cpu_of p)) x)) k

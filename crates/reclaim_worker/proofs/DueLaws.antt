@@ -151,7 +151,6 @@ module _ (made : Making) (j : JobView) (past : List Entry) (taken taken' : List 
       let tracked : IsTracked past one.page = subst (λ f. KeepsTracks past (Tries one.page rest f)) is.0 tracks in
       subst (λ f. IsTurn made past d.slots (form_due past one.page true f) turn) (sym is.0)
       (third next block one r at (subst (λ f. HasPages past (Tries one.page rest f)) is.0 has).page tracked told k)
-  form_is_due next forms.Sealing block one rest to r at has tracks is k = absurd k
 
   tries_due : (next : ℕ) (form : Form) (block : ℕ) → Ready made j past taken (phases.Tries next form block) d m → TurnSays taken (phases.Tries next form block) d m turn taken' phase' d' m' → Due (phases.Tries next form block) (pass j past)
   tries_due next form block r k =
@@ -167,6 +166,7 @@ module _ (made : Making) (j : JobView) (past : List Entry) (taken taken' : List 
   turn_is_due (phases.Scan left) r k = scan_is_due j made past taken taken' left (pages_in taken) d d' turn phase' false r.shows r.pages.pages r.stands.same k
   turn_is_due (phases.Block next) r k = block_due next r k
   turn_is_due (phases.Tries next form block) r k = tries_due next form block r k
+  turn_is_due (phases.Sealing next slot) r k = absurd k
 
 pub if_ok : {A E : Type 0} (P Q : A → Type 0) (r : Result A E) → IfOk r P → ((x : A) → P x → Q x) → IfOk r Q
 if_ok P Q (Ok x) h to = to x h

@@ -7,3 +7,4 @@ pub mod DueLaws
 pub mod KeptLaws
 pub mod AfterLaws
 pub mod StandLaws
+pub mod NoteLaws

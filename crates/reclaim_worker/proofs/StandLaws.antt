@@ -25,7 +25,8 @@ use Rattle.sgx_types.specs.Eviction.{is_drained, kept_back}
 use Rattle.reclaim_worker.specs.declared.turns.Form.{Form}
 use Rattle.reclaim_worker.specs.declared.turns.Form.TheVariants as forms
 use Rattle.driver_rules.specs.Places.{Leaving, active, place}
-use Rattle.reclaim_worker.specs.After.{StandsAfter}
+use Rattle.driver_rules.specs.Dues.{Due, KicksAll}
+use Rattle.reclaim_worker.specs.After.{StandsAfter, kicked_past}
 use Rattle.driver_tables.specs.declared.driver.Driver.{Driver}
 use Rattle.reclaim_worker.specs.declared.turns.Phase.{Phase}
 use Rattle.reclaim_worker.specs.declared.turns.Phase.TheVariants as phases
@@ -40,7 +41,7 @@ use Rattle.reclaim_worker.specs.Scans.{IsScanned}
 use Rattle.driver_laws.specs.Stages.{HasPages, IsTaken}
 use Rattle.reclaim_worker.specs.Standing.{AreInFrames, IsForm, StandsFor, pages_in}
 use Rattle.reclaim_worker.specs.Turning.{IsFormTurn, IsThirdTurn, TurnSays}
-use Rattle.reclaim_worker.proofs.AfterLaws.{again_after, block_after, look_after, refused_after, started_after, track_after}
+use Rattle.reclaim_worker.proofs.AfterLaws.{kicks_after, again_after, block_after, look_after, refused_after, started_after, track_after}
 use Rattle.reclaim_worker.proofs.DueLaws.{drop_get, frames_behind, with_page}
 use Rattle.reclaim_worker.proofs.MoveDueLaws.{block_of, block_is_due, due_there, refused_entry, spent_entry, started_entry, track_entry, try_entry}
 use Rattle.reclaim_worker.proofs.KeepLaws.{count_is}
@@ -125,7 +126,7 @@ module _ (made : Making) (j : JobView) (past : List Entry) (taken taken' : List 
   -- the last try
   third_stands : (next block : ℕ) (one : Taken) (rest : List Taken) (to : passes.Form) → Ready made j past taken (phases.Tries next forms.Third block) d m → drop next taken ≡ one ∷ rest → AreInFrames past (drop next taken) → pass j past ≡ Tries one.page (pages_in rest) to
       → place past one.page ≡ Leaving one.frame.0 → IsTaken past true one.page → IsTracked past one.page → block + 1 ≡ epoch made.first_epoch past one.page.enclave → taken' ≡ taken
-      → ((slot : SlotAt) → After (Tries one.page (pages_in rest) to) (turns.Seal (started_entry (state_of m) one slot)) taken (phases.Tries next forms.Sealing block))
+      → ((slot : SlotAt) → After (Tries one.page (pages_in rest) to) (turns.Seal (started_entry (state_of m) one slot)) taken (phases.Sealing next slot))
       → IsThirdTurn next block one m d turn phase' d' m' (count_from (λ p. is_kept_by (cpu_at m p).mode one.page.enclave block) 0 d.cpus) → After (pass j past) turn taken' phase'
   third_stands next block one rest to r is frames passed at w tracked told same starts k = by_keepers (keepers past one.page) refl
     where
@@ -139,17 +140,22 @@ module _ (made : Making) (j : JobView) (past : List Entry) (taken taken' : List 
       by_keepers [] none = try_stands next forms.Third block one rest to r is frames passed w at same (λ slot nd. absurd (never made j past d.slots turn one.page one.frame.0 r.sound tracked none at nd)) starts (k.tried (count ∙ ap length none))
       by_keepers (p ∷ ps) some = waited _ (k.patient (rw (count ∙ ap length some) (omega arith)))
 
+  -- whom a turn of kicks is to kick
+  abbrev to_kick : Due → List ℕ
+  to_kick (KicksAll ps) = ps
+  to_kick _ = []
+
   form_stands : (next : ℕ) (form : Form) (block : ℕ) (one : Taken) (rest : List Taken) (to : passes.Form) → Ready made j past taken (phases.Tries next form block) d m → drop next taken ≡ one ∷ rest → AreInFrames past (drop next taken) → pass j past ≡ Tries one.page (pages_in rest) to
       → place past one.page ≡ Leaving one.frame.0 → HasPages past (Tries one.page (pages_in rest) to) → KeepsTracks past (Tries one.page (pages_in rest) to) → IsForm made.first_epoch past one.page form block to → taken' ≡ taken
       → IsFormTurn next form block one m d turn phase' d' m' → After (pass j past) turn taken' phase'
   form_stands next forms.First block one rest to r is frames passed at has tracks fits same k =
       try_stands next forms.First block one rest passes.First r is frames (passed ∙ ap (Tries one.page (pages_in rest)) fits) (subst (λ f. HasPages past (Tries one.page (pages_in rest) f)) fits has).page at same
       (λ slot nd. refused_after made.first_epoch j past taken next one rest is frames slot (epoch_in (state_of m).first_epoch past one.frame.0) (kept_back past one.frame.0) (epoch_told forms.First next block one r at))
-      (λ slot. started_after made.first_epoch j past taken next one rest is frames forms.First block passes.First slot (answers.Version (state_of m).next_version)) k
+      (λ slot. started_after made.first_epoch j past taken next one rest is frames passes.First slot (answers.Version (state_of m).next_version)) k
   form_stands next forms.Second block one rest to r is frames passed at has tracks fits same k =
       try_stands next forms.Second block one rest passes.Second r is frames (passed ∙ ap (Tries one.page (pages_in rest)) fits.0) (subst (λ f. HasPages past (Tries one.page (pages_in rest) f)) fits.0 has).page at same
       (λ slot nd. again_after made.first_epoch j past taken next one rest is frames slot block (epoch_in (state_of m).first_epoch past one.frame.0) (kept_back past one.frame.0) fits.1)
-      (λ slot. started_after made.first_epoch j past taken next one rest is frames forms.Second block passes.Second slot (answers.Version (state_of m).next_version)) k
+      (λ slot. started_after made.first_epoch j past taken next one rest is frames passes.Second slot (answers.Version (state_of m).next_version)) k
   form_stands next forms.Track block one rest to r is frames passed at has tracks fits same k =
       by_entry (track_entry past m (state_of m') one k.entry r.follows.shape.columns r.sound ((subst (λ f. KeepsTracks past (Tries one.page (pages_in rest) f)) fits.0 tracks).calm one.page.enclave) at k.step)
     where
@@ -157,14 +163,16 @@ module _ (made : Making) (j : JobView) (past : List Entry) (taken taken' : List 
       by_entry (inl e) = subst (λ x. After (pass j past) x taken' phase') (sym (k.told ∙ ap (λ (y : Entry). turn_of_track y y.event) e)) tt
       by_entry (inr e) = moved (Tries one.page (pages_in rest) passes.ToTrack) (turns.One (by_reclaimer (Did (Track one.page.enclave) answers.Plain))) taken (phases.Tries next forms.Second block) (passed ∙ ap (Tries one.page (pages_in rest)) fits.0)
           (k.told ∙ ap (λ (y : Entry). turn_of_track y y.event) e) same (k.to ∙ ap (λ (y : Entry). after_track next block y.event) e) (track_after made.first_epoch j past taken next one rest is frames block fits.1)
-  form_stands next forms.Kick block one rest to r is frames passed at has tracks fits same k = subst (λ x. After (pass j past) x taken' phase') (sym k.told) tt
+  form_stands next forms.Kick block one rest to r is frames passed at has tracks fits same k =
+      moved (Tries one.page (pages_in rest) passes.ToKick) (turns.Kicks _) taken (phases.Tries next forms.Third block) (passed ∙ ap (Tries one.page (pages_in rest)) fits.0) k.told same k.to
+      (λ ps due. subst (λ qs. StandsFor made.first_epoch (kicked_past qs past) taken (phases.Tries next forms.Third block) (pass j (kicked_past qs past))) (ap to_kick due)
+      (kicks_after made.first_epoch j past taken next one rest is frames (keepers past one.page) block refl fits.1 (passed ∙ ap (Tries one.page (pages_in rest)) fits.0)))
   form_stands next forms.Third block one rest to r is frames passed at has tracks (inl fits, told) same k =
       third_stands next block one rest passes.Third r is frames (passed ∙ ap (Tries one.page (pages_in rest)) fits) at (subst (λ f. HasPages past (Tries one.page (pages_in rest) f)) fits has).page
-      (subst (λ f. KeepsTracks past (Tries one.page (pages_in rest) f)) fits tracks) told same (λ slot. started_after made.first_epoch j past taken next one rest is frames forms.Third block passes.Third slot (answers.Version (state_of m).next_version)) k
+      (subst (λ f. KeepsTracks past (Tries one.page (pages_in rest) f)) fits tracks) told same (λ slot. started_after made.first_epoch j past taken next one rest is frames passes.Third slot (answers.Version (state_of m).next_version)) k
   form_stands next forms.Third block one rest to r is frames passed at has tracks (inr fits, told) same k =
       third_stands next block one rest passes.ToKick r is frames (passed ∙ ap (Tries one.page (pages_in rest)) fits.0) at (subst (λ f. HasPages past (Tries one.page (pages_in rest) f)) fits.0 has).page
-      (subst (λ f. KeepsTracks past (Tries one.page (pages_in rest) f)) fits.0 tracks) told same (λ slot. started_after made.first_epoch j past taken next one rest is frames forms.Third block passes.ToKick slot (answers.Version (state_of m).next_version)) k
-  form_stands next forms.Sealing block one rest to r is frames passed at has tracks fits same k = absurd k
+      (subst (λ f. KeepsTracks past (Tries one.page (pages_in rest) f)) fits.0 tracks) told same (λ slot. started_after made.first_epoch j past taken next one rest is frames passes.ToKick slot (answers.Version (state_of m).next_version)) k
 
   pub turn_stands : (phase : Phase) → Ready made j past taken phase d m → TurnSays taken phase d m turn taken' phase' d' m' → After (pass j past) turn taken' phase'
   turn_stands (phases.Idle false) r k = waited _ k
@@ -177,3 +185,4 @@ module _ (made : Making) (j : JobView) (past : List Entry) (taken taken' : List 
       let at = subst (AreInFrames past) w.due r.stands.1 in
       form_stands next form block w.one w.rest w.to r w.due r.stands.1 w.same at.0 (subst (HasPages past) w.same r.pages.pages) (subst (KeepsTracks past) w.same r.tracks) w.fits k.1
       (with_page (slice_get taken next) w.one (λ x. IsFormTurn next form block x m d turn phase' d' m') (drop_get next taken w.one w.rest w.due) k.0)
+  turn_stands (phases.Sealing next slot) r k = absurd k

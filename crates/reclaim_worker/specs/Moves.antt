@@ -2,9 +2,9 @@
 use Rattle.std.specs.Prelude.{ℕ, ◌≡◌, ◌+◌, ◌⊎◌, if◌then◌else◌, List, length, nat_lt}
 use Rattle.sgx_types.specs.declared.entries.Entry.{Entry}
 use Rattle.sgx_types.specs.declared.entries.Event.{Event}
-use Rattle.sgx_types.specs.declared.entries.Event.TheVariants.{Refused}
+use Rattle.sgx_types.specs.declared.entries.Event.TheVariants.{Did, Refused}
 use Rattle.sgx_types.specs.declared.entries.Actor.TheVariants as actors
-use Rattle.sgx_types.specs.declared.entries.Action.TheVariants.{Block, Track}
+use Rattle.sgx_types.specs.declared.entries.Action.TheVariants.{Block, EwbStart, Track}
 use Rattle.sgx_types.specs.declared.refusals.Refusal.TheVariants as why
 use Rattle.version_array.specs.Keeper.{AllOut}
 use Rattle.paging_laws.specs.State.{State}
@@ -29,8 +29,8 @@ turn_of e event = turns.Seal e
 abbrev pub after_try : ℕ → Form → ℕ → Event → Phase
 after_try next forms.First block (Refused action (why.NotTracked epoch older)) = phases.Tries next forms.Track epoch
 after_try next forms.Second block (Refused action (why.NotTracked epoch older)) = phases.Tries next forms.Kick block
-after_try next form block (Refused action refusal) = phases.Tries next form block
-after_try next form block event = phases.Tries next forms.Sealing block
+after_try next form block (Did (EwbStart f slot) answer) = phases.Sealing next slot
+after_try next form block event = phases.Tries next form block
 
 pub record IsTriedTurn (next : ℕ) (form : Form) (block : ℕ) (one : Taken) (s : State) (old : Driver) (turn : PassTurn) (phase : Phase) (new : Driver) (t : State) : Type 0 where
   pub entry : Entry

@@ -33,7 +33,6 @@ IsFormTurn next forms.Second block one d old turn phase new d' = IsTryTurn next 
 IsFormTurn next forms.Kick block one d old turn phase new d' = IsKickTurn next block one old.cpus d turn phase
 IsFormTurn next forms.Third block one d old turn phase new d' =
     IsThirdTurn next block one d old turn phase new d' (count_from (λ p. is_kept_by (cpu_at d p).mode one.page.enclave block) 0 old.cpus)
-IsFormTurn next forms.Sealing block one d old turn phase new d' = ⊥
 
 -- where the pass has such a page
 abbrev pub WithPage : Option Taken → (Taken → Type 0) → Type 0
@@ -46,3 +45,4 @@ TurnSays taken (phases.Idle true) old d turn taken' phase' new d' = IsBegun take
 TurnSays taken (phases.Scan left) old d turn taken' phase' new d' = IsScanned taken left old turn taken' phase' new
 TurnSays taken (phases.Block next) old d turn taken' phase' new d' = WithPage (slice_get taken next) (λ one. IsBlockTurn taken next one (state_of d) turn phase' (state_of d')) × (taken' ≡ taken)
 TurnSays taken (phases.Tries next form block) old d turn taken' phase' new d' = WithPage (slice_get taken next) (λ one. IsFormTurn next form block one d old turn phase' new d') × (taken' ≡ taken)
+TurnSays taken (phases.Sealing next slot) old d turn taken' phase' new d' = ⊥

@@ -1,6 +1,6 @@
 //! A pass of the reclaimer, one turn at a time.
 
-ghost use Rattle.std.specs.Prelude.{◌≡◌, ◌≢◌, ◌+◌, ◌++◌, ◌≤◌, ◌<◌, [], false, List, length, IfOk, vec_len, vec_capacity};
+ghost use Rattle.std.specs.Prelude.{◌≡◌, ◌≢◌, ◌+◌, ◌++◌, ◌≤◌, ◌<◌, ◌∷◌, ℕ, [], false, List, length, IfOk, vec_len, vec_capacity};
 ghost use Rattle.reclaim_worker.specs.declared.turns.Taken.{Taken};
 ghost use Rattle.paging_machine.specs.Parts.{state_of};
 ghost use Rattle.reclaim_worker.specs.Moves.{IsBlockTurn, IsTrackTurn, IsTryTurn, after_block, after_track, after_try, turn_of, turn_of_track};
@@ -11,11 +11,11 @@ ghost use Rattle.sgx_types.specs.Making.{Making};
 ghost use Rattle.sgx_types.specs.declared.entries.Entry.{Entry};
 ghost use Rattle.reclaim_worker.specs.Answers.{IsTurn};
 ghost use Rattle.driver_rules.specs.Reclaims.{pass_due};
-ghost use Rattle.driver_rules.specs.Passes.{pass};
+ghost use Rattle.driver_rules.specs.Passes.{pass, pass_after, free_count, works_with};
 ghost use Rattle.reclaim_worker.specs.After.{StandsAfter};
 ghost use Rattle.reclaim_worker.specs.Kept.{TurnKeeps};
 ghost use Rattle.reclaim_worker.specs.Ready.{Ready};
-ghost use Rattle.reclaim_worker.specs.Standing.{is_kicked, is_sealing};
+ghost use Rattle.reclaim_worker.specs.Standing.{StandsFor, noted_phase, is_kicked, is_sealing};
 ghost use Rattle.reclaim_worker.specs.Turning.{IsFormTurn, TurnSays};
 ghost use Rattle.reclaim_worker.specs.Scans.{IsBegun, IsScanned, after_look, frame_in, taken_with};
 
@@ -27,6 +27,7 @@ use active_list::page_states::PageState;
 use backing_store::backing::Backing;
 use driver_rules::waits::Why;
 use driver_tables::driver::Driver;
+use job_grammar::jobs::Marks;
 use paging_machine::machine::Machine;
 use sgx_types::entries::{Action, Actor, Entry, Event, Look};
 use sgx_types::names::{Frame, Memory, Page};
@@ -76,6 +77,21 @@ impl Pass {
         self.turn(alloc, driver, machine, store)
     }
 
+    /// Decides after an entry of any actor whether the reclaimer works, by how many frames are free then. Within a pass nothing
+    /// is decided.
+    pub fn note(&mut self, driver: &Driver, free: u32)
+        ensures phase { self.new.phase ≡ noted_phase driver.now.marks free self.old.phase }
+        ensures taken { self.new.taken ≡ self.old.taken }
+        ensures stands { (first : ℕ) (j : JobView) (past : List Entry) (e : Entry) → driver.now.marks ≡ j.marks
+            → free ≡ free_count j.epc (e ∷ past) → StandsFor first (e ∷ past) self.old.taken.items self.old.phase (pass_after j past e.actor e.event (pass j past))
+            → StandsFor first (e ∷ past) self.new.taken.items self.new.phase (pass j (e ∷ past)) }
+    {
+        if let Phase::Idle { works } = self.phase {
+            let works = works_with(driver.marks, free, works);
+            self.phase = Phase::Idle { works };
+        }
+    }
+
     // One turn, by how far the pass is.
     fn turn<S: Backing>(
         &mut self,
@@ -109,6 +125,7 @@ impl Pass {
                 };
                 Ok(self.form(alloc, next, form, block, one, driver, machine))
             }
+            Phase::Sealing { .. } => unreachable!(),
         }
     }
 
@@ -125,7 +142,6 @@ impl Pass {
     ) -> PassTurn
         requires few { driver.old.cpus ≤ 16 }
         requires cpus { driver.old.cpus ≤ length machine.old.cpus }
-        requires started { form ≢ forms.Sealing }
         ensures form { IsFormTurn next form block one machine.old driver.old result self.new.phase driver.new machine.new }
         ensures taken { self.new.taken ≡ self.old.taken }
     {
@@ -150,7 +166,6 @@ impl Pass {
                 }
                 self.try_page(alloc, next, Form::Third, block, one, driver, machine)
             }
-            Form::Sealing => unreachable!(),
         }
     }
 
@@ -250,6 +265,20 @@ impl Pass {
     }
 }
 
+// Whether the reclaimer works, with so many frames free: it begins below the low mark, stops from the high mark on, and else goes
+// on as before.
+fn works_with(marks: Marks, free: u32, before: bool) -> bool
+    ensures { result ≡ works_with marks free before }
+{
+    if free < marks.low {
+        return true;
+    }
+    if free >= marks.high {
+        return false;
+    }
+    before
+}
+
 // Keeps a page that was taken, with its frame.
 fn keep(taken: &mut Vec<Taken>, look: Look, page: Page, state: PageState)
     requires { vec_len taken.old + 1 ≤ vec_capacity taken.old }
@@ -347,12 +376,14 @@ fn after_try(next: usize, form: Form, block: u64, entry: &Entry) -> Phase
             form: Form::Kick,
             block,
         },
-        (_, Event::Refused { .. }) => Phase::Tries { next, form, block },
-        _ => Phase::Tries {
-            next,
-            form: Form::Sealing,
-            block,
-        },
+        (
+            _,
+            Event::Did {
+                action: Action::EwbStart { slot, .. },
+                ..
+            },
+        ) => Phase::Sealing { next, slot },
+        _ => Phase::Tries { next, form, block },
     }
 }
 

@@ -2,7 +2,7 @@
 
 use driver_rules::waits::Why;
 use sgx_types::entries::Entry;
-use sgx_types::names::{Frame, Page};
+use sgx_types::names::{Frame, Page, SlotAt};
 
 /// A page that was taken off the list, and the frame that it leaves.
 #[derive(Clone, Copy, Debug, PartialEq, Eq)]
@@ -19,17 +19,18 @@ pub enum Form {
     Second,
     Kick,
     Third,
-    Sealing,
 }
 
-/// How far a pass is: between two passes; looking, with so many looks left; blocking the pages from one on; or writing out
-/// one, which was blocked at an epoch that the first refusal told.
+/// How far a pass is: between two passes; looking, with so many looks left; blocking the pages from one on; writing out one,
+/// which was blocked at an epoch that the first refusal told; or waiting until the bytes of one are sealed, which goes out into
+/// a slot.
 #[derive(Clone, Copy, Debug, PartialEq, Eq)]
 pub enum Phase {
     Idle { works: bool },
     Scan { left: u32 },
     Block { next: usize },
     Tries { next: usize, form: Form, block: u64 },
+    Sealing { next: usize, slot: SlotAt },
 }
 
 /// What a turn of a pass did.
