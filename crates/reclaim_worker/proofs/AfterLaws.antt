@@ -1,5 +1,5 @@
 -- What the pass stands for behind a look and behind a block.
-use Rattle.std.proofs.Common.{◌≡◌, ◌⊎◌, inl, inr, ℕ, zero, suc, ◌+◌, ◌-◌, ◌<◌, ◌≤◌, true, false, refl, sym, ◌∙◌, ap, subst, List, [], ◌∷◌, ◌++◌, drop, length, nat_lt, Some, arith}
+use Rattle.std.proofs.Common.{◌≡◌, inl, inr, ℕ, zero, suc, ◌+◌, ◌-◌, ◌<◌, ◌≤◌, true, false, refl, sym, ◌∙◌, ap, subst, List, [], ◌∷◌, ◌++◌, drop, length, nat_lt, Some, arith}
 use Rattle.std.proofs.lemmas.Bool.{eq-eqb}
 use Rattle.sgx_types.specs.declared.entries.Action.TheVariants.{Block, EwbStart, Track}
 use Rattle.sgx_types.specs.declared.entries.Action.{Action}
@@ -120,18 +120,18 @@ frames_blocked : (past : List Entry) (f : ℕ) (ts : List Taken) → AreInFrames
 frames_blocked past f [] h = tt
 frames_blocked past f (t ∷ ts) h = (h.0, frames_blocked past f ts h.1)
 
-drop_next : (n : ℕ) (xs : List Taken) (x : Taken) (ys : List Taken) → drop n xs ≡ x ∷ ys → drop (n + 1) xs ≡ ys
+pub drop_next : (n : ℕ) (xs : List Taken) (x : Taken) (ys : List Taken) → drop n xs ≡ x ∷ ys → drop (n + 1) xs ≡ ys
 drop_next zero [] x ys h = cc
 drop_next zero (z ∷ zs) x ys h = ap (drop 1) h
 drop_next (suc n) [] x ys h = cc
 drop_next (suc n) (z ∷ zs) x ys h = let e : suc n + 1 ≡ suc (n + 1) = omega arith in rw e (drop_next n zs x ys h)
 
-behind_length : (n : ℕ) (xs ys : List Taken) → drop n xs ≡ ys → length xs ≤ n + length ys
+pub behind_length : (n : ℕ) (xs ys : List Taken) → drop n xs ≡ ys → length xs ≤ n + length ys
 behind_length zero xs ys h = rw h (omega arith)
 behind_length (suc n) [] ys h = omega arith
 behind_length (suc n) (z ∷ zs) ys h = let low = behind_length n zs ys h in omega (arith, low)
 
-ahead_length : (n : ℕ) (xs : List Taken) (x : Taken) (ys : List Taken) → drop n xs ≡ x ∷ ys → n < length xs
+pub ahead_length : (n : ℕ) (xs : List Taken) (x : Taken) (ys : List Taken) → drop n xs ≡ x ∷ ys → n < length xs
 ahead_length zero [] x ys h = cc
 ahead_length zero (z ∷ zs) x ys h = omega arith
 ahead_length (suc n) [] x ys h = cc

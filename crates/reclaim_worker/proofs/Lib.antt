@@ -8,3 +8,5 @@ pub mod KeptLaws
 pub mod AfterLaws
 pub mod StandLaws
 pub mod NoteLaws
+pub mod ShownLaws
+pub mod StoredLaws

@@ -60,7 +60,7 @@ step_refused s t action e refusal step some = subst (λ o. MatchOption o (IsDone
 not_sealing : (past : List Entry) (n : ℕ) → ((m : ℕ) → is_sealing past m ≡ is_write_start (open_start past m)) → open_start past n ≡ None → is_sealing past n ≡ false
 not_sealing past n h none = h n ∙ ap is_write_start none
 
-same_frame : (past : List Entry) (g : Page) (a b : ℕ) → place past g ≡ Leaving a → place past g ≡ Leaving b → a ≡ b
+pub same_frame : (past : List Entry) (g : Page) (a b : ℕ) → place past g ≡ Leaving a → place past g ≡ Leaving b → a ≡ b
 same_frame past g a b at here = let both : Leaving a ≡ Leaving b = sym at ∙ here in cc
 
 -- .. in the frame that stands beside it

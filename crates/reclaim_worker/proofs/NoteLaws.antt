@@ -1,5 +1,5 @@
 -- The pass stands for the list behind an entry, once it is decided whether it works, and behind the entries of others.
-use Rattle.std.proofs.Common.{◌≡◌, ◌⊎◌, inl, inr, ℕ, zero, suc, ◌+◌, ◌<◌, ◌≤◌, Bool, true, false, refl, sym, ◌∙◌, ap, subst, List, [], ◌∷◌, drop, Option, Some, None, arith}
+use Rattle.std.proofs.Common.{◌≡◌, inl, inr, ℕ, zero, suc, ◌+◌, ◌<◌, ◌≤◌, false, refl, sym, ◌∙◌, ap, subst, List, [], ◌∷◌, drop, Option, Some, None, arith}
 use Rattle.sgx_types.specs.declared.entries.Action.TheVariants.{Block, Track, EwbStart, Ewb}
 use Rattle.sgx_types.specs.declared.entries.Entry.{Entry}
 use Rattle.sgx_types.specs.declared.entries.Event.{Event}
@@ -8,13 +8,12 @@ use Rattle.sgx_types.specs.declared.names.Page.{Page}
 use Rattle.sgx_types.specs.Epochs.{epoch, is_in_before, is_track}
 use Rattle.sgx_types.specs.Eviction.{keeps_back}
 use Rattle.sgx_types.specs.Processors.{Stay, stay}
-use Rattle.job_grammar.specs.declared.jobs.Marks.{Marks}
 use Rattle.job_grammar.specs.Jobs.{JobView}
 use Rattle.driver_rules.specs.Passes as passes
 use Rattle.driver_rules.specs.Passes.{Between, Blocking, Pass, Scan, Tries, decided, keepers, keepers_behind, keepers_from, keepers_in, keeps_from, works_with}
 use Rattle.driver_rules.specs.Places.{Leaving, frame_leaving, place}
 use Rattle.driver_laws.specs.Kinds.{CanMove}
-use Rattle.driver_laws.specs.Sound.{IsSound, slot_at, slot_of}
+use Rattle.driver_laws.specs.Sound.{IsSound, slot_at}
 use Rattle.sgx_types.specs.Slots.{slot_of as slot_of_start}
 use Rattle.sgx_types.specs.Starts.{open_start}
 use Rattle.driver_laws.specs.Stages.{touches}

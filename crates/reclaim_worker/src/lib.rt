@@ -4,5 +4,6 @@
 pub mod looks;
 pub mod passes;
 mod seats;
+pub mod stores;
 pub mod tries;
 pub mod turns;

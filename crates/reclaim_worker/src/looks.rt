@@ -6,6 +6,7 @@ ghost use Rattle.active_list.specs.Listing.{head_of, is_young};
 ghost use Rattle.active_list.specs.Holds.{is_held};
 ghost use Rattle.driver_rules.specs.Dues.{is_look};
 ghost use Rattle.driver_tables.specs.Moves.{IsLooked};
+ghost use Rattle.reclaim_worker.specs.Asked.{places_with};
 ghost use Rattle.reclaim_worker.specs.Looked.{told_look};
 
 use backing_store::backing::{Backing, StoreFault};
@@ -28,6 +29,8 @@ pub fn look<S: Backing>(
     ensures look { IfOk result (λ look. is_look (is_held driver.old.active.own page) (is_young driver.old.active.pages page) look ≡ true) }
     ensures tables { IfOk result (λ look. IsLooked driver.old page look driver.new) }
     ensures told { IfOk result (λ look. S.told store.new ≡ told_look page look (S.told store.old)) }
+    ensures places { IfOk result (λ look. S.spare store.new ≡ places_with look (S.spare store.old)) }
+    ensures plans { S.plans store.new ≡ S.plans store.old }
     ensures memory { OnErr result (driver.new ≡ driver.old) }
     ensures untold { OnErr result (store.new ≡ store.old) }
 {
@@ -46,6 +49,8 @@ fn seen<S: Backing>(
     requires placed { IsPlaced driver.now.active.counts page }
     ensures look { IfOk result (λ look. is_look (is_held driver.now.active.own page) (is_young driver.now.active.pages page) look ≡ true) }
     ensures told { IfOk result (λ look. S.told store.new ≡ told_look page look (S.told store.old)) }
+    ensures places { IfOk result (λ look. S.spare store.new ≡ places_with look (S.spare store.old)) }
+    ensures plans { S.plans store.new ≡ S.plans store.old }
     ensures untold { OnErr result (store.new ≡ store.old) }
 {
     if driver.active.is_held(page) {

@@ -1,6 +1,6 @@
 //! A pass of the reclaimer, one turn at a time.
 
-ghost use Rattle.std.specs.Prelude.{◌≡◌, ◌≢◌, ◌+◌, ◌++◌, ◌≤◌, ◌<◌, ◌∷◌, ℕ, [], false, List, length, IfOk, vec_len, vec_capacity};
+ghost use Rattle.std.specs.Prelude.{◌≡◌, ◌≢◌, ◌+◌, ◌++◌, ◌≤◌, ◌<◌, ◌∷◌, ℕ, [], false, List, length, IfOk, OnErr, vec_len, vec_capacity};
 ghost use Rattle.reclaim_worker.specs.declared.turns.Taken.{Taken};
 ghost use Rattle.paging_machine.specs.Parts.{state_of};
 ghost use Rattle.reclaim_worker.specs.Moves.{IsBlockTurn, IsTrackTurn, IsTryTurn, after_block, after_track, after_try, turn_of, turn_of_track};
@@ -14,6 +14,11 @@ ghost use Rattle.driver_rules.specs.Reclaims.{pass_due};
 ghost use Rattle.driver_rules.specs.Passes.{pass, pass_after, free_count, works_with};
 ghost use Rattle.reclaim_worker.specs.After.{StandsAfter};
 ghost use Rattle.reclaim_worker.specs.Kept.{TurnKeeps};
+ghost use Rattle.paging_laws.specs.State.{State};
+ghost use Rattle.reclaim_worker.specs.Asked.{look_in, look_told, places_by, told_by};
+ghost use Rattle.reclaim_worker.specs.Going.{GoesOn, TurnGoes};
+ghost use Rattle.reclaim_worker.specs.Shown.{ShowsAfter};
+ghost use Rattle.reclaim_worker.specs.Rests.{DriverSays, IsWait};
 ghost use Rattle.reclaim_worker.specs.Ready.{Ready};
 ghost use Rattle.reclaim_worker.specs.Standing.{StandsFor, noted_phase, is_kicked, is_sealing};
 ghost use Rattle.reclaim_worker.specs.Turning.{IsFormTurn, TurnSays};
@@ -73,6 +78,15 @@ impl Pass {
             → IsTurn made past driver.old.slots (pass_due j past (is_kicked self.old.phase) (pass j past)) turn) }
         ensures kept { IfOk result (λ turn. (made : Making) (j : JobView) (past : List Entry) → Ready made j past self.old.taken.items self.old.phase driver.old machine.old → TurnKeeps j past (pass j past) turn) }
         ensures stands { IfOk result (λ turn. (made : Making) (j : JobView) (past : List Entry) → Ready made j past self.old.taken.items self.old.phase driver.old machine.old → StandsAfter made.first_epoch j past (pass j past) turn self.new.taken.items self.new.phase) }
+        ensures shows { IfOk result (λ turn. (made : Making) (j : JobView) (past : List Entry) → Ready made j past self.old.taken.items self.old.phase driver.old machine.old → ShowsAfter j past (pass j past) turn driver.new) }
+        ensures told { IfOk result (λ turn. S.told store.new ≡ told_by (look_in self.old.phase turn) (S.told store.old)) }
+        ensures places { IfOk result (λ turn. S.spare store.new ≡ places_by (look_in self.old.phase turn) (S.spare store.old)) }
+        ensures plans { S.plans store.new ≡ S.plans store.old }
+        ensures memory { OnErr result ((driver.new ≡ driver.old) × (store.new ≡ store.old)) }
+        ensures machine { OnErr result (machine.new ≡ machine.old) }
+        ensures refused { OnErr result ((self.new.phase ≡ self.old.phase) × (self.new.taken.items ≡ self.old.taken.items)) }
+        ensures waits { IfOk result (λ turn. IsWait turn → (driver.new ≡ driver.old) × ((self.new.phase ≡ self.old.phase) × (self.new.taken.items ≡ self.old.taken.items))) }
+        ensures goes { IfOk result (λ turn. TurnGoes (state_of machine.old) turn (state_of machine.new)) }
     {
         self.turn(alloc, driver, machine, store)
     }
@@ -104,15 +118,24 @@ impl Pass {
         requires few { driver.old.cpus ≤ 16 }
         requires cpus { driver.old.cpus ≤ length machine.old.cpus }
         requires started { is_sealing self.old.phase ≡ false }
-        ensures { IfOk result (λ turn. TurnSays self.old.taken.items self.old.phase driver.old machine.old turn self.new.taken.items self.new.phase driver.new machine.new) }
+        ensures says { IfOk result (λ turn. TurnSays self.old.taken.items self.old.phase driver.old machine.old turn self.new.taken.items self.new.phase driver.new machine.new) }
+        ensures driver { IfOk result (λ turn. DriverSays self.old.phase driver.old driver.new) }
+        ensures told { IfOk result (λ turn. S.told store.new ≡ told_by (look_in self.old.phase turn) (S.told store.old)) }
+        ensures places { IfOk result (λ turn. S.spare store.new ≡ places_by (look_in self.old.phase turn) (S.spare store.old)) }
+        ensures plans { S.plans store.new ≡ S.plans store.old }
+        ensures memory { OnErr result ((driver.new ≡ driver.old) × (store.new ≡ store.old)) }
+        ensures machine { OnErr result (machine.new ≡ machine.old) }
+        ensures refused { OnErr result ((self.new.phase ≡ self.old.phase) × (self.new.taken.items ≡ self.old.taken.items)) }
+        ensures waits { IfOk result (λ turn. IsWait turn → (driver.new ≡ driver.old) × ((self.new.phase ≡ self.old.phase) × (self.new.taken.items ≡ self.old.taken.items))) }
+        ensures goes { IfOk result (λ turn. TurnGoes (state_of machine.old) turn (state_of machine.new)) }
     {
         match self.phase {
             Phase::Idle { works: false } => {
                 let free = machine.free_count();
                 Ok(PassTurn::Again(Why::Enough { free }))
             }
-            Phase::Idle { works: true } => { self.begin(alloc, driver, store) }
-            Phase::Scan { left } => self.scan(alloc, left, driver, store),
+            Phase::Idle { works: true } => self.begin(alloc, driver, machine, store),
+            Phase::Scan { left } => self.scan(alloc, left, driver, machine, store),
             Phase::Block { next } => {
                 let Some(one) = self.taken.get(next).copied() else {
                     return Ok(PassTurn::Again(Why::AllHeld));
@@ -144,6 +167,9 @@ impl Pass {
         requires cpus { driver.old.cpus ≤ length machine.old.cpus }
         ensures form { IsFormTurn next form block one machine.old driver.old result self.new.phase driver.new machine.new }
         ensures taken { self.new.taken ≡ self.old.taken }
+        ensures driver { DriverSays (phases.Tries next form block) driver.old driver.new }
+        ensures waits { IsWait result → (driver.new ≡ driver.old) × (self.new.phase ≡ self.old.phase) }
+        ensures goes { TurnGoes (state_of machine.old) result (state_of machine.new) }
     {
         match form {
             Form::First => self.try_page(alloc, next, Form::First, block, one, driver, machine),
@@ -174,16 +200,24 @@ impl Pass {
         &mut self,
         alloc: Global,
         driver: &mut Driver,
+        machine: &Machine,
         store: &mut S,
     ) -> Result<PassTurn, Memory>
         requires counts { driver.old.states.counts ≡ driver.old.active.counts }
-        ensures { IfOk result (λ turn. IsBegun self.old.taken.items driver.old.marks.scan driver.old turn self.new.taken.items self.new.phase driver.new) }
+        ensures begun { IfOk result (λ turn. IsBegun self.old.taken.items driver.old.marks.scan driver.old turn self.new.taken.items self.new.phase driver.new) }
+        ensures told { IfOk result (λ turn. S.told store.new ≡ told_by (look_told turn) (S.told store.old)) }
+        ensures places { IfOk result (λ turn. S.spare store.new ≡ places_by (look_told turn) (S.spare store.old)) }
+        ensures plans { S.plans store.new ≡ S.plans store.old }
+        ensures memory { OnErr result ((driver.new ≡ driver.old) × (store.new ≡ store.old)) }
+        ensures refused { OnErr result ((self.new.phase ≡ self.old.phase) × (self.new.taken.items ≡ self.old.taken.items)) }
+        ensures waits { IfOk result (λ turn. IsWait turn → (driver.new ≡ driver.old) × ((self.new.phase ≡ self.old.phase) × (self.new.taken.items ≡ self.old.taken.items))) }
+        ensures goes { IfOk result (λ turn. TurnGoes (state_of machine.now) turn (state_of machine.now)) }
     {
         if driver.all_held() {
             return Ok(PassTurn::Again(Why::AllHeld));
         }
         let left = driver.marks.scan.min(driver.active.len());
-        self.scan(alloc, left, driver, store)
+        self.scan(alloc, left, driver, machine, store)
     }
 
     // The block of a page.
@@ -191,6 +225,8 @@ impl Pass {
         requires { next < length self.old.taken.items }
         ensures block { IsBlockTurn self.old.taken.items next one (state_of machine.old) result self.new.phase (state_of machine.new) }
         ensures taken { self.new.taken ≡ self.old.taken }
+        ensures waits { IsWait result → ⊥ }
+        ensures goes { TurnGoes (state_of machine.old) result (state_of machine.new) }
         ensures cpus { length machine.new.cpus ≡ length machine.old.cpus }
     {
         let entry = reclaim(alloc, machine, Action::Block { frame: one.frame });
@@ -209,6 +245,8 @@ impl Pass {
     ) -> PassTurn
         ensures track { IsTrackTurn next block one.page.enclave (state_of machine.old) result self.new.phase (state_of machine.new) }
         ensures taken { self.new.taken ≡ self.old.taken }
+        ensures waits { IsWait result → ⊥ }
+        ensures goes { TurnGoes (state_of machine.old) result (state_of machine.new) }
         ensures cpus { length machine.new.cpus ≡ length machine.old.cpus }
     {
         let enclave = one.page.enclave;
@@ -230,6 +268,8 @@ impl Pass {
     ) -> PassTurn
         ensures tried { IsTryTurn next form block one (state_of machine.old) driver.old result self.new.phase driver.new (state_of machine.new) }
         ensures taken { self.new.taken ≡ self.old.taken }
+        ensures waits { IsWait result → (driver.new ≡ driver.old) × (self.new.phase ≡ self.old.phase) }
+        ensures goes { TurnGoes (state_of machine.old) result (state_of machine.new) }
         ensures cpus { length machine.new.cpus ≡ length machine.old.cpus }
     {
         let Some(entry) = try_out(alloc, driver, machine, one.frame) else {
@@ -245,10 +285,18 @@ impl Pass {
         alloc: Global,
         left: u32,
         driver: &mut Driver,
+        machine: &Machine,
         store: &mut S,
     ) -> Result<PassTurn, Memory>
         requires counts { driver.old.states.counts ≡ driver.old.active.counts }
-        ensures { IfOk result (λ turn. IsScanned self.old.taken.items left driver.old turn self.new.taken.items self.new.phase driver.new) }
+        ensures scanned { IfOk result (λ turn. IsScanned self.old.taken.items left driver.old turn self.new.taken.items self.new.phase driver.new) }
+        ensures told { IfOk result (λ turn. S.told store.new ≡ told_by (look_told turn) (S.told store.old)) }
+        ensures places { IfOk result (λ turn. S.spare store.new ≡ places_by (look_told turn) (S.spare store.old)) }
+        ensures plans { S.plans store.new ≡ S.plans store.old }
+        ensures memory { OnErr result ((driver.new ≡ driver.old) × (store.new ≡ store.old)) }
+        ensures refused { OnErr result ((self.new.phase ≡ self.old.phase) × (self.new.taken.items ≡ self.old.taken.items)) }
+        ensures waits { IfOk result (λ turn. IsWait turn → (driver.new ≡ driver.old) × ((self.new.phase ≡ self.old.phase) × (self.new.taken.items ≡ self.old.taken.items))) }
+        ensures goes { IfOk result (λ turn. TurnGoes (state_of machine.now) turn (state_of machine.now)) }
     {
         let Some(page) = driver.active.head() else {
             return Ok(PassTurn::Again(Why::AllHeld));
@@ -258,10 +306,12 @@ impl Pass {
         let look = look(alloc, driver, store, page)?;
         keep(&mut self.taken, look, page, state);
         self.phase = after_look(left.saturating_sub(1), self.taken.len());
-        Ok(PassTurn::One(Entry {
+        let entry = Entry {
             actor: Actor::Reclaimer,
             event: Event::Age { page, look },
-        }))
+        };
+        machine.note(&entry);
+        Ok(PassTurn::One(entry))
     }
 }
 
@@ -341,7 +391,9 @@ fn after_track(next: usize, block: u64, entry: &Entry) -> Phase
 }
 
 fn turn_of_track(entry: Entry) -> PassTurn
-    ensures { result ≡ turn_of_track entry entry.event }
+    ensures turn { result ≡ turn_of_track entry entry.event }
+    ensures waits { IsWait result → ⊥ }
+    ensures goes { (s t : State) → GoesOn s entry t → TurnGoes s result t }
 {
     match entry.event {
         Event::Refused { .. } => PassTurn::Spent(entry),
@@ -388,7 +440,9 @@ fn after_try(next: usize, form: Form, block: u64, entry: &Entry) -> Phase
 }
 
 fn turn_of(entry: Entry) -> PassTurn
-    ensures { result ≡ turn_of entry entry.event }
+    ensures turn { result ≡ turn_of entry entry.event }
+    ensures waits { IsWait result → ⊥ }
+    ensures goes { (s t : State) → GoesOn s entry t → TurnGoes s result t }
 {
     match entry.event {
         Event::Refused {

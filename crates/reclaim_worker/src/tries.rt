@@ -10,6 +10,7 @@ ghost use Rattle.paging_machine.specs.Parts.{cpu_at, state_of};
 ghost use Rattle.paging_laws.specs.Shape.{FitsApart, ShapeWithRules};
 ghost use Rattle.sgx_types.specs.Making.{Making};
 ghost use Rattle.paging_laws.specs.Steps.{CanApply, IsStep, MayNeedMemory};
+ghost use Rattle.reclaim_worker.specs.Going.{GoesOn};
 ghost use Rattle.reclaim_worker.specs.Tried.{IsTried, is_kept_by, is_refused};
 ghost use Rattle.reclaim_worker.specs.Answers.{bits_from};
 
@@ -25,9 +26,7 @@ pub(crate) fn reclaim(alloc: Global, machine: &mut Machine, action: Action) -> E
     requires can { CanApply (length machine.old.cpus) actors.Reclaimer action }
     requires sure { MayNeedMemory action → ⊥ }
     ensures step { IsStep (state_of machine.old) actors.Reclaimer action result (state_of machine.new) }
-    ensures shape { (making : Making) (past : List Entry) → ShapeWithRules making (state_of machine.old) past → ShapeWithRules making (state_of machine.new) (result ∷ past) }
-    ensures fits { (making : Making) (past : List Entry) → ShapeWithRules making (state_of machine.old) past → LoadsAwayRule past result →
-        FitsApart making.frames past → FitsApart making.frames (result ∷ past) }
+    ensures goes { GoesOn (state_of machine.old) result (state_of machine.new) }
     ensures cpus { length machine.new.cpus ≡ length machine.old.cpus }
 {
     match machine.apply(alloc, Actor::Reclaimer, &action) {
@@ -52,7 +51,7 @@ pub(crate) fn try_out(
     frame: Frame,
 ) -> Option<Entry>
     ensures tried { IfSome result (λ e. IsTried (state_of machine.old) driver.old frame e driver.new (state_of machine.new)) }
-    ensures shape { IfSome result (λ e. (making : Making) (past : List Entry) → ShapeWithRules making (state_of machine.old) past → ShapeWithRules making (state_of machine.new) (e ∷ past)) }
+    ensures goes { IfSome result (λ e. GoesOn (state_of machine.old) e (state_of machine.new)) }
     ensures none { IfNone result (AllOut driver.old.slots) }
     ensures driver { IfNone result (driver.new ≡ driver.old) }
     ensures machine { IfNone result (machine.new ≡ machine.old) }
