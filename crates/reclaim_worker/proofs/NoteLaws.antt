@@ -1,5 +1,6 @@
 -- The pass stands for the list behind an entry, once it is decided whether it works, and behind the entries of others.
-use Rattle.std.proofs.Common.{◌≡◌, inl, inr, ℕ, zero, suc, ◌+◌, ◌<◌, ◌≤◌, false, refl, sym, ◌∙◌, ap, subst, List, [], ◌∷◌, drop, Option, Some, None, arith}
+use Rattle.std.proofs.Common.{◌≡◌, inl, inr, ℕ, zero, suc, ◌+◌, ◌<◌, ◌≤◌, false, refl, sym, ◌∙◌, ap, subst, List, [], ◌∷◌, drop, Option}
+use Rattle.std.proofs.Common.{Some, None, arith}
 use Rattle.sgx_types.specs.declared.entries.Action.TheVariants.{Block, Track, EwbStart, Ewb}
 use Rattle.sgx_types.specs.declared.entries.Entry.{Entry}
 use Rattle.sgx_types.specs.declared.entries.Event.{Event}
@@ -10,7 +11,8 @@ use Rattle.sgx_types.specs.Eviction.{keeps_back}
 use Rattle.sgx_types.specs.Processors.{Stay, stay}
 use Rattle.job_grammar.specs.Jobs.{JobView}
 use Rattle.driver_rules.specs.Passes as passes
-use Rattle.driver_rules.specs.Passes.{Between, Blocking, Pass, Scan, Tries, decided, keepers, keepers_behind, keepers_from, keepers_in, keeps_from, works_with}
+use Rattle.driver_rules.specs.Passes.{Between, Blocking, Pass, Scan, Tries, decided, keepers, keepers_behind, keepers_from, keepers_in}
+use Rattle.driver_rules.specs.Passes.{keeps_from, works_with}
 use Rattle.driver_rules.specs.Places.{Leaving, frame_leaving, place}
 use Rattle.driver_laws.specs.Kinds.{CanMove}
 use Rattle.driver_laws.specs.Sound.{IsSound, slot_at}
@@ -77,7 +79,8 @@ no_track : (ev : Event) → is_reclaimers ev ≡ false → (n : ℕ) → is_trac
 no_track (Did (Track enclave) answer) h n = cc
 no_track _ h n = refl
 
-module _ (first : ℕ) (past : List Entry) (e : Entry) (s : IsSound past) (can : CanMove past e.event) (others : is_reclaimers e.event ≡ false) where
+module _ (first : ℕ) (past : List Entry) (e : Entry) (s : IsSound past) (can : CanMove past e.event)
+    (others : is_reclaimers e.event ≡ false) where
   frames_stay : (ts : List Taken) → AreInFrames past ts → AreInFrames (e ∷ past) ts
   frames_stay [] h = tt
   frames_stay (t ∷ ts) h = ((still past e t.page t.frame.0 s can (no_touch e.event others t.frame.0) h.0).leaving, frames_stay ts h.1)
@@ -85,24 +88,41 @@ module _ (first : ℕ) (past : List Entry) (e : Entry) (s : IsSound past) (can :
   epoch_stays : (n : ℕ) → epoch first past n ≡ epoch first (e ∷ past) n
   epoch_stays n = rw (no_track e.event others n) refl
 
-  form_stays : (g : Page) (rest : List Page) (form : Form) (block : ℕ) (to : passes.Form) → KeepsTracks past (Tries g rest to) → KeepsTracks (e ∷ past) (Tries g rest to)
+  form_stays : (g : Page) (rest : List Page) (form : Form) (block : ℕ) (to : passes.Form) → KeepsTracks past (Tries g rest to)
+      → KeepsTracks (e ∷ past) (Tries g rest to)
       → IsForm first past g form block to → IsForm first (e ∷ past) g form block to
   form_stays g rest forms.First block to t u h = h
   form_stays g rest forms.Track block to t u h = (h.0, h.1 ∙ epoch_stays g.enclave)
   form_stays g rest forms.Second block to t u h = (h.0, h.1 ∙ epoch_stays g.enclave)
   form_stays g rest forms.Kick block to t u h = (h.0, h.1 ∙ epoch_stays g.enclave)
   form_stays g rest forms.Third block to t u (inl h, told) = (inl h, told ∙ epoch_stays g.enclave)
-  form_stays g rest forms.Third block to t u (inr h, told) =
-      (inr (h.0, none_stays past e g s (no_track e.event others g.enclave) (subst (λ f. KeepsTracks past (Tries g rest f)) h.0 t) (subst (λ f. KeepsTracks (e ∷ past) (Tries g rest f)) h.0 u) h.1), told ∙ epoch_stays g.enclave)
+  form_stays g rest forms.Third block to t u (inr h, told) = (
+    inr (
+      h.0,
+      none_stays past e g s (no_track e.event others g.enclave) (subst (λ f. KeepsTracks past (Tries g rest f)) h.0 t)
+          (subst (λ f. KeepsTracks (e ∷ past) (Tries g rest f)) h.0 u) h.1,
+    ),
+    told ∙ epoch_stays g.enclave,
+  )
 
-  pub others_stand : (taken : List Taken) (phase : Phase) (p : Pass) → KeepsTracks past p → KeepsTracks (e ∷ past) p → StandsFor first past taken phase p
+  pub others_stand : (taken : List Taken) (phase : Phase) (p : Pass) → KeepsTracks past p → KeepsTracks (e ∷ past) p
+      → StandsFor first past taken phase p
       → StandsFor first (e ∷ past) taken phase p
   others_stand taken (phases.Idle works) p t u h = h
   others_stand taken (phases.Scan left) p t u h = record { same = h.same; frames = frames_stay taken h.frames }
   others_stand taken (phases.Block next) p t u h = record { same = h.same; frames = frames_stay taken h.frames }
   others_stand taken (phases.Tries next form block) p t u h =
       let w = h.0 in (
-        record { one = w.one; rest = w.rest; due = w.due; to = w.to; fits = form_stays w.one.page (pages_in w.rest) form block w.to (subst (KeepsTracks past) w.same t) (subst (KeepsTracks (e ∷ past)) w.same u) w.fits; same = w.same },
+        record {
+          one = w.one;
+          rest = w.rest;
+          due = w.due;
+          to = w.to;
+          fits =
+              form_stays w.one.page (pages_in w.rest) form block w.to (subst (KeepsTracks past) w.same t)
+              (subst (KeepsTracks (e ∷ past)) w.same u) w.fits;
+          same = w.same;
+        },
         frames_stay (drop next taken) h.1,
       )
   others_stand taken (phases.Sealing next slot) p t u h =
@@ -114,7 +134,8 @@ module _ (first : ℕ) (past : List Entry) (e : Entry) (s : IsSound past) (can :
           rest = w.rest;
           due = w.due;
           same = w.same;
-          named = ap (slot_at (open_start (e ∷ past))) k.leaving ∙ ap slot_of_start k.start ∙ sym (ap (slot_at (open_start past)) at) ∙ w.named;
+          named = ap (slot_at (open_start (e ∷ past))) k.leaving ∙ ap slot_of_start k.start ∙ sym (ap (slot_at (open_start past)) at)
+              ∙ w.named;
         },
         frames_stay (drop next taken) h.1,
       )

@@ -1,5 +1,6 @@
 -- What the rows of a block, a track and a try say of a page that was taken.
-use Rattle.std.proofs.Common.{◌≡◌, ℕ, ◌&&◌, not, Bool, true, false, if◌then◌else◌, refl, sym, ◌∙◌, ap, List, length, Option, Some, None, is_some, nat_le, nat_lt, leb, arith}
+use Rattle.std.proofs.Common.{◌≡◌, ℕ, ◌&&◌, not, Bool, true, false, if◌then◌else◌, refl, sym, ◌∙◌, ap, List, length, Option, Some, None}
+use Rattle.std.proofs.Common.{is_some, nat_le, nat_lt, leb, arith}
 use Rattle.paging_laws.proofs.ColumnLaws.{blocked_is, content_is, epoch_is, is_blocked_is, sealing_is, slot_busy_is, version_is}
 use Rattle.std.proofs.lemmas.Bool.{eq-eqb, false≢true, leb-true}
 use Rattle.std.proofs.lemmas.List.{get_or_past}
@@ -12,7 +13,8 @@ use Rattle.sgx_types.specs.declared.refusals.Refusal.{Refusal}
 use Rattle.sgx_types.specs.declared.refusals.Refusal.TheVariants as why
 use Rattle.sgx_types.specs.Epochs.{block_epoch, epoch, epoch_in, epoch_of}
 use Rattle.sgx_types.specs.Eviction.{kept_back}
-use Rattle.sgx_types.specs.Frames.{Content, Free, Holds, IsLoading, IsVa, SecsOf, content, enclave_in, is_blocked, is_free, is_page, is_sealing}
+use Rattle.sgx_types.specs.Frames.{Content, Free, Holds, IsLoading, IsVa, SecsOf, content, enclave_in, is_blocked, is_free, is_page}
+use Rattle.sgx_types.specs.Frames.{is_sealing}
 use Rattle.sgx_types.specs.Flat.{FlatEnclave, enclave_sight_of}
 use Rattle.sgx_types.specs.Table as table
 use Rattle.sgx_types.specs.Table.{DrainSight, FrameSight, SlotSight, TrackSight, block_row, ewbstart_row, first_of_row, track_row}
@@ -40,7 +42,8 @@ pub held_within : (d : Parts) (n : ℕ) → is_free ((state_of d).content n) ≡
 held_within d n used = by_test (leb (length d.epc) n) refl
   where
     by_test : (b : Bool) → leb (length d.epc) n ≡ b → b ≡ false
-    by_test true is = absurd (false≢true (sym used ∙ ap (λ x. is_free (held x.entry)) (get_or_past d.epc n free_frame (leb-true (length d.epc) n is))))
+    by_test true is = absurd (false≢true (sym used ∙ ap (λ x. is_free (held x.entry))
+        (get_or_past d.epc n free_frame (leb-true (length d.epc) n is))))
     by_test false is = refl
 
 -- an added page's enclave was created
@@ -74,7 +77,8 @@ page_form (SecsOf e) g h = cc
 page_form (IsLoading page) g h = cc
 
 -- the frame of a page that waits
-pub sees_page : (d : Parts) (past : List Entry) (g : Page) (f : ℕ) → HasColumns (state_of d) past → IsSound past → place past g ≡ Leaving f → is_sealing past f ≡ false → SeesPage (sight (state_of d) f)
+pub sees_page : (d : Parts) (past : List Entry) (g : Page) (f : ℕ) → HasColumns (state_of d) past → IsSound past → place past g ≡ Leaving f
+    → is_sealing past f ≡ false → SeesPage (sight (state_of d) f)
 sees_page d past g f h s at calm =
     let holds : is_page (content past f) g ≡ true = s.places.frames g f ∙ ap (λ y. stands_in y f) at ∙ eq-eqb f f refl in
     let form = page_form ((state_of d).content f) g (ap (λ c. is_page c g) (content_is h f) ∙ holds) in
@@ -97,10 +101,12 @@ pub record SeesSlot (s : SlotSight) : Type 0 where
   pub array : table.is_va s.frame.content ≡ true
   pub empty : s.version ≡ 0
 
-pub sees_slot : (d : Parts) (j : JobView) (past : List Entry) (keeper : Keeper) (slot : SlotAt) → HasColumns (state_of d) past → ShowsSlots j keeper past → is_ours keeper slot ≡ true → is_out keeper slot ≡ false → SeesSlot (slot_sight (state_of d) slot)
+pub sees_slot : (d : Parts) (j : JobView) (past : List Entry) (keeper : Keeper) (slot : SlotAt) → HasColumns (state_of d) past
+    → ShowsSlots j keeper past → is_ours keeper slot ≡ true → is_out keeper slot ≡ false → SeesSlot (slot_sight (state_of d) slot)
 sees_slot d j past keeper slot h shows ours free =
     let two = both (is_added keeper slot.frame.0) (nat_lt slot.index 512) ours in
-    let here : table.is_va ((state_of d).content slot.frame.0) ≡ true = ap table.is_va (content_is h slot.frame.0) ∙ same (content past slot.frame.0) ∙ sym (shows.frames slot.frame.0) ∙ two.0 in
+    let here : table.is_va ((state_of d).content slot.frame.0) ≡ true =
+    ap table.is_va (content_is h slot.frame.0) ∙ same (content past slot.frame.0) ∙ sym (shows.frames slot.frame.0) ∙ two.0 in
     let none = shows.empty slot free in
     record {
       frame = held_within d slot.frame.0 (no_free ((state_of d).content slot.frame.0) here);
@@ -137,19 +143,24 @@ pub block_allowed : (s : FrameSight) → SeesPage s → s.is_blocked ≡ false �
 block_allowed s k none = rw (k.within, k.idle, k.used, k.secs, k.va, none) refl
 
 abbrev pub try_refusal : DrainSight → Bool → Option Refusal
-try_refusal drain spent = if drain.is_drained then (if spent then Some why.VersionSpent else None) else Some (why.NotTracked drain.epoch drain.kept_back)
+try_refusal drain spent = if drain.is_drained then (if spent then Some why.VersionSpent else None) else Some
+    (why.NotTracked drain.epoch drain.kept_back)
 
-pub try_row : (s : FrameSight) (slot : SlotSight) (drain : DrainSight) (spent : Bool) → SeesPage s → s.is_blocked ≡ true → SeesSlot slot → first_of_row (ewbstart_row s slot drain spent) ≡ try_refusal drain spent
-try_row s slot drain spent k blocked l = rw (k.within, l.frame, l.within, k.idle, l.idle, k.used, k.secs, k.va, l.array, blocked, l.empty) (by_test drain.is_drained)
+pub try_row : (s : FrameSight) (slot : SlotSight) (drain : DrainSight) (spent : Bool) → SeesPage s → s.is_blocked ≡ true → SeesSlot slot
+    → first_of_row (ewbstart_row s slot drain spent) ≡ try_refusal drain spent
+try_row s slot drain spent k blocked l = rw (k.within, l.frame, l.within, k.idle, l.idle, k.used, k.secs, k.va, l.array, blocked, l.empty)
+    (by_test drain.is_drained)
   where
     by_spent : (c : Bool) → (if c then Some why.VersionSpent else None) ≡ (if c then Some why.VersionSpent else None)
     by_spent c = refl
 
-    by_test : (b : Bool) → (if not b then Some (why.NotTracked drain.epoch drain.kept_back) else if spent then Some why.VersionSpent else None) ≡ (if b then (if spent then Some why.VersionSpent else None) else Some (why.NotTracked drain.epoch drain.kept_back))
+    by_test : (b : Bool) → (if not b then Some (why.NotTracked drain.epoch drain.kept_back) else if spent then Some why.VersionSpent else
+        None) ≡ (if b then (if spent then Some why.VersionSpent else None) else Some (why.NotTracked drain.epoch drain.kept_back))
     by_test true = refl
     by_test false = refl
 
-pub track_allowed : (s : TrackSight) → table.is_made s.enclave ≡ true → s.older ≡ 0 → first_of_row (track_row s) ≡ (if s.is_spent then Some why.EpochSpent else None)
+pub track_allowed : (s : TrackSight) → table.is_made s.enclave ≡ true → s.older ≡ 0
+    → first_of_row (track_row s) ≡ (if s.is_spent then Some why.EpochSpent else None)
 track_allowed s made none = rw (made, none) refl
 
 -- an enclave that was created is seen
@@ -159,16 +170,19 @@ seen_made (Some x) h = refl
 
 -- ---- tracking by the entries
 
-kept_back_by : (s : State) (past : List Entry) → HasColumns s past → (n : ℕ) → number_up_to s (enclave_in (s.content n)) (s.blocked n) ≡ kept_back past n
+kept_back_by : (s : State) (past : List Entry) → HasColumns s past → (n : ℕ)
+    → number_up_to s (enclave_in (s.content n)) (s.blocked n) ≡ kept_back past n
 kept_back_by s past h n =
-    rw (content_is h n, blocked_is h n) (by_block (enclave_in (content past n)) (block_epoch s.first_epoch past n) ∙ sym ((epochs_tell s.first_epoch past).kept_back n))
+    rw (content_is h n, blocked_is h n) (by_block (enclave_in (content past n)) (block_epoch s.first_epoch past n)
+    ∙ sym ((epochs_tell s.first_epoch past).kept_back n))
   where
     by_block : (c b : Option ℕ) → number_up_to s c b ≡ up_to_block s.first_epoch past c b
     by_block None b = refl
     by_block (Some enclave) None = refl
     by_block (Some enclave) (Some b) = noting_agrees s past h enclave (λ m. leb m b)
 
-epoch_by : (s : State) (past : List Entry) → HasColumns s past → (n : ℕ) → epoch_of s.epoch (enclave_in (s.content n)) ≡ epoch_in s.first_epoch past n
+epoch_by : (s : State) (past : List Entry) → HasColumns s past → (n : ℕ)
+    → epoch_of s.epoch (enclave_in (s.content n)) ≡ epoch_in s.first_epoch past n
 epoch_by s past h n = rw (content_is h n) (by_enclave (enclave_in (content past n)))
   where
     by_enclave : (c : Option ℕ) → epoch_of s.epoch c ≡ epoch_of (epoch s.first_epoch past) c
@@ -176,4 +190,9 @@ epoch_by s past h n = rw (content_is h n) (by_enclave (enclave_in (content past 
     by_enclave (Some enclave) = epoch_is h enclave
 
 pub drain_sees : (s : State) (past : List Entry) → HasColumns s past → (n : ℕ) → drain_sight s n ≡ drain_sight_at s.first_epoch past n
-drain_sees s past h n i = record { epoch = epoch_by s past h n i; kept_back = kept_back_by s past h n i; is_drained = drained_by s past h n i }
+drain_sees s past h n i = record {
+  epoch = epoch_by s past h n i;
+  kept_back = kept_back_by s past h n i;
+  is_drained =
+      drained_by s past h n i;
+}

@@ -1,5 +1,6 @@
 -- Behind a turn the tables say what the longer list says.
-use Rattle.std.proofs.Common.{◌≡◌, ◌⊎◌, inl, inr, ℕ, zero, suc, ◌==◌, true, false, refl, sym, ◌∙◌, ap, subst, List, [], ◌∷◌, drop, length, map, slice_get, Some, None, Result, Ok, Err, IfOk, arith}
+use Rattle.std.proofs.Common.{◌≡◌, ◌⊎◌, inl, inr, ℕ, zero, suc, ◌==◌, true, false, refl, sym, ◌∙◌, ap, subst, List, [], ◌∷◌, drop, length}
+use Rattle.std.proofs.Common.{map, slice_get, Some, None, Result, Ok, Err, IfOk, arith}
 use Rattle.sgx_types.specs.declared.entries.Action.TheVariants.{Block, EwbStart, Track}
 use Rattle.sgx_types.specs.declared.entries.Answer.TheVariants as answers
 use Rattle.sgx_types.specs.declared.entries.Entry.{Entry}
@@ -62,18 +63,21 @@ use Rattle.reclaim_worker.specs.Tables.{Shows}
 use Rattle.reclaim_worker.specs.Tried.{IsSame, SlotsAfter, is_refused}
 use Rattle.reclaim_worker.specs.Turning.{IsFormTurn, IsThirdTurn, TurnSays}
 use Rattle.reclaim_worker.proofs.DueLaws.{drop_get, frames_behind, with_page}
-use Rattle.reclaim_worker.proofs.MoveDueLaws.{block_is_due, block_of, due_there, refused_entry, same_frame, spent_entry, started_entry, track_entry, try_entry}
+use Rattle.reclaim_worker.proofs.MoveDueLaws.{block_is_due, block_of, due_there, refused_entry, same_frame, spent_entry, started_entry}
+use Rattle.reclaim_worker.proofs.MoveDueLaws.{track_entry, try_entry}
 use Rattle.reclaim_worker.proofs.ScanLaws.{heads}
 
 -- ---- in general
 
-pub if_ok2 : {A E : Type 0} (P Q R S : A → Type 0) (r : Result A E) → IfOk r P → IfOk r Q → IfOk r R → ((x : A) → P x → Q x → R x → S x) → IfOk r S
+pub if_ok2 : {A E : Type 0} (P Q R S : A → Type 0) (r : Result A E) → IfOk r P → IfOk r Q → IfOk r R → ((x : A) → P x → Q x → R x → S x)
+    → IfOk r S
 if_ok2 P Q R S (Ok x) p q k to = to x p q k
 if_ok2 P Q R S (Err e) p q k to = p
 
 -- ---- holds
 
-held_below : (j : JobView) (past : List Entry) (ev : Event) (g : Page) (p : ℕ) → is_held_below j (by_reclaimer ev ∷ past) g p ≡ is_held_below j past g p
+held_below : (j : JobView) (past : List Entry) (ev : Event) (g : Page) (p : ℕ)
+    → is_held_below j (by_reclaimer ev ∷ past) g p ≡ is_held_below j past g p
 held_below j past ev g zero = refl
 held_below j past ev g (suc p) = rw (held_below j past ev g p) refl
 
@@ -98,7 +102,8 @@ quiet j past d d' ev q sl m same s =
 
 kicks_shown : (j : JobView) (d : Driver) (ps : List ℕ) (h : List Entry) → Shows j d h → Shows j d (kicked_past ps h)
 kicks_shown j d [] h s = s
-kicks_shown j d (p ∷ ps) h s = kicks_shown j d ps (by_reclaimer (Kick (cpu_of p)) ∷ h) (quiet j h d d (Kick (cpu_of p)) refl refl refl refl s)
+kicks_shown j d (p ∷ ps) h s = kicks_shown j d ps (by_reclaimer (Kick (cpu_of p)) ∷ h)
+    (quiet j h d d (Kick (cpu_of p)) refl refl refl refl s)
 
 -- ---- slots
 
@@ -128,12 +133,15 @@ refused_shown j past d d' f slot r same only s =
       marks = ap (λ (x : Driver). x.marks) only;
       cpus = ap (λ (x : Driver). x.cpus) only;
     }) (record {
-      list = ap (λ (x : Driver). map listed x.active.pages) only ∙ s.tables.list ∙ sym (listed-quiet past (by_reclaimer (Refused (EwbStart f slot) r)) refl);
-      slots = slots_same j d.slots d'.slots (by_reclaimer (Refused (EwbStart f slot) r) ∷ past) same (shows_quiet j d.slots past (by_reclaimer (Refused (EwbStart f slot) r)) refl s.tables.slots);
+      list = ap (λ (x : Driver). map listed x.active.pages) only ∙ s.tables.list
+          ∙ sym (listed-quiet past (by_reclaimer (Refused (EwbStart f slot) r)) refl);
+      slots = slots_same j d.slots d'.slots (by_reclaimer (Refused (EwbStart f slot) r) ∷ past) same
+          (shows_quiet j d.slots past (by_reclaimer (Refused (EwbStart f slot) r)) refl s.tables.slots);
       copies = copies_stay j d d' past (Refused (EwbStart f slot) r) s.tables (ap (λ (x : Driver). x.kept) only);
     }))
 
-started_shown : (j : JobView) (past : List Entry) (d d' : Driver) (one : Taken) (slot : SlotAt) (answer : Answer) → IsSound past → place past one.page ≡ Leaving one.frame.0
+started_shown : (j : JobView) (past : List Entry) (d d' : Driver) (one : Taken) (slot : SlotAt) (answer : Answer) → IsSound past
+    → place past one.page ≡ Leaving one.frame.0
     → open_start past one.frame.0 ≡ None → Takes d.slots slot d'.slots → d' ≡ record d { slots = d'.slots } → Shows j d past
     → Shows j d' (by_reclaimer (Did (EwbStart one.frame slot) answer) ∷ past)
 started_shown j past d d' one slot answer sound at none takes only s =
@@ -148,7 +156,8 @@ own_looked page d d' looks.Young k = ap (λ (x : Driver). x.active.own) k
 own_looked page d d' looks.Held k = ap (λ (x : Driver). x.active.own) k
 own_looked page d d' looks.NoRoom k = ap (λ (x : Driver). x.active.own) k
 
-look_shown : (j : JobView) (past : List Entry) (taken taken' : List Taken) (left : ℕ) (d d' : Driver) (turn : PassTurn) (phase : Phase) → IsSound past → Shows j d past
+look_shown : (j : JobView) (past : List Entry) (taken taken' : List Taken) (left : ℕ) (d d' : Driver) (turn : PassTurn) (phase : Phase)
+    → IsSound past → Shows j d past
     → (k : IsScan taken left d turn taken' phase d') → Shows j d' (by_reclaimer (Age k.page k.look) ∷ past)
 look_shown j past taken taken' left d d' turn phase sound s k =
     with_held j past d d' (Age k.page k.look) (own_looked k.page d d' k.look k.tables) s
@@ -162,7 +171,8 @@ look_shown j past taken taken' left d d' turn phase sound s k =
 
 -- ---- by phase
 
-module _ (made : Making) (j : JobView) (past : List Entry) (taken taken' : List Taken) (d d' : Driver) (m m' : Parts) (turn : PassTurn) (phase' : Phase)
+module _ (made : Making) (j : JobView) (past : List Entry) (taken taken' : List Taken) (d d' : Driver) (m m' : Parts) (turn : PassTurn)
+    (phase' : Phase)
     (same : Phase) (waits : IsWait turn → (d' ≡ d) × ((phase' ≡ same) × (taken' ≡ taken))) where
   abbrev After : PassTurn → Type 0
   After tn = ShowsAfter j past (pass j past) tn d'
@@ -177,25 +187,32 @@ module _ (made : Making) (j : JobView) (past : List Entry) (taken taken' : List 
   scan_shown left sound s (inr none) = rests _ s none.1
   scan_shown left sound s (inl k) = subst After (sym k.told) (look_shown j past taken taken' left d d' turn phase' sound s k)
 
-  block_shown : (next : ℕ) → Ready made j past taken (phases.Block next) d m → TurnSays taken (phases.Block next) d m turn taken' phase' d' m' → d' ≡ d → After turn
+  block_shown : (next : ℕ) → Ready made j past taken (phases.Block next) d m
+      → TurnSays taken (phases.Block next) d m turn taken' phase' d' m' → d' ≡ d → After turn
   block_shown next r k still = by_list (drop next taken) refl
     where
       by_list : (ts : List Taken) → drop next taken ≡ ts → After turn
       by_list [] is = absurd (subst (HasPages past) (r.stands.same ∙ ap (λ ts. Blocking (pages_in ts) (pages_in taken)) is) r.pages.pages)
       by_list (one ∷ rest) is =
-          let to : pass j past ≡ Blocking (one.page ∷ pages_in rest) (pages_in taken) = r.stands.same ∙ ap (λ ts. Blocking (pages_in ts) (pages_in taken)) is in
+          let to : pass j past ≡ Blocking (one.page ∷ pages_in rest) (pages_in taken) =
+          r.stands.same ∙ ap (λ ts. Blocking (pages_in ts) (pages_in taken)) is in
           let has = subst (HasPages past) to r.pages.pages in
           let at = subst (AreInFrames past) is (frames_behind past next taken r.stands.frames) in
-          let says = with_page (slice_get taken next) one (λ x. IsBlockTurn taken next x (state_of m) turn phase' (state_of m')) (drop_get next taken one rest is) k.0 in
-          let told = subst (λ x. IsTurn made past d.slots x turn) (due_there past one.page one.frame.0 block_of at.0) (block_is_due made past m (state_of m') taken next one d turn phase' r.follows.shape.columns r.sound r.pages.sealing at.0 has.waiting.0 says) in
+          let says = with_page (slice_get taken next) one (λ x. IsBlockTurn taken next x (state_of m) turn phase' (state_of m'))
+          (drop_get next taken one rest is) k.0 in
+          let told = subst (λ x. IsTurn made past d.slots x turn) (due_there past one.page one.frame.0 block_of at.0)
+          (block_is_due made past m (state_of m') taken next one d turn phase' r.follows.shape.columns r.sound r.pages.sealing at.0
+          has.waiting.0 says) in
           subst After (sym told) (quiet j past d d' (Did (Block (frame_at one.frame.0)) answers.Plain) refl refl refl still r.shows)
 
   -- a try
-  try_shown : (next : ℕ) (form : Form) (block : ℕ) (one : Taken) → Ready made j past taken (phases.Tries next form block) d m → IsTaken past true one.page → place past one.page ≡ Leaving one.frame.0
+  try_shown : (next : ℕ) (form : Form) (block : ℕ) (one : Taken) → Ready made j past taken (phases.Tries next form block) d m
+      → IsTaken past true one.page → place past one.page ≡ Leaving one.frame.0
       → IsTryTurn next form block one (state_of m) d turn phase' d' (state_of m') → After turn
   try_shown next form block one r w at (inr none) = full r.shows none.1
   try_shown next form block one r w at (inl k) =
-      by_entry (try_entry j past m (state_of m') one d d' k.entry r.follows.shape.columns r.sound r.pages.sealing r.shows.tables.slots at w k.tried)
+      by_entry (try_entry j past m (state_of m') one d d' k.entry r.follows.shape.columns r.sound r.pages.sealing r.shows.tables.slots at w
+      k.tried)
     where
       told : (x : Entry) → k.entry ≡ x → turn ≡ turn_of x x.event
       told x e = k.told ∙ ap (λ (y : Entry). turn_of y y.event) e
@@ -206,35 +223,45 @@ module _ (made : Making) (j : JobView) (past : List Entry) (taken taken' : List 
       none : open_start past one.frame.0 ≡ None
       none = subst (λ n. open_start past n ≡ None) (same_frame past one.page w.frame one.frame.0 w.leaving at) w.start
 
-      by_entry : ((is_drained past one.frame.0 ≡ false) × (k.entry ≡ refused_entry (state_of m) past one k.tried.slot)) ⊎ ((k.entry ≡ spent_entry one k.tried.slot) ⊎ (k.entry ≡ started_entry (state_of m) one k.tried.slot)) → After turn
+      by_entry : ((is_drained past one.frame.0 ≡ false) × (k.entry ≡ refused_entry (state_of m) past one k.tried.slot))
+          ⊎ ((k.entry ≡ spent_entry one k.tried.slot) ⊎ (k.entry ≡ started_entry (state_of m) one k.tried.slot)) → After turn
       by_entry (inl e) =
           subst After (sym (told (refused_entry (state_of m) past one k.tried.slot) e.1))
-          (refused_shown j past d d' one.frame k.tried.slot _ (slots (refused_entry (state_of m) past one k.tried.slot) e.1) k.tried.others r.shows)
+          (refused_shown j past d d' one.frame k.tried.slot _ (slots (refused_entry (state_of m) past one k.tried.slot) e.1) k.tried.others
+          r.shows)
       by_entry (inr (inl e)) =
           subst After (sym (told (spent_entry one k.tried.slot) e))
           (refused_shown j past d d' one.frame k.tried.slot _ (slots (spent_entry one k.tried.slot) e) k.tried.others r.shows)
       by_entry (inr (inr e)) =
           subst After (sym (told (started_entry (state_of m) one k.tried.slot) e))
-          (started_shown j past d d' one k.tried.slot _ r.sound at none (slots (started_entry (state_of m) one k.tried.slot) e) k.tried.others r.shows)
+          (started_shown j past d d' one k.tried.slot _ r.sound at none
+          (slots (started_entry (state_of m) one k.tried.slot) e) k.tried.others r.shows)
 
-  third_shown : (next block : ℕ) (one : Taken) (n : ℕ) → Ready made j past taken (phases.Tries next forms.Third block) d m → IsTaken past true one.page → place past one.page ≡ Leaving one.frame.0
+  third_shown : (next block : ℕ) (one : Taken) (n : ℕ) → Ready made j past taken (phases.Tries next forms.Third block) d m
+      → IsTaken past true one.page → place past one.page ≡ Leaving one.frame.0
       → IsThirdTurn next block one m d turn phase' d' m' n → After turn
   third_shown next block one zero r w at k = try_shown next forms.Third block one r w at (k.tried refl)
   third_shown next block one (suc n) r w at k = rests _ r.shows (k.patient (omega arith))
 
-  form_shown : (next : ℕ) (form : Form) (block : ℕ) (one : Taken) (rest : List Page) (to : passes.Form) → Ready made j past taken (phases.Tries next form block) d m → place past one.page ≡ Leaving one.frame.0
-      → HasPages past (Tries one.page rest to) → KeepsTracks past (Tries one.page rest to) → IsForm made.first_epoch past one.page form block to → DriverSays (phases.Tries next form block) d d'
+  form_shown : (next : ℕ) (form : Form) (block : ℕ) (one : Taken) (rest : List Page) (to : passes.Form)
+      → Ready made j past taken (phases.Tries next form block) d m → place past one.page ≡ Leaving one.frame.0
+      → HasPages past (Tries one.page rest to) → KeepsTracks past (Tries one.page rest to)
+      → IsForm made.first_epoch past one.page form block to → DriverSays (phases.Tries next form block) d d'
       → IsFormTurn next form block one m d turn phase' d' m' → After turn
   form_shown next forms.First block one rest to r at has tracks fits still k =
       try_shown next forms.First block one r (subst (λ f. HasPages past (Tries one.page rest f)) fits has).page at k
   form_shown next forms.Second block one rest to r at has tracks fits still k =
       try_shown next forms.Second block one r (subst (λ f. HasPages past (Tries one.page rest f)) fits.0 has).page at k
   form_shown next forms.Track block one rest to r at has tracks fits still k =
-      by_entry (track_entry past m (state_of m') one k.entry r.follows.shape.columns r.sound ((subst (λ f. KeepsTracks past (Tries one.page rest f)) fits.0 tracks).calm one.page.enclave) at k.step)
+      by_entry (track_entry past m (state_of m') one k.entry r.follows.shape.columns r.sound
+      ((subst (λ f. KeepsTracks past (Tries one.page rest f)) fits.0 tracks).calm one.page.enclave) at k.step)
     where
-      by_entry : (k.entry ≡ by_reclaimer (Refused (Track one.page.enclave) why.EpochSpent)) ⊎ (k.entry ≡ by_reclaimer (Did (Track one.page.enclave) answers.Plain)) → After turn
-      by_entry (inl e) = subst After (sym (k.told ∙ ap (λ (y : Entry). turn_of_track y y.event) e)) (quiet j past d d' (Refused (Track one.page.enclave) why.EpochSpent) refl refl refl still r.shows)
-      by_entry (inr e) = subst After (sym (k.told ∙ ap (λ (y : Entry). turn_of_track y y.event) e)) (quiet j past d d' (Did (Track one.page.enclave) answers.Plain) refl refl refl still r.shows)
+      by_entry : (k.entry ≡ by_reclaimer (Refused (Track one.page.enclave) why.EpochSpent))
+          ⊎ (k.entry ≡ by_reclaimer (Did (Track one.page.enclave) answers.Plain)) → After turn
+      by_entry (inl e) = subst After (sym (k.told ∙ ap (λ (y : Entry). turn_of_track y y.event) e))
+          (quiet j past d d' (Refused (Track one.page.enclave) why.EpochSpent) refl refl refl still r.shows)
+      by_entry (inr e) = subst After (sym (k.told ∙ ap (λ (y : Entry). turn_of_track y y.event) e))
+          (quiet j past d d' (Did (Track one.page.enclave) answers.Plain) refl refl refl still r.shows)
   form_shown next forms.Kick block one rest to r at has tracks fits still k =
       subst After (sym k.told) (λ ps due. kicks_shown j d' ps past (subst (λ x. Shows j x past) (sym still) r.shows))
   form_shown next forms.Third block one rest to r at has tracks (inl fits, told) still k =
@@ -242,7 +269,8 @@ module _ (made : Making) (j : JobView) (past : List Entry) (taken taken' : List 
   form_shown next forms.Third block one rest to r at has tracks (inr fits, told) still k =
       third_shown next block one _ r (subst (λ f. HasPages past (Tries one.page rest f)) fits.0 has).page at k
 
-  pub turn_shown : (phase : Phase) → Ready made j past taken phase d m → DriverSays phase d d' → TurnSays taken phase d m turn taken' phase' d' m' → After turn
+  pub turn_shown : (phase : Phase) → Ready made j past taken phase d m → DriverSays phase d d'
+      → TurnSays taken phase d m turn taken' phase' d' m' → After turn
   turn_shown (phases.Idle false) r still k = rests _ r.shows k
   turn_shown (phases.Idle true) r still (inr k) = rests _ r.shows k.1
   turn_shown (phases.Idle true) r still (inl k) = scan_shown _ r.sound r.shows k.first
@@ -251,6 +279,8 @@ module _ (made : Making) (j : JobView) (past : List Entry) (taken taken' : List 
   turn_shown (phases.Tries next form block) r still k =
       let w = r.stands.0 in
       let at = subst (AreInFrames past) w.due r.stands.1 in
-      form_shown next form block w.one (pages_in w.rest) w.to r at.0 (subst (HasPages past) w.same r.pages.pages) (subst (KeepsTracks past) w.same r.tracks) w.fits still
-      (with_page (slice_get taken next) w.one (λ x. IsFormTurn next form block x m d turn phase' d' m') (drop_get next taken w.one w.rest w.due) k.0)
+      form_shown next form block w.one (pages_in w.rest) w.to r at.0 (subst (HasPages past) w.same r.pages.pages)
+      (subst (KeepsTracks past) w.same r.tracks) w.fits still
+      (with_page (slice_get taken next) w.one (λ x. IsFormTurn next form block x m d turn phase' d' m')
+      (drop_get next taken w.one w.rest w.due) k.0)
   turn_shown (phases.Sealing next slot) r still k = absurd k

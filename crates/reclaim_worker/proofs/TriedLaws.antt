@@ -28,6 +28,7 @@ given_back old mid new slot takes gives = record {
     by_test t true is = sym (subst (λ s. is_out old s ≡ false) (slot_same slot t is) takes.was_in)
     by_test t false is = refl
 
-pub after_refusal : (old mid new : Keeper) (slot : SlotAt) (refused : Bool) → refused ≡ true → Takes old slot mid → Gives mid slot new → SlotsAfter old slot refused new
+pub after_refusal : (old mid new : Keeper) (slot : SlotAt) (refused : Bool) → refused ≡ true → Takes old slot mid → Gives mid slot new
+    → SlotsAfter old slot refused new
 after_refusal old mid new slot true is takes gives = given_back old mid new slot takes gives
 after_refusal old mid new slot false is takes gives = absurd (false≢true is)

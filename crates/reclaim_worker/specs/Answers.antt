@@ -50,7 +50,8 @@ track_turn first past enclave =
 abbrev pub try_turn : Making → List Entry → ℕ → SlotAt → PassTurn
 try_turn made past f slot =
     if is_drained past f
-    then (if next_version made.first_version past == 2 ^ 64 then turns.Spent (by_reclaimer (Refused (EwbStart (frame_at f) slot) why.VersionSpent))
+    then (if next_version made.first_version past == 2 ^ 64 then turns.Spent
+    (by_reclaimer (Refused (EwbStart (frame_at f) slot) why.VersionSpent))
     else turns.Seal (by_reclaimer (Did (EwbStart (frame_at f) slot) (answers.Version (next_version made.first_version past)))))
     else turns.One
     (by_reclaimer (Refused (EwbStart (frame_at f) slot) (why.NotTracked (epoch_in made.first_epoch past f) (kept_back past f))))

@@ -12,7 +12,8 @@ use Rattle.reclaim_worker.specs.Kept.{Keeps}
 use Rattle.reclaim_worker.specs.Standing.{StandsFor}
 use Rattle.reclaim_worker.specs.Tables.{Shows}
 
-pub record IsEnded (first : ℕ) (j : JobView) (past : List Entry) (e : Entry) (taken : List Taken) (phase : Phase) (d : Driver) : Type 0 where
+pub record IsEnded (first : ℕ) (j : JobView) (past : List Entry) (e : Entry) (taken : List Taken) (phase : Phase)
+    (d : Driver) : Type 0 where
   pub due : IsNext (pass_due j past false (pass j past)) e.event
   pub kept : Keeps j past (pass j past) e.event
   -- .. before it is decided whether it works

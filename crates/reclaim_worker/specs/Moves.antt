@@ -32,20 +32,23 @@ after_try next forms.Second block (Refused action (why.NotTracked epoch older)) 
 after_try next form block (Did (EwbStart f slot) answer) = phases.Sealing next slot
 after_try next form block event = phases.Tries next form block
 
-pub record IsTriedTurn (next : ℕ) (form : Form) (block : ℕ) (one : Taken) (s : State) (old : Driver) (turn : PassTurn) (phase : Phase) (new : Driver) (t : State) : Type 0 where
+pub record IsTriedTurn (next : ℕ) (form : Form) (block : ℕ) (one : Taken) (s : State) (old : Driver) (turn : PassTurn) (phase : Phase)
+    (new : Driver) (t : State) : Type 0 where
   pub entry : Entry
   pub tried : IsTried s old one.frame entry new t
   pub told : turn ≡ turn_of entry entry.event
   pub to : phase ≡ after_try next form block entry.event
 
 abbrev pub IsTryTurn : ℕ → Form → ℕ → Taken → State → Driver → PassTurn → Phase → Driver → State → Type 0
-IsTryTurn next form block one s old turn phase new t = IsTriedTurn next form block one s old turn phase new t ⊎ (AllOut old.slots × (turn ≡ turns.NoSlot))
+IsTryTurn next form block one s old turn phase new t = IsTriedTurn next form block one s old turn phase new t
+    ⊎ (AllOut old.slots × (turn ≡ turns.NoSlot))
 
 -- a block, and the tries behind the last one
 abbrev pub after_block : ℕ → ℕ → Phase
 after_block next count = if nat_lt (next + 1) count then phases.Block (next + 1) else phases.Tries 0 forms.First 0
 
-pub record IsBlockTurn (taken : List Taken) (next : ℕ) (one : Taken) (s : State) (turn : PassTurn) (phase : Phase) (t : State) : Type 0 where
+pub record IsBlockTurn (taken : List Taken) (next : ℕ) (one : Taken) (s : State) (turn : PassTurn) (phase : Phase)
+    (t : State) : Type 0 where
   pub entry : Entry
   pub step : IsStep s actors.Reclaimer (Block one.frame) entry t
   pub told : turn ≡ turns.One entry

@@ -15,7 +15,8 @@ use Rattle.driver_laws.specs.Stages.{KeepsPages}
 use Rattle.reclaim_worker.specs.Standing.{StandsFor}
 use Rattle.reclaim_worker.specs.Tables.{Shows}
 
-pub record Ready (made : Making) (j : JobView) (past : List Entry) (taken : List Taken) (phase : Phase) (d : Driver) (m : Parts) : Type 0 where
+pub record Ready (made : Making) (j : JobView) (past : List Entry) (taken : List Taken) (phase : Phase) (d : Driver)
+    (m : Parts) : Type 0 where
   pub follows : ShapeWithRules made (state_of m) past
   pub sound : IsSound past
   pub tracks : KeepsTracks past (pass j past)

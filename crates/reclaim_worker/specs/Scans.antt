@@ -41,7 +41,8 @@ abbrev pub after_look : ℕ → List Taken → Phase
 after_look zero taken = after_scan taken
 after_look (suc left) taken = phases.Scan (suc left)
 
-pub record IsScan (taken : List Taken) (left : ℕ) (old : Driver) (turn : PassTurn) (longer : List Taken) (phase : Phase) (new : Driver) : Type 0 where
+pub record IsScan (taken : List Taken) (left : ℕ) (old : Driver) (turn : PassTurn) (longer : List Taken) (phase : Phase)
+    (new : Driver) : Type 0 where
   pub page : Page
   pub sound : IsActive old.active
   pub head : head_of old.active.pages ≡ Some page
@@ -53,12 +54,15 @@ pub record IsScan (taken : List Taken) (left : ℕ) (old : Driver) (turn : PassT
   pub next : phase ≡ after_look (left - 1) longer
 
 abbrev pub IsScanned : List Taken → ℕ → Driver → PassTurn → List Taken → Phase → Driver → Type 0
-IsScanned taken left old turn longer phase new = IsScan taken left old turn longer phase new ⊎ ((old.active.pages ≡ []) × (turn ≡ turns.Again waits.AllHeld))
+IsScanned taken left old turn longer phase new = IsScan taken left old turn longer phase new
+    ⊎ ((old.active.pages ≡ []) × (turn ≡ turns.Again waits.AllHeld))
 
 -- the first look of a pass, where some page of the list is not held
-pub record IsBegin (taken : List Taken) (scan : ℕ) (old : Driver) (turn : PassTurn) (longer : List Taken) (phase : Phase) (new : Driver) : Type 0 where
+pub record IsBegin (taken : List Taken) (scan : ℕ) (old : Driver) (turn : PassTurn) (longer : List Taken) (phase : Phase)
+    (new : Driver) : Type 0 where
   pub some : are_held old.active ≡ false
   pub first : IsScanned taken (min scan (length old.active.pages)) old turn longer phase new
 
 abbrev pub IsBegun : List Taken → ℕ → Driver → PassTurn → List Taken → Phase → Driver → Type 0
-IsBegun taken scan old turn longer phase new = IsBegin taken scan old turn longer phase new ⊎ ((are_held old.active ≡ true) × (turn ≡ turns.Again waits.AllHeld))
+IsBegun taken scan old turn longer phase new = IsBegin taken scan old turn longer phase new
+    ⊎ ((are_held old.active ≡ true) × (turn ≡ turns.Again waits.AllHeld))

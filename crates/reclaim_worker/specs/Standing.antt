@@ -33,9 +33,11 @@ IsForm first past g forms.First block form = form ≡ passes.First
 IsForm first past g forms.Track block form = (form ≡ passes.ToTrack) × (block ≡ epoch first past g.enclave)
 IsForm first past g forms.Second block form = (form ≡ passes.Second) × (block + 1 ≡ epoch first past g.enclave)
 IsForm first past g forms.Kick block form = (form ≡ passes.ToKick) × (block + 1 ≡ epoch first past g.enclave)
-IsForm first past g forms.Third block form = ((form ≡ passes.Third) ⊎ ((form ≡ passes.ToKick) × (keepers past g ≡ []))) × (block + 1 ≡ epoch first past g.enclave)
+IsForm first past g forms.Third block form = ((form ≡ passes.Third) ⊎ ((form ≡ passes.ToKick) × (keepers past g ≡ [])))
+    × (block + 1 ≡ epoch first past g.enclave)
 
-pub record IsWithPage (first : ℕ) (past : List Entry) (taken : List Taken) (next : ℕ) (form : Form) (block : ℕ) (pass : passes.Pass) : Type 0 where
+pub record IsWithPage (first : ℕ) (past : List Entry) (taken : List Taken) (next : ℕ) (form : Form) (block : ℕ)
+    (pass : passes.Pass) : Type 0 where
   pub one : Taken
   pub rest : List Taken
   pub due : drop next taken ≡ one ∷ rest
@@ -59,7 +61,8 @@ abbrev pub StandsFor : ℕ → List Entry → List Taken → Phase → passes.Pa
 StandsFor first past taken (phases.Idle works) pass = (pass ≡ Between works) × (taken ≡ [])
 StandsFor first past taken (phases.Scan left) pass = IsPass past taken pass (Scan left (pages_in taken))
 StandsFor first past taken (phases.Block next) pass = IsPass past taken pass (Blocking (pages_in (drop next taken)) (pages_in taken))
-StandsFor first past taken (phases.Tries next form block) pass = IsWithPage first past taken next form block pass × AreInFrames past (drop next taken)
+StandsFor first past taken (phases.Tries next form block) pass = IsWithPage first past taken next form block pass
+    × AreInFrames past (drop next taken)
 StandsFor first past taken (phases.Sealing next slot) pass = IsWithSlot past taken next slot pass × AreInFrames past (drop next taken)
 
 -- the turn of kicks was made

@@ -39,7 +39,8 @@ gone slot true = Lost slot
 gone slot false = Away slot
 
 -- the page is out by the commit, and then its record is put
-pub record IsStored (one : Taken) (slot : SlotAt) (s : State) (old : Driver) (told : Option (List Call)) (e : Entry) (t : State) (new : Driver)
+pub record IsStored (one : Taken) (slot : SlotAt) (s : State) (old : Driver) (told : Option (List Call)) (e : Entry) (t : State)
+    (new : Driver)
     (told' : Option (List Call)) : Type 0 where
   pub rec : Sealed
   pub out : IsWrittenOut s actors.Reclaimer one.frame e rec t

@@ -22,14 +22,18 @@ pub record IsKickTurn (next block : ℕ) (one : Taken) (cpus : ℕ) (d : Parts) 
   pub to : phase ≡ phases.Tries next forms.Third block
 
 -- the last try waits for those who keep the page back
-pub record IsThirdTurn (next block : ℕ) (one : Taken) (d : Parts) (old : Driver) (turn : PassTurn) (phase : Phase) (new : Driver) (d' : Parts) (count : ℕ) : Type 0 where
+pub record IsThirdTurn (next block : ℕ) (one : Taken) (d : Parts) (old : Driver) (turn : PassTurn) (phase : Phase) (new : Driver)
+    (d' : Parts) (count : ℕ) : Type 0 where
   pub tried : count ≡ 0 → IsTryTurn next forms.Third block one (state_of d) old turn phase new (state_of d')
   pub patient : 1 ≤ count → turn ≡ turns.Again (waits.Older one.page.enclave count)
 
 abbrev pub IsFormTurn : ℕ → Form → ℕ → Taken → Parts → Driver → PassTurn → Phase → Driver → Parts → Type 0
-IsFormTurn next forms.First block one d old turn phase new d' = IsTryTurn next forms.First block one (state_of d) old turn phase new (state_of d')
-IsFormTurn next forms.Track block one d old turn phase new d' = IsTrackTurn next block one.page.enclave (state_of d) turn phase (state_of d')
-IsFormTurn next forms.Second block one d old turn phase new d' = IsTryTurn next forms.Second block one (state_of d) old turn phase new (state_of d')
+IsFormTurn next forms.First block one d old turn phase new d' = IsTryTurn next forms.First block one (state_of d) old turn phase new
+    (state_of d')
+IsFormTurn next forms.Track block one d old turn phase new d' = IsTrackTurn next block one.page.enclave (state_of d) turn phase
+    (state_of d')
+IsFormTurn next forms.Second block one d old turn phase new d' = IsTryTurn next forms.Second block one (state_of d) old turn phase new
+    (state_of d')
 IsFormTurn next forms.Kick block one d old turn phase new d' = IsKickTurn next block one old.cpus d turn phase
 IsFormTurn next forms.Third block one d old turn phase new d' =
     IsThirdTurn next block one d old turn phase new d' (count_from (λ p. is_kept_by (cpu_at d p).mode one.page.enclave block) 0 old.cpus)
@@ -43,6 +47,8 @@ abbrev pub TurnSays : List Taken → Phase → Driver → Parts → PassTurn →
 TurnSays taken (phases.Idle false) old d turn taken' phase' new d' = turn ≡ turns.Again (waits.Enough (count_by is_free_frame d.epc))
 TurnSays taken (phases.Idle true) old d turn taken' phase' new d' = IsBegun taken old.marks.scan old turn taken' phase' new
 TurnSays taken (phases.Scan left) old d turn taken' phase' new d' = IsScanned taken left old turn taken' phase' new
-TurnSays taken (phases.Block next) old d turn taken' phase' new d' = WithPage (slice_get taken next) (λ one. IsBlockTurn taken next one (state_of d) turn phase' (state_of d')) × (taken' ≡ taken)
-TurnSays taken (phases.Tries next form block) old d turn taken' phase' new d' = WithPage (slice_get taken next) (λ one. IsFormTurn next form block one d old turn phase' new d') × (taken' ≡ taken)
+TurnSays taken (phases.Block next) old d turn taken' phase' new d' = WithPage (slice_get taken next)
+    (λ one. IsBlockTurn taken next one (state_of d) turn phase' (state_of d')) × (taken' ≡ taken)
+TurnSays taken (phases.Tries next form block) old d turn taken' phase' new d' =
+    WithPage (slice_get taken next) (λ one. IsFormTurn next form block one d old turn phase' new d') × (taken' ≡ taken)
 TurnSays taken (phases.Sealing next slot) old d turn taken' phase' new d' = ⊥

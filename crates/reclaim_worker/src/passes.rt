@@ -3,7 +3,8 @@
 ghost use Rattle.std.specs.Prelude.{◌≡◌, ◌≢◌, ◌+◌, ◌++◌, ◌≤◌, ◌<◌, ◌∷◌, ℕ, [], false, List, length, IfOk, OnErr, vec_len, vec_capacity};
 ghost use Rattle.reclaim_worker.specs.declared.turns.Taken.{Taken};
 ghost use Rattle.paging_machine.specs.Parts.{state_of};
-ghost use Rattle.reclaim_worker.specs.Moves.{IsBlockTurn, IsTrackTurn, IsTryTurn, after_block, after_track, after_try, turn_of, turn_of_track};
+ghost use Rattle.reclaim_worker.specs.Moves.{IsBlockTurn, IsTrackTurn, IsTryTurn, after_block, after_track, after_try, turn_of};
+ghost use Rattle.reclaim_worker.specs.Moves.{turn_of_track};
 ghost use Rattle.reclaim_worker.specs.declared.turns.Form.TheVariants as forms;
 ghost use Rattle.reclaim_worker.specs.declared.turns.Phase.TheVariants as phases;
 ghost use Rattle.job_grammar.specs.Jobs.{JobView};
@@ -74,18 +75,25 @@ impl Pass {
         requires few { driver.old.cpus ≤ 16 }
         requires cpus { driver.old.cpus ≤ length machine.old.cpus }
         requires started { is_sealing self.old.phase ≡ false }
-        ensures due { IfOk result (λ turn. (made : Making) (j : JobView) (past : List Entry) → Ready made j past self.old.taken.items self.old.phase driver.old machine.old
+        ensures due { IfOk result (λ turn. (made : Making) (j : JobView) (past : List Entry)
+            → Ready made j past self.old.taken.items self.old.phase driver.old machine.old
             → IsTurn made past driver.old.slots (pass_due j past (is_kicked self.old.phase) (pass j past)) turn) }
-        ensures kept { IfOk result (λ turn. (made : Making) (j : JobView) (past : List Entry) → Ready made j past self.old.taken.items self.old.phase driver.old machine.old → TurnKeeps j past (pass j past) turn) }
-        ensures stands { IfOk result (λ turn. (made : Making) (j : JobView) (past : List Entry) → Ready made j past self.old.taken.items self.old.phase driver.old machine.old → StandsAfter made.first_epoch j past (pass j past) turn self.new.taken.items self.new.phase) }
-        ensures shows { IfOk result (λ turn. (made : Making) (j : JobView) (past : List Entry) → Ready made j past self.old.taken.items self.old.phase driver.old machine.old → ShowsAfter j past (pass j past) turn driver.new) }
+        ensures kept { IfOk result (λ turn. (made : Making) (j : JobView) (past : List Entry)
+            → Ready made j past self.old.taken.items self.old.phase driver.old machine.old → TurnKeeps j past (pass j past) turn) }
+        ensures stands { IfOk result (λ turn. (made : Making) (j : JobView) (past : List Entry)
+            → Ready made j past self.old.taken.items self.old.phase driver.old machine.old
+            → StandsAfter made.first_epoch j past (pass j past) turn self.new.taken.items self.new.phase) }
+        ensures shows { IfOk result (λ turn. (made : Making) (j : JobView) (past : List Entry)
+            → Ready made j past self.old.taken.items self.old.phase driver.old machine.old
+            → ShowsAfter j past (pass j past) turn driver.new) }
         ensures told { IfOk result (λ turn. S.told store.new ≡ told_by (look_in self.old.phase turn) (S.told store.old)) }
         ensures places { IfOk result (λ turn. S.spare store.new ≡ places_by (look_in self.old.phase turn) (S.spare store.old)) }
         ensures plans { S.plans store.new ≡ S.plans store.old }
         ensures memory { OnErr result ((driver.new ≡ driver.old) × (store.new ≡ store.old)) }
         ensures machine { OnErr result (machine.new ≡ machine.old) }
         ensures refused { OnErr result ((self.new.phase ≡ self.old.phase) × (self.new.taken.items ≡ self.old.taken.items)) }
-        ensures waits { IfOk result (λ turn. IsWait turn → (driver.new ≡ driver.old) × ((self.new.phase ≡ self.old.phase) × (self.new.taken.items ≡ self.old.taken.items))) }
+        ensures waits { IfOk result (λ turn. IsWait turn → (driver.new ≡ driver.old)
+            × ((self.new.phase ≡ self.old.phase) × (self.new.taken.items ≡ self.old.taken.items))) }
         ensures goes { IfOk result (λ turn. TurnGoes (state_of machine.old) turn (state_of machine.new)) }
     {
         self.turn(alloc, driver, machine, store)
@@ -97,7 +105,8 @@ impl Pass {
         ensures phase { self.new.phase ≡ noted_phase driver.now.marks free self.old.phase }
         ensures taken { self.new.taken ≡ self.old.taken }
         ensures stands { (first : ℕ) (j : JobView) (past : List Entry) (e : Entry) → driver.now.marks ≡ j.marks
-            → free ≡ free_count j.epc (e ∷ past) → StandsFor first (e ∷ past) self.old.taken.items self.old.phase (pass_after j past e.actor e.event (pass j past))
+            → free ≡ free_count j.epc (e ∷ past) → StandsFor first (e ∷ past) self.old.taken.items self.old.phase
+            (pass_after j past e.actor e.event (pass j past))
             → StandsFor first (e ∷ past) self.new.taken.items self.new.phase (pass j (e ∷ past)) }
     {
         if let Phase::Idle { works } = self.phase {
@@ -118,7 +127,8 @@ impl Pass {
         requires few { driver.old.cpus ≤ 16 }
         requires cpus { driver.old.cpus ≤ length machine.old.cpus }
         requires started { is_sealing self.old.phase ≡ false }
-        ensures says { IfOk result (λ turn. TurnSays self.old.taken.items self.old.phase driver.old machine.old turn self.new.taken.items self.new.phase driver.new machine.new) }
+        ensures says { IfOk result (λ turn. TurnSays self.old.taken.items self.old.phase driver.old machine.old turn self.new.taken.items
+            self.new.phase driver.new machine.new) }
         ensures driver { IfOk result (λ turn. DriverSays self.old.phase driver.old driver.new) }
         ensures told { IfOk result (λ turn. S.told store.new ≡ told_by (look_in self.old.phase turn) (S.told store.old)) }
         ensures places { IfOk result (λ turn. S.spare store.new ≡ places_by (look_in self.old.phase turn) (S.spare store.old)) }
@@ -126,7 +136,8 @@ impl Pass {
         ensures memory { OnErr result ((driver.new ≡ driver.old) × (store.new ≡ store.old)) }
         ensures machine { OnErr result (machine.new ≡ machine.old) }
         ensures refused { OnErr result ((self.new.phase ≡ self.old.phase) × (self.new.taken.items ≡ self.old.taken.items)) }
-        ensures waits { IfOk result (λ turn. IsWait turn → (driver.new ≡ driver.old) × ((self.new.phase ≡ self.old.phase) × (self.new.taken.items ≡ self.old.taken.items))) }
+        ensures waits { IfOk result (λ turn. IsWait turn → (driver.new ≡ driver.old)
+            × ((self.new.phase ≡ self.old.phase) × (self.new.taken.items ≡ self.old.taken.items))) }
         ensures goes { IfOk result (λ turn. TurnGoes (state_of machine.old) turn (state_of machine.new)) }
     {
         match self.phase {
@@ -204,13 +215,15 @@ impl Pass {
         store: &mut S,
     ) -> Result<PassTurn, Memory>
         requires counts { driver.old.states.counts ≡ driver.old.active.counts }
-        ensures begun { IfOk result (λ turn. IsBegun self.old.taken.items driver.old.marks.scan driver.old turn self.new.taken.items self.new.phase driver.new) }
+        ensures begun { IfOk result (λ turn. IsBegun self.old.taken.items driver.old.marks.scan driver.old turn self.new.taken.items
+            self.new.phase driver.new) }
         ensures told { IfOk result (λ turn. S.told store.new ≡ told_by (look_told turn) (S.told store.old)) }
         ensures places { IfOk result (λ turn. S.spare store.new ≡ places_by (look_told turn) (S.spare store.old)) }
         ensures plans { S.plans store.new ≡ S.plans store.old }
         ensures memory { OnErr result ((driver.new ≡ driver.old) × (store.new ≡ store.old)) }
         ensures refused { OnErr result ((self.new.phase ≡ self.old.phase) × (self.new.taken.items ≡ self.old.taken.items)) }
-        ensures waits { IfOk result (λ turn. IsWait turn → (driver.new ≡ driver.old) × ((self.new.phase ≡ self.old.phase) × (self.new.taken.items ≡ self.old.taken.items))) }
+        ensures waits { IfOk result (λ turn. IsWait turn → (driver.new ≡ driver.old)
+            × ((self.new.phase ≡ self.old.phase) × (self.new.taken.items ≡ self.old.taken.items))) }
         ensures goes { IfOk result (λ turn. TurnGoes (state_of machine.now) turn (state_of machine.now)) }
     {
         if driver.all_held() {
@@ -266,7 +279,8 @@ impl Pass {
         driver: &mut Driver,
         machine: &mut Machine,
     ) -> PassTurn
-        ensures tried { IsTryTurn next form block one (state_of machine.old) driver.old result self.new.phase driver.new (state_of machine.new) }
+        ensures tried { IsTryTurn next form block one (state_of machine.old) driver.old result self.new.phase driver.new
+            (state_of machine.new) }
         ensures taken { self.new.taken ≡ self.old.taken }
         ensures waits { IsWait result → (driver.new ≡ driver.old) × (self.new.phase ≡ self.old.phase) }
         ensures goes { TurnGoes (state_of machine.old) result (state_of machine.new) }
@@ -289,13 +303,15 @@ impl Pass {
         store: &mut S,
     ) -> Result<PassTurn, Memory>
         requires counts { driver.old.states.counts ≡ driver.old.active.counts }
-        ensures scanned { IfOk result (λ turn. IsScanned self.old.taken.items left driver.old turn self.new.taken.items self.new.phase driver.new) }
+        ensures scanned { IfOk result (λ turn. IsScanned self.old.taken.items left driver.old turn self.new.taken.items self.new.phase
+            driver.new) }
         ensures told { IfOk result (λ turn. S.told store.new ≡ told_by (look_told turn) (S.told store.old)) }
         ensures places { IfOk result (λ turn. S.spare store.new ≡ places_by (look_told turn) (S.spare store.old)) }
         ensures plans { S.plans store.new ≡ S.plans store.old }
         ensures memory { OnErr result ((driver.new ≡ driver.old) × (store.new ≡ store.old)) }
         ensures refused { OnErr result ((self.new.phase ≡ self.old.phase) × (self.new.taken.items ≡ self.old.taken.items)) }
-        ensures waits { IfOk result (λ turn. IsWait turn → (driver.new ≡ driver.old) × ((self.new.phase ≡ self.old.phase) × (self.new.taken.items ≡ self.old.taken.items))) }
+        ensures waits { IfOk result (λ turn. IsWait turn → (driver.new ≡ driver.old)
+            × ((self.new.phase ≡ self.old.phase) × (self.new.taken.items ≡ self.old.taken.items))) }
         ensures goes { IfOk result (λ turn. TurnGoes (state_of machine.now) turn (state_of machine.now)) }
     {
         let Some(page) = driver.active.head() else {

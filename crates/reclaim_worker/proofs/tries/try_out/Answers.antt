@@ -9,6 +9,7 @@ returns-then-is_refused-clause-tried c = record {
   ours = c.in_ok-slot.ensures.taken.ours;
   free = c.in_ok-slot.ensures.taken.was_in;
   step = c.reclaim-entry.ensures.step;
-  slots = after_refusal c.args.driver.now.slots c.take.new.self c.give.new.self c.in_ok-slot.slot (is_refused c.reclaim-entry.result.event) (sym c.is_refused.ensures ∙ c.if-is_refused.true) c.in_ok-slot.ensures.taken c.give.ensures;
+  slots = after_refusal c.args.driver.now.slots c.take.new.self c.give.new.self c.in_ok-slot.slot (is_refused c.reclaim-entry.result.event)
+      (sym c.is_refused.ensures ∙ c.if-is_refused.true) c.in_ok-slot.ensures.taken c.give.ensures;
   others = refl;
 }
