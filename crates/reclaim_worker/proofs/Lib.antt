@@ -1,0 +1,12 @@
+pub mod TriedLaws
+pub mod ScanLaws
+pub mod RowLaws
+pub mod MoveDueLaws
+pub mod KeepLaws
+pub mod DueLaws
+pub mod KeptLaws
+pub mod AfterLaws
+pub mod StandLaws
+pub mod NoteLaws
+pub mod ShownLaws
+pub mod StoredLaws

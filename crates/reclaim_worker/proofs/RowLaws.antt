@@ -1,0 +1,198 @@
+-- What the rows of a block, a track and a try say of a page that was taken.
+use Rattle.std.proofs.Common.{◌≡◌, ℕ, ◌&&◌, not, Bool, true, false, if◌then◌else◌, refl, sym, ◌∙◌, ap, List, length, Option, Some, None}
+use Rattle.std.proofs.Common.{is_some, nat_le, nat_lt, leb, arith}
+use Rattle.paging_laws.proofs.ColumnLaws.{blocked_is, content_is, epoch_is, is_blocked_is, sealing_is, slot_busy_is, version_is}
+use Rattle.std.proofs.lemmas.Bool.{eq-eqb, false≢true, leb-true}
+use Rattle.std.proofs.lemmas.List.{get_or_past}
+use Rattle.sgx_types.proofs.Keystone.{epochs_tell}
+use Rattle.sgx_types.specs.ByEpochs.{up_to_block}
+use Rattle.sgx_types.specs.declared.entries.Entry.{Entry}
+use Rattle.sgx_types.specs.declared.names.Page.{Page}
+use Rattle.sgx_types.specs.declared.names.SlotAt.{SlotAt}
+use Rattle.sgx_types.specs.declared.refusals.Refusal.{Refusal}
+use Rattle.sgx_types.specs.declared.refusals.Refusal.TheVariants as why
+use Rattle.sgx_types.specs.Epochs.{block_epoch, epoch, epoch_in, epoch_of}
+use Rattle.sgx_types.specs.Eviction.{kept_back}
+use Rattle.sgx_types.specs.Frames.{Content, Free, Holds, IsLoading, IsVa, SecsOf, content, enclave_in, is_blocked, is_free, is_page}
+use Rattle.sgx_types.specs.Frames.{is_sealing}
+use Rattle.sgx_types.specs.Flat.{FlatEnclave, enclave_sight_of}
+use Rattle.sgx_types.specs.Table as table
+use Rattle.sgx_types.specs.Table.{DrainSight, FrameSight, SlotSight, TrackSight, block_row, ewbstart_row, first_of_row, track_row}
+use Rattle.epcm_entry.specs.Epc.{free_frame}
+use Rattle.epcm_entry.specs.Sights.{held}
+use Rattle.secs_state.specs.Secs.{SecsState}
+use Rattle.secs_state.specs.Table.{enclave_at}
+use Rattle.version_array.specs.Keeper.{Keeper, is_added, is_ours, is_out}
+use Rattle.sgx_types.specs.Sights.{drain_sight_at}
+use Rattle.job_grammar.specs.Jobs.{JobView}
+use Rattle.paging_machine.specs.Parts.{Parts, added_in, enclave_of, state_of}
+use Rattle.paging_laws.specs.Columns.{HasColumns}
+use Rattle.paging_laws.specs.State.{State, drain_sight, number_up_to, sight, slot_sight}
+use Rattle.paging_laws.proofs.ColumnLaws.{is_blocked_is, content_is, blocked_is, sealing_is, epoch_is, slot_busy_is, version_is}
+use Rattle.paging_laws.proofs.ShapeLaws.{drained_by, noting_agrees}
+use Rattle.driver_laws.specs.Agrees.{ShowsSlots}
+use Rattle.driver_laws.specs.Agrees as agrees
+use Rattle.driver_rules.specs.Places.{Leaving, place}
+use Rattle.driver_laws.specs.Sound.{IsSound, stands_in}
+
+-- ---- what the machine's parts tell
+
+-- a frame that is not free is one of the EPC's
+pub held_within : (d : Parts) (n : ℕ) → is_free ((state_of d).content n) ≡ false → nat_le (length d.epc) n ≡ false
+held_within d n used = by_test (leb (length d.epc) n) refl
+  where
+    by_test : (b : Bool) → leb (length d.epc) n ≡ b → b ≡ false
+    by_test true is = absurd (false≢true (sym used ∙ ap (λ x. is_free (held x.entry))
+        (get_or_past d.epc n free_frame (leb-true (length d.epc) n is))))
+    by_test false is = refl
+
+-- an added page's enclave was created
+pub added_created : (d : Parts) (g : Page) → is_some ((state_of d).added g) ≡ true → is_some ((state_of d).enclaves g.enclave) ≡ true
+added_created d g = by_enclave (enclave_at d.secs g.enclave)
+  where
+    by_enclave : (o : Option SecsState) → is_some (added_in o g.number) ≡ true → is_some (enclave_of o) ≡ true
+    by_enclave None h = cc
+    by_enclave (Some x) h = refl
+
+-- ---- what a row sees
+
+pub record SeesPage (s : FrameSight) : Type 0 where
+  pub within : s.is_beyond ≡ false
+  pub idle : table.is_busy s ≡ false
+  pub used : is_free s.content ≡ false
+  pub secs : table.is_secs s.content ≡ false
+  pub va : table.is_va s.content ≡ false
+
+record IsPage (c : Content) : Type 0 where
+  pub used : is_free c ≡ false
+  pub secs : table.is_secs c ≡ false
+  pub va : table.is_va c ≡ false
+  pub waits : table.is_loading c ≡ false
+
+page_form : (c : Content) (g : Page) → is_page c g ≡ true → IsPage c
+page_form (Holds page kind perm) g h = record { used = refl; secs = refl; va = refl; waits = refl }
+page_form Free g h = cc
+page_form IsVa g h = cc
+page_form (SecsOf e) g h = cc
+page_form (IsLoading page) g h = cc
+
+-- the frame of a page that waits
+pub sees_page : (d : Parts) (past : List Entry) (g : Page) (f : ℕ) → HasColumns (state_of d) past → IsSound past → place past g ≡ Leaving f
+    → is_sealing past f ≡ false → SeesPage (sight (state_of d) f)
+sees_page d past g f h s at calm =
+    let holds : is_page (content past f) g ≡ true = s.places.frames g f ∙ ap (λ y. stands_in y f) at ∙ eq-eqb f f refl in
+    let form = page_form ((state_of d).content f) g (ap (λ c. is_page c g) (content_is h f) ∙ holds) in
+    record {
+      within = held_within d f form.used;
+      idle = rw (sealing_is h f, calm) form.waits;
+      used = form.used;
+      secs = form.secs;
+      va = form.va;
+    }
+
+pub blocked_same : (s : State) (past : List Entry) (n : ℕ) → HasColumns s past → is_some (s.blocked n) ≡ is_blocked past n
+blocked_same s past n h = is_blocked_is h n
+
+-- a slot of the keeper that is not out
+pub record SeesSlot (s : SlotSight) : Type 0 where
+  pub frame : s.frame.is_beyond ≡ false
+  pub within : s.is_beyond ≡ false
+  pub idle : s.is_busy ≡ false
+  pub array : table.is_va s.frame.content ≡ true
+  pub empty : s.version ≡ 0
+
+pub sees_slot : (d : Parts) (j : JobView) (past : List Entry) (keeper : Keeper) (slot : SlotAt) → HasColumns (state_of d) past
+    → ShowsSlots j keeper past → is_ours keeper slot ≡ true → is_out keeper slot ≡ false → SeesSlot (slot_sight (state_of d) slot)
+sees_slot d j past keeper slot h shows ours free =
+    let two = both (is_added keeper slot.frame.0) (nat_lt slot.index 512) ours in
+    let here : table.is_va ((state_of d).content slot.frame.0) ≡ true =
+    ap table.is_va (content_is h slot.frame.0) ∙ same (content past slot.frame.0) ∙ sym (shows.frames slot.frame.0) ∙ two.0 in
+    let none = shows.empty slot free in
+    record {
+      frame = held_within d slot.frame.0 (no_free ((state_of d).content slot.frame.0) here);
+      within = below slot.index two.1;
+      idle = slot_busy_is h slot ∙ none.1;
+      array = here;
+      empty = version_is h slot ∙ none.0;
+    }
+  where
+    both : (a b : Bool) → (a && b) ≡ true → (a ≡ true) × (b ≡ true)
+    both true b k = (refl, k)
+    both false b k = cc
+
+    same : (c : Content) → table.is_va c ≡ agrees.is_va c
+    same Free = refl
+    same IsVa = refl
+    same (SecsOf e) = refl
+    same (Holds page kind perm) = refl
+    same (IsLoading page) = refl
+
+    no_free : (c : Content) → table.is_va c ≡ true → is_free c ≡ false
+    no_free IsVa k = refl
+    no_free Free k = cc
+    no_free (SecsOf e) k = refl
+    no_free (Holds page kind perm) k = refl
+    no_free (IsLoading page) k = refl
+
+    below : (i : ℕ) → nat_lt i 512 ≡ true → nat_lt 511 i ≡ false
+    below i k = grind arith
+
+-- ---- rows
+
+pub block_allowed : (s : FrameSight) → SeesPage s → s.is_blocked ≡ false → first_of_row (block_row s) ≡ None
+block_allowed s k none = rw (k.within, k.idle, k.used, k.secs, k.va, none) refl
+
+abbrev pub try_refusal : DrainSight → Bool → Option Refusal
+try_refusal drain spent = if drain.is_drained then (if spent then Some why.VersionSpent else None) else Some
+    (why.NotTracked drain.epoch drain.kept_back)
+
+pub try_row : (s : FrameSight) (slot : SlotSight) (drain : DrainSight) (spent : Bool) → SeesPage s → s.is_blocked ≡ true → SeesSlot slot
+    → first_of_row (ewbstart_row s slot drain spent) ≡ try_refusal drain spent
+try_row s slot drain spent k blocked l = rw (k.within, l.frame, l.within, k.idle, l.idle, k.used, k.secs, k.va, l.array, blocked, l.empty)
+    (by_test drain.is_drained)
+  where
+    by_spent : (c : Bool) → (if c then Some why.VersionSpent else None) ≡ (if c then Some why.VersionSpent else None)
+    by_spent c = refl
+
+    by_test : (b : Bool) → (if not b then Some (why.NotTracked drain.epoch drain.kept_back) else if spent then Some why.VersionSpent else
+        None) ≡ (if b then (if spent then Some why.VersionSpent else None) else Some (why.NotTracked drain.epoch drain.kept_back))
+    by_test true = refl
+    by_test false = refl
+
+pub track_allowed : (s : TrackSight) → table.is_made s.enclave ≡ true → s.older ≡ 0
+    → first_of_row (track_row s) ≡ (if s.is_spent then Some why.EpochSpent else None)
+track_allowed s made none = rw (made, none) refl
+
+-- an enclave that was created is seen
+pub seen_made : (o : Option FlatEnclave) → is_some o ≡ true → table.is_made (enclave_sight_of o) ≡ true
+seen_made None h = cc
+seen_made (Some x) h = refl
+
+-- ---- tracking by the entries
+
+kept_back_by : (s : State) (past : List Entry) → HasColumns s past → (n : ℕ)
+    → number_up_to s (enclave_in (s.content n)) (s.blocked n) ≡ kept_back past n
+kept_back_by s past h n =
+    rw (content_is h n, blocked_is h n) (by_block (enclave_in (content past n)) (block_epoch s.first_epoch past n)
+    ∙ sym ((epochs_tell s.first_epoch past).kept_back n))
+  where
+    by_block : (c b : Option ℕ) → number_up_to s c b ≡ up_to_block s.first_epoch past c b
+    by_block None b = refl
+    by_block (Some enclave) None = refl
+    by_block (Some enclave) (Some b) = noting_agrees s past h enclave (λ m. leb m b)
+
+epoch_by : (s : State) (past : List Entry) → HasColumns s past → (n : ℕ)
+    → epoch_of s.epoch (enclave_in (s.content n)) ≡ epoch_in s.first_epoch past n
+epoch_by s past h n = rw (content_is h n) (by_enclave (enclave_in (content past n)))
+  where
+    by_enclave : (c : Option ℕ) → epoch_of s.epoch c ≡ epoch_of (epoch s.first_epoch past) c
+    by_enclave None = refl
+    by_enclave (Some enclave) = epoch_is h enclave
+
+pub drain_sees : (s : State) (past : List Entry) → HasColumns s past → (n : ℕ) → drain_sight s n ≡ drain_sight_at s.first_epoch past n
+drain_sees s past h n i = record {
+  epoch = epoch_by s past h n i;
+  kept_back = kept_back_by s past h n i;
+  is_drained =
+      drained_by s past h n i;
+}

@@ -1,0 +1,9 @@
+// One pass of the reclaimer over a machine, a driver's tables and a store.
+#![tactic(auto)]
+
+pub mod looks;
+pub mod passes;
+mod seats;
+pub mod stores;
+pub mod tries;
+pub mod turns;

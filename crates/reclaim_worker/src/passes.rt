@@ -1,0 +1,471 @@
+//! A pass of the reclaimer, one turn at a time.
+
+ghost use Rattle.std.specs.Prelude.{◌≡◌, ◌≢◌, ◌+◌, ◌++◌, ◌≤◌, ◌<◌, ◌∷◌, ℕ, [], false, List, length, IfOk, OnErr, vec_len, vec_capacity};
+ghost use Rattle.reclaim_worker.specs.declared.turns.Taken.{Taken};
+ghost use Rattle.paging_machine.specs.Parts.{state_of};
+ghost use Rattle.reclaim_worker.specs.Moves.{IsBlockTurn, IsTrackTurn, IsTryTurn, after_block, after_track, after_try, turn_of};
+ghost use Rattle.reclaim_worker.specs.Moves.{turn_of_track};
+ghost use Rattle.reclaim_worker.specs.declared.turns.Form.TheVariants as forms;
+ghost use Rattle.reclaim_worker.specs.declared.turns.Phase.TheVariants as phases;
+ghost use Rattle.job_grammar.specs.Jobs.{JobView};
+ghost use Rattle.sgx_types.specs.Making.{Making};
+ghost use Rattle.sgx_types.specs.declared.entries.Entry.{Entry};
+ghost use Rattle.reclaim_worker.specs.Answers.{IsTurn};
+ghost use Rattle.driver_rules.specs.Reclaims.{pass_due};
+ghost use Rattle.driver_rules.specs.Passes.{pass, pass_after, free_count, works_with};
+ghost use Rattle.reclaim_worker.specs.After.{StandsAfter};
+ghost use Rattle.reclaim_worker.specs.Kept.{TurnKeeps};
+ghost use Rattle.paging_laws.specs.State.{State};
+ghost use Rattle.reclaim_worker.specs.Asked.{look_in, look_told, places_by, told_by};
+ghost use Rattle.reclaim_worker.specs.Going.{GoesOn, TurnGoes};
+ghost use Rattle.reclaim_worker.specs.Shown.{ShowsAfter};
+ghost use Rattle.reclaim_worker.specs.Rests.{DriverSays, IsWait};
+ghost use Rattle.reclaim_worker.specs.Ready.{Ready};
+ghost use Rattle.reclaim_worker.specs.Standing.{StandsFor, noted_phase, is_kicked, is_sealing};
+ghost use Rattle.reclaim_worker.specs.Turning.{IsFormTurn, TurnSays};
+ghost use Rattle.reclaim_worker.specs.Scans.{IsBegun, IsScanned, after_look, frame_in, taken_with};
+
+use crate::looks::look;
+use crate::seats::{keepers, number_of_keepers};
+use crate::tries::{reclaim, try_out};
+use crate::turns::{Form, PassTurn, Phase, Taken};
+use active_list::page_states::PageState;
+use backing_store::backing::Backing;
+use driver_rules::waits::Why;
+use driver_tables::driver::Driver;
+use job_grammar::jobs::Marks;
+use paging_machine::machine::Machine;
+use sgx_types::entries::{Action, Actor, Entry, Event, Look};
+use sgx_types::names::{Frame, Memory, Page};
+use sgx_types::refusals::Refusal;
+use std::alloc::Global;
+
+// A pass takes no more pages than it looks at, and a job lets it look at no more than 64.
+const MOST: usize = 64;
+
+/// How far the reclaimer is, and the pages that the pass took.
+#[derive(Drop)]
+pub struct Pass {
+    pub taken: Vec<Taken>,
+    pub phase: Phase,
+}
+
+impl Pass {
+    /// Before the first pass.
+    pub fn new(alloc: Global) -> Result<Pass, Memory>
+        ensures taken { IfOk result (λ pass. pass.taken.items ≡ []) }
+        ensures phase { IfOk result (λ pass. pass.phase ≡ phases.Idle false) }
+    {
+        Ok(Pass {
+            taken: Vec::with_capacity(alloc, MOST)?,
+            phase: Phase::Idle { works: false },
+        })
+    }
+
+    /// One turn of the pass, which is what the reclaimer does next: a look, a block, a try, a track or kicks, or the reason why
+    /// nothing changes.
+    pub fn step<S: Backing>(
+        &mut self,
+        alloc: Global,
+        driver: &mut Driver,
+        machine: &mut Machine,
+        store: &mut S,
+    ) -> Result<PassTurn, Memory>
+        requires counts { driver.old.states.counts ≡ driver.old.active.counts }
+        requires few { driver.old.cpus ≤ 16 }
+        requires cpus { driver.old.cpus ≤ length machine.old.cpus }
+        requires started { is_sealing self.old.phase ≡ false }
+        ensures due { IfOk result (λ turn. (made : Making) (j : JobView) (past : List Entry)
+            → Ready made j past self.old.taken.items self.old.phase driver.old machine.old
+            → IsTurn made past driver.old.slots (pass_due j past (is_kicked self.old.phase) (pass j past)) turn) }
+        ensures kept { IfOk result (λ turn. (made : Making) (j : JobView) (past : List Entry)
+            → Ready made j past self.old.taken.items self.old.phase driver.old machine.old → TurnKeeps j past (pass j past) turn) }
+        ensures stands { IfOk result (λ turn. (made : Making) (j : JobView) (past : List Entry)
+            → Ready made j past self.old.taken.items self.old.phase driver.old machine.old
+            → StandsAfter made.first_epoch j past (pass j past) turn self.new.taken.items self.new.phase) }
+        ensures shows { IfOk result (λ turn. (made : Making) (j : JobView) (past : List Entry)
+            → Ready made j past self.old.taken.items self.old.phase driver.old machine.old
+            → ShowsAfter j past (pass j past) turn driver.new) }
+        ensures told { IfOk result (λ turn. S.told store.new ≡ told_by (look_in self.old.phase turn) (S.told store.old)) }
+        ensures places { IfOk result (λ turn. S.spare store.new ≡ places_by (look_in self.old.phase turn) (S.spare store.old)) }
+        ensures plans { S.plans store.new ≡ S.plans store.old }
+        ensures memory { OnErr result ((driver.new ≡ driver.old) × (store.new ≡ store.old)) }
+        ensures machine { OnErr result (machine.new ≡ machine.old) }
+        ensures refused { OnErr result ((self.new.phase ≡ self.old.phase) × (self.new.taken.items ≡ self.old.taken.items)) }
+        ensures waits { IfOk result (λ turn. IsWait turn → (driver.new ≡ driver.old)
+            × ((self.new.phase ≡ self.old.phase) × (self.new.taken.items ≡ self.old.taken.items))) }
+        ensures goes { IfOk result (λ turn. TurnGoes (state_of machine.old) turn (state_of machine.new)) }
+    {
+        self.turn(alloc, driver, machine, store)
+    }
+
+    /// Decides after an entry of any actor whether the reclaimer works, by how many frames are free then. Within a pass nothing
+    /// is decided.
+    pub fn note(&mut self, driver: &Driver, free: u32)
+        ensures phase { self.new.phase ≡ noted_phase driver.now.marks free self.old.phase }
+        ensures taken { self.new.taken ≡ self.old.taken }
+        ensures stands { (first : ℕ) (j : JobView) (past : List Entry) (e : Entry) → driver.now.marks ≡ j.marks
+            → free ≡ free_count j.epc (e ∷ past) → StandsFor first (e ∷ past) self.old.taken.items self.old.phase
+            (pass_after j past e.actor e.event (pass j past))
+            → StandsFor first (e ∷ past) self.new.taken.items self.new.phase (pass j (e ∷ past)) }
+    {
+        if let Phase::Idle { works } = self.phase {
+            let works = works_with(driver.marks, free, works);
+            self.phase = Phase::Idle { works };
+        }
+    }
+
+    // One turn, by how far the pass is.
+    fn turn<S: Backing>(
+        &mut self,
+        alloc: Global,
+        driver: &mut Driver,
+        machine: &mut Machine,
+        store: &mut S,
+    ) -> Result<PassTurn, Memory>
+        requires counts { driver.old.states.counts ≡ driver.old.active.counts }
+        requires few { driver.old.cpus ≤ 16 }
+        requires cpus { driver.old.cpus ≤ length machine.old.cpus }
+        requires started { is_sealing self.old.phase ≡ false }
+        ensures says { IfOk result (λ turn. TurnSays self.old.taken.items self.old.phase driver.old machine.old turn self.new.taken.items
+            self.new.phase driver.new machine.new) }
+        ensures driver { IfOk result (λ turn. DriverSays self.old.phase driver.old driver.new) }
+        ensures told { IfOk result (λ turn. S.told store.new ≡ told_by (look_in self.old.phase turn) (S.told store.old)) }
+        ensures places { IfOk result (λ turn. S.spare store.new ≡ places_by (look_in self.old.phase turn) (S.spare store.old)) }
+        ensures plans { S.plans store.new ≡ S.plans store.old }
+        ensures memory { OnErr result ((driver.new ≡ driver.old) × (store.new ≡ store.old)) }
+        ensures machine { OnErr result (machine.new ≡ machine.old) }
+        ensures refused { OnErr result ((self.new.phase ≡ self.old.phase) × (self.new.taken.items ≡ self.old.taken.items)) }
+        ensures waits { IfOk result (λ turn. IsWait turn → (driver.new ≡ driver.old)
+            × ((self.new.phase ≡ self.old.phase) × (self.new.taken.items ≡ self.old.taken.items))) }
+        ensures goes { IfOk result (λ turn. TurnGoes (state_of machine.old) turn (state_of machine.new)) }
+    {
+        match self.phase {
+            Phase::Idle { works: false } => {
+                let free = machine.free_count();
+                Ok(PassTurn::Again(Why::Enough { free }))
+            }
+            Phase::Idle { works: true } => self.begin(alloc, driver, machine, store),
+            Phase::Scan { left } => self.scan(alloc, left, driver, machine, store),
+            Phase::Block { next } => {
+                let Some(one) = self.taken.get(next).copied() else {
+                    return Ok(PassTurn::Again(Why::AllHeld));
+                };
+                Ok(self.block(alloc, next, one, machine))
+            }
+            Phase::Tries { next, form, block } => {
+                let Some(one) = self.taken.get(next).copied() else {
+                    return Ok(PassTurn::Again(Why::AllHeld));
+                };
+                Ok(self.form(alloc, next, form, block, one, driver, machine))
+            }
+            Phase::Sealing { .. } => unreachable!(),
+        }
+    }
+
+    // A turn within the tries of a page.
+    fn form(
+        &mut self,
+        alloc: Global,
+        next: usize,
+        form: Form,
+        block: u64,
+        one: Taken,
+        driver: &mut Driver,
+        machine: &mut Machine,
+    ) -> PassTurn
+        requires few { driver.old.cpus ≤ 16 }
+        requires cpus { driver.old.cpus ≤ length machine.old.cpus }
+        ensures form { IsFormTurn next form block one machine.old driver.old result self.new.phase driver.new machine.new }
+        ensures taken { self.new.taken ≡ self.old.taken }
+        ensures driver { DriverSays (phases.Tries next form block) driver.old driver.new }
+        ensures waits { IsWait result → (driver.new ≡ driver.old) × (self.new.phase ≡ self.old.phase) }
+        ensures goes { TurnGoes (state_of machine.old) result (state_of machine.new) }
+    {
+        match form {
+            Form::First => self.try_page(alloc, next, Form::First, block, one, driver, machine),
+            Form::Track => self.track(alloc, next, block, one, machine),
+            Form::Second => self.try_page(alloc, next, Form::Second, block, one, driver, machine),
+            Form::Kick => {
+                let bits = keepers(machine, driver.cpus, one.page.enclave, block);
+                self.phase = Phase::Tries {
+                    next,
+                    form: Form::Third,
+                    block,
+                };
+                PassTurn::Kicks(bits)
+            }
+            Form::Third => {
+                let enclave = one.page.enclave;
+                let count = number_of_keepers(machine, driver.cpus, enclave, block);
+                if count > 0 {
+                    return PassTurn::Again(Why::Older { enclave, count });
+                }
+                self.try_page(alloc, next, Form::Third, block, one, driver, machine)
+            }
+        }
+    }
+
+    // The first look of a pass.
+    fn begin<S: Backing>(
+        &mut self,
+        alloc: Global,
+        driver: &mut Driver,
+        machine: &Machine,
+        store: &mut S,
+    ) -> Result<PassTurn, Memory>
+        requires counts { driver.old.states.counts ≡ driver.old.active.counts }
+        ensures begun { IfOk result (λ turn. IsBegun self.old.taken.items driver.old.marks.scan driver.old turn self.new.taken.items
+            self.new.phase driver.new) }
+        ensures told { IfOk result (λ turn. S.told store.new ≡ told_by (look_told turn) (S.told store.old)) }
+        ensures places { IfOk result (λ turn. S.spare store.new ≡ places_by (look_told turn) (S.spare store.old)) }
+        ensures plans { S.plans store.new ≡ S.plans store.old }
+        ensures memory { OnErr result ((driver.new ≡ driver.old) × (store.new ≡ store.old)) }
+        ensures refused { OnErr result ((self.new.phase ≡ self.old.phase) × (self.new.taken.items ≡ self.old.taken.items)) }
+        ensures waits { IfOk result (λ turn. IsWait turn → (driver.new ≡ driver.old)
+            × ((self.new.phase ≡ self.old.phase) × (self.new.taken.items ≡ self.old.taken.items))) }
+        ensures goes { IfOk result (λ turn. TurnGoes (state_of machine.now) turn (state_of machine.now)) }
+    {
+        if driver.all_held() {
+            return Ok(PassTurn::Again(Why::AllHeld));
+        }
+        let left = driver.marks.scan.min(driver.active.len());
+        self.scan(alloc, left, driver, machine, store)
+    }
+
+    // The block of a page.
+    fn block(&mut self, alloc: Global, next: usize, one: Taken, machine: &mut Machine) -> PassTurn
+        requires { next < length self.old.taken.items }
+        ensures block { IsBlockTurn self.old.taken.items next one (state_of machine.old) result self.new.phase (state_of machine.new) }
+        ensures taken { self.new.taken ≡ self.old.taken }
+        ensures waits { IsWait result → ⊥ }
+        ensures goes { TurnGoes (state_of machine.old) result (state_of machine.new) }
+        ensures cpus { length machine.new.cpus ≡ length machine.old.cpus }
+    {
+        let entry = reclaim(alloc, machine, Action::Block { frame: one.frame });
+        self.phase = after_block(next, self.taken.len());
+        PassTurn::One(entry)
+    }
+
+    // The track between the first two tries of a page.
+    fn track(
+        &mut self,
+        alloc: Global,
+        next: usize,
+        block: u64,
+        one: Taken,
+        machine: &mut Machine,
+    ) -> PassTurn
+        ensures track { IsTrackTurn next block one.page.enclave (state_of machine.old) result self.new.phase (state_of machine.new) }
+        ensures taken { self.new.taken ≡ self.old.taken }
+        ensures waits { IsWait result → ⊥ }
+        ensures goes { TurnGoes (state_of machine.old) result (state_of machine.new) }
+        ensures cpus { length machine.new.cpus ≡ length machine.old.cpus }
+    {
+        let enclave = one.page.enclave;
+        let entry = reclaim(alloc, machine, Action::Track { enclave });
+        self.phase = after_track(next, block, &entry);
+        turn_of_track(entry)
+    }
+
+    // A try to write a page out.
+    fn try_page(
+        &mut self,
+        alloc: Global,
+        next: usize,
+        form: Form,
+        block: u64,
+        one: Taken,
+        driver: &mut Driver,
+        machine: &mut Machine,
+    ) -> PassTurn
+        ensures tried { IsTryTurn next form block one (state_of machine.old) driver.old result self.new.phase driver.new
+            (state_of machine.new) }
+        ensures taken { self.new.taken ≡ self.old.taken }
+        ensures waits { IsWait result → (driver.new ≡ driver.old) × (self.new.phase ≡ self.old.phase) }
+        ensures goes { TurnGoes (state_of machine.old) result (state_of machine.new) }
+        ensures cpus { length machine.new.cpus ≡ length machine.old.cpus }
+    {
+        let Some(entry) = try_out(alloc, driver, machine, one.frame) else {
+            return PassTurn::NoSlot;
+        };
+        self.phase = after_try(next, form, block, &entry);
+        turn_of(entry)
+    }
+
+    // One look, with so many left.
+    fn scan<S: Backing>(
+        &mut self,
+        alloc: Global,
+        left: u32,
+        driver: &mut Driver,
+        machine: &Machine,
+        store: &mut S,
+    ) -> Result<PassTurn, Memory>
+        requires counts { driver.old.states.counts ≡ driver.old.active.counts }
+        ensures scanned { IfOk result (λ turn. IsScanned self.old.taken.items left driver.old turn self.new.taken.items self.new.phase
+            driver.new) }
+        ensures told { IfOk result (λ turn. S.told store.new ≡ told_by (look_told turn) (S.told store.old)) }
+        ensures places { IfOk result (λ turn. S.spare store.new ≡ places_by (look_told turn) (S.spare store.old)) }
+        ensures plans { S.plans store.new ≡ S.plans store.old }
+        ensures memory { OnErr result ((driver.new ≡ driver.old) × (store.new ≡ store.old)) }
+        ensures refused { OnErr result ((self.new.phase ≡ self.old.phase) × (self.new.taken.items ≡ self.old.taken.items)) }
+        ensures waits { IfOk result (λ turn. IsWait turn → (driver.new ≡ driver.old)
+            × ((self.new.phase ≡ self.old.phase) × (self.new.taken.items ≡ self.old.taken.items))) }
+        ensures goes { IfOk result (λ turn. TurnGoes (state_of machine.now) turn (state_of machine.now)) }
+    {
+        let Some(page) = driver.active.head() else {
+            return Ok(PassTurn::Again(Why::AllHeld));
+        };
+        self.taken.reserve(1)?;
+        let state = driver.states.state(page);
+        let look = look(alloc, driver, store, page)?;
+        keep(&mut self.taken, look, page, state);
+        self.phase = after_look(left.saturating_sub(1), self.taken.len());
+        let entry = Entry {
+            actor: Actor::Reclaimer,
+            event: Event::Age { page, look },
+        };
+        machine.note(&entry);
+        Ok(PassTurn::One(entry))
+    }
+}
+
+// Whether the reclaimer works, with so many frames free: it begins below the low mark, stops from the high mark on, and else goes
+// on as before.
+fn works_with(marks: Marks, free: u32, before: bool) -> bool
+    ensures { result ≡ works_with marks free before }
+{
+    if free < marks.low {
+        return true;
+    }
+    if free >= marks.high {
+        return false;
+    }
+    before
+}
+
+// Keeps a page that was taken, with its frame.
+fn keep(taken: &mut Vec<Taken>, look: Look, page: Page, state: PageState)
+    requires { vec_len taken.old + 1 ≤ vec_capacity taken.old }
+    ensures { taken.new.items ≡ taken.old.items ++ taken_with look page state }
+{
+    if let Look::Taken = look {
+        let frame = frame_in(state);
+        taken.push_reserved(Taken { page, frame });
+    }
+}
+
+// The frame of a page that stands in one.
+fn frame_in(state: PageState) -> Frame
+    ensures { result ≡ frame_in state }
+{
+    match state {
+        PageState::Here(frame) => frame,
+        PageState::Leaving(frame) => frame,
+        _ => Frame(0),
+    }
+}
+
+// How far the pass is behind a look, with so many looks left and so many pages taken.
+fn after_look(left: u32, taken: usize) -> Phase
+    ensures { (pages : List Taken) → length pages ≡ taken → result ≡ after_look left pages }
+{
+    if left > 0 {
+        return Phase::Scan { left };
+    }
+    if taken > 0 {
+        return Phase::Block { next: 0 };
+    }
+    Phase::Idle { works: true }
+}
+
+// How far the pass is behind a block of one of so many pages.
+fn after_block(next: usize, count: usize) -> Phase
+    requires { next < count }
+    ensures { result ≡ after_block next count }
+{
+    if next + 1 < count {
+        return Phase::Block { next: next + 1 };
+    }
+    Phase::Tries {
+        next: 0,
+        form: Form::First,
+        block: 0,
+    }
+}
+
+// How far it is behind a track.
+fn after_track(next: usize, block: u64, entry: &Entry) -> Phase
+    ensures { result ≡ after_track next block entry.now.event }
+{
+    let form = match entry.event {
+        Event::Refused { .. } => Form::Track,
+        _ => Form::Second,
+    };
+    Phase::Tries { next, form, block }
+}
+
+fn turn_of_track(entry: Entry) -> PassTurn
+    ensures turn { result ≡ turn_of_track entry entry.event }
+    ensures waits { IsWait result → ⊥ }
+    ensures goes { (s t : State) → GoesOn s entry t → TurnGoes s result t }
+{
+    match entry.event {
+        Event::Refused { .. } => PassTurn::Spent(entry),
+        _ => PassTurn::One(entry),
+    }
+}
+
+// How far it is behind a try.
+fn after_try(next: usize, form: Form, block: u64, entry: &Entry) -> Phase
+    ensures { result ≡ after_try next form block entry.now.event }
+{
+    match (form, entry.event) {
+        (
+            Form::First,
+            Event::Refused {
+                why: Refusal::NotTracked { epoch, .. },
+                ..
+            },
+        ) => Phase::Tries {
+            next,
+            form: Form::Track,
+            block: epoch,
+        },
+        (
+            Form::Second,
+            Event::Refused {
+                why: Refusal::NotTracked { .. },
+                ..
+            },
+        ) => Phase::Tries {
+            next,
+            form: Form::Kick,
+            block,
+        },
+        (
+            _,
+            Event::Did {
+                action: Action::EwbStart { slot, .. },
+                ..
+            },
+        ) => Phase::Sealing { next, slot },
+        _ => Phase::Tries { next, form, block },
+    }
+}
+
+fn turn_of(entry: Entry) -> PassTurn
+    ensures turn { result ≡ turn_of entry entry.event }
+    ensures waits { IsWait result → ⊥ }
+    ensures goes { (s t : State) → GoesOn s entry t → TurnGoes s result t }
+{
+    match entry.event {
+        Event::Refused {
+            why: Refusal::NotTracked { .. },
+            ..
+        } => PassTurn::One(entry),
+        Event::Refused { .. } => PassTurn::Spent(entry),
+        _ => PassTurn::Seal(entry),
+    }
+}

@@ -1,0 +1,82 @@
+//! What a pass does with the pages that it took: it blocks them, and writes each out.
+
+ghost use Rattle.std.specs.Prelude.{◌≡◌, ◌∷◌, ◌≤◌, ◌<◌, true, false, List, length, IfSome, IfNone, nat_le};
+ghost use Rattle.sgx_types.specs.declared.entries.Actor.TheVariants as actors;
+ghost use Rattle.sgx_types.specs.declared.entries.Action.TheVariants as actions;
+ghost use Rattle.sgx_types.specs.declared.entries.Entry.{Entry};
+ghost use Rattle.sgx_types.specs.Rules.{LoadsAwayRule};
+ghost use Rattle.version_array.specs.Keeper.{AllOut};
+ghost use Rattle.paging_machine.specs.Parts.{cpu_at, state_of};
+ghost use Rattle.paging_laws.specs.Shape.{FitsApart, ShapeWithRules};
+ghost use Rattle.sgx_types.specs.Making.{Making};
+ghost use Rattle.paging_laws.specs.Steps.{CanApply, IsStep, MayNeedMemory};
+ghost use Rattle.reclaim_worker.specs.Going.{GoesOn};
+ghost use Rattle.reclaim_worker.specs.Tried.{IsTried, is_kept_by, is_refused};
+ghost use Rattle.reclaim_worker.specs.Answers.{bits_from};
+
+use cached_translations::processor::Mode;
+use driver_tables::driver::Driver;
+use paging_machine::machine::Machine;
+use sgx_types::entries::{Action, Actor, Entry, Event};
+use sgx_types::names::{Cpu, Frame};
+use std::alloc::Global;
+
+/// One instruction of the reclaimer.
+pub(crate) fn reclaim(alloc: Global, machine: &mut Machine, action: Action) -> Entry
+    requires can { CanApply (length machine.old.cpus) actors.Reclaimer action }
+    requires sure { MayNeedMemory action → ⊥ }
+    ensures step { IsStep (state_of machine.old) actors.Reclaimer action result (state_of machine.new) }
+    ensures goes { GoesOn (state_of machine.old) result (state_of machine.new) }
+    ensures cpus { length machine.new.cpus ≡ length machine.old.cpus }
+{
+    match machine.apply(alloc, Actor::Reclaimer, &action) {
+        Ok(entry) => entry,
+        Err(_) => unreachable!(),
+    }
+}
+
+/// Whether an instruction was refused.
+pub(crate) fn is_refused(entry: &Entry) -> bool
+    ensures { result ≡ is_refused entry.now.event }
+{
+    matches!(entry.event, Event::Refused { .. })
+}
+
+/// Starts to write out the page in a frame, into a slot that is not out. Where that is refused the slot is given back. None
+/// where every slot is out.
+pub(crate) fn try_out(
+    alloc: Global,
+    driver: &mut Driver,
+    machine: &mut Machine,
+    frame: Frame,
+) -> Option<Entry>
+    ensures tried { IfSome result (λ e. IsTried (state_of machine.old) driver.old frame e driver.new (state_of machine.new)) }
+    ensures goes { IfSome result (λ e. GoesOn (state_of machine.old) e (state_of machine.new)) }
+    ensures none { IfNone result (AllOut driver.old.slots) }
+    ensures driver { IfNone result (driver.new ≡ driver.old) }
+    ensures machine { IfNone result (machine.new ≡ machine.old) }
+    ensures cpus { length machine.new.cpus ≡ length machine.old.cpus }
+{
+    let slot = driver.slots.take()?;
+    let entry = reclaim(alloc, machine, Action::EwbStart { frame, slot });
+    if is_refused(&entry) {
+        driver.slots.give(slot);
+    }
+    Some(entry)
+}
+
+/// Whether a processor keeps a page back that was blocked at an epoch: it is inside the page's enclave since that epoch or
+/// an earlier one.
+pub(crate) fn keeps_back(machine: &Machine, cpu: Cpu, enclave: u16, block: u64) -> bool
+    requires { cpu.0 < length machine.now.cpus }
+    ensures { result ≡ is_kept_by (cpu_at machine.now cpu.0).mode enclave block }
+{
+    match machine.mode(cpu) {
+        Mode::Outside => false,
+        Mode::Inside {
+            enclave: other,
+            epoch,
+            ..
+        } => other == enclave && epoch <= block,
+    }
+}
