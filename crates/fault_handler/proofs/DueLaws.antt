@@ -45,7 +45,7 @@ use Rattle.driver_tables.proofs.LoadShowLaws.{shows_bus, shows_load_start}
 use Rattle.fault_handler.specs.declared.answers.FaultAnswer.{FaultAnswer}
 use Rattle.fault_handler.specs.declared.answers.FaultAnswer.TheVariants as answers
 use Rattle.fault_handler.specs.Due.{IsRight, WaitsBy}
-use Rattle.fault_handler.specs.Ready.{IsReady}
+use Rattle.driver_steps.specs.Agrees.{Agrees}
 use Rattle.fault_handler.specs.Resolving.{IsFetch, IsGot, IsResolved, IsSaid, IsStarted}
 use Rattle.fault_handler.proofs.LoadRows.{frames_are, load_row}
 
@@ -63,7 +63,7 @@ away_apart past g slot s at n =
     no_slot None h = refl
     no_slot (Some start) h = by_test (is_load_of (Some start) g) start.slot h
 
-module _ (made : Making) (j : JobView) (past : List Entry) (d d' : Driver) (m m' : Parts) (r : IsReady made j past d m) (cpu : Cpu) (page : Page)
+module _ (made : Making) (j : JobView) (past : List Entry) (d d' : Driver) (m m' : Parts) (r : Agrees made j past d m) (cpu : Cpu) (page : Page)
     (here : IsPlaced d.states.counts page) (room : cpu.0 < length d.kept) where
   place_is : (s : PageState) → page_state d.states page ≡ s → place past page ≡ place_in s
   place_is s is = sym (r.shows.states page here) ∙ ap place_in is
@@ -185,7 +185,7 @@ module _ (made : Making) (j : JobView) (past : List Entry) (d d' : Driver) (m m'
 pub all_right : {E : Type 0} (d d' : Driver) (m m' : Parts) (cpu : Cpu) (page : Page) (told told' : Option (List Call)) (result : Result FaultAnswer E)
     → IsPlaced d.states.counts page → cpu.0 < length d.kept
     → IfOk result (λ answer. IsResolved cpu page (page_state d.states page) d m told answer d' m' told')
-    → IfOk result (λ answer. (made : Making) (j : JobView) (past : List Entry) → IsReady made j past d m → IsRight j past cpu page answer d')
+    → IfOk result (λ answer. (made : Making) (j : JobView) (past : List Entry) → Agrees made j past d m → IsRight j past cpu page answer d')
 all_right d d' m m' cpu page told told' (Ok answer) here room does =
     λ made j past r. is_right made j past d d' m m' r cpu page here room told told' answer (page_state d.states page) refl does
 all_right d d' m m' cpu page told told' (Err e) here room does = does

@@ -50,7 +50,7 @@ use Rattle.driver_tables.proofs.LoadShowLaws.{shows_bus, shows_load_end, shows_l
 use Rattle.fault_handler.specs.declared.answers.Loaded.{Loaded}
 use Rattle.fault_handler.specs.Due.{IsRightEnd}
 use Rattle.fault_handler.specs.Finishing.{CanFinish, IsFinished, bus_why}
-use Rattle.fault_handler.specs.Ready.{IsReady}
+use Rattle.driver_steps.specs.Agrees.{Agrees}
 
 -- ---- what is known of a page that loads
 
@@ -116,7 +116,7 @@ kept_for (Some k) page h = record { rec = k.sealed; kept = ap (λ p. Some (keepi
     pages : (a b : Page) → Some a ≡ Some b → a ≡ b
     pages a b e = cc
 
-module _ (made : Making) (j : JobView) (past : List Entry) (d : Driver) (m : Parts) (r : IsReady made j past d m) (cpu : Cpu) (page : Page)
+module _ (made : Making) (j : JobView) (past : List Entry) (d : Driver) (m : Parts) (r : Agrees made j past d m) (cpu : Cpu) (page : Page)
     (n : ℕ) (last : last_of past cpu.0 ≡ Loads n page) where
   opens : load_of (open_start past n) ≡ Some page
   opens = r.theirs.started cpu.0 n page last
@@ -205,7 +205,7 @@ row_fails rec computed header page cpu f refusal h = by_tag (not (bytes_eq rec.t
         some_same a b e = cc
     by_tag false c k = by_header c k
 
-module _ (made : Making) (j : JobView) (past : List Entry) (d d' : Driver) (m : Parts) (t : State) (r : IsReady made j past d m) (cpu : Cpu)
+module _ (made : Making) (j : JobView) (past : List Entry) (d d' : Driver) (m : Parts) (t : State) (r : Agrees made j past d m) (cpu : Cpu)
     (page : Page) (f : Frame) (slot : SlotAt) (loading : place past page ≡ Loading f.0 slot) (last : last_of past cpu.0 ≡ Loads f.0 page)
     (room : cpu.0 < length d.kept) (loaded : Loaded) (rec : Sealed)
     (is : IsFinished cpu page slot f rec d (state_of m) loaded d' t) where
@@ -286,7 +286,7 @@ module _ (made : Making) (j : JobView) (past : List Entry) (d d' : Driver) (m : 
   end_right = ⊎_elim done refused by_entry
 
 -- the end of the load that a processor has still to end
-pub finish_right : (made : Making) (j : JobView) (past : List Entry) (d d' : Driver) (m : Parts) (t : State) (r : IsReady made j past d m)
+pub finish_right : (made : Making) (j : JobView) (past : List Entry) (d d' : Driver) (m : Parts) (t : State) (r : Agrees made j past d m)
     (cpu : Cpu) (page : Page) (can : CanFinish cpu page d m) (n : ℕ) → last_of past cpu.0 ≡ Loads n page → (loaded : Loaded)
     → IsFinished cpu page can.slot can.frame can.kept d (state_of m) loaded d' t → IsRightEnd j past cpu page can.frame loaded d'
 finish_right made j past d d' m t r cpu page can n last loaded is =

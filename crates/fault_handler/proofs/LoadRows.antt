@@ -26,7 +26,7 @@ use Rattle.driver_laws.proofs.HistoryLaws.{least_is_free}
 use Rattle.driver_laws.proofs.RowLaws.{array_within, load_goes}
 use Rattle.driver_steps.proofs.PartLaws.{added_created, seen_made}
 use Rattle.driver_tables.specs.declared.driver.Driver.{Driver}
-use Rattle.fault_handler.specs.Ready.{IsReady}
+use Rattle.driver_steps.specs.Agrees.{Agrees}
 
 -- ---- the least free frame is one of the EPC
 
@@ -58,7 +58,7 @@ row_as : (x x' : FrameSight) (e : Option EnclaveSight) (b : Bool) (y y' : SlotSi
     → first_of_row (eldstart_row x' e true y') ≡ None → first_of_row (eldstart_row x e b y) ≡ None
 row_as x x' e b y y' ex eb ey h = rw (ex, eb, ey) h
 
-module _ (made : Making) (j : JobView) (past : List Entry) (d : Driver) (m : Parts) (r : IsReady made j past d m) where
+module _ (made : Making) (j : JobView) (past : List Entry) (d : Driver) (m : Parts) (r : Agrees made j past d m) where
   pub frames_are : (state_of m).frames ≡ j.epc
   frames_are = ap (λ (k : Making). k.frames) r.follows.shape.making ∙ r.frames
 
@@ -68,7 +68,7 @@ module _ (made : Making) (j : JobView) (past : List Entry) (d : Driver) (m : Par
       row_as (sight (state_of m) f) (sight_at (state_of m).frames past f) (enclave_sight_of ((state_of m).enclaves g.enclave))
       (is_some ((state_of m).added g)) (slot_sight (state_of m) slot) (slot_sight_at (state_of m).frames past slot)
       (sight_is r.follows.shape.columns f) is_added_page (slot_sees (state_of m) past r.follows.shape.columns slot)
-      (load_goes (state_of m).frames j d.slots past g slot f (enclave_sight_of ((state_of m).enclaves g.enclave)) r.sound r.used r.sealing
+      (load_goes (state_of m).frames j d.slots past g slot f (enclave_sight_of ((state_of m).enclaves g.enclave)) r.sound r.used r.pages.sealing
       r.shows.slots at (least_is_free (content past) j.epc f least) low slot_low
       (seen_made ((state_of m).enclaves g.enclave) (added_created m g is_added_page)))
     where

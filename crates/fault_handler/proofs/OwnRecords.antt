@@ -1,9 +1,8 @@
 -- The end of a load by the page's own record is not refused.
-use Rattle.std.proofs.Common.{◌≡◌, ℕ, ◌==◌, ◌&&◌, not, Bool, true, false, if◌then◌else◌, List, Option, None, Some, MatchOption, refl, sym, ap, subst, ◌∙◌}
-use Rattle.std.proofs.lemmas.Bool.{eq-eqb, false≢true}
+use Rattle.std.proofs.Common.{◌≡◌, ℕ, true, false, List, Option, None, Some, MatchOption, refl, ap, ◌∙◌}
+use Rattle.std.proofs.lemmas.Bool.{eq-eqb}
 use Rattle.std.proofs.lemmas.Slice.Eq.{bytes_eq-Decides}
 use Rattle.std.specs.Str.{bytes_eq}
-use Rattle.sgx_types.specs.declared.entries.Action.TheVariants.{Eld}
 use Rattle.sgx_types.specs.declared.entries.Actor.{Actor}
 use Rattle.sgx_types.specs.declared.entries.Entry.{Entry}
 use Rattle.sgx_types.specs.declared.names.Frame.{Frame}
@@ -14,7 +13,7 @@ use Rattle.sgx_types.specs.Table.{first_of_row}
 use Rattle.seal_record.specs.Cipher.{cipher, sealed, tag}
 use Rattle.seal_record.specs.Row.{eld_row, same_header}
 use Rattle.paging_laws.specs.State.{State}
-use Rattle.paging_laws.specs.Steps.{IsReloaded, commit_row, refused_by}
+use Rattle.paging_laws.specs.Steps.{IsReloaded, commit_row}
 use Rattle.driver_rules.specs.Reclaims.{is_refused}
 
 same_bytes : (xs : List ℕ) → bytes_eq xs xs ≡ true

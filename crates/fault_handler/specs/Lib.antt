@@ -1,5 +1,4 @@
 pub mod Resolving
 pub mod Finishing
 pub mod Repeating
-pub mod Ready
 pub mod Due

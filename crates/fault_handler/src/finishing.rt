@@ -6,7 +6,7 @@ ghost use Rattle.sgx_types.specs.declared.entries.Entry.{Entry};
 ghost use Rattle.job_grammar.specs.Jobs.{JobView};
 ghost use Rattle.driver_rules.specs.Turns.{Loads, last_of};
 ghost use Rattle.fault_handler.specs.Due.{IsRightEnd};
-ghost use Rattle.fault_handler.specs.Ready.{IsReady};
+ghost use Rattle.driver_steps.specs.Agrees.{Agrees};
 ghost use Rattle.fault_handler.specs.Finishing.{CanFinish, Ends, IsFinished, IsToList, bus_why};
 ghost use Rattle.paging_machine.specs.Parts.{state_of};
 
@@ -38,7 +38,7 @@ pub fn finish(
     ensures does { (can : CanFinish cpu page driver.old machine.old) → IsFinished cpu page can.slot can.frame can.kept driver.old
         (state_of machine.old) result driver.new (state_of machine.new) }
     ensures right { (can : CanFinish cpu page driver.old machine.old) (made : Making) (j : JobView) (past : List Entry) (n : ℕ)
-        → IsReady made j past driver.old machine.old → last_of past cpu.0 ≡ Loads n page → IsRightEnd j past cpu page can.frame result driver.new }
+        → Agrees made j past driver.old machine.old → last_of past cpu.0 ≡ Loads n page → IsRightEnd j past cpu page can.frame result driver.new }
     ensures cpus { length machine.new.cpus ≡ length machine.old.cpus }
 {
     finish_by(driver, machine, cpu, page, work)

@@ -4,7 +4,7 @@ ghost use Rattle.std.specs.Prelude.{ℕ, ◌≡◌, ◌<◌, false, List, length
 ghost use Rattle.driver_rules.specs.Turns.{Loads, last_of};
 ghost use Rattle.driver_tables.specs.declared.driver.Driver.{Driver};
 ghost use Rattle.fault_handler.specs.Finishing.{CanFinish};
-ghost use Rattle.fault_handler.specs.Ready.{IsReady};
+ghost use Rattle.driver_steps.specs.Agrees.{Agrees};
 ghost use Rattle.driver_rules.specs.Reclaims.{is_refused};
 ghost use Rattle.paging_laws.specs.State.{State};
 ghost use Rattle.paging_laws.specs.Steps.{IsReloaded};
@@ -29,5 +29,5 @@ pub fn own_records_come_back()
 /// Where tables and machine stand for the same entries, a processor that has still to end a load can end it.
 pub fn loads_can_be_ended()
     ensures { (made : Making) (j : JobView) (past : List Entry) (d : Driver) (m : Parts) (cpu : Cpu) (page : Page) (n : ℕ)
-        → IsReady made j past d m → last_of past cpu.0 ≡ Loads n page → cpu.0 < length d.kept → CanFinish cpu page d m }
+        → Agrees made j past d m → last_of past cpu.0 ≡ Loads n page → cpu.0 < length d.kept → CanFinish cpu page d m }
 {}

@@ -7,7 +7,7 @@ ghost use Rattle.sgx_types.specs.Making.{Making};
 ghost use Rattle.sgx_types.specs.declared.entries.Entry.{Entry};
 ghost use Rattle.job_grammar.specs.Jobs.{JobView};
 ghost use Rattle.fault_handler.specs.Due.{IsRight};
-ghost use Rattle.fault_handler.specs.Ready.{IsReady};
+ghost use Rattle.driver_steps.specs.Agrees.{Agrees};
 ghost use Rattle.fault_handler.specs.Resolving.{IsFetch, IsResolved, IsStarted};
 ghost use Rattle.paging_machine.specs.Parts.{state_of};
 ghost use Rattle.sgx_types.specs.Frames.{least_free};
@@ -44,7 +44,7 @@ pub fn resolve<B: Backing>(
     requires placed { IsPlaced driver.old.states.counts page }
     ensures does { IfOk result (λ answer. IsResolved cpu page (page_state driver.old.states page) driver.old machine.old (B.told store.old)
         answer driver.new machine.new (B.told store.new)) }
-    ensures right { IfOk result (λ answer. (made : Making) (j : JobView) (past : List Entry) → IsReady made j past driver.old machine.old
+    ensures right { IfOk result (λ answer. (made : Making) (j : JobView) (past : List Entry) → Agrees made j past driver.old machine.old
         → IsRight j past cpu page answer driver.new) }
     ensures cpus { length machine.new.cpus ≡ length machine.old.cpus }
     ensures spare { B.spare store.new ≡ B.spare store.old }
