@@ -15,7 +15,8 @@ use Rattle.driver_laws.specs.Used.{StartTells}
 use Rattle.driver_tables.specs.declared.driver.Driver.{Driver}
 use Rattle.driver_tables.specs.Tables.{ShowsTables}
 
-pub record IsNextOf (made : Making) (j : JobView) (past : List Entry) (d : Driver) (m : Parts) (e : Entry) (d' : Driver) (m' : Parts) : Type 0 where
+pub record IsNextOf (made : Making) (j : JobView) (past : List Entry) (d : Driver) (m : Parts) (e : Entry) (d' : Driver)
+    (m' : Parts) : Type 0 where
   -- it is its actor's next, by the rules
   pub script : ScriptRule j past e
   pub age : AgeRule j past e

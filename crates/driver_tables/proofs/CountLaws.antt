@@ -34,7 +34,8 @@ lines_within pages (x ∷ xs) end low all =
 places_within : (e : EnclaveView) → IsValidEnclave e → enclave_places e ≤ 4096
 places_within e v =
     let few : e.size / 4096 ≤ 4096 = few_pages e.base e.size v.range in
-    let within : enclave_places e ≤ e.size / 4096 = lines_within (e.size / 4096) e.lines 0 (omega arith) v.lines in omega (arith, few, within)
+    let within : enclave_places e ≤ e.size / 4096 = lines_within (e.size / 4096) e.lines 0 (omega arith) v.lines in omega
+    (arith, few, within)
 
 short_lines : (pages : ℕ) (lines : List PageLine) → pages ≤ 4096 → All (IsValidLine pages) lines → All IsShort lines
 short_lines pages [] few all = All-nil IsShort

@@ -36,7 +36,8 @@ slots_first j pages = record {
 pub shows_first : (j : JobView) (d : Driver) → IsValid j → IsNew j d → ShowsTables j d []
 shows_first j d v new = record {
   list = ap (λ a. map listed a.pages) new.active;
-  states = λ g h. ap (λ s. place_in (state_of s g)) new.states ∙ ap place_in (all_same (sum (page_counts j)) states.Absent (place_of (0 ∷ page_counts j) g));
+  states = λ g h. ap (λ s. place_in (state_of s g)) new.states ∙ ap place_in
+      (all_same (sum (page_counts j)) states.Absent (place_of (0 ∷ page_counts j) g));
   placed = λ g h. absurd (false≢true (sym h));
   slots = subst (λ k. ShowsSlots j k []) (sym new.slots) (slots_first j (va_pages j));
   copies = λ p. ap (λ k. page_kept (kept_at k p)) new.kept ∙ ap page_kept (all_same (length j.scripts) None p);
@@ -51,5 +52,6 @@ shows_first j d v new = record {
   where
     sizes : length (replicate (sum (page_counts j)) states.Absent) ≡ sum (0 ∷ page_counts j)
     sizes =
-        let len : length (replicate (sum (page_counts j)) states.Absent) ≡ sum (page_counts j) = length-replicate (sum (page_counts j)) states.Absent in
+        let len : length (replicate (sum (page_counts j)) states.Absent) ≡ sum (page_counts j) = length-replicate
+        (sum (page_counts j)) states.Absent in
         omega (arith, len, sum_by-cons (λ x. x) 0 (page_counts j))

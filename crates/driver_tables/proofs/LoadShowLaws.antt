@@ -64,7 +64,8 @@ copies_none : (kept : List (Option Kept)) (past : List Entry) (c : Cpu) (ev : Ev
     → page_kept (kept_at kept p) ≡ loaded_by (last_of (entry_of (actors.Cpu c) ev ∷ past) p)
 copies_none kept past c ev copies idle own p = by_test (is_by p (actors.Cpu c)) refl
   where
-    by_test : (b : Bool) → is_by p (actors.Cpu c) ≡ b → page_kept (kept_at kept p) ≡ loaded_by (last_of (entry_of (actors.Cpu c) ev ∷ past) p)
+    by_test : (b : Bool) → is_by p (actors.Cpu c) ≡ b → page_kept (kept_at kept p) ≡ loaded_by
+        (last_of (entry_of (actors.Cpu c) ev ∷ past) p)
     by_test true is =
         copies p ∙ ap (λ q. loaded_by (last_of past q)) (sym (eqb-true c.0 p is)) ∙ idle ∙ sym own ∙ rw is refl
     by_test false is = copies p ∙ sym (ap loaded_by (loads-other past (entry_of (actors.Cpu c) ev) p is))
@@ -149,7 +150,8 @@ shows_load_refused j old new past c f page slot refusal can at sound here room t
           subst (λ k. ShowsSlots j k (entry_of (actors.Cpu c) (Refused (Eld f) refusal) ∷ past)) (sym (ap (λ (d : Driver). d.slots) only))
           (shows_refused j old.slots past (actors.Cpu c) f refusal can sound t.slots);
       copies = λ p. ap (λ (d : Driver). page_kept (kept_at d.kept p)) only
-          ∙ copies_set old.kept past c (Refused (Eld f) refusal) None t.copies room (sym (no_load (load_of (open_start past f.0)) refusal)) p;
+          ∙ copies_set old.kept past c (Refused (Eld f) refusal) None t.copies room
+          (sym (no_load (load_of (open_start past f.0)) refusal)) p;
     })
 
 -- a processor that loads nothing tells why a page did not come back

@@ -93,7 +93,8 @@ pub shows_moved : (j : JobView) (old new : Driver) (past : List Entry) (e : Entr
     → ShowsRest j new (e ∷ past) → ShowsTables j new (e ∷ past)
 shows_moved j old new past e g state t here moves states same rest = record {
   list = rest.list;
-  states = λ q k. ap (λ (s : _). place_in (state_of s q)) states ∙ by_page q (subst (λ s. IsPlaced s.counts q) states k) (same_page q g) refl;
+  states = λ q k. ap (λ (s : _). place_in (state_of s q)) states ∙ by_page q (subst (λ s. IsPlaced s.counts q) states k)
+      (same_page q g) refl;
   placed = λ q k. subst (λ s. IsPlaced s.counts q) (sym states) (is_placed q k (same_page g q) refl);
   slots = rest.slots;
   copies = rest.copies;
@@ -171,7 +172,8 @@ shows_started j old new past f slot answer page at none sound takes only t =
 -- a page has gone out: it is away in the slot of the start that ended, also where its put failed
 pub shows_gone : (j : JobView) (old new : Driver) (past : List Entry) (f : Frame) (page : Page) (version : ℕ) (tag : List ℕ) (x : Start)
     (state : PageState) → CanMove past (Did (Ewb f) (Moved page version tag)) → open_start past f.0 ≡ Some x → place_in state ≡ Away x.slot
-    → IsSound past → IsPlaced old.states.counts page → new ≡ record old { states = with_state old.states page state } → ShowsTables j old past
+    → IsSound past → IsPlaced old.states.counts page → new ≡ record old { states = with_state old.states page state }
+    → ShowsTables j old past
     → ShowsTables j new (entry_of actors.Reclaimer (Did (Ewb f) (Moved page version tag)) ∷ past)
 shows_gone j old new past f page version tag x state can opened away sound here only t =
     shows_moved j old new past (entry_of actors.Reclaimer (Did (Ewb f) (Moved page version tag))) page state t here
@@ -204,7 +206,8 @@ map_turn (x ∷ xs) = by_list xs
     by_list [] = refl
     by_list (y ∷ ys) = ap (λ zs. listed y ∷ zs) (by_list ys)
 
-module _ (j : JobView) (old new : Driver) (past : List Entry) (page : Page) (head : head_of (active past) ≡ Some page) (sound : IsSound past)
+module _ (j : JobView) (old new : Driver) (past : List Entry) (page : Page) (head : head_of (active past) ≡ Some page)
+    (sound : IsSound past)
     (t : ShowsTables j old past) where
   -- a look that takes nothing
   passed : (look : Look) → new ≡ record old { active = record old.active { pages = turn old.active.pages } }
@@ -245,9 +248,11 @@ module _ (j : JobView) (old new : Driver) (past : List Entry) (page : Page) (hea
         marks = ap (λ (d : Driver). d.marks) is.others;
         cpus = ap (λ (d : Driver). d.cpus) is.others;
       }) (record {
-        list = ap (λ xs. drop 1 (map listed xs)) (sym is.list.pages) ∙ ap (drop 1) t.list ∙ sym (listed-taken past actors.Reclaimer page head sound);
+        list = ap (λ xs. drop 1 (map listed xs)) (sym is.list.pages) ∙ ap (drop 1) t.list ∙ sym
+            (listed-taken past actors.Reclaimer page head sound);
         slots =
-            subst (λ k. ShowsSlots j k (entry_of actors.Reclaimer (Age page looks.Taken) ∷ past)) (sym (ap (λ (d : Driver). d.slots) is.others))
+            subst (λ k. ShowsSlots j k (entry_of actors.Reclaimer (Age page looks.Taken) ∷ past))
+            (sym (ap (λ (d : Driver). d.slots) is.others))
             (shows_age j old.slots past actors.Reclaimer page looks.Taken sound t.slots);
         copies = others_copies j old new past (Age page looks.Taken) t (ap (λ (d : Driver). d.kept) is.others);
       })

@@ -22,7 +22,11 @@ impl Driver {
         requires placed { IsPlaced self.old.active.counts page }
         requires absent { is_listed self.old.active.pages page ≡ false }
         requires counts { self.old.states.counts ≡ self.old.active.counts }
-        ensures { self.new ≡ record self.old { active = pushed self.old.active page; states = with_state self.old.states page (states.Here frame) } }
+        ensures { self.new ≡ record self.old {
+          active = pushed self.old.active page;
+          states = with_state self.old.states page
+              (states.Here frame);
+        } }
     {
         self.active.push_back(page);
         self.states.set_state(page, PageState::Here(frame));

@@ -63,7 +63,8 @@ away_apart past g slot s at n =
     no_slot None h = refl
     no_slot (Some start) h = by_test (is_load_of (Some start) g) start.slot h
 
-module _ (made : Making) (j : JobView) (past : List Entry) (d d' : Driver) (m m' : Parts) (r : Agrees made j past d m) (cpu : Cpu) (page : Page)
+module _ (made : Making) (j : JobView) (past : List Entry) (d d' : Driver) (m m' : Parts) (r : Agrees made j past d m) (cpu : Cpu)
+    (page : Page)
     (here : IsPlaced d.states.counts page) (room : cpu.0 < length d.kept) where
   place_is : (s : PageState) → page_state d.states page ≡ s → place past page ≡ place_in s
   place_is s is = sym (r.shows.states page here) ∙ ap place_in is
@@ -95,7 +96,8 @@ module _ (made : Making) (j : JobView) (past : List Entry) (d d' : Driver) (m m'
 
   -- a load has started
   started : (slot : SlotAt) (f : ℕ) (rec : Sealed) (answer : FaultAnswer) → place past page ≡ Away slot
-      → least_free j.epc (content past) ≡ Some f → IsStarted cpu page slot (frame_at f) rec d m answer d' m' → IsRight j past cpu page answer d'
+      → least_free j.epc (content past) ≡ Some f → IsStarted cpu page slot (frame_at f) rec d m answer d' m'
+      → IsRight j past cpu page answer d'
   started slot f rec answer at least is =
       subst (λ a. IsRight j past cpu page a d') (sym is.says)
       (subst (λ x. IsRight j past cpu page (answers.Started is.entry is.work) x) (sym (is.driver ∙ rw not_refused refl)) (record {
@@ -112,7 +114,8 @@ module _ (made : Making) (j : JobView) (past : List Entry) (d d' : Driver) (m m'
           subst (λ (e : Entry). LoadsAwayRule past e) (sym did) (away_apart past page slot r.sound at),
         );
         shows = λ idle. subst (λ (e : Entry). ShowsTables j (with_load d cpu page slot (frame_at f) rec) (e ∷ past)) (sym did)
-            (shows_load_start j d past cpu (frame_at f) page slot version rec (least_is_free (content past) j.epc f least, at) r.sound here room
+            (shows_load_start j d past cpu (frame_at f) page slot version rec
+            (least_is_free (content past) j.epc f least, at) r.sound here room
             r.shows);
       }))
     where
@@ -150,7 +153,8 @@ module _ (made : Making) (j : JobView) (past : List Entry) (d d' : Driver) (m m'
       said (answers.Again waits.NoFrame) answer is.does (record {
         due = (
           ap is_here at,
-          subst (λ due. WaitsBy due waits.NoFrame) (sym (ap (fetches j.epc past page) at)) (subst (λ o. WaitsBy (dues.Fetches page slot o) waits.NoFrame) (sym least) refl),
+          subst (λ due. WaitsBy due waits.NoFrame) (sym (ap (fetches j.epc past page) at))
+              (subst (λ o. WaitsBy (dues.Fetches page slot o) waits.NoFrame) (sym least) refl),
         );
         kept = tt;
         shows = λ idle. r.shows;
@@ -182,7 +186,8 @@ module _ (made : Making) (j : JobView) (past : List Entry) (d d' : Driver) (m m'
   is_right told told' answer (states.Loading f slot) is k =
       said (answers.Again (waits.Busy page)) answer k.does (busy (states.Loading f slot) is refl refl)
 
-pub all_right : {E : Type 0} (d d' : Driver) (m m' : Parts) (cpu : Cpu) (page : Page) (told told' : Option (List Call)) (result : Result FaultAnswer E)
+pub all_right : {E : Type 0} (d d' : Driver) (m m' : Parts) (cpu : Cpu) (page : Page) (told told' : Option (List Call))
+    (result : Result FaultAnswer E)
     → IsPlaced d.states.counts page → cpu.0 < length d.kept
     → IfOk result (λ answer. IsResolved cpu page (page_state d.states page) d m told answer d' m' told')
     → IfOk result (λ answer. (made : Making) (j : JobView) (past : List Entry) → Agrees made j past d m → IsRight j past cpu page answer d')

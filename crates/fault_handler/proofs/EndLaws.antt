@@ -82,7 +82,8 @@ not_listed (x ∷ xs) past (y ∷ ys) g same none = by_head (same_page y g) refl
     by_head : (b : Bool) → same_page y g ≡ b → (if b then 1 else 0) + times ys g ≡ 0 → (times ys g ≡ 0 → is_listed xs g ≡ false)
         → is_listed (x ∷ xs) g ≡ false
     by_head true is k more = absurd (omega (arith, k))
-    by_head false is k more = rw (other (same_page g x.page) refl is) (more (let none_left : 0 + times ys g ≡ 0 = k in omega (arith, none_left)))
+    by_head false is k more = rw (other (same_page g x.page) refl is)
+        (more (let none_left : 0 + times ys g ≡ 0 = k in omega (arith, none_left)))
 
 -- a state by its place
 record IsLoadingState (s : PageState) (n : ℕ) (slot : SlotAt) : Type 0 where
@@ -91,7 +92,12 @@ record IsLoadingState (s : PageState) (n : ℕ) (slot : SlotAt) : Type 0 where
   number : frame.0 ≡ n
 
 loading_state : (s : PageState) (n : ℕ) (slot : SlotAt) → place_in s ≡ Loading n slot → IsLoadingState s n slot
-loading_state (states.Loading f t) n slot h = record { frame = f; state = ap (states.Loading f) (slots f.0 n t slot h); number = frames f.0 n t slot h }
+loading_state (states.Loading f t) n slot h = record {
+  frame = f;
+  state = ap (states.Loading f)
+      (slots f.0 n t slot h);
+  number = frames f.0 n t slot h;
+}
   where
     slots : (a b : ℕ) (x y : SlotAt) → Loading a x ≡ Loading b y → x ≡ y
     slots a b x y k = cc
@@ -197,7 +203,8 @@ row_fails rec computed header page cpu f refusal h = by_tag (not (bytes_eq rec.t
     by_header false k = cc
 
     by_tag : (b c : Bool)
-        → (if b then Some (why.MacFail rec.tag computed) else if c then Some (why.BadHeader rec.header.enclave rec.header.address rec.header.flags)
+        → (if b then Some (why.MacFail rec.tag computed) else if c then Some
+        (why.BadHeader rec.header.enclave rec.header.address rec.header.flags)
         else None) ≡ Some refusal → fails_with (Some page) refusal ≡ Fails page (bus_why (Refused (Eld f) refusal))
     by_tag true c k = subst (λ x. fails_with (Some page) x ≡ Fails page (bus_why (Refused (Eld f) x))) (some_same _ refusal k) refl
       where
@@ -226,14 +233,16 @@ module _ (made : Making) (j : JobView) (past : List Entry) (d d' : Driver) (m : 
   -- it is known of the entry which of the two it is
   by_entry : IsDoneEnd cpu f page is.entry ⊎ IsRefusedEnd cpu f page is.entry
   by_entry =
-      by_row (t ≡ after_eld (state_of m) f.0 is.reloaded.coming.start is.reloaded.coming.page is.reloaded.coming.kind is.reloaded.coming.perm
+      by_row (t ≡ after_eld (state_of m) f.0 is.reloaded.coming.start is.reloaded.coming.page is.reloaded.coming.kind
+      is.reloaded.coming.perm
       (words_of (cipher (state_of m).key is.reloaded.coming.start.version rec.cipher)))
       (λ refusal. t ≡ after_failed_eld (state_of m) f.0 is.reloaded.coming.start)
       (first_of_row (commit_row (state_of m) f.0 is.reloaded.coming rec)) refl is.reloaded.row
     where
       by_row : (X : Type 0) (Y : Refusal → Type 0) (o : Option Refusal)
           → first_of_row (commit_row (state_of m) f.0 is.reloaded.coming rec) ≡ o
-          → MatchOption o ((is.entry ≡ did_by (actors.Cpu cpu) (Eld f) (Moved is.reloaded.coming.page is.reloaded.coming.start.version rec.tag)) × X)
+          → MatchOption o ((is.entry ≡ did_by (actors.Cpu cpu) (Eld f)
+          (Moved is.reloaded.coming.page is.reloaded.coming.start.version rec.tag)) × X)
           (λ refusal. (is.entry ≡ refused_by (actors.Cpu cpu) (Eld f) refusal) × Y refusal)
           → IsDoneEnd cpu f page is.entry ⊎ IsRefusedEnd cpu f page is.entry
       by_row X Y None row k =

@@ -68,7 +68,8 @@ module _ (made : Making) (j : JobView) (past : List Entry) (d : Driver) (m : Par
       row_as (sight (state_of m) f) (sight_at (state_of m).frames past f) (enclave_sight_of ((state_of m).enclaves g.enclave))
       (is_some ((state_of m).added g)) (slot_sight (state_of m) slot) (slot_sight_at (state_of m).frames past slot)
       (sight_is r.follows.shape.columns f) is_added_page (slot_sees (state_of m) past r.follows.shape.columns slot)
-      (load_goes (state_of m).frames j d.slots past g slot f (enclave_sight_of ((state_of m).enclaves g.enclave)) r.sound r.used r.pages.sealing
+      (load_goes (state_of m).frames j d.slots past g slot f (enclave_sight_of
+      ((state_of m).enclaves g.enclave)) r.sound r.used r.pages.sealing
       r.shows.slots at (least_is_free (content past) j.epc f least) low slot_low
       (seen_made ((state_of m).enclaves g.enclave) (added_created m g is_added_page)))
     where
@@ -76,7 +77,8 @@ module _ (made : Making) (j : JobView) (past : List Entry) (d : Driver) (m : Par
       is_added_page = ap is_some (added_is r.follows.shape.columns g) ∙ r.sound.added g ∙ ap (λ p. not (is_absent p)) at
 
       low : nat_le (state_of m).frames f ≡ false
-      low = ap (λ n. nat_le n f) frames_are ∙ not_past j.epc f (let below : f < 0 + j.epc = found_below (content past) 0 j.epc f least in omega (arith, below))
+      low = ap (λ n. nat_le n f) frames_are ∙ not_past j.epc f
+          (let below : f < 0 + j.epc = found_below (content past) 0 j.epc f least in omega (arith, below))
 
       out : is_out d.slots slot ≡ true
       out = r.shows.slots.used g slot (ap (slot_at (open_start past)) at)

@@ -42,7 +42,8 @@ pub start_refused : (s t : State) (a : Actor) (f : Frame) (page : Page) (slot : 
 start_refused s t a f page slot e step refused = by_row (first_of_row (row_of s a (EldStart f page slot))) step
   where
     by_row : (r : Option Refusal)
-        → MatchOption r (IsDone s a (EldStart f page slot) e t) (λ refusal. (e ≡ refused_by a (EldStart f page slot) refusal) × (t ≡ s)) → t ≡ s
+        → MatchOption r (IsDone s a (EldStart f page slot) e t) (λ refusal. (e ≡ refused_by a (EldStart f page slot) refusal) × (t ≡ s))
+        → t ≡ s
     by_row None is = absurd (false≢true (sym (ap (λ (x : Entry). is_refused x.event) is.0) ∙ refused))
     by_row (Some refusal) is = is.1
 
@@ -54,7 +55,8 @@ start_loads s t a f page slot e step done =
 -- ---- what the code's start says
 
 module _ (cpu : Cpu) (page : Page) (slot : SlotAt) (frame : Frame) (rec : Sealed) (d : Driver) (m m' : Parts) (entry : Entry)
-    (step : IsStep (state_of m) (actors.Cpu cpu) (EldStart frame page slot) entry (state_of m')) (carries : Carries (state_of m) entry (state_of m'))
+    (step : IsStep (state_of m) (actors.Cpu cpu) (EldStart frame page slot) entry (state_of m'))
+    (carries : Carries (state_of m) entry (state_of m'))
   where
     pub says_refused : (work : UnsealWork) → is_refused entry.event ≡ true
         → IsStarted cpu page slot frame rec d m (answers.Started entry work) d m'

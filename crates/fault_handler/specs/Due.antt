@@ -72,7 +72,8 @@ ShowsEnd j past cpu page (ends.Here e) d = ShowsTables j d (e ∷ past)
 ShowsEnd j past cpu page (ends.Bus e why) d =
     ShowsTables j d (e ∷ past) × ShowsTables j d (record { actor = actors.Cpu cpu; event = Bus page why } ∷ e ∷ past)
 
-pub record IsRightEnd (j : JobView) (past : List Entry) (cpu : Cpu) (page : Page) (frame : Frame) (loaded : Loaded) (d : Driver) : Type 0 where
+pub record IsRightEnd (j : JobView) (past : List Entry) (cpu : Cpu) (page : Page) (frame : Frame) (loaded : Loaded)
+    (d : Driver) : Type 0 where
   pub entry : Entry
   pub actor : entry.actor ≡ actors.Cpu cpu
   pub due : IsNext (Ends (Eld frame)) entry.event

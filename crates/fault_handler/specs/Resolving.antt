@@ -44,7 +44,8 @@ pub record IsToOpen (s : State) (f : ℕ) (rec : Sealed) (work : UnsealWork) : T
   pub version : work.version ≡ start.version
 
 -- a load's start by its row: where it is done, tables and work are the load's; a refused one changes nothing
-pub record IsStarted (cpu : Cpu) (page : Page) (slot : SlotAt) (frame : Frame) (rec : Sealed) (d : Driver) (m : Parts) (answer : FaultAnswer)
+pub record IsStarted (cpu : Cpu) (page : Page) (slot : SlotAt) (frame : Frame) (rec : Sealed) (d : Driver) (m : Parts)
+    (answer : FaultAnswer)
     (d' : Driver) (m' : Parts) : Type 0 where
   pub entry : Entry
   pub work : UnsealWork
@@ -69,13 +70,15 @@ pub record IsAsked (cpu : Cpu) (page : Page) (slot : SlotAt) (frame : Frame) (d 
   pub does : IsGot cpu page slot frame got d m answer d' m'
 
 -- .. or not at all
-pub record IsSilent (said : FaultAnswer) (d : Driver) (m : Parts) (told : Option (List Call)) (answer : FaultAnswer) (d' : Driver) (m' : Parts)
+pub record IsSilent (said : FaultAnswer) (d : Driver) (m : Parts) (told : Option (List Call)) (answer : FaultAnswer) (d' : Driver)
+    (m' : Parts)
     (told' : Option (List Call)) : Type 0 where
   pub calls : told' ≡ told
   pub does : IsSaid said d m answer d' m'
 
 -- a page that is away is asked for where a frame is free
-abbrev pub IsFetch : Cpu → Page → SlotAt → Option ℕ → Driver → Parts → Option (List Call) → FaultAnswer → Driver → Parts → Option (List Call)
+abbrev pub IsFetch : Cpu → Page → SlotAt → Option ℕ → Driver → Parts → Option (List Call) → FaultAnswer → Driver → Parts → Option
+    (List Call)
     → Type 0
 IsFetch cpu page slot None d m told answer d' m' told' = IsSilent (answers.Again waits.NoFrame) d m told answer d' m' told'
 IsFetch cpu page slot (Some f) d m told answer d' m' told' = IsAsked cpu page slot (frame_at f) d m told answer d' m' told'

@@ -38,7 +38,8 @@ pub fn finish(
     ensures does { (can : CanFinish cpu page driver.old machine.old) → IsFinished cpu page can.slot can.frame can.kept driver.old
         (state_of machine.old) result driver.new (state_of machine.new) }
     ensures right { (can : CanFinish cpu page driver.old machine.old) (made : Making) (j : JobView) (past : List Entry) (n : ℕ)
-        → Agrees made j past driver.old machine.old → last_of past cpu.0 ≡ Loads n page → IsRightEnd j past cpu page can.frame result driver.new }
+        → Agrees made j past driver.old machine.old → last_of past cpu.0 ≡ Loads n page
+        → IsRightEnd j past cpu page can.frame result driver.new }
     ensures cpus { length machine.new.cpus ≡ length machine.old.cpus }
 {
     finish_by(driver, machine, cpu, page, work)

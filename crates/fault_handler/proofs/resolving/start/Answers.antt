@@ -11,7 +11,8 @@ returns-then-is_refused-clause-does c =
 
 pub unseal_input-work-requires : goal.unseal_input-work-requires
 unseal_input-work-requires c =
-    start_loads (state_of c.args.machine.now) (state_of c.step-entry.new.machine) (actors.Cpu c.args.cpu) c.args.frame c.args.page c.args.slot
+    start_loads (state_of c.args.machine.now) (state_of c.step-entry.new.machine)
+    (actors.Cpu c.args.cpu) c.args.frame c.args.page c.args.slot
     c.step-entry.result c.step-entry.ensures.step (sym c.is_refused.ensures ∙ c.if-is_refused.false)
 
 pub returns-clause-does : goal.returns-clause-does
