@@ -20,8 +20,7 @@ ghost use Rattle.sgx_types.specs.declared.names.Cpu.{Cpu};
 ghost use Rattle.sgx_types.specs.declared.names.Page.{Page};
 
 /// A load that ends by a record that was sealed for the page under the version that its start found is not refused, whatever bytes the
-/// page had.
-/// So with a store that gives each page's last record, a fault step ends in no bus. Nothing is supposed of other records.
+/// page had. Nothing is supposed of other records.
 pub fn own_records_come_back()
     ensures { (s t : State) (a : Actor) (f : Frame) (rec : Sealed) (e : Entry) (is : IsReloaded s a f rec e t) (bytes : List ℕ)
         → rec ≡ sealed s.key is.coming.start.version is.coming.header bytes → is_refused e.event ≡ false }
