@@ -11,7 +11,6 @@ ghost use Rattle.sgxpage.specs.Runs.{Broke, BrokeOn, Gave, HalfTold, HasJob, IsF
 
 use crate::job_faults::{BadJob, print_bad_job};
 use crate::replies::print_out;
-use io_edges::faults::Failed;
 use io_edges::giving::give_all;
 use io_edges::reading::{ReadEnd, read_all};
 use io_edges::sinks::Sink;
@@ -21,9 +20,9 @@ use job_lines::kinds::JobKind;
 use job_text::reader::read_job;
 use job_text::refusals::JobRefusal;
 use machine_book::run::run;
-use sgx_types::names::Memory;
 use std::alloc::Global;
-use trace_text::trace::print_trace;
+use trace_pieces::pieces::give_trace;
+use trace_pieces::ungiven::Ungiven;
 use turn_rules::small_jobs::is_small_job;
 
 const MOST_BYTES: usize = 1 << 24;
@@ -63,32 +62,6 @@ impl Status {
             Status::WriteFault => 4,
             Status::Memory => 5,
         }
-    }
-}
-
-// Why a text was not given.
-enum Ungiven {
-    Failed,
-    Memory,
-}
-
-impl From<Memory> for Ungiven {
-    ghost use Rattle.sgxpage.specs.declared.command.Ungiven.TheVariants as ends;
-
-    ghost from_gives = { λ _ end. end ≡ ends.Memory };
-
-    fn from(_error: Memory) -> Ungiven {
-        Ungiven::Memory
-    }
-}
-
-impl From<Failed> for Ungiven {
-    ghost use Rattle.sgxpage.specs.declared.command.Ungiven.TheVariants as ends;
-
-    ghost from_gives = { λ _ end. end ≡ ends.Failed };
-
-    fn from(_error: Failed) -> Ungiven {
-        Ungiven::Failed
     }
 }
 
@@ -182,9 +155,8 @@ fn run_over<K: Sink, L: Sink>(
         → HasRisen (K.faults out.old) (K.faults out.new) ⊎ HasRisen (L.faults trace.old) (L.faults trace.new) }
 {
     let book = run(alloc, job)?;
-    let trace_text = print_trace(alloc, book.entries())?;
     let out_text = print_out(alloc, job, book.entries())?;
-    give_all(trace, &trace_text)?;
+    give_trace(alloc, trace, book.entries())?;
     give_all(out, &out_text)?;
     Ok(())
 }
