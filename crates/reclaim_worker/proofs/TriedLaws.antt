@@ -1,5 +1,5 @@
 -- A slot that was taken and given back leaves the keeper as before.
-use Rattle.std.proofs.Common.{◌≡◌, ◌==◌, ◌&&◌, ◌||◌, not, Bool, true, false, refl, sym, ◌∙◌, ap, subst}
+use Rattle.std.proofs.Common.{◌≡◌, ◌+◌, arith, ◌==◌, ◌&&◌, ◌||◌, not, Bool, true, false, refl, sym, ◌∙◌, ap, subst}
 use Rattle.std.proofs.lemmas.Bool.{eqb-true, false≢true}
 use Rattle.sgx_types.specs.declared.names.SlotAt.{SlotAt}
 use Rattle.sgx_types.specs.Slots.{same_slot}
@@ -21,6 +21,7 @@ pub given_back : (old mid new : Keeper) (slot : SlotAt) → Takes old slot mid �
 given_back old mid new slot takes gives = record {
   frames = gives.frames ∙ takes.frames;
   room = gives.room ∙ takes.room;
+  counted = let back = gives.counted in let out = takes.counted in omega (arith, back, out);
   out = λ t. gives.out t ∙ ap (λ b. not (same_slot slot t) && b) (takes.out t) ∙ by_test t (same_slot slot t) refl;
 }
   where

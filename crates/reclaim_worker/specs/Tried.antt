@@ -9,7 +9,7 @@ use Rattle.sgx_types.specs.declared.names.Frame.{Frame}
 use Rattle.sgx_types.specs.declared.names.SlotAt.{SlotAt}
 use Rattle.cached_translations.specs.declared.processor.Mode.{Mode}
 use Rattle.cached_translations.specs.declared.processor.Mode.TheVariants.{Outside, Inside}
-use Rattle.version_array.specs.Keeper.{Keeper, is_ours, is_out, Takes}
+use Rattle.version_array.specs.Keeper.{Keeper, count_out, is_ours, is_out, Takes}
 use Rattle.paging_laws.specs.State.{State}
 use Rattle.paging_laws.specs.Steps.{IsStep}
 use Rattle.driver_tables.specs.declared.driver.Driver.{Driver}
@@ -23,6 +23,7 @@ pub record IsSame (old new : Keeper) : Type 0 where
   pub frames : new.frames ≡ old.frames
   pub room : new.room ≡ old.room
   pub out : (slot : SlotAt) → is_out new slot ≡ is_out old slot
+  pub counted : count_out new ≡ count_out old
 
 abbrev pub SlotsAfter : Keeper → SlotAt → Bool → Keeper → Type 0
 SlotsAfter old slot true new = IsSame old new
