@@ -46,7 +46,8 @@ use Rattle.driver_rules.specs.Reclaims.{leaving_due}
 use Rattle.reclaim_worker.specs.Moves.{IsBlockTurn, IsTrackTurn, IsTryTurn, turn_of, turn_of_track}
 use Rattle.driver_laws.specs.Stages.{IsTaken}
 use Rattle.reclaim_worker.specs.Tried.{IsTried}
-use Rattle.reclaim_worker.proofs.RowLaws.{SeesPage, seen_made, added_created, block_allowed, blocked_same, drain_sees, sees_page, sees_slot}
+use Rattle.reclaim_worker.proofs.RowLaws.{SeesPage, block_allowed, blocked_same, drain_sees, sees_page, sees_slot}
+use Rattle.driver_steps.proofs.PartLaws.{seen_made, added_created}
 use Rattle.reclaim_worker.proofs.RowLaws.{track_allowed, try_refusal, try_row}
 
 -- ---- a step by what its row says

@@ -1,9 +1,8 @@
 -- What the rows of a block, a track and a try say of a page that was taken.
-use Rattle.std.proofs.Common.{◌≡◌, ℕ, ◌&&◌, not, Bool, true, false, if◌then◌else◌, refl, sym, ◌∙◌, ap, List, length, Option, Some, None}
-use Rattle.std.proofs.Common.{is_some, nat_le, nat_lt, leb, arith}
+use Rattle.std.proofs.Common.{◌≡◌, ℕ, ◌&&◌, not, Bool, true, false, if◌then◌else◌, refl, sym, ◌∙◌, ap, List, Option, Some, None}
+use Rattle.std.proofs.Common.{is_some, nat_lt, leb, arith}
 use Rattle.paging_laws.proofs.ColumnLaws.{blocked_is, content_is, epoch_is, is_blocked_is, sealing_is, slot_busy_is, version_is}
-use Rattle.std.proofs.lemmas.Bool.{eq-eqb, false≢true, leb-true}
-use Rattle.std.proofs.lemmas.List.{get_or_past}
+use Rattle.std.proofs.lemmas.Bool.{eq-eqb}
 use Rattle.sgx_types.proofs.Keystone.{epochs_tell}
 use Rattle.sgx_types.specs.ByEpochs.{up_to_block}
 use Rattle.sgx_types.specs.declared.entries.Entry.{Entry}
@@ -15,44 +14,21 @@ use Rattle.sgx_types.specs.Epochs.{block_epoch, epoch, epoch_in, epoch_of}
 use Rattle.sgx_types.specs.Eviction.{kept_back}
 use Rattle.sgx_types.specs.Frames.{Content, Free, Holds, IsLoading, IsVa, SecsOf, content, enclave_in, is_blocked, is_free, is_page}
 use Rattle.sgx_types.specs.Frames.{is_sealing}
-use Rattle.sgx_types.specs.Flat.{FlatEnclave, enclave_sight_of}
 use Rattle.sgx_types.specs.Table as table
 use Rattle.sgx_types.specs.Table.{DrainSight, FrameSight, SlotSight, TrackSight, block_row, ewbstart_row, first_of_row, track_row}
-use Rattle.epcm_entry.specs.Epc.{free_frame}
-use Rattle.epcm_entry.specs.Sights.{held}
-use Rattle.secs_state.specs.Secs.{SecsState}
-use Rattle.secs_state.specs.Table.{enclave_at}
 use Rattle.version_array.specs.Keeper.{Keeper, is_added, is_ours, is_out}
 use Rattle.sgx_types.specs.Sights.{drain_sight_at}
 use Rattle.job_grammar.specs.Jobs.{JobView}
-use Rattle.paging_machine.specs.Parts.{Parts, added_in, enclave_of, state_of}
+use Rattle.paging_machine.specs.Parts.{Parts, state_of}
 use Rattle.paging_laws.specs.Columns.{HasColumns}
 use Rattle.paging_laws.specs.State.{State, drain_sight, number_up_to, sight, slot_sight}
 use Rattle.paging_laws.proofs.ColumnLaws.{is_blocked_is, content_is, blocked_is, sealing_is, epoch_is, slot_busy_is, version_is}
 use Rattle.paging_laws.proofs.ShapeLaws.{drained_by, noting_agrees}
+use Rattle.driver_steps.proofs.PartLaws.{held_within}
 use Rattle.driver_laws.specs.Agrees.{ShowsSlots}
 use Rattle.driver_laws.specs.Agrees as agrees
 use Rattle.driver_rules.specs.Places.{Leaving, place}
 use Rattle.driver_laws.specs.Sound.{IsSound, stands_in}
-
--- ---- what the machine's parts tell
-
--- a frame that is not free is one of the EPC's
-pub held_within : (d : Parts) (n : ℕ) → is_free ((state_of d).content n) ≡ false → nat_le (length d.epc) n ≡ false
-held_within d n used = by_test (leb (length d.epc) n) refl
-  where
-    by_test : (b : Bool) → leb (length d.epc) n ≡ b → b ≡ false
-    by_test true is = absurd (false≢true (sym used ∙ ap (λ x. is_free (held x.entry))
-        (get_or_past d.epc n free_frame (leb-true (length d.epc) n is))))
-    by_test false is = refl
-
--- an added page's enclave was created
-pub added_created : (d : Parts) (g : Page) → is_some ((state_of d).added g) ≡ true → is_some ((state_of d).enclaves g.enclave) ≡ true
-added_created d g = by_enclave (enclave_at d.secs g.enclave)
-  where
-    by_enclave : (o : Option SecsState) → is_some (added_in o g.number) ≡ true → is_some (enclave_of o) ≡ true
-    by_enclave None h = cc
-    by_enclave (Some x) h = refl
 
 -- ---- what a row sees
 
@@ -162,11 +138,6 @@ try_row s slot drain spent k blocked l = rw (k.within, l.frame, l.within, k.idle
 pub track_allowed : (s : TrackSight) → table.is_made s.enclave ≡ true → s.older ≡ 0
     → first_of_row (track_row s) ≡ (if s.is_spent then Some why.EpochSpent else None)
 track_allowed s made none = rw (made, none) refl
-
--- an enclave that was created is seen
-pub seen_made : (o : Option FlatEnclave) → is_some o ≡ true → table.is_made (enclave_sight_of o) ≡ true
-seen_made None h = cc
-seen_made (Some x) h = refl
 
 -- ---- tracking by the entries
 

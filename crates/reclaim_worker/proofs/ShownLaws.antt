@@ -60,7 +60,8 @@ use Rattle.reclaim_worker.specs.Scans.{IsScan, IsScanned}
 use Rattle.reclaim_worker.specs.Shown.{ShowsAfter}
 use Rattle.reclaim_worker.specs.Standing.{AreInFrames, IsForm, pages_in}
 use Rattle.reclaim_worker.specs.Tables.{Shows}
-use Rattle.reclaim_worker.specs.Tried.{IsSame, SlotsAfter, is_refused}
+use Rattle.reclaim_worker.specs.Tried.{IsSame, SlotsAfter}
+use Rattle.driver_rules.specs.Reclaims.{is_refused}
 use Rattle.reclaim_worker.specs.Turning.{IsFormTurn, IsThirdTurn, TurnSays}
 use Rattle.reclaim_worker.proofs.DueLaws.{drop_get, frames_behind, with_page}
 use Rattle.reclaim_worker.proofs.MoveDueLaws.{block_is_due, block_of, due_there, refused_entry, same_frame, spent_entry, started_entry}

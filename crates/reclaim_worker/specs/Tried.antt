@@ -1,8 +1,6 @@
 -- A try to write a page out, and who keeps it back.
 use Rattle.std.specs.Prelude.{ℕ, zero, suc, ◌+◌, ◌≡◌, ◌==◌, ◌&&◌, Bool, true, false, if◌then◌else◌, nat_le}
 use Rattle.sgx_types.specs.declared.entries.Entry.{Entry}
-use Rattle.sgx_types.specs.declared.entries.Event.{Event}
-use Rattle.sgx_types.specs.declared.entries.Event.TheVariants.{Refused}
 use Rattle.sgx_types.specs.declared.entries.Actor.TheVariants as actors
 use Rattle.sgx_types.specs.declared.entries.Action.TheVariants.{EwbStart}
 use Rattle.sgx_types.specs.declared.names.Frame.{Frame}
@@ -12,11 +10,8 @@ use Rattle.cached_translations.specs.declared.processor.Mode.TheVariants.{Outsid
 use Rattle.version_array.specs.Keeper.{Keeper, count_out, is_ours, is_out, Takes}
 use Rattle.paging_laws.specs.State.{State}
 use Rattle.paging_laws.specs.Steps.{IsStep}
+use Rattle.driver_rules.specs.Reclaims.{is_refused}
 use Rattle.driver_tables.specs.declared.driver.Driver.{Driver}
-
-abbrev pub is_refused : Event → Bool
-is_refused (Refused action why) = true
-is_refused _ = false
 
 -- a keeper as before, but for the order in which it hands its slots out
 pub record IsSame (old new : Keeper) : Type 0 where

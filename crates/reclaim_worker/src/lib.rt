@@ -1,6 +1,7 @@
 // One pass of the reclaimer over a machine, a driver's tables and a store.
 #![tactic(auto)]
 
+pub mod laws;
 pub mod looks;
 pub mod passes;
 mod seats;

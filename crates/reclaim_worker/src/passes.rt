@@ -17,7 +17,8 @@ ghost use Rattle.reclaim_worker.specs.After.{StandsAfter};
 ghost use Rattle.reclaim_worker.specs.Kept.{TurnKeeps};
 ghost use Rattle.paging_laws.specs.State.{State};
 ghost use Rattle.reclaim_worker.specs.Asked.{look_in, look_told, places_by, told_by};
-ghost use Rattle.reclaim_worker.specs.Going.{GoesOn, TurnGoes};
+ghost use Rattle.driver_steps.specs.Carried.{Carries};
+ghost use Rattle.reclaim_worker.specs.Going.{TurnGoes};
 ghost use Rattle.reclaim_worker.specs.Shown.{ShowsAfter};
 ghost use Rattle.reclaim_worker.specs.Rests.{DriverSays, IsWait};
 ghost use Rattle.reclaim_worker.specs.Ready.{Ready};
@@ -27,11 +28,12 @@ ghost use Rattle.reclaim_worker.specs.Scans.{IsBegun, IsScanned, after_look, fra
 
 use crate::looks::look;
 use crate::seats::{keepers, number_of_keepers};
-use crate::tries::{reclaim, try_out};
+use crate::tries::try_out;
 use crate::turns::{Form, PassTurn, Phase, Taken};
 use active_list::page_states::PageState;
 use backing_store::backing::Backing;
 use driver_rules::waits::Why;
+use driver_steps::steps::step;
 use driver_tables::driver::Driver;
 use job_grammar::jobs::Marks;
 use paging_machine::machine::Machine;
@@ -242,7 +244,12 @@ impl Pass {
         ensures goes { TurnGoes (state_of machine.old) result (state_of machine.new) }
         ensures cpus { length machine.new.cpus ≡ length machine.old.cpus }
     {
-        let entry = reclaim(alloc, machine, Action::Block { frame: one.frame });
+        let entry = step(
+            alloc,
+            machine,
+            Actor::Reclaimer,
+            Action::Block { frame: one.frame },
+        );
         self.phase = after_block(next, self.taken.len());
         PassTurn::One(entry)
     }
@@ -263,7 +270,7 @@ impl Pass {
         ensures cpus { length machine.new.cpus ≡ length machine.old.cpus }
     {
         let enclave = one.page.enclave;
-        let entry = reclaim(alloc, machine, Action::Track { enclave });
+        let entry = step(alloc, machine, Actor::Reclaimer, Action::Track { enclave });
         self.phase = after_track(next, block, &entry);
         turn_of_track(entry)
     }
@@ -409,7 +416,7 @@ fn after_track(next: usize, block: u64, entry: &Entry) -> Phase
 fn turn_of_track(entry: Entry) -> PassTurn
     ensures turn { result ≡ turn_of_track entry entry.event }
     ensures waits { IsWait result → ⊥ }
-    ensures goes { (s t : State) → GoesOn s entry t → TurnGoes s result t }
+    ensures goes { (s t : State) → Carries s entry t → TurnGoes s result t }
 {
     match entry.event {
         Event::Refused { .. } => PassTurn::Spent(entry),
@@ -458,7 +465,7 @@ fn after_try(next: usize, form: Form, block: u64, entry: &Entry) -> Phase
 fn turn_of(entry: Entry) -> PassTurn
     ensures turn { result ≡ turn_of entry entry.event }
     ensures waits { IsWait result → ⊥ }
-    ensures goes { (s t : State) → GoesOn s entry t → TurnGoes s result t }
+    ensures goes { (s t : State) → Carries s entry t → TurnGoes s result t }
 {
     match entry.event {
         Event::Refused {

@@ -10,37 +10,18 @@ ghost use Rattle.paging_machine.specs.Parts.{cpu_at, state_of};
 ghost use Rattle.paging_laws.specs.Shape.{FitsApart, ShapeWithRules};
 ghost use Rattle.sgx_types.specs.Making.{Making};
 ghost use Rattle.paging_laws.specs.Steps.{CanApply, IsStep, MayNeedMemory};
-ghost use Rattle.reclaim_worker.specs.Going.{GoesOn};
-ghost use Rattle.reclaim_worker.specs.Tried.{IsTried, is_kept_by, is_refused};
+ghost use Rattle.driver_steps.specs.Carried.{Carries};
+ghost use Rattle.reclaim_worker.specs.Tried.{IsTried, is_kept_by};
+ghost use Rattle.driver_rules.specs.Reclaims.{is_refused};
 ghost use Rattle.reclaim_worker.specs.Answers.{bits_from};
 
 use cached_translations::processor::Mode;
+use driver_steps::steps::{is_refused, step};
 use driver_tables::driver::Driver;
 use paging_machine::machine::Machine;
 use sgx_types::entries::{Action, Actor, Entry, Event};
 use sgx_types::names::{Cpu, Frame};
 use std::alloc::Global;
-
-/// One instruction of the reclaimer.
-pub(crate) fn reclaim(alloc: Global, machine: &mut Machine, action: Action) -> Entry
-    requires can { CanApply (length machine.old.cpus) actors.Reclaimer action }
-    requires sure { MayNeedMemory action → ⊥ }
-    ensures step { IsStep (state_of machine.old) actors.Reclaimer action result (state_of machine.new) }
-    ensures goes { GoesOn (state_of machine.old) result (state_of machine.new) }
-    ensures cpus { length machine.new.cpus ≡ length machine.old.cpus }
-{
-    match machine.apply(alloc, Actor::Reclaimer, &action) {
-        Ok(entry) => entry,
-        Err(_) => unreachable!(),
-    }
-}
-
-/// Whether an instruction was refused.
-pub(crate) fn is_refused(entry: &Entry) -> bool
-    ensures { result ≡ is_refused entry.now.event }
-{
-    matches!(entry.event, Event::Refused { .. })
-}
 
 /// Starts to write out the page in a frame, into a slot that is not out. Where that is refused the slot is given back. None
 /// where every slot is out.
@@ -51,14 +32,19 @@ pub(crate) fn try_out(
     frame: Frame,
 ) -> Option<Entry>
     ensures tried { IfSome result (λ e. IsTried (state_of machine.old) driver.old frame e driver.new (state_of machine.new)) }
-    ensures goes { IfSome result (λ e. GoesOn (state_of machine.old) e (state_of machine.new)) }
+    ensures goes { IfSome result (λ e. Carries (state_of machine.old) e (state_of machine.new)) }
     ensures none { IfNone result (AllOut driver.old.slots) }
     ensures driver { IfNone result (driver.new ≡ driver.old) }
     ensures machine { IfNone result (machine.new ≡ machine.old) }
     ensures cpus { length machine.new.cpus ≡ length machine.old.cpus }
 {
     let slot = driver.slots.take()?;
-    let entry = reclaim(alloc, machine, Action::EwbStart { frame, slot });
+    let entry = step(
+        alloc,
+        machine,
+        Actor::Reclaimer,
+        Action::EwbStart { frame, slot },
+    );
     if is_refused(&entry) {
         driver.slots.give(slot);
     }

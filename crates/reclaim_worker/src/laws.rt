@@ -1,0 +1,25 @@
+//! When a pass is ready for a turn. A law is the contract of a function without arguments.
+
+ghost use Rattle.std.specs.Prelude.{◌≡◌, List};
+ghost use Rattle.active_list.specs.Holds.{is_held as is_held_by};
+ghost use Rattle.driver_rules.specs.Holds.{is_held};
+ghost use Rattle.driver_rules.specs.Passes.{pass};
+ghost use Rattle.driver_steps.specs.Agrees.{Agrees};
+ghost use Rattle.driver_tables.specs.declared.driver.Driver.{Driver};
+ghost use Rattle.job_grammar.specs.Jobs.{JobView};
+ghost use Rattle.paging_machine.specs.Parts.{Parts};
+ghost use Rattle.reclaim_worker.specs.Ready.{Ready};
+ghost use Rattle.reclaim_worker.specs.Standing.{StandsFor};
+ghost use Rattle.reclaim_worker.specs.declared.turns.Phase.{Phase};
+ghost use Rattle.reclaim_worker.specs.declared.turns.Taken.{Taken};
+ghost use Rattle.sgx_types.specs.Making.{Making};
+ghost use Rattle.sgx_types.specs.declared.entries.Entry.{Entry};
+ghost use Rattle.sgx_types.specs.declared.names.Page.{Page};
+
+/// Where driver and machine agree on some entries, the holds are those of the entries, and the pass stands for them, it is ready for its
+/// next turn.
+pub fn passes_are_ready()
+    ensures { (made : Making) (j : JobView) (past : List Entry) (taken : List Taken) (phase : Phase) (d : Driver) (m : Parts)
+        → Agrees made j past d m → ((g : Page) → is_held_by d.active.own g ≡ is_held j past g)
+        → StandsFor made.first_epoch past taken phase (pass j past) → Ready made j past taken phase d m }
+{}
