@@ -1,10 +1,12 @@
 //! When a pass is ready for a turn. A law is the contract of a function without arguments.
 
-ghost use Rattle.std.specs.Prelude.{◌≡◌, List};
+ghost use Rattle.std.specs.Prelude.{ℕ, ◌≡◌, List};
 ghost use Rattle.active_list.specs.Holds.{is_held as is_held_by};
 ghost use Rattle.driver_rules.specs.Holds.{is_held};
 ghost use Rattle.driver_rules.specs.Passes.{pass};
+ghost use Rattle.driver_rules.specs.Places.{Leaving, place};
 ghost use Rattle.driver_steps.specs.Agrees.{Agrees};
+ghost use Rattle.version_array.specs.Keeper.{AllOut};
 ghost use Rattle.driver_tables.specs.declared.driver.Driver.{Driver};
 ghost use Rattle.job_grammar.specs.Jobs.{JobView};
 ghost use Rattle.paging_machine.specs.Parts.{Parts};
@@ -22,4 +24,10 @@ pub fn passes_are_ready()
     ensures { (made : Making) (j : JobView) (past : List Entry) (taken : List Taken) (phase : Phase) (d : Driver) (m : Parts)
         → Agrees made j past d m → ((g : Page) → is_held_by d.active.own g ≡ is_held j past g)
         → StandsFor made.first_epoch past taken phase (pass j past) → Ready made j past taken phase d m }
+{}
+
+/// A slot is left wherever a page is tried: where driver and machine agree, not all slots are out while a page has still to go out.
+pub fn a_slot_is_left_for_a_try()
+    ensures { (made : Making) (j : JobView) (past : List Entry) (d : Driver) (m : Parts) (g : Page) (f : ℕ) → Agrees made j past d m
+        → place past g ≡ Leaving f → AllOut d.slots → ⊥ }
 {}
