@@ -2,3 +2,4 @@ pub mod CountLaws
 pub mod ShowLaws
 pub mod LoadShowLaws
 pub mod FirstLaws
+pub mod OtherShowLaws

@@ -58,7 +58,7 @@ copies_set kept past c ev new copies room own p = by_test (is_by p (actors.Cpu c
         ∙ sym (ap loaded_by (loads-other past (entry_of (actors.Cpu c) ev) p is))
 
 -- nothing is kept before and behind
-copies_none : (kept : List (Option Kept)) (past : List Entry) (c : Cpu) (ev : Event)
+pub copies_none : (kept : List (Option Kept)) (past : List Entry) (c : Cpu) (ev : Event)
     → ((p : ℕ) → page_kept (kept_at kept p) ≡ loaded_by (last_of past p)) → loaded_by (last_of past c.0) ≡ None
     → loaded_by (last_by ev (open_start past)) ≡ None → (p : ℕ)
     → page_kept (kept_at kept p) ≡ loaded_by (last_of (entry_of (actors.Cpu c) ev ∷ past) p)
