@@ -16,7 +16,7 @@ use Rattle.driver_tables.specs.Counts.{page_counts}
 use Rattle.driver_tables.specs.Tables.{IsNew, ShowsTables, listed, place_in}
 
 -- a place of a table that is the same everywhere
-all_same : {A : Type 0} (n : ℕ) (x : A) (i : ℕ) → get_or (replicate n x) i x ≡ x
+pub all_same : {A : Type 0} (n : ℕ) (x : A) (i : ℕ) → get_or (replicate n x) i x ≡ x
 all_same n x i = by_test (leb n i) refl
   where
     by_test : (b : Bool) → leb n i ≡ b → get_or (replicate n x) i x ≡ x

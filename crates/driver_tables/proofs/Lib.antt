@@ -3,3 +3,4 @@ pub mod ShowLaws
 pub mod LoadShowLaws
 pub mod FirstLaws
 pub mod OtherShowLaws
+pub mod HeldLaws
