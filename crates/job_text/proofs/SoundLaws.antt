@@ -32,11 +32,11 @@ use Rattle.job_text.proofs.PageLaws.{once-more, free-of}
 
 -- ---- nothing stands of a part behind
 
-or_right : (a b : Bool) → (a || b) ≡ false → b ≡ false
+pub or_right : (a b : Bool) → (a || b) ≡ false → b ≡ false
 or_right true b e = absurd cc
 or_right false b e = e
 
-or_left : (a b : Bool) → (a || b) ≡ false → a ≡ false
+pub or_left : (a b : Bool) → (a || b) ≡ false → a ≡ false
 or_left true b e = absurd cc
 or_left false b e = refl
 
@@ -306,7 +306,7 @@ one-last p f (x ∷ y ∷ xs) none =
     let none_here = rw (or_left (p x) _ split) at count in
     omega (arith, none_here, others)
 
-any-push : {X : Type 0} (p : X → Bool) (xs : List X) (x : X) → p x ≡ false → list_any p (xs ++ x ∷ []) ≡ list_any p xs
+pub any-push : {X : Type 0} (p : X → Bool) (xs : List X) (x : X) → p x ≡ false → list_any p (xs ++ x ∷ []) ≡ list_any p xs
 any-push p [] x e = rw e refl
 any-push p (y ∷ xs) x e = rw (any-push p xs x e) refl
 
@@ -321,7 +321,7 @@ own-more scripts op enclave number free own =
     ]
 
 -- a TCS that an operation names is named by no script before the last
-names-own : (d : Draft) (op : Operation) → is_shared d (says.Operation op) ≡ false → (enclave number : ℕ)
+pub names-own : (d : Draft) (op : Operation) → is_shared d (says.Operation op) ≡ false → (enclave number : ℕ)
     → names_tcs enclave number (kept_op op) ≡ true
     → list_any (script_names enclave number) (earlier d.scripts) ≡ false
 unfolding is_shared
