@@ -10,3 +10,4 @@ pub mod StandLaws
 pub mod NoteLaws
 pub mod ShownLaws
 pub mod StoredLaws
+pub mod OpenLaws

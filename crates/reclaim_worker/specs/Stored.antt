@@ -5,6 +5,7 @@ use Rattle.sgx_types.specs.declared.names.Frame.{Frame}
 use Rattle.sgx_types.specs.declared.entries.Actor.TheVariants as actors
 use Rattle.sgx_types.specs.declared.entries.Entry.{Entry}
 use Rattle.sgx_types.specs.declared.names.SlotAt.{SlotAt}
+use Rattle.sgx_types.specs.declared.record.Header.{Header}
 use Rattle.sgx_types.specs.Making.{Making}
 use Rattle.sgx_types.specs.Sealed.{Sealed}
 use Rattle.seal_record.specs.Records.{Made}
@@ -15,7 +16,7 @@ use Rattle.active_list.specs.declared.page_states.PageState.{PageState}
 use Rattle.active_list.specs.declared.page_states.PageState.TheVariants.{Away, Lost}
 use Rattle.paging_laws.specs.Histories.{StandsWithAllRules, given_out}
 use Rattle.paging_laws.specs.State.{State}
-use Rattle.paging_laws.specs.Steps.{IsWrittenOut}
+use Rattle.paging_laws.specs.Steps.{IsWrittenOut, SealsPage}
 use Rattle.driver_tables.specs.declared.driver.Driver.{Driver}
 use Rattle.reclaim_worker.specs.declared.turns.Form.TheVariants as forms
 use Rattle.reclaim_worker.specs.declared.turns.Phase.{Phase}
@@ -27,6 +28,17 @@ abbrev pub IsStarted : List Taken → Phase → State → List ℕ → Type 0
 IsStarted taken (phases.Sealing next slot) s counts =
     IsSomeAnd (slice_get taken next) (λ one. (s.is_sealing one.frame.0 ≡ true) × IsPlaced counts one.page)
 IsStarted taken _ s counts = ⊥
+
+-- the page of the pass has started to go out
+abbrev pub IsOpen : List Taken → Phase → State → Type 0
+IsOpen taken (phases.Sealing next slot) s = IsSomeAnd (slice_get taken next) (λ one. s.is_sealing one.frame.0 ≡ true)
+IsOpen taken _ s = ⊥
+
+-- what is sealed of it
+abbrev pub IsToSeal : List Taken → Phase → State → List ℕ → ℕ → Header → List ℕ → Type 0
+IsToSeal taken (phases.Sealing next slot) s key version header plain =
+    IsSomeAnd (slice_get taken next) (λ one. SealsPage s one.frame.0 key version header plain)
+IsToSeal taken _ s key version header plain = ⊥
 
 -- the frame whose page has started to go out
 abbrev pub frame_sealing : List Taken → Phase → Option Frame

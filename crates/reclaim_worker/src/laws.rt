@@ -1,6 +1,6 @@
 //! When a pass is ready for a turn. A law is the contract of a function without arguments.
 
-ghost use Rattle.std.specs.Prelude.{ℕ, ◌≡◌, List};
+ghost use Rattle.std.specs.Prelude.{ℕ, ◌≡◌, true, List};
 ghost use Rattle.active_list.specs.Holds.{is_held as is_held_by};
 ghost use Rattle.driver_rules.specs.Holds.{is_held};
 ghost use Rattle.driver_rules.specs.Passes.{pass};
@@ -9,9 +9,10 @@ ghost use Rattle.driver_steps.specs.Agrees.{Agrees};
 ghost use Rattle.version_array.specs.Keeper.{AllOut};
 ghost use Rattle.driver_tables.specs.declared.driver.Driver.{Driver};
 ghost use Rattle.job_grammar.specs.Jobs.{JobView};
-ghost use Rattle.paging_machine.specs.Parts.{Parts};
+ghost use Rattle.paging_machine.specs.Parts.{Parts, state_of};
 ghost use Rattle.reclaim_worker.specs.Ready.{Ready};
-ghost use Rattle.reclaim_worker.specs.Standing.{StandsFor};
+ghost use Rattle.reclaim_worker.specs.Standing.{StandsFor, is_sealing};
+ghost use Rattle.reclaim_worker.specs.Stored.{IsOpen, IsStarted};
 ghost use Rattle.reclaim_worker.specs.declared.turns.Phase.{Phase};
 ghost use Rattle.reclaim_worker.specs.declared.turns.Taken.{Taken};
 ghost use Rattle.sgx_types.specs.Making.{Making};
@@ -24,6 +25,14 @@ pub fn passes_are_ready()
     ensures { (made : Making) (j : JobView) (past : List Entry) (taken : List Taken) (phase : Phase) (d : Driver) (m : Parts)
         → Agrees made j past d m → ((g : Page) → is_held_by d.active.own g ≡ is_held j past g)
         → StandsFor made.first_epoch past taken phase (pass j past) → Ready made j past taken phase d m }
+{}
+
+/// Where a pass is ready and waits for the bytes of a page, that page has started to go out: its work can be asked for, and the write-out can
+/// be ended.
+pub fn started_passes_can_be_stored()
+    ensures { (made : Making) (j : JobView) (past : List Entry) (taken : List Taken) (phase : Phase) (d : Driver) (m : Parts)
+        → Ready made j past taken phase d m → is_sealing phase ≡ true
+        → IsOpen taken phase (state_of m) × IsStarted taken phase (state_of m) d.states.counts }
 {}
 
 /// A slot is left wherever a page is tried: where driver and machine agree, not all slots are out while a page has still to go out.

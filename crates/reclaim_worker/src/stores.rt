@@ -9,7 +9,7 @@ ghost use Rattle.job_grammar.specs.Jobs.{JobView};
 ghost use Rattle.paging_laws.specs.Shape.{FitsApart, ShapeWithRules};
 ghost use Rattle.reclaim_worker.specs.Ended.{IsEnded};
 ghost use Rattle.reclaim_worker.specs.Ready.{Ready};
-ghost use Rattle.reclaim_worker.specs.Stored.{frame_sealing, IsStarted, IsStored, StoredSays, after_page, gone, next_phase, taken_in};
+ghost use Rattle.reclaim_worker.specs.Stored.{frame_sealing, IsOpen, IsToSeal, IsStarted, IsStored, StoredSays, after_page, gone, next_phase, taken_in};
 
 use crate::passes::Pass;
 use crate::turns::{Form, Phase, Taken};
@@ -17,7 +17,7 @@ use active_list::page_states::PageState;
 use backing_store::backing::Backing;
 use driver_tables::driver::Driver;
 use paging_machine::machine::Machine;
-use seal_record::seal::SealedWork;
+use seal_record::seal::{SealWork, SealedWork};
 use sgx_types::entries::{Actor, Entry};
 use sgx_types::names::{Frame, SlotAt};
 
@@ -31,6 +31,18 @@ impl Pass {
         };
         let one = self.taken.get(next)?;
         Some(one.frame)
+    }
+
+    /// What is to be sealed of the page that has started to go out, in the room of another work: its bytes and its header, under the
+    /// machine's key and the version that its start drew. It can be asked for again.
+    pub fn work(&self, machine: &Machine, room: SealWork) -> SealWork
+        requires { IsOpen self.now.taken.items self.now.phase (state_of machine.now) }
+        ensures { IsToSeal self.now.taken.items self.now.phase (state_of machine.now) result.key result.version result.header result.plain.items }
+    {
+        let Some(frame) = self.sealing() else {
+            unreachable!();
+        };
+        machine.seal_input(frame, room)
     }
 
     /// Ends the write-out that the last step started: the page is out, its record is put, and the page is lost where the put
