@@ -1,0 +1,5 @@
+// Tests of the canonical text of a job.
+#![tactic(auto)]
+
+#[cfg(test)]
+mod tests;
