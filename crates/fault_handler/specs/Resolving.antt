@@ -29,6 +29,11 @@ use Rattle.driver_tables.specs.Moves.{with_load}
 use Rattle.fault_handler.specs.declared.answers.FaultAnswer.{FaultAnswer}
 use Rattle.fault_handler.specs.declared.answers.FaultAnswer.TheVariants as answers
 
+-- an answer that tells a failure of the store
+abbrev pub TellsFault : FaultAnswer → Type 0
+TellsFault (answers.Bus reasons.GetFailed) = Unit {0}
+TellsFault answer = ⊥
+
 -- an answer that changes nothing in the tables and in the machine
 pub record IsSaid (said : FaultAnswer) (d : Driver) (m : Parts) (answer : FaultAnswer) (d' : Driver) (m' : Parts) : Type 0 where
   pub says : answer ≡ said

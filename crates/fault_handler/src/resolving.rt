@@ -8,7 +8,9 @@ ghost use Rattle.sgx_types.specs.declared.entries.Entry.{Entry};
 ghost use Rattle.job_grammar.specs.Jobs.{JobView};
 ghost use Rattle.fault_handler.specs.Due.{IsRight};
 ghost use Rattle.driver_steps.specs.Agrees.{Agrees};
-ghost use Rattle.fault_handler.specs.Resolving.{IsFetch, IsResolved, IsStarted};
+ghost use Rattle.std.specs.Result.{IsOkAnd};
+ghost use Rattle.io_edges.specs.Faults.{HasCause};
+ghost use Rattle.fault_handler.specs.Resolving.{TellsFault, IsFetch, IsResolved, IsStarted};
 ghost use Rattle.paging_machine.specs.Parts.{state_of};
 ghost use Rattle.sgx_types.specs.Frames.{least_free};
 
@@ -49,7 +51,7 @@ pub fn resolve<B: Backing>(
     ensures cpus { length machine.new.cpus ≡ length machine.old.cpus }
     ensures spare { B.spare store.new ≡ B.spare store.old }
     ensures plans { B.plans store.new ≡ B.plans store.old }
-    ensures faults { B.faults store.old ≤ B.faults store.new }
+    ensures cause { HasCause (B.faults store.old) (B.faults store.new) (IsOkAnd result TellsFault) }
     ensures driver { OnErr result (driver.new ≡ driver.old) }
     ensures machine { OnErr result (machine.new ≡ machine.old) }
     ensures store { OnErr result (store.new ≡ store.old) }
@@ -73,7 +75,7 @@ fn resolve_by<B: Backing>(
     ensures cpus { length machine.new.cpus ≡ length machine.old.cpus }
     ensures spare { B.spare store.new ≡ B.spare store.old }
     ensures plans { B.plans store.new ≡ B.plans store.old }
-    ensures faults { B.faults store.old ≤ B.faults store.new }
+    ensures cause { HasCause (B.faults store.old) (B.faults store.new) (IsOkAnd result TellsFault) }
     ensures driver { OnErr result (driver.new ≡ driver.old) }
     ensures machine { OnErr result (machine.new ≡ machine.old) }
     ensures store { OnErr result (store.new ≡ store.old) }
@@ -105,7 +107,7 @@ fn fetch<B: Backing>(
     ensures cpus { length machine.new.cpus ≡ length machine.old.cpus }
     ensures spare { B.spare store.new ≡ B.spare store.old }
     ensures plans { B.plans store.new ≡ B.plans store.old }
-    ensures faults { B.faults store.old ≤ B.faults store.new }
+    ensures cause { HasCause (B.faults store.old) (B.faults store.new) (IsOkAnd result TellsFault) }
     ensures driver { OnErr result (driver.new ≡ driver.old) }
     ensures machine { OnErr result (machine.new ≡ machine.old) }
     ensures store { OnErr result (store.new ≡ store.old) }

@@ -1,0 +1,15 @@
+use Rattle.std.proofs.Common.{rules, subst}
+use Rattle.fault_handler.specs.Resolving.{TellsFault}
+use Rattle.fault_handler.proofs.resolving.fetch.Goals as goal
+
+pub returns-in-Ok-Some-clause-cause : goal.returns-in-Ok-Some-clause-cause
+returns-in-Ok-Some-clause-cause g c = record {
+  not_fallen = c.get.ensures.cause.not_fallen;
+  risen = λ told. absurd (subst TellsFault c.start.ensures.does.says told);
+}
+
+pub returns-in-Err-Failed-clause-cause : goal.returns-in-Err-Failed-clause-cause
+returns-in-Err-Failed-clause-cause g c = record {
+  not_fallen = c.get.ensures.cause.not_fallen;
+  risen = λ told. c.get.ensures.cause.risen (search rules);
+}
