@@ -54,9 +54,9 @@ neither false b h = (refl, h)
 
 module _ (made : Making) (j : JobView) (past : List Entry) (taken : List Taken) (next : ℕ) (slot : SlotAt) (one : Taken)
     (rest : List Taken) (old new : Driver)
-    (m m' : Parts) (told told' : Option (List Call)) (e : Entry) (r : Ready made j past taken (phases.Sealing next slot) old m)
+    (m m' : Parts) (told told' : Option (List Call)) (before after : ℕ) (e : Entry) (r : Ready made j past taken (phases.Sealing next slot) old m)
     (is : drop next taken ≡ one ∷ rest)
-    (passed : pass j past ≡ Tries one.page (pages_in rest) Sealing) (k : IsStored one slot (state_of m) old told e (state_of m') new told')
+    (passed : pass j past ≡ Tries one.page (pages_in rest) Sealing) (k : IsStored one slot (state_of m) old told before e (state_of m') new told' after)
   where
     at : place past one.page ≡ Leaving one.frame.0
     at = (subst (AreInFrames past) is r.stands.1).0
@@ -160,18 +160,18 @@ module _ (made : Making) (j : JobView) (past : List Entry) (taken : List Taken) 
         })
 
 pub stored_ends : (made : Making) (j : JobView) (past : List Entry) (taken taken' : List Taken) (phase phase' : Phase) (old new : Driver)
-    (m m' : Parts) (told told' : Option (List Call)) (e : Entry)
-    → Ready made j past taken phase old m → StoredSays taken phase (state_of m) old told e (state_of m') new told'
+    (m m' : Parts) (told told' : Option (List Call)) (before after : ℕ) (e : Entry)
+    → Ready made j past taken phase old m → StoredSays taken phase (state_of m) old told before e (state_of m') new told' after
     → phase' ≡ next_phase (length taken) phase
     → taken' ≡ taken_in phase' taken → IsEnded made.first_epoch j past e taken' phase' new
-stored_ends made j past taken taken' (phases.Sealing next slot) phase' old new m m' told told' e r k to kept =
+stored_ends made j past taken taken' (phases.Sealing next slot) phase' old new m m' told told' before after e r k to kept =
     let w = r.stands.0 in
-    let says = some_one (slice_get taken next) w.one (λ x. IsStored x slot (state_of m) old told e (state_of m') new told')
+    let says = some_one (slice_get taken next) w.one (λ x. IsStored x slot (state_of m) old told before e (state_of m') new told' after)
     (drop_get next taken w.one w.rest w.due) k in
     subst (λ ts. IsEnded made.first_epoch j past e ts phase' new) (sym kept)
     (subst (λ p. IsEnded made.first_epoch j past e (taken_in p taken) p new) (sym to)
-    (ended made j past taken next slot w.one w.rest old new m m' told told' e r w.due w.same says))
-stored_ends made j past taken taken' (phases.Idle works) phase' old new m m' told told' e r k to kept = absurd k
-stored_ends made j past taken taken' (phases.Scan left) phase' old new m m' told told' e r k to kept = absurd k
-stored_ends made j past taken taken' (phases.Block next) phase' old new m m' told told' e r k to kept = absurd k
-stored_ends made j past taken taken' (phases.Tries next form block) phase' old new m m' told told' e r k to kept = absurd k
+    (ended made j past taken next slot w.one w.rest old new m m' told told' before after e r w.due w.same says))
+stored_ends made j past taken taken' (phases.Idle works) phase' old new m m' told told' before after e r k to kept = absurd k
+stored_ends made j past taken taken' (phases.Scan left) phase' old new m m' told told' before after e r k to kept = absurd k
+stored_ends made j past taken taken' (phases.Block next) phase' old new m m' told told' before after e r k to kept = absurd k
+stored_ends made j past taken taken' (phases.Tries next form block) phase' old new m m' told told' before after e r k to kept = absurd k

@@ -39,3 +39,12 @@ places_with _ n = n
 abbrev pub places_by : Option (Page × Look) → ℕ → ℕ
 places_by None n = n
 places_by (Some x) n = places_with x.1 n
+
+-- a look that tells that the store failed to make place
+abbrev pub IsNoRoom : Look → Type 0
+IsNoRoom looks.NoRoom = Unit {0}
+IsNoRoom _ = ⊥
+
+abbrev pub NoRoomIn : Option (Page × Look) → Type 0
+NoRoomIn None = ⊥
+NoRoomIn (Some x) = IsNoRoom x.1

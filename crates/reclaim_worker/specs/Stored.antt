@@ -9,6 +9,7 @@ use Rattle.sgx_types.specs.declared.record.Header.{Header}
 use Rattle.sgx_types.specs.Making.{Making}
 use Rattle.sgx_types.specs.Sealed.{Sealed}
 use Rattle.seal_record.specs.Records.{Made}
+use Rattle.io_edges.specs.Faults.{HasCause}
 use Rattle.backing_store.specs.Calls.{Call, Put, with_call}
 use Rattle.active_list.specs.Places.{IsPlaced}
 use Rattle.active_list.specs.States.{with_state}
@@ -51,21 +52,23 @@ gone slot true = Lost slot
 gone slot false = Away slot
 
 -- the page is out by the commit, and then its record is put
-pub record IsStored (one : Taken) (slot : SlotAt) (s : State) (old : Driver) (told : Option (List Call)) (e : Entry) (t : State)
-    (new : Driver)
-    (told' : Option (List Call)) : Type 0 where
+pub record IsStored (one : Taken) (slot : SlotAt) (s : State) (old : Driver) (told : Option (List Call)) (before : ℕ) (e : Entry)
+    (t : State) (new : Driver) (told' : Option (List Call)) (after : ℕ) : Type 0 where
   pub rec : Sealed
   pub out : IsWrittenOut s actors.Reclaimer one.frame e rec t
   pub history : (making : Making) (past : List Entry) (records : List Made) → StandsWithAllRules making s past records
       → StandsWithAllRules making t (e ∷ past) (records ++ given_out e.event rec)
   pub failed : Bool
   pub call : told' ≡ with_call (Put one.page rec failed) told
+  -- the store's count of faults
+  pub cause : HasCause before after (failed ≡ true)
   pub tables : new ≡ record old { states = with_state old.states one.page (gone slot failed) }
 
-abbrev pub StoredSays : List Taken → Phase → State → Driver → Option (List Call) → Entry → State → Driver → Option (List Call) → Type 0
-StoredSays taken (phases.Sealing next slot) s old told e t new told' =
-    IsSomeAnd (slice_get taken next) (λ one. IsStored one slot s old told e t new told')
-StoredSays taken _ s old told e t new told' = ⊥
+abbrev pub StoredSays : List Taken → Phase → State → Driver → Option (List Call) → ℕ → Entry → State → Driver → Option (List Call) → ℕ
+    → Type 0
+StoredSays taken (phases.Sealing next slot) s old told before e t new told' after =
+    IsSomeAnd (slice_get taken next) (λ one. IsStored one slot s old told before e t new told' after)
+StoredSays taken _ s old told before e t new told' after = ⊥
 
 -- the tries of the next page, or the end of the pass
 abbrev pub after_page : ℕ → ℕ → Phase

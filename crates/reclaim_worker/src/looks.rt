@@ -1,12 +1,14 @@
 //! A look at the head of the list.
 
 ghost use Rattle.std.specs.Prelude.{◌≡◌, true, IfOk, OnErr, Some};
+ghost use Rattle.std.specs.Result.{IsOkAnd};
+ghost use Rattle.io_edges.specs.Faults.{HasCause};
 ghost use Rattle.active_list.specs.Places.{IsPlaced};
 ghost use Rattle.active_list.specs.Listing.{head_of, is_young};
 ghost use Rattle.active_list.specs.Holds.{is_held};
 ghost use Rattle.driver_rules.specs.Dues.{is_look};
 ghost use Rattle.driver_tables.specs.Moves.{IsLooked};
-ghost use Rattle.reclaim_worker.specs.Asked.{places_with};
+ghost use Rattle.reclaim_worker.specs.Asked.{IsNoRoom, places_with};
 ghost use Rattle.reclaim_worker.specs.Looked.{told_look};
 
 use backing_store::backing::{Backing, StoreFault};
@@ -31,6 +33,7 @@ pub fn look<S: Backing>(
     ensures told { IfOk result (λ look. S.told store.new ≡ told_look page look (S.told store.old)) }
     ensures places { IfOk result (λ look. S.spare store.new ≡ places_with look (S.spare store.old)) }
     ensures plans { S.plans store.new ≡ S.plans store.old }
+    ensures cause { HasCause (S.faults store.old) (S.faults store.new) (IsOkAnd result IsNoRoom) }
     ensures memory { OnErr result (driver.new ≡ driver.old) }
     ensures untold { OnErr result (store.new ≡ store.old) }
 {
@@ -51,6 +54,7 @@ fn seen<S: Backing>(
     ensures told { IfOk result (λ look. S.told store.new ≡ told_look page look (S.told store.old)) }
     ensures places { IfOk result (λ look. S.spare store.new ≡ places_with look (S.spare store.old)) }
     ensures plans { S.plans store.new ≡ S.plans store.old }
+    ensures cause { HasCause (S.faults store.old) (S.faults store.new) (IsOkAnd result IsNoRoom) }
     ensures untold { OnErr result (store.new ≡ store.old) }
 {
     if driver.active.is_held(page) {

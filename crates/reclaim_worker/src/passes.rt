@@ -1,6 +1,8 @@
 //! A pass of the reclaimer, one turn at a time.
 
 ghost use Rattle.std.specs.Prelude.{◌≡◌, ◌≢◌, ◌+◌, ◌++◌, ◌≤◌, ◌<◌, ◌∷◌, ℕ, [], false, List, length, IfOk, OnErr, vec_len, vec_capacity};
+ghost use Rattle.std.specs.Result.{IsOkAnd};
+ghost use Rattle.io_edges.specs.Faults.{HasCause};
 ghost use Rattle.reclaim_worker.specs.declared.turns.Taken.{Taken};
 ghost use Rattle.paging_machine.specs.Parts.{state_of};
 ghost use Rattle.reclaim_worker.specs.Moves.{IsBlockTurn, IsTrackTurn, IsTryTurn, after_block, after_track, after_try, turn_of};
@@ -16,7 +18,7 @@ ghost use Rattle.driver_rules.specs.Passes.{pass, pass_after, free_count, works_
 ghost use Rattle.reclaim_worker.specs.After.{StandsAfter};
 ghost use Rattle.reclaim_worker.specs.Kept.{TurnKeeps};
 ghost use Rattle.paging_laws.specs.State.{State};
-ghost use Rattle.reclaim_worker.specs.Asked.{look_in, look_told, places_by, told_by};
+ghost use Rattle.reclaim_worker.specs.Asked.{NoRoomIn, look_in, look_told, places_by, told_by};
 ghost use Rattle.driver_steps.specs.Carried.{Carries};
 ghost use Rattle.reclaim_worker.specs.Going.{TurnGoes};
 ghost use Rattle.reclaim_worker.specs.Shown.{ShowsAfter};
@@ -91,6 +93,8 @@ impl Pass {
         ensures told { IfOk result (λ turn. S.told store.new ≡ told_by (look_in self.old.phase turn) (S.told store.old)) }
         ensures places { IfOk result (λ turn. S.spare store.new ≡ places_by (look_in self.old.phase turn) (S.spare store.old)) }
         ensures plans { S.plans store.new ≡ S.plans store.old }
+        ensures cause { HasCause (S.faults store.old) (S.faults store.new)
+            (IsOkAnd result (λ turn. NoRoomIn (look_in self.old.phase turn))) }
         ensures memory { OnErr result ((driver.new ≡ driver.old) × (store.new ≡ store.old)) }
         ensures machine { OnErr result (machine.new ≡ machine.old) }
         ensures refused { OnErr result ((self.new.phase ≡ self.old.phase) × (self.new.taken.items ≡ self.old.taken.items)) }
@@ -135,6 +139,8 @@ impl Pass {
         ensures told { IfOk result (λ turn. S.told store.new ≡ told_by (look_in self.old.phase turn) (S.told store.old)) }
         ensures places { IfOk result (λ turn. S.spare store.new ≡ places_by (look_in self.old.phase turn) (S.spare store.old)) }
         ensures plans { S.plans store.new ≡ S.plans store.old }
+        ensures cause { HasCause (S.faults store.old) (S.faults store.new)
+            (IsOkAnd result (λ turn. NoRoomIn (look_in self.old.phase turn))) }
         ensures memory { OnErr result ((driver.new ≡ driver.old) × (store.new ≡ store.old)) }
         ensures machine { OnErr result (machine.new ≡ machine.old) }
         ensures refused { OnErr result ((self.new.phase ≡ self.old.phase) × (self.new.taken.items ≡ self.old.taken.items)) }
@@ -222,6 +228,8 @@ impl Pass {
         ensures told { IfOk result (λ turn. S.told store.new ≡ told_by (look_told turn) (S.told store.old)) }
         ensures places { IfOk result (λ turn. S.spare store.new ≡ places_by (look_told turn) (S.spare store.old)) }
         ensures plans { S.plans store.new ≡ S.plans store.old }
+        ensures cause { HasCause (S.faults store.old) (S.faults store.new)
+            (IsOkAnd result (λ turn. NoRoomIn (look_told turn))) }
         ensures memory { OnErr result ((driver.new ≡ driver.old) × (store.new ≡ store.old)) }
         ensures refused { OnErr result ((self.new.phase ≡ self.old.phase) × (self.new.taken.items ≡ self.old.taken.items)) }
         ensures waits { IfOk result (λ turn. IsWait turn → (driver.new ≡ driver.old)
@@ -315,6 +323,8 @@ impl Pass {
         ensures told { IfOk result (λ turn. S.told store.new ≡ told_by (look_told turn) (S.told store.old)) }
         ensures places { IfOk result (λ turn. S.spare store.new ≡ places_by (look_told turn) (S.spare store.old)) }
         ensures plans { S.plans store.new ≡ S.plans store.old }
+        ensures cause { HasCause (S.faults store.old) (S.faults store.new)
+            (IsOkAnd result (λ turn. NoRoomIn (look_told turn))) }
         ensures memory { OnErr result ((driver.new ≡ driver.old) × (store.new ≡ store.old)) }
         ensures refused { OnErr result ((self.new.phase ≡ self.old.phase) × (self.new.taken.items ≡ self.old.taken.items)) }
         ensures waits { IfOk result (λ turn. IsWait turn → (driver.new ≡ driver.old)

@@ -60,6 +60,7 @@ returns g c = record {
   told = c.turn.ensures.told;
   places = c.turn.ensures.places;
   plans = c.turn.ensures.plans;
+  cause = c.turn.ensures.cause;
   memory = c.turn.ensures.memory;
   machine = c.turn.ensures.machine;
   refused = c.turn.ensures.refused;

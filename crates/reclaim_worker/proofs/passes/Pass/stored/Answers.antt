@@ -4,7 +4,7 @@ use Rattle.reclaim_worker.proofs.passes.Pass.stored.Goals as goal
 pub returns : goal.returns
 returns g c = record {
   ended = λ made j past ready. stored_ends made j past c.args.self.now.taken.items c.end.new.self.taken.items c.args.self.now.phase
-      c.end.new.self.phase c.args.driver.now c.end.new.driver c.args.machine.now c.end.new.machine _ _ c.end.result ready
+      c.end.new.self.phase c.args.driver.now c.end.new.driver c.args.machine.now c.end.new.machine _ _ _ _ c.end.result ready
       c.end.ensures.says c.end.ensures.phase c.end.ensures.taken;
   says = c.end.ensures.says;
   phase = c.end.ensures.phase;
