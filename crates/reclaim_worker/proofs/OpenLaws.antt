@@ -32,7 +32,8 @@ is_out : (made : Making) (j : JobView) (past : List Entry) (taken : List Taken) 
     → AreInFrames past (drop next taken) → IsOut m d w.one
 is_out made j past taken next slot d m r w frames = record {
   sealing =
-      sealing_is r.follows.shape.columns w.one.frame.0 ∙ r.pages.sealing w.one.frame.0 ∙ subst (λ n. is_write_start (open_start past n) ≡ true) same going.write;
+      sealing_is r.follows.shape.columns w.one.frame.0 ∙ r.pages.sealing w.one.frame.0 ∙ subst
+      (λ n. is_write_start (open_start past n) ≡ true) same going.write;
   placed = r.shows.tables.placed w.one.page (ap is_absent at);
 }
   where

@@ -54,9 +54,11 @@ neither false b h = (refl, h)
 
 module _ (made : Making) (j : JobView) (past : List Entry) (taken : List Taken) (next : ℕ) (slot : SlotAt) (one : Taken)
     (rest : List Taken) (old new : Driver)
-    (m m' : Parts) (told told' : Option (List Call)) (before after : ℕ) (e : Entry) (r : Ready made j past taken (phases.Sealing next slot) old m)
+    (m m' : Parts) (told told' : Option (List Call)) (before after : ℕ) (e : Entry)
+    (r : Ready made j past taken (phases.Sealing next slot) old m)
     (is : drop next taken ≡ one ∷ rest)
-    (passed : pass j past ≡ Tries one.page (pages_in rest) Sealing) (k : IsStored one slot (state_of m) old told before e (state_of m') new told' after)
+    (passed : pass j past ≡ Tries one.page (pages_in rest) Sealing)
+    (k : IsStored one slot (state_of m) old told before e (state_of m') new told' after)
   where
     at : place past one.page ≡ Leaving one.frame.0
     at = (subst (AreInFrames past) is r.stands.1).0

@@ -27,8 +27,8 @@ pub fn passes_are_ready()
         → StandsFor made.first_epoch past taken phase (pass j past) → Ready made j past taken phase d m }
 {}
 
-/// Where a pass is ready and waits for the bytes of a page, that page has started to go out: its work can be asked for, and the write-out can
-/// be ended.
+/// Where a pass is ready and waits for the bytes of a page, that page has started to go out: its work can be asked for, and the
+/// write-out can be ended.
 pub fn started_passes_can_be_stored()
     ensures { (made : Making) (j : JobView) (past : List Entry) (taken : List Taken) (phase : Phase) (d : Driver) (m : Parts)
         → Ready made j past taken phase d m → is_sealing phase ≡ true

@@ -37,7 +37,8 @@ impl Pass {
     /// machine's key and the version that its start drew. It can be asked for again.
     pub fn work(&self, machine: &Machine, room: SealWork) -> SealWork
         requires { IsOpen self.now.taken.items self.now.phase (state_of machine.now) }
-        ensures { IsToSeal self.now.taken.items self.now.phase (state_of machine.now) result.key result.version result.header result.plain.items }
+        ensures { IsToSeal self.now.taken.items self.now.phase
+            (state_of machine.now) result.key result.version result.header result.plain.items }
     {
         let Some(frame) = self.sealing() else {
             unreachable!();
@@ -59,7 +60,8 @@ impl Pass {
         ensures ended { (made : Making) (j : JobView) (past : List Entry)
             → Ready made j past self.old.taken.items self.old.phase driver.old machine.old
             → IsEnded made.first_epoch j past result self.new.taken.items self.new.phase driver.new }
-        ensures says { StoredSays self.old.taken.items self.old.phase (state_of machine.old) driver.old (S.told store.old) (S.faults store.old) result
+        ensures says { StoredSays self.old.taken.items self.old.phase (state_of machine.old) driver.old (S.told store.old)
+            (S.faults store.old) result
             (state_of machine.new) driver.new (S.told store.new) (S.faults store.new) }
         ensures phase { self.new.phase ≡ next_phase (length self.old.taken.items) self.old.phase }
         ensures taken { self.new.taken.items ≡ taken_in self.new.phase self.old.taken.items }
@@ -84,7 +86,8 @@ impl Pass {
     ) -> Entry
         requires started { IsStarted self.old.taken.items self.old.phase (state_of machine.old) driver.old.states.counts }
         requires place { 1 ≤ S.spare store.old }
-        ensures says { StoredSays self.old.taken.items self.old.phase (state_of machine.old) driver.old (S.told store.old) (S.faults store.old) result
+        ensures says { StoredSays self.old.taken.items self.old.phase (state_of machine.old) driver.old (S.told store.old)
+            (S.faults store.old) result
             (state_of machine.new) driver.new (S.told store.new) (S.faults store.new) }
         ensures phase { self.new.phase ≡ next_phase (length self.old.taken.items) self.old.phase }
         ensures taken { self.new.taken.items ≡ taken_in self.new.phase self.old.taken.items }
@@ -121,7 +124,8 @@ fn put_out<S: Backing>(
     requires started { (state_of machine.old).is_sealing one.frame.0 ≡ true }
     requires placed { IsPlaced driver.old.states.counts one.page }
     requires place { 1 ≤ S.spare store.old }
-    ensures stored { IsStored one slot (state_of machine.old) driver.old (S.told store.old) (S.faults store.old) result (state_of machine.new) driver.new
+    ensures stored { IsStored one slot (state_of machine.old) driver.old (S.told store.old) (S.faults store.old) result
+        (state_of machine.new) driver.new
         (S.told store.new) (S.faults store.new) }
     ensures used { S.spare store.new + 1 ≡ S.spare store.old }
     ensures plans { S.plans store.new ≡ S.plans store.old }
