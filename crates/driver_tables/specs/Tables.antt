@@ -39,6 +39,8 @@ pub record IsNew (j : JobView) (d : Driver) : Type 0 where
   pub kept : d.kept ≡ replicate (length j.scripts) None
   pub marks : d.marks ≡ j.marks
   pub cpus : d.cpus ≡ length j.scripts
+  pub enclaves : d.enclaves ≡ length j.enclaves
+  pub arrays : d.va_pages ≡ va_pages j
 
 pub record ShowsTables (j : JobView) (d : Driver) (past : List Entry) : Type 0 where
   -- the list with its marks, and where each page is

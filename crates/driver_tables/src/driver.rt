@@ -26,6 +26,10 @@ pub struct Driver {
     pub marks: Marks,
     /// How many processors there are, from 1 to 16.
     pub cpus: u8,
+    /// How many enclaves there are, from 1 to 8.
+    pub enclaves: u16,
+    /// How many version array pages the builder makes, from 1 to 9.
+    pub va_pages: u32,
 }
 
 impl Driver {
@@ -43,6 +47,8 @@ impl Driver {
             kept: KeptRecords::new(alloc, cpus)?,
             marks: job.marks(),
             cpus,
+            enclaves: job.enclaves().len() as u16,
+            va_pages: job.va_pages(),
         })
     }
 
