@@ -2,7 +2,7 @@
 use Rattle.std.proofs.Common.{◌≡◌, ℕ, ◌+◌, ◌<◌, ◌≤◌, not, Bool, true, false, if◌then◌else◌, refl, sym, ◌∙◌, ap, subst, List, [], ◌∷◌, Option, Some, None, is_some, arith}
 use Rattle.sgx_types.proofs.Rows.{none_holds}
 use Rattle.sgx_types.proofs.Truths.{neither}
-use Rattle.sgx_types.specs.declared.entries.Action.TheVariants.{EwbStart, Ewb}
+use Rattle.sgx_types.specs.declared.entries.Action.TheVariants.{EwbStart, Ewb, EldStart}
 use Rattle.sgx_types.specs.declared.entries.Answer.{Answer}
 use Rattle.sgx_types.specs.declared.entries.Answer.TheVariants.{Moved}
 use Rattle.sgx_types.specs.declared.entries.Entry.{Entry}
@@ -72,6 +72,7 @@ start_tells k past e positive s sealing = by_event e.event
         )
     by_event (Did (Ewb f) (Moved page version tag)) refusal evict rising =
         (record { slot = evict.slot; version = version; loads = None }, evict.opened, refl, refl)
+    by_event (Did (EldStart f page slot) answer) refusal evict rising = ap version_told refusal.1
     by_event _ refusal evict rising = tt
 
 -- ---- what it is for

@@ -21,7 +21,7 @@ use Rattle.sgx_types.specs.Starts.{Start, open_start, version_told}
 use Rattle.driver_rules.specs.Places.{Here, Place, after_look, gone_to, place}
 use Rattle.driver_laws.specs.Kinds.{CanMove}
 use Rattle.driver_laws.specs.Sound.{IsSound, slot_at, slot_outside}
-use Rattle.driver_laws.specs.Used.{BusyAreNamed, IsNamed, SlotsAreFilled, SlotsAreUsed, StartTells, WritesHaveDrawn}
+use Rattle.driver_laws.specs.Used.{BusyAreNamed, IsNamed, LoadsHaveFound, SlotsAreFilled, SlotsAreUsed, StartTells, WritesHaveDrawn}
 use Rattle.driver_laws.proofs.SlotLaws.{other_slot, outside_here, outside_loading, outside_refused, outside_taken, same_slot-refl}
 use Rattle.driver_laws.proofs.SoundLaws.{entry_of, load_start, named}
 use Rattle.driver_laws.proofs.AloneLaws.{alone, free_none}
@@ -127,6 +127,43 @@ drawn_closed opened f h n y = by_frame (f == n)
     by_frame true k writes = cc
     by_frame false k writes = h n y k writes
 
+-- ---- versions that were found
+
+found_opened : (opened : ℕ → Option Start) (version : SlotAt → ℕ) (f : ℕ) (x : Start)
+    → ((g : Page) → x.loads ≡ Some g → x.version ≡ version x.slot) → LoadsHaveFound opened version
+    → LoadsHaveFound (λ n. if f == n then Some x else opened n) version
+found_opened opened version f x new h n y g = by_frame (f == n)
+  where
+    by_frame : (b : Bool) → (if b then Some x else opened n) ≡ Some y → y.loads ≡ Some g → y.version ≡ version y.slot
+    by_frame true k loads =
+        let same : x ≡ y = cc in
+        subst (λ (z : Start). z.version ≡ version z.slot) same (new g (ap (λ (z : Start). z.loads) same ∙ loads))
+    by_frame false k loads = h n y g k loads
+
+found_dropped : (opened : ℕ → Option Start) (version : SlotAt → ℕ) (f : ℕ) → LoadsHaveFound opened version
+    → LoadsHaveFound (λ n. if f == n then None else opened n) version
+found_dropped opened version f h n y g = by_frame (f == n)
+  where
+    by_frame : (b : Bool) → (if b then None else opened n) ≡ Some y → y.loads ≡ Some g → y.version ≡ version y.slot
+    by_frame true k loads = cc
+    by_frame false k loads = h n y g k loads
+
+-- the start of a frame ends, and its slot holds another version: no other start names that
+found_closed : (opened : ℕ → Option Start) (version : SlotAt → ℕ) (f : ℕ) (x : Start) (its : Option SlotAt) (v : ℕ) → its ≡ Some x.slot
+    → ((n : ℕ) (y : Start) → opened n ≡ Some y → x.slot ≡ y.slot → f ≡ n) → LoadsHaveFound opened version
+    → LoadsHaveFound (λ n. if f == n then None else opened n) (λ slot. if names_slot its slot then v else version slot)
+found_closed opened version f x its v names apart h n y g = rw names (by_frame (f == n) refl)
+  where
+    by_slot : (b : Bool) → (f == n) ≡ false → opened n ≡ Some y → y.loads ≡ Some g → same_slot x.slot y.slot ≡ b
+        → y.version ≡ (if b then v else version y.slot)
+    by_slot true isnt k loads is = absurd (false≢true (sym isnt ∙ eq-eqb f n (apart n y k (same_slots x.slot y.slot is))))
+    by_slot false isnt k loads is = h n y g k loads
+
+    by_frame : (b : Bool) → (f == n) ≡ b → (if b then None else opened n) ≡ Some y → y.loads ≡ Some g
+        → y.version ≡ (if same_slot x.slot y.slot then v else version y.slot)
+    by_frame true is k loads = cc
+    by_frame false is k loads = by_slot (same_slot x.slot y.slot) is k loads refl
+
 -- ---- slots that are filled
 
 -- a page went out under a version
@@ -166,6 +203,7 @@ first_used = record {
   filled = λ g slot h. cc;
   busy = record { named = λ slot h. cc; busy = λ n x h. cc };
   drawn = λ n x h. cc;
+  found = λ n x g h. cc;
 }
 
 unmoved : (b : Bool) (p : Place) (slot : SlotAt) → slot_outside (if b then p else p) ≡ Some slot → slot_outside p ≡ Some slot
@@ -188,6 +226,14 @@ closed_busy past f x s u is_open =
     busy_closed (open_start past) (is_slot_busy past) f x (open_slot past f) is_open (named past f x is_open)
     (λ n y k same. (alone past s).apart f n x y is_open k same) u.busy
 
+-- the versions behind it, where its slot holds another one
+closed_found : (past : List Entry) (f : ℕ) (x : Start) (v : ℕ) → IsSound past → SlotsAreUsed past → open_start past f ≡ Some x
+    → LoadsHaveFound (λ n. if f == n then None else open_start past n)
+    (λ slot. if names_slot (open_slot past f) slot then v else version_in past slot)
+closed_found past f x v s u is_open =
+    found_closed (open_start past) (version_in past) f x (open_slot past f) v (named past f x is_open)
+    (λ n y k same. (alone past s).apart f n x y is_open k same) u.found
+
 used_out : (past : List Entry) (a : Actor) (f : Frame) (page : Page) (version : ℕ) (tag : List ℕ)
     → StartTells past (Did (Ewb f) (Moved page version tag)) → IsSound past → SlotsAreUsed past
     → SlotsAreUsed (entry_of a (Did (Ewb f) (Moved page version tag)) ∷ past)
@@ -201,15 +247,17 @@ used_out past a f page version tag told s u =
           (subst (λ v. 0 < v) (sym told.3) (u.drawn f.0 x is_open told.2)) u.filled;
       busy = closed_busy past f.0 x s u is_open;
       drawn = drawn_closed (open_start past) f.0 u.drawn;
+      found = closed_found past f.0 x version s u is_open;
     }
 
 used_loading : (past : List Entry) (a : Actor) (f : Frame) (page : Page) (slot : SlotAt) (answer : Answer)
-    → CanMove past (Did (EldStart f page slot) answer) → IsSound past → SlotsAreUsed past
-    → SlotsAreUsed (entry_of a (Did (EldStart f page slot) answer) ∷ past)
-used_loading past a f page slot answer can s u = record {
+    → CanMove past (Did (EldStart f page slot) answer) → StartTells past (Did (EldStart f page slot) answer) → IsSound past
+    → SlotsAreUsed past → SlotsAreUsed (entry_of a (Did (EldStart f page slot) answer) ∷ past)
+used_loading past a f page slot answer can told s u = record {
   filled = λ g t k. u.filled g t (outside_loading (place past) page f.0 slot can.1 g t k);
   busy = busy_opened (open_start past) (is_slot_busy past) f.0 new (free_none past f.0 s can.0) u.busy;
   drawn = drawn_opened (open_start past) f.0 new (λ h. cc) u.drawn;
+  found = found_opened (open_start past) (version_in past) f.0 new (λ g h. told) u.found;
 }
   where
     new : Start
@@ -229,6 +277,7 @@ used_back past a f page version tag can s u =
           (named past f.0 start.0 start.1 ∙ ap Some start.2) u.filled;
       busy = closed_busy past f.0 start.0 s u start.1;
       drawn = drawn_closed (open_start past) f.0 u.drawn;
+      found = closed_found past f.0 start.0 0 s u start.1;
     }
 
 used_refused : (past : List Entry) (a : Actor) (f : Frame) (refusal : Refusal) → CanMove past (Refused (Eld f) refusal) → IsSound past
@@ -239,6 +288,7 @@ used_refused past a f refusal can s u =
       filled = λ g slot k. u.filled g slot (outside_refused (place past) (open_start past) f.0 g slot k);
       busy = closed_busy past f.0 start.0 s u start.1;
       drawn = drawn_closed (open_start past) f.0 u.drawn;
+      found = found_dropped (open_start past) (version_in past) f.0 u.found;
     }
 
 pub stays_used : (past : List Entry) (e : Entry) → IsSound past → CanMove past e.event → StartTells past e.event → SlotsAreUsed past
@@ -250,20 +300,22 @@ stays_used past e s can told u = by_event e.event can told
       filled = λ g slot k. u.filled g slot (outside_here (place past) (page_at n number) f.0 g slot k);
       busy = u.busy;
       drawn = u.drawn;
+      found = u.found;
     }
     by_event (Age page look) c t =
-        record { filled = λ g slot k. u.filled g slot (outside_looked past page g look slot k); busy = u.busy; drawn = u.drawn }
+        record { filled = λ g slot k. u.filled g slot (outside_looked past page g look slot k); busy = u.busy; drawn = u.drawn; found = u.found }
     by_event (Did (EwbStart f slot) answer) c t =
         let new : Start = record { slot = slot; version = version_told answer; loads = None } in
         record {
           filled = u.filled;
           busy = busy_opened (open_start past) (is_slot_busy past) f.0 new t.0 u.busy;
           drawn = drawn_opened (open_start past) f.0 new (λ h. t.1) u.drawn;
+          found = found_opened (open_start past) (version_in past) f.0 new (λ g h. cc) u.found;
         }
     by_event (Did (Ewb f) (Moved page version tag)) c t = used_out past e.actor f page version tag t s u
-    by_event (Did (EldStart f page slot) answer) c t = used_loading past e.actor f page slot answer c s u
+    by_event (Did (EldStart f page slot) answer) c t = used_loading past e.actor f page slot answer c t s u
     by_event (Did (Eld f) (Moved page version tag)) c t = used_back past e.actor f page version tag c s u
     by_event (Refused (Eld f) refusal) c t = used_refused past e.actor f refusal c s u
     by_event (Did (Ewb f) answer) c t = absurd c
     by_event (Did (Eld f) answer) c t = absurd c
-    by_event _ c t = record { filled = u.filled; busy = u.busy; drawn = u.drawn }
+    by_event _ c t = record { filled = u.filled; busy = u.busy; drawn = u.drawn; found = u.found }

@@ -1,4 +1,4 @@
--- When a driver's tables agree with the entries.
+-- What a driver's tables agree with: the list with its marks, the keeper of the slots and the loads, as the entries give them.
 use Rattle.std.specs.Prelude.{◌||◌, ◌++◌, ℕ, ◌≡◌, Bool, true, false, List, [], ◌∷◌, Option, Some, None, length, map}
 use Rattle.std.specs.List.{list_any}
 use Rattle.sgx_types.specs.declared.entries.Entry.{Entry}
@@ -8,13 +8,12 @@ use Rattle.sgx_types.specs.declared.entries.Action.TheVariants.{Add}
 use Rattle.sgx_types.specs.declared.names.Page.{Page}
 use Rattle.sgx_types.specs.declared.names.SlotAt.{SlotAt}
 use Rattle.sgx_types.specs.Frames.{Content, IsVa, content, same_page}
-use Rattle.sgx_types.specs.Rules.{Along, Fits, LoadsAwayRule}
 use Rattle.sgx_types.specs.Slots.{is_slot_busy, version_in}
 use Rattle.version_array.specs.Keeper.{Keeper, is_added, is_out}
-use Rattle.job_grammar.specs.Jobs.{JobView, covers, lines_at, va_pages}
-use Rattle.driver_rules.specs.Places.{Place, active, is_young, place}
-use Rattle.driver_laws.specs.Sound.{IsSound, slot_of}
-use Rattle.driver_rules.specs.Turns.{Last, Loads, last_of}
+use Rattle.job_grammar.specs.Jobs.{JobView, va_pages}
+use Rattle.driver_rules.specs.Places.{active, is_young}
+use Rattle.driver_laws.specs.Sound.{slot_of}
+use Rattle.driver_rules.specs.Turns.{Last, Loads}
 
 -- a page of the list, and its mark
 pub record Listed : Type 0 where
@@ -30,18 +29,6 @@ turned (x ∷ xs) = xs ++ record { page = x.page; young = false } ∷ []
 abbrev pub touched : Page → Listed → Listed
 touched g x = record { page = x.page; young = same_page g x.page || x.young }
 
--- a driver's tables as contracts see them: the list, where it has each page (a page whose put failed is away too), the keeper of the
--- version slots, and the page whose record it keeps for a processor
-pub record DriverView : Type 0 where
-  pub list : List Listed
-  pub place : Page → Place
-  pub slots : Keeper
-  pub kept : ℕ → Option Page
-
--- a page of the job
-abbrev pub is_of_job : JobView → Page → Bool
-is_of_job j g = list_any (covers g.number) (lines_at j.enclaves g.enclave)
-
 -- a page with the mark that the entries give it
 abbrev pub marked : List Entry → Page → Listed
 marked past g = record { page = g; young = is_young past g }
@@ -49,10 +36,6 @@ marked past g = record { page = g; young = is_young past g }
 -- the list with its marks
 abbrev pub listed_by : List Entry → List Listed
 listed_by past = map (marked past) (active past)
-
-pub record ShowsPages (j : JobView) (d : DriverView) (past : List Entry) : Type 0 where
-  pub list : d.list ≡ listed_by past
-  pub places : (g : Page) → is_of_job j g ≡ true → d.place g ≡ place past g
 
 -- ---- slots
 
@@ -84,16 +67,3 @@ pub record ShowsSlots (j : JobView) (keeper : Keeper) (past : List Entry) : Type
 abbrev pub loaded_by : Last → Option Page
 loaded_by (Loads n page) = Some page
 loaded_by _ = None
-
--- ---- all together
-
--- the machine follows the entries, which the type before the colon says; frames, places, list and slots fit each other; and the driver
--- has all that as it is
-pub record Agrees (Follows : List Entry → Type 0) (j : JobView) (d : DriverView) (past : List Entry) : Type 0 where
-  pub follows : Follows past
-  pub fits : Fits j.epc past
-  pub loads : Along LoadsAwayRule past
-  pub sound : IsSound past
-  pub pages : ShowsPages j d past
-  pub slots : ShowsSlots j d.slots past
-  pub kept : (p : ℕ) → d.kept p ≡ loaded_by (last_of past p)

@@ -1,7 +1,7 @@
 -- What the entries give of slots as long as each entry is the driver's: the slot of a page that is outside holds a version, a slot is
--- busy exactly by an open start that names it, and no two starts name one slot.
+-- busy exactly by an open start that names it, a load has found the version of its slot, and no two starts name one slot.
 use Rattle.std.specs.Prelude.{ℕ, ◌≡◌, ◌<◌, not, Bool, true, List, Option, Some, None}
-use Rattle.sgx_types.specs.declared.entries.Action.TheVariants.{EwbStart, Ewb}
+use Rattle.sgx_types.specs.declared.entries.Action.TheVariants.{EwbStart, Ewb, EldStart}
 use Rattle.sgx_types.specs.declared.entries.Answer.TheVariants.{Moved}
 use Rattle.sgx_types.specs.declared.entries.Entry.{Entry}
 use Rattle.sgx_types.specs.declared.entries.Event.{Event}
@@ -38,14 +38,22 @@ pub record BusyAreNamed (opened : ℕ → Option Start) (is_busy : SlotAt → Bo
 abbrev pub WritesHaveDrawn : (ℕ → Option Start) → Type 0
 WritesHaveDrawn opened = (n : ℕ) (x : Start) → opened n ≡ Some x → x.loads ≡ None → 0 < x.version
 
+-- an open start of a load has found the version that its slot holds
+abbrev pub LoadsHaveFound : (ℕ → Option Start) → (SlotAt → ℕ) → Type 0
+LoadsHaveFound opened version =
+    (n : ℕ) (x : Start) (g : Page) → opened n ≡ Some x → x.loads ≡ Some g → x.version ≡ version x.slot
+
 pub record SlotsAreUsed (past : List Entry) : Type 0 where
   pub filled : SlotsAreFilled (place past) (version_in past)
   pub busy : BusyAreNamed (open_start past) (is_slot_busy past)
   pub drawn : WritesHaveDrawn (open_start past)
+  pub found : LoadsHaveFound (open_start past) (version_in past)
 
--- what a write-out tells is so: its frame has no open start before, it draws a version, and goes out under that
+-- what a move tells is so: a write-out's frame has no open start before, it draws a version, and goes out under that; a load's start
+-- tells the version in its slot
 abbrev pub StartTells : List Entry → Event → Type 0
 StartTells past (Did (EwbStart f slot) answer) = (open_start past f.0 ≡ None) × (0 < version_told answer)
+StartTells past (Did (EldStart f page slot) answer) = version_told answer ≡ version_in past slot
 StartTells past (Did (Ewb f) (Moved page version tag)) =
     (x : Start) × (open_start past f.0 ≡ Some x) × (x.loads ≡ None) × (version ≡ x.version)
 StartTells past _ = Unit {0}
