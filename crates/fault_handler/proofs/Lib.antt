@@ -4,3 +4,4 @@ pub mod LoadRows
 pub mod DueLaws
 pub mod EndLaws
 pub mod OwnRecords
+pub mod HonestLaws

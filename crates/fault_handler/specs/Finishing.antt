@@ -80,3 +80,8 @@ pub record IsFinished (cpu : Cpu) (page : Page) (slot : SlotAt) (frame : Frame) 
   pub reloaded : IsReloaded s (actors.Cpu cpu) frame kept entry t
   pub carries : CarriesLoad s frame.0 kept entry t
   pub ends : Ends (record d { kept = slice_set d.kept cpu.0 None }) page frame slot entry loaded d'
+
+-- the page is back
+abbrev pub IsBack : Loaded → Type 0
+IsBack (answers.Here e) = Unit {0}
+IsBack (answers.Bus e why) = ⊥

@@ -1,29 +1,43 @@
 //! When a fault step can be ended. A law is the contract of a function without arguments.
 
-ghost use Rattle.std.specs.Prelude.{ℕ, ◌≡◌, ◌<◌, false, List, length};
+ghost use Rattle.std.specs.Prelude.{ℕ, ◌≡◌, ◌<◌, false, List, Some, length};
 ghost use Rattle.driver_rules.specs.Turns.{Loads, last_of};
 ghost use Rattle.driver_tables.specs.declared.driver.Driver.{Driver};
-ghost use Rattle.fault_handler.specs.Finishing.{CanFinish};
+ghost use Rattle.fault_handler.specs.Finishing.{CanFinish, IsBack, IsFinished};
+ghost use Rattle.fault_handler.specs.declared.answers.Loaded.{Loaded};
+ghost use Rattle.backing_store.specs.Calls.{Call};
+ghost use Rattle.run_history.specs.Given.{gift};
+ghost use Rattle.run_history.specs.Honest.{EnclavesAreFlat, GiftsAreLast};
+ghost use Rattle.run_history.specs.Stored.{StoreCalls};
 ghost use Rattle.driver_steps.specs.Agrees.{Agrees};
 ghost use Rattle.driver_rules.specs.Reclaims.{is_refused};
 ghost use Rattle.paging_laws.specs.State.{State};
 ghost use Rattle.paging_laws.specs.Steps.{IsReloaded};
-ghost use Rattle.seal_record.specs.Cipher.{sealed};
+ghost use Rattle.seal_record.specs.Cipher.{tag};
 ghost use Rattle.sgx_types.specs.Sealed.{Sealed};
 ghost use Rattle.sgx_types.specs.declared.entries.Actor.{Actor};
 ghost use Rattle.sgx_types.specs.declared.names.Frame.{Frame};
 ghost use Rattle.job_grammar.specs.Jobs.{JobView};
-ghost use Rattle.paging_machine.specs.Parts.{Parts};
+ghost use Rattle.paging_machine.specs.Parts.{Parts, state_of};
 ghost use Rattle.sgx_types.specs.Making.{Making};
 ghost use Rattle.sgx_types.specs.declared.entries.Entry.{Entry};
 ghost use Rattle.sgx_types.specs.declared.names.Cpu.{Cpu};
 ghost use Rattle.sgx_types.specs.declared.names.Page.{Page};
 
-/// A load that ends by a record that was sealed for the page under the version that its start found is not refused, whatever bytes the
-/// page had. Nothing is supposed of other records.
+/// A load that ends by a record with the page's header, and with the tag of it under the version that its start found, is not refused,
+/// whatever the record's cipher is. Nothing is supposed of other records.
 pub fn own_records_come_back()
-    ensures { (s t : State) (a : Actor) (f : Frame) (rec : Sealed) (e : Entry) (is : IsReloaded s a f rec e t) (bytes : List ℕ)
-        → rec ≡ sealed s.key is.coming.start.version is.coming.header bytes → is_refused e.event ≡ false }
+    ensures { (s t : State) (a : Actor) (f : Frame) (rec : Sealed) (e : Entry) (is : IsReloaded s a f rec e t)
+        → rec.header ≡ is.coming.header → rec.tag ≡ tag s.key is.coming.start.version rec.header rec.cipher → is_refused e.event ≡ false }
+{}
+
+/// Where the store failed nothing and gave each page's last record put, a load is never refused: it ends with the page back. The calls are
+/// those of the entries, and the kept record is the one that was given for the load. Nothing is supposed of forged records.
+pub fn honest_loads_are_back()
+    ensures { (made : Making) (j : JobView) (past : List Entry) (calls : List Call) (d d' : Driver) (m : Parts) (t : State) (cpu : Cpu)
+        (page : Page) (loaded : Loaded) (can : CanFinish cpu page d m) → Agrees made j past d m → StoreCalls made.key past calls
+        → GiftsAreLast past calls → EnclavesAreFlat past → gift past calls can.frame.0 ≡ Some can.kept
+        → IsFinished cpu page can.slot can.frame can.kept d (state_of m) loaded d' t → IsBack loaded }
 {}
 
 /// Where tables and machine stand for the same entries, a processor that has still to end a load can end it.

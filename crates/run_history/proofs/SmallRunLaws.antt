@@ -4,7 +4,7 @@ use Rattle.sgx_types.specs.declared.entries.Action.TheVariants as actions
 use Rattle.sgx_types.specs.declared.entries.Actor.{Actor}
 use Rattle.sgx_types.specs.declared.entries.Entry.{Entry}
 use Rattle.sgx_types.specs.declared.entries.Event.{Event}
-use Rattle.sgx_types.specs.declared.entries.Event.TheVariants.{Did, Refused, Age, Kick, Bus}
+use Rattle.sgx_types.specs.declared.entries.Event.TheVariants.{Did}
 use Rattle.sgx_types.specs.Rules.{Along, AtEachPlace, EvictRule, KeepsRules, NoPageTwice, NoneStale, RefusalRule}
 use Rattle.sgx_types.specs.Fresh.{FreshRule}
 use Rattle.seal_record.specs.Sealing.{SealedRule}

@@ -12,7 +12,7 @@ use Rattle.sgx_types.specs.declared.entries.Look.{Look}
 use Rattle.sgx_types.specs.declared.entries.Look.TheVariants as looks
 use Rattle.sgx_types.specs.declared.names.Page.{Page}
 use Rattle.sgx_types.specs.Frames.{same_page}
-use Rattle.backing_store.specs.Calls.{Call, Failed, Given, Gift, Got, Nothing, Put, Room}
+use Rattle.backing_store.specs.Calls.{Call, Failed, Given, Got, Nothing, Put, Room}
 
 -- ---- pages that were lost
 

@@ -2,3 +2,4 @@ pub mod Histories
 pub mod Calls
 pub mod Given
 pub mod Stored
+pub mod Honest

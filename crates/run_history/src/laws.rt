@@ -1,10 +1,12 @@
 //! Laws of the definitions. Each is the contract of a function without arguments, and so holds for every list of entries.
 
-ghost use Rattle.std.specs.Prelude.{ℕ, ◌≡◌, ◌≤◌, true, List, ◌∷◌, None, Some};
+ghost use Rattle.std.specs.Prelude.{ℕ, ◌≡◌, ◌≤◌, true, List, [], ◌∷◌, None, Some};
 ghost use Rattle.sgx_types.specs.declared.entries.Actor.{Actor};
 ghost use Rattle.sgx_types.specs.declared.entries.Entry.{Entry};
 ghost use Rattle.sgx_types.specs.declared.entries.Event.{Event};
-ghost use Rattle.sgx_types.specs.Rules.{Along, KeepsRules};
+ghost use Rattle.sgx_types.specs.Rules.{Along, FlatRule, KeepsRules};
+ghost use Rattle.sgx_types.specs.Fresh.{Out, last_out};
+ghost use Rattle.sgx_types.specs.declared.names.Page.{Page};
 ghost use Rattle.io_edges.specs.declared.plans.PlanLine.{PlanLine};
 ghost use Rattle.measure_log.specs.Rule.{MeasureRule};
 ghost use Rattle.job_grammar.specs.Jobs.{JobView};
@@ -13,16 +15,18 @@ ghost use Rattle.turn_rules.specs.Script.{Script as SmallScript};
 ghost use Rattle.driver_laws.specs.Driven.{IsDriven};
 ghost use Rattle.driver_rules.specs.Ages.{AgeRule, KickRule};
 ghost use Rattle.driver_rules.specs.Passes.{pass};
+ghost use Rattle.driver_laws.specs.Kinds.{CanMove};
 ghost use Rattle.driver_laws.specs.Sound.{IsSound};
 ghost use Rattle.driver_laws.specs.Stages.{KeepsPages};
 ghost use Rattle.driver_laws.specs.Three.{IsApart, TcsAreApart};
 ghost use Rattle.driver_laws.specs.Tracks.{KeepsTracks};
 ghost use Rattle.driver_rules.specs.Scripts.{ScriptRule};
 ghost use Rattle.backing_store.specs.Calls.{Call};
-ghost use Rattle.run_history.specs.Calls.{before};
+ghost use Rattle.run_history.specs.Calls.{CallsAre, before};
 ghost use Rattle.run_history.specs.declared.rules.Rule.{Rule};
 ghost use Rattle.run_history.specs.Given.{UnforgedRun};
 ghost use Rattle.run_history.specs.Histories.{FailsFirst, GoesOn, History, Keeps, Says, is_machines, is_note};
+ghost use Rattle.run_history.specs.Honest.{EnclavesAreFlat, GiftsAreLast, IsHonest, IsLastPut};
 ghost use Rattle.run_history.specs.Stored.{StoreCalls, StoreTrue};
 
 /// A history keeps each rule, so a trace that fails somewhere is none. A history is one that goes on.
@@ -51,6 +55,22 @@ pub fn runs_without_their_last_entry()
         → StoreCalls key past (before e.event calls) }
     ensures told { (j : JobView) (e : Entry) (past : List Entry) (plans : List PlanLine) (calls : List Call)
         → StoreTrue j (e ∷ past) plans (Some calls) → StoreTrue j past plans (Some (before e.event calls)) }
+{}
+
+/// Where a store fails nothing and gives each page's last record put, each load that has started was given that record; and the last record
+/// put of a page that is outside is sealed under the version with which it went out. Nothing is supposed of forged records.
+pub fn honest_stores_give_the_last_record()
+    ensures first { GiftsAreLast [] [] }
+    ensures more { (past : List Entry) (e : Entry) (calls : List Call) → IsSound past → CanMove past e.event → CallsAre (e ∷ past) calls
+        → IsHonest calls → GiftsAreLast past (before e.event calls) → GiftsAreLast (e ∷ past) calls }
+    ensures before { (event : Event) (calls : List Call) → IsHonest calls → IsHonest (before event calls) }
+    ensures last { (key : List ℕ) (past : List Entry) (calls : List Call) → StoreCalls key past calls → (g : Page) (o : Out)
+        → last_out past g ≡ Some o → IsLastPut key past calls g o.version }
+{}
+
+/// Where flat memory takes each instruction, it has each enclave and each page as the entries made it.
+pub fn flat_memory_has_the_pages()
+    ensures { (past : List Entry) → Along FlatRule past → EnclavesAreFlat past }
 {}
 
 /// Of a look, of a kick, and of why a page did not come back, the rules but Script, Age and Kick say nothing. So a history goes on with one

@@ -1,0 +1,137 @@
+-- A load from an honest store ends with the page back.
+use Rattle.std.proofs.Common.{◌≡◌, ℕ, Bool, true, false, refl, sym, ◌∙◌, ap, subst, List, Option, None, Some}
+use Rattle.sgx_types.proofs.Pages.{same_pages}
+use Rattle.sgx_types.specs.declared.entries.Entry.{Entry}
+use Rattle.sgx_types.specs.declared.names.Cpu.{Cpu}
+use Rattle.sgx_types.specs.declared.names.Kind.{Kind}
+use Rattle.sgx_types.specs.declared.names.Page.{Page}
+use Rattle.sgx_types.specs.declared.names.Perm.{Perm}
+use Rattle.sgx_types.specs.declared.names.SlotAt.{SlotAt}
+use Rattle.sgx_types.specs.Flat.{FlatEnclave, FlatPage, added_as, flat, header_by}
+use Rattle.sgx_types.specs.Frames.{same_page}
+use Rattle.sgx_types.specs.Fresh.{Out, last_out}
+use Rattle.sgx_types.specs.Making.{Making}
+use Rattle.sgx_types.specs.Sealed.{Sealed, header_of}
+use Rattle.sgx_types.specs.Slots.{version_in}
+use Rattle.sgx_types.specs.Starts.{Start, loads_page, open_start}
+use Rattle.seal_record.specs.Cipher.{tag}
+use Rattle.paging_laws.specs.Columns.{EnclaveColumns}
+use Rattle.paging_laws.proofs.ColumnLaws.{added_is, start_is}
+use Rattle.paging_laws.specs.State.{State}
+use Rattle.paging_laws.specs.Steps.{IsComing}
+use Rattle.paging_machine.specs.Parts.{Parts, state_of}
+use Rattle.backing_store.specs.Calls.{Call}
+use Rattle.job_grammar.specs.Jobs.{JobView}
+use Rattle.driver_rules.specs.Places.{Loading, place}
+use Rattle.driver_rules.specs.Reclaims.{is_refused}
+use Rattle.driver_laws.specs.Sound.{load_slot, slot_if, slot_outside, version_out}
+use Rattle.driver_tables.specs.declared.driver.Driver.{Driver}
+use Rattle.driver_tables.specs.Tables.{place_in}
+use Rattle.driver_steps.specs.Agrees.{Agrees}
+use Rattle.run_history.specs.Given.{gift}
+use Rattle.run_history.specs.Honest.{EnclavesAreFlat, GiftsAreLast, IsLastPut}
+use Rattle.run_history.specs.Stored.{StoreCalls}
+use Rattle.run_history.proofs.HonestLaws.{last_sealed, load_at}
+use Rattle.active_list.specs.Places.{IsPlaced}
+use Rattle.sgx_types.specs.declared.entries.Actor.TheVariants as actors
+use Rattle.fault_handler.specs.declared.answers.Loaded.{Loaded}
+use Rattle.fault_handler.specs.Finishing.{CanFinish, IsBack, IsFinished}
+use Rattle.fault_handler.proofs.OwnRecords.{own_record}
+
+some_same : {X : Type 0} (a b : X) → Some a ≡ Some b → a ≡ b
+some_same a b e = cc
+
+-- a version that is told
+out_of : (o : Option Out) (version : ℕ) → version_out o ≡ Some version → (x : Out) × (o ≡ Some x) × (x.version ≡ version)
+out_of None version h = cc
+out_of (Some x) version h = (x, refl, some_same x.version version h)
+
+-- the header that flat memory has of a page that was added so
+header_seen : (o : Option FlatEnclave) (x : Option FlatPage) (g : Page) (enclave : FlatEnclave) (kind : Kind) (perm : Perm)
+    → o ≡ Some enclave → added_as x ≡ Some (kind, perm) → header_by o g x ≡ Some (header_of enclave.base g kind perm)
+header_seen None x g enclave kind perm made kinded = cc
+header_seen (Some y) None g enclave kind perm made kinded = cc
+header_seen (Some y) (Some x) g enclave kind perm made kinded =
+    let same : y ≡ enclave = some_same y enclave made in
+    let kinds : (x.kind, x.perm) ≡ (kind, perm) = some_same (x.kind, x.perm) (kind, perm) kinded in
+    λ i. Some (header_of (same i).base g ((kinds i).0) ((kinds i).1))
+
+-- the page and the slot of the open start of a load
+start_of : (x : Start) (g : Page) (slot : SlotAt) → load_slot (Some x) g ≡ Some slot → (x.loads ≡ Some g) × (x.slot ≡ slot)
+start_of x g slot h = by_loads x.loads refl h
+  where
+    by_page : (page : Page) (b : Bool) → same_page page g ≡ b → slot_if b x.slot ≡ Some slot → (Some page ≡ Some g) × (x.slot ≡ slot)
+    by_page page true is k = (ap Some (same_pages page g is), some_same x.slot slot k)
+    by_page page false is k = cc
+
+    by_loads : (l : Option Page) → x.loads ≡ l → slot_if (loads_page l g) x.slot ≡ Some slot → (l ≡ Some g) × (x.slot ≡ slot)
+    by_loads None is k = cc
+    by_loads (Some page) is k = by_page page (same_page page g) refl k
+
+module _ (made : Making) (j : JobView) (past : List Entry) (calls : List Call) (d d' : Driver) (m : Parts) (t : State) (cpu : Cpu)
+    (page : Page) (loaded : Loaded) (can : CanFinish cpu page d m) (r : Agrees made j past d m) (store : StoreCalls made.key past calls)
+    (gifts : GiftsAreLast past calls) (seen : EnclavesAreFlat past) (given : gift past calls can.frame.0 ≡ Some can.kept)
+    (is : IsFinished cpu page can.slot can.frame can.kept d (state_of m) loaded d' t) where
+  abbrev s : State
+  s = state_of m
+
+  abbrev coming : IsComing s can.frame.0
+  coming = is.reloaded.coming
+
+  at : place past page ≡ Loading can.frame.0 can.slot
+  at =
+      sym (r.shows.states page (subst (λ counts. IsPlaced counts page) (sym can.tables.counts) can.tables.placed))
+      ∙ ap place_in can.tables.loading
+
+  out : (x : Out) × (last_out past page ≡ Some x) × (x.version ≡ version_in past can.slot)
+  out = out_of (last_out past page) (version_in past can.slot) (r.sound.versions page can.slot (ap slot_outside at))
+
+  put : IsLastPut made.key past calls page out.0.version
+  put = last_sealed made.key past calls store page out.0 out.1
+
+  kept : can.kept ≡ put.rec
+  kept = some_same can.kept put.rec (sym given ∙ gifts page can.frame.0 can.slot at ∙ put.put)
+
+  opened : open_start past can.frame.0 ≡ Some coming.start
+  opened = sym (start_is r.follows.shape.columns can.frame.0) ∙ coming.opened
+
+  start : (coming.start.loads ≡ Some page) × (coming.start.slot ≡ can.slot)
+  start =
+      start_of coming.start page can.slot
+      (sym (ap (λ o. load_slot o page) opened) ∙ load_at past can.frame.0 page can.slot r.sound at)
+
+  its_page : coming.page ≡ page
+  its_page = some_same coming.page page (sym coming.loads ∙ start.0)
+
+  version : coming.start.version ≡ out.0.version
+  version = r.used.found can.frame.0 coming.start page opened start.0 ∙ ap (version_in past) start.1 ∙ sym out.2
+
+  made_flat : (flat past).enclaves page.enclave ≡ Some coming.enclave
+  made_flat =
+      sym (seen.enclaves page.enclave) ∙ sym (ap (λ (c : EnclaveColumns). c.enclaves page.enclave) r.follows.shape.columns.enclaves)
+      ∙ ap (λ (g : Page). s.enclaves g.enclave) (sym its_page) ∙ coming.made
+
+  added_flat : added_as ((flat past).pages page) ≡ Some (coming.kind, coming.perm)
+  added_flat =
+      sym (seen.pages page) ∙ sym (added_is r.follows.shape.columns page) ∙ ap s.added (sym its_page) ∙ coming.added
+
+  headed : put.rec.header ≡ coming.header
+  headed =
+      some_same put.rec.header (header_of coming.enclave.base page coming.kind coming.perm)
+      (sym put.sealed.header ∙ header_seen ((flat past).enclaves page.enclave) ((flat past).pages page) page coming.enclave coming.kind
+      coming.perm made_flat added_flat)
+      ∙ ap (λ g. header_of coming.enclave.base g coming.kind coming.perm) (sym its_page) ∙ sym coming.headed
+
+  tagged : put.rec.tag ≡ tag s.key coming.start.version put.rec.header put.rec.cipher
+  tagged =
+      put.sealed.tagged
+      ∙ ap (λ (k : Making). tag k.key out.0.version put.rec.header put.rec.cipher) (sym r.follows.shape.making)
+      ∙ ap (λ v. tag s.key v put.rec.header put.rec.cipher) (sym version)
+
+  done : is_refused is.entry.event ≡ false
+  done =
+      own_record s t (actors.Cpu cpu) can.frame can.kept is.entry is.reloaded (ap (λ (x : Sealed). x.header) kept ∙ headed)
+      (subst (λ (x : Sealed). x.tag ≡ tag s.key coming.start.version x.header x.cipher) (sym kept) tagged)
+
+  pub honest_back : IsBack loaded
+  honest_back = subst IsBack (sym (is.ends.1 done).0) tt
