@@ -82,8 +82,8 @@ frames_behind past zero xs h = h
 frames_behind past (suc n) [] h = h
 frames_behind past (suc n) (x ∷ xs) h = frames_behind past n xs h.1
 
-pub with_page : (o : Option Taken) (one : Taken) (says : Taken → Type 0) → o ≡ Some one → WithPage o says → says one
-with_page o one says is k = subst (λ x. WithPage x says) is k
+pub with_page : (o : Option Taken) (one : Taken) (none : Type 0) (says : Taken → Type 0) → o ≡ Some one → WithPage o none says → says one
+with_page o one none says is k = subst (λ x. WithPage x none says) is k
 
 -- ---- by phase
 
@@ -110,7 +110,7 @@ module _ (made : Making) (j : JobView) (past : List Entry) (taken taken' : List 
           r.stands.same ∙ ap (λ ts. Blocking (pages_in ts) (pages_in taken)) is in
           let has = subst (HasPages past) to r.pages.pages in
           let at = subst (AreInFrames past) is (frames_behind past next taken r.stands.frames) in
-          let says = with_page (slice_get taken next) one (λ x. IsBlockTurn taken next x (state_of m) turn phase' (state_of m'))
+          let says = with_page (slice_get taken next) one _ (λ x. IsBlockTurn taken next x (state_of m) turn phase' (state_of m'))
           (drop_get next taken one rest is) k.0 in
           subst (Due (phases.Block next)) (sym to) (block_is_due made past m
           (state_of m') taken next one d turn phase' r.follows.shape.columns r.sound r.pages.sealing at.0 has.waiting.0 says)
@@ -184,7 +184,7 @@ module _ (made : Making) (j : JobView) (past : List Entry) (taken taken' : List 
   tries_due next form block r k =
       let w = r.stands.0 in
       let at = subst (AreInFrames past) w.due r.stands.1 in
-      let says = with_page (slice_get taken next) w.one (λ x. IsFormTurn next form block x m d turn phase' d' m')
+      let says = with_page (slice_get taken next) w.one _ (λ x. IsFormTurn next form block x m d turn phase' d' m')
       (drop_get next taken w.one w.rest w.due) k.0 in
       subst (Due (phases.Tries next form block)) (sym w.same)
       (form_is_due next form block w.one (pages_in w.rest) w.to r at.0 (subst (HasPages past) w.same r.pages.pages)

@@ -11,3 +11,5 @@ pub mod NoteLaws
 pub mod ShownLaws
 pub mod StoredLaws
 pub mod OpenLaws
+pub mod PlaceLaws
+pub mod NextLaws

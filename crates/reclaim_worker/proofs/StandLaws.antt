@@ -106,7 +106,7 @@ module _ (made : Making) (j : JobView) (past : List Entry) (taken taken' : List 
           r.stands.same ∙ ap (λ ts. Blocking (pages_in ts) (pages_in taken)) is in
           let has = subst (HasPages past) to r.pages.pages in
           let at = subst (AreInFrames past) is (frames_behind past next taken r.stands.frames) in
-          let says = with_page (slice_get taken next) one (λ x. IsBlockTurn taken next x (state_of m) turn phase' (state_of m'))
+          let says = with_page (slice_get taken next) one _ (λ x. IsBlockTurn taken next x (state_of m) turn phase' (state_of m'))
           (drop_get next taken one rest is) k.0 in
           let told = subst (λ x. IsTurn made past d.slots x turn) (due_there past one.page one.frame.0 block_of at.0)
           (block_is_due made past m (state_of m') taken next one d turn phase' r.follows.shape.columns r.sound r.pages.sealing at.0
@@ -253,6 +253,6 @@ module _ (made : Making) (j : JobView) (past : List Entry) (taken taken' : List 
       let at = subst (AreInFrames past) w.due r.stands.1 in
       form_stands next form block w.one w.rest w.to r w.due r.stands.1 w.same at.0 (subst (HasPages past) w.same r.pages.pages)
       (subst (KeepsTracks past) w.same r.tracks) w.fits k.1
-      (with_page (slice_get taken next) w.one (λ x. IsFormTurn next form block x m d turn phase' d' m')
+      (with_page (slice_get taken next) w.one _ (λ x. IsFormTurn next form block x m d turn phase' d' m')
       (drop_get next taken w.one w.rest w.due) k.0)
   turn_stands (phases.Sealing next slot) r k = absurd k

@@ -1,5 +1,5 @@
 -- The end of a write-out, and its record's way into the store.
-use Rattle.std.specs.Prelude.{ℕ, ◌≡◌, ◌+◌, ◌++◌, Bool, true, false, if◌then◌else◌, List, [], ◌∷◌, Option, None, nat_lt, slice_get}
+use Rattle.std.specs.Prelude.{ℕ, ◌≡◌, ◌+◌, ◌-◌, ◌++◌, Bool, true, false, if◌then◌else◌, List, [], ◌∷◌, Option, None, length, nat_lt, slice_get}
 use Rattle.std.specs.Option.{IsSomeAnd, option_map}
 use Rattle.sgx_types.specs.declared.names.Frame.{Frame}
 use Rattle.sgx_types.specs.declared.entries.Actor.TheVariants as actors
@@ -82,3 +82,11 @@ next_phase count phase = phase
 abbrev pub taken_in : Phase → List Taken → List Taken
 taken_in (phases.Idle works) taken = []
 taken_in _ taken = taken
+
+-- how many pages of the pass have still to go out: each has a place made for its record
+abbrev pub still_out : List Taken → Phase → ℕ
+still_out taken (phases.Idle works) = length taken
+still_out taken (phases.Scan left) = length taken
+still_out taken (phases.Block next) = length taken
+still_out taken (phases.Tries next form block) = length taken - next
+still_out taken (phases.Sealing next slot) = length taken - next

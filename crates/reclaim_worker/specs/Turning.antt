@@ -38,17 +38,18 @@ IsFormTurn next forms.Kick block one d old turn phase new d' = IsKickTurn next b
 IsFormTurn next forms.Third block one d old turn phase new d' =
     IsThirdTurn next block one d old turn phase new d' (count_from (λ p. is_kept_by (cpu_at d p).mode one.page.enclave block) 0 old.cpus)
 
--- where the pass has such a page
-abbrev pub WithPage : Option Taken → (Taken → Type 0) → Type 0
-WithPage None says = Unit {0}
-WithPage (Some one) says = says one
+-- by whether the pass has such a page; no pass that stands for some entries lacks it
+abbrev pub WithPage : Option Taken → Type 0 → (Taken → Type 0) → Type 0
+WithPage None none says = none
+WithPage (Some one) none says = says one
 
 abbrev pub TurnSays : List Taken → Phase → Driver → Parts → PassTurn → List Taken → Phase → Driver → Parts → Type 0
 TurnSays taken (phases.Idle false) old d turn taken' phase' new d' = turn ≡ turns.Again (waits.Enough (count_by is_free_frame d.epc))
 TurnSays taken (phases.Idle true) old d turn taken' phase' new d' = IsBegun taken old.marks.scan old turn taken' phase' new
 TurnSays taken (phases.Scan left) old d turn taken' phase' new d' = IsScanned taken left old turn taken' phase' new
-TurnSays taken (phases.Block next) old d turn taken' phase' new d' = WithPage (slice_get taken next)
+TurnSays taken (phases.Block next) old d turn taken' phase' new d' = WithPage (slice_get taken next) (turn ≡ turns.Again waits.AllHeld)
     (λ one. IsBlockTurn taken next one (state_of d) turn phase' (state_of d')) × (taken' ≡ taken)
 TurnSays taken (phases.Tries next form block) old d turn taken' phase' new d' =
-    WithPage (slice_get taken next) (λ one. IsFormTurn next form block one d old turn phase' new d') × (taken' ≡ taken)
+    WithPage (slice_get taken next) (turn ≡ turns.Again waits.AllHeld) (λ one. IsFormTurn next form block one d old turn phase' new d')
+    × (taken' ≡ taken)
 TurnSays taken (phases.Sealing next slot) old d turn taken' phase' new d' = ⊥

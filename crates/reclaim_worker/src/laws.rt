@@ -1,8 +1,12 @@
 //! When a pass is ready for a turn. A law is the contract of a function without arguments.
 
-ghost use Rattle.std.specs.Prelude.{ℕ, ◌≡◌, true, List};
+ghost use Rattle.std.specs.Prelude.{ℕ, ◌≡◌, Bool, true, false, List};
 ghost use Rattle.active_list.specs.Holds.{is_held as is_held_by};
 ghost use Rattle.driver_rules.specs.Holds.{is_held};
+ghost use Rattle.driver_rules.specs.Ages.{AgeRule};
+ghost use Rattle.driver_rules.specs.Reclaims.{all_finished, pass_due, reclaimer_due};
+ghost use Rattle.driver_rules.specs.Stops.{is_spent};
+ghost use Rattle.sgx_types.specs.Rules.{Along};
 ghost use Rattle.driver_rules.specs.Passes.{pass};
 ghost use Rattle.driver_rules.specs.Places.{Leaving, place};
 ghost use Rattle.driver_steps.specs.Agrees.{Agrees};
@@ -39,4 +43,12 @@ pub fn started_passes_can_be_stored()
 pub fn a_slot_is_left_for_a_try()
     ensures { (made : Making) (j : JobView) (past : List Entry) (d : Driver) (m : Parts) (g : Page) (f : ℕ) → Agrees made j past d m
         → place past g ≡ Leaving f → AllOut d.slots → ⊥ }
+{}
+
+/// What a pass gives is what the reclaimer does next, where no write-out of it is open, nothing was used up, and some actor has still
+/// something to do.
+pub fn the_pass_is_due()
+    ensures { (made : Making) (j : JobView) (past : List Entry) (taken : List Taken) (phase : Phase) (d : Driver) (m : Parts)
+        (kicked : Bool) → Ready made j past taken phase d m → Along (AgeRule j) past → is_sealing phase ≡ false → is_spent past ≡ false
+        → all_finished j past ≡ false → reclaimer_due j past kicked ≡ pass_due j past kicked (pass j past) }
 {}

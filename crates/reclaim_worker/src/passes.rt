@@ -25,6 +25,7 @@ ghost use Rattle.reclaim_worker.specs.Shown.{ShowsAfter};
 ghost use Rattle.reclaim_worker.specs.Rests.{DriverSays, IsWait};
 ghost use Rattle.reclaim_worker.specs.Ready.{Ready};
 ghost use Rattle.reclaim_worker.specs.Standing.{StandsFor, noted_phase, is_kicked, is_sealing};
+ghost use Rattle.reclaim_worker.specs.Stored.{still_out};
 ghost use Rattle.reclaim_worker.specs.Turning.{IsFormTurn, TurnSays};
 ghost use Rattle.reclaim_worker.specs.Scans.{IsBegun, IsScanned, after_look, frame_in, taken_with};
 
@@ -100,6 +101,9 @@ impl Pass {
         ensures refused { OnErr result ((self.new.phase ≡ self.old.phase) × (self.new.taken.items ≡ self.old.taken.items)) }
         ensures waits { IfOk result (λ turn. IsWait turn → (driver.new ≡ driver.old)
             × ((self.new.phase ≡ self.old.phase) × (self.new.taken.items ≡ self.old.taken.items))) }
+        ensures rests { IfOk result (λ turn. IsWait turn → store.new ≡ store.old) }
+        ensures spare { IfOk result (λ turn. still_out self.old.taken.items self.old.phase ≤ S.spare store.old
+            → still_out self.new.taken.items self.new.phase ≤ S.spare store.new) }
         ensures goes { IfOk result (λ turn. TurnGoes (state_of machine.old) turn (state_of machine.new)) }
     {
         self.turn(alloc, driver, machine, store)
@@ -146,6 +150,7 @@ impl Pass {
         ensures refused { OnErr result ((self.new.phase ≡ self.old.phase) × (self.new.taken.items ≡ self.old.taken.items)) }
         ensures waits { IfOk result (λ turn. IsWait turn → (driver.new ≡ driver.old)
             × ((self.new.phase ≡ self.old.phase) × (self.new.taken.items ≡ self.old.taken.items))) }
+        ensures rests { IfOk result (λ turn. IsWait turn → store.new ≡ store.old) }
         ensures goes { IfOk result (λ turn. TurnGoes (state_of machine.old) turn (state_of machine.new)) }
     {
         match self.phase {
@@ -234,6 +239,7 @@ impl Pass {
         ensures refused { OnErr result ((self.new.phase ≡ self.old.phase) × (self.new.taken.items ≡ self.old.taken.items)) }
         ensures waits { IfOk result (λ turn. IsWait turn → (driver.new ≡ driver.old)
             × ((self.new.phase ≡ self.old.phase) × (self.new.taken.items ≡ self.old.taken.items))) }
+        ensures rests { IfOk result (λ turn. IsWait turn → store.new ≡ store.old) }
         ensures goes { IfOk result (λ turn. TurnGoes (state_of machine.now) turn (state_of machine.now)) }
     {
         if driver.all_held() {
@@ -329,6 +335,7 @@ impl Pass {
         ensures refused { OnErr result ((self.new.phase ≡ self.old.phase) × (self.new.taken.items ≡ self.old.taken.items)) }
         ensures waits { IfOk result (λ turn. IsWait turn → (driver.new ≡ driver.old)
             × ((self.new.phase ≡ self.old.phase) × (self.new.taken.items ≡ self.old.taken.items))) }
+        ensures rests { IfOk result (λ turn. IsWait turn → store.new ≡ store.old) }
         ensures goes { IfOk result (λ turn. TurnGoes (state_of machine.now) turn (state_of machine.now)) }
     {
         let Some(page) = driver.active.head() else {

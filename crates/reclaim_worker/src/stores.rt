@@ -9,7 +9,7 @@ ghost use Rattle.job_grammar.specs.Jobs.{JobView};
 ghost use Rattle.paging_laws.specs.Shape.{FitsApart, ShapeWithRules};
 ghost use Rattle.reclaim_worker.specs.Ended.{IsEnded};
 ghost use Rattle.reclaim_worker.specs.Ready.{Ready};
-ghost use Rattle.reclaim_worker.specs.Stored.{frame_sealing, IsOpen, IsToSeal, IsStarted, IsStored, StoredSays, after_page, gone, next_phase, taken_in};
+ghost use Rattle.reclaim_worker.specs.Stored.{frame_sealing, IsOpen, IsToSeal, IsStarted, IsStored, StoredSays, after_page, gone, next_phase, still_out, taken_in};
 
 use crate::passes::Pass;
 use crate::turns::{Form, Phase, Taken};
@@ -66,6 +66,8 @@ impl Pass {
         ensures phase { self.new.phase ≡ next_phase (length self.old.taken.items) self.old.phase }
         ensures taken { self.new.taken.items ≡ taken_in self.new.phase self.old.taken.items }
         ensures used { S.spare store.new + 1 ≡ S.spare store.old }
+        ensures spare { still_out self.old.taken.items self.old.phase ≤ S.spare store.old
+            → still_out self.new.taken.items self.new.phase ≤ S.spare store.new }
         ensures plans { S.plans store.new ≡ S.plans store.old }
         ensures shape { (making : Making) (past : List Entry) → ShapeWithRules making (state_of machine.old) past
             → ShapeWithRules making (state_of machine.new) (result ∷ past) }

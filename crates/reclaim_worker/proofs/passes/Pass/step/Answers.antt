@@ -1,4 +1,4 @@
-use Rattle.std.proofs.Common.{◌≡◌}
+use Rattle.std.proofs.Common.{◌≡◌, ◌≤◌, subst, sym}
 use Rattle.std.proofs.Common.{List}
 use Rattle.sgx_types.specs.declared.entries.Entry.{Entry}
 use Rattle.job_grammar.specs.Jobs.{JobView}
@@ -17,6 +17,9 @@ use Rattle.reclaim_worker.specs.Rests.{DriverSays, IsWait}
 use Rattle.reclaim_worker.specs.Shown.{ShowsAfter}
 use Rattle.reclaim_worker.proofs.ShownLaws.{if_ok2, turn_shown}
 use Rattle.reclaim_worker.proofs.StandLaws.{turn_stands}
+use Rattle.reclaim_worker.specs.Asked.{look_in, places_by}
+use Rattle.reclaim_worker.specs.Stored.{still_out}
+use Rattle.reclaim_worker.proofs.PlaceLaws.{places_kept}
 use Rattle.reclaim_worker.proofs.passes.Pass.step.Goals as goal
 
 pub returns : goal.returns
@@ -65,5 +68,17 @@ returns g c = record {
   machine = c.turn.ensures.machine;
   refused = c.turn.ensures.refused;
   waits = c.turn.ensures.waits;
+  rests = c.turn.ensures.rests;
+  spare = if_ok2 (λ turn. TurnSays c.args.self.now.taken.items c.args.self.now.phase c.args.driver.now c.args.machine.now turn
+      c.turn.new.self.taken.items c.turn.new.self.phase c.turn.new.driver c.turn.new.machine)
+      (λ turn. IsWait turn → (c.turn.new.driver ≡ c.args.driver.now) × ((c.turn.new.self.phase ≡ c.args.self.now.phase)
+      × (c.turn.new.self.taken.items ≡ c.args.self.now.taken.items)))
+      (λ turn. g.S.Backing.spare c.turn.new.store ≡ places_by (look_in c.args.self.now.phase turn) (g.S.Backing.spare c.args.store.now))
+      (λ turn. still_out c.args.self.now.taken.items c.args.self.now.phase ≤ g.S.Backing.spare c.args.store.now
+      → still_out c.turn.new.self.taken.items c.turn.new.self.phase ≤ g.S.Backing.spare c.turn.new.store)
+      c.turn.result c.turn.ensures.says c.turn.ensures.waits c.turn.ensures.places
+      (λ turn says waits places low. subst (λ n. still_out c.turn.new.self.taken.items c.turn.new.self.phase ≤ n) (sym places)
+      (places_kept c.args.self.now.taken.items c.turn.new.self.taken.items c.args.self.now.phase c.turn.new.self.phase c.args.driver.now
+      c.turn.new.driver c.args.machine.now c.turn.new.machine turn (g.S.Backing.spare c.args.store.now) says (λ w. ((waits w).1.0, (waits w).1.1)) low));
   goes = c.turn.ensures.goes;
 }

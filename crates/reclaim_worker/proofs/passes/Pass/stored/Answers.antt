@@ -1,4 +1,5 @@
 use Rattle.reclaim_worker.proofs.StoredLaws.{stored_ends}
+use Rattle.reclaim_worker.proofs.PlaceLaws.{place_used}
 use Rattle.reclaim_worker.proofs.passes.Pass.stored.Goals as goal
 
 pub returns : goal.returns
@@ -10,6 +11,8 @@ returns g c = record {
   phase = c.end.ensures.phase;
   taken = c.end.ensures.taken;
   used = c.end.ensures.used;
+  spare = λ low. place_used c.args.self.now.taken.items c.end.new.self.taken.items c.args.self.now.phase c.end.new.self.phase _ _ _ _
+      c.requires.started c.end.ensures.phase c.end.ensures.taken c.end.ensures.used low;
   plans = c.end.ensures.plans;
   shape = c.end.ensures.shape;
   fits = c.end.ensures.fits;
