@@ -80,6 +80,9 @@ impl Pass {
         requires few { driver.old.cpus ≤ 16 }
         requires cpus { driver.old.cpus ≤ length machine.old.cpus }
         requires started { is_sealing self.old.phase ≡ false }
+        ensures says { IfOk result (λ turn. TurnSays self.old.taken.items self.old.phase driver.old machine.old turn self.new.taken.items
+            self.new.phase driver.new machine.new) }
+        ensures driver { IfOk result (λ turn. DriverSays self.old.phase driver.old driver.new) }
         ensures due { IfOk result (λ turn. (made : Making) (j : JobView) (past : List Entry)
             → Ready made j past self.old.taken.items self.old.phase driver.old machine.old
             → IsTurn made past driver.old.slots (pass_due j past (is_kicked self.old.phase) (pass j past)) turn) }

@@ -24,6 +24,8 @@ use Rattle.reclaim_worker.proofs.passes.Pass.step.Goals as goal
 
 pub returns : goal.returns
 returns g c = record {
+  says = c.turn.ensures.says;
+  driver = c.turn.ensures.driver;
   due = if_ok (λ turn. TurnSays c.args.self.now.taken.items c.args.self.now.phase c.args.driver.now c.args.machine.now turn
       c.turn.new.self.taken.items c.turn.new.self.phase c.turn.new.driver c.turn.new.machine)
       (λ turn. (made : Making) (j : JobView) (past : List Entry) → Ready made j past c.args.self.now.taken.items c.args.self.now.phase
