@@ -1,6 +1,8 @@
 #![tactic(auto)]
 
 mod command;
+#[cfg(test)]
+mod cut_jobs;
 mod job_faults;
 mod replies;
 #[cfg(test)]

@@ -1,6 +1,7 @@
 ghost use Rattle.std.specs.Prelude.{◌≤◌};
 
 use crate::command::{Status, sgxpage};
+use crate::cut_jobs::CUTS;
 use crate::worked_runs::{FAULTS, FROM_OUTSIDE, MANY_PAGES, OTHER_DIGEST, Run, SAVED_STATE, TIMER};
 use crate::{print_usage, two_enclaves};
 use io_edges::mem_sink::MemSink;
@@ -16,9 +17,9 @@ use std::test::Fail;
 const JOB: &[u8] =
     b"epc 6\nenclave A 0x10000 0x10000\ntcs 0 1 1 plain\nreg 1 1 rw 0 plain\nreg 2 1 rw 7 plain\ncpu 0\neenter A 0\nload 0x2000\neexit\n";
 
-const OUT: &[u8] = b"A init\ncpu 0\ncssa 0\n7\nexit\n";
+pub const OUT: &[u8] = b"A init\ncpu 0\ncssa 0\n7\nexit\n";
 
-const TRACE: &[u8] =
+pub const TRACE: &[u8] =
     b"trace 1\nb epa 0\nb create A 1 0x10000 0x10000\nb add A 0 2 tcs - tcs 1 1\nb add A 1 3 reg rw words 0\nb add A 2 4 reg rw words 7\nb init A - 006d518bbd8825da4a0e7d35d418aaf16b7749c62854a6f40d8d58db415a8c31\np0 enter A 0 2 3 0\np0 fill 2 4\np0 load 0x2000 7\np0 exit\nend 10\n";
 
 const NOT_YET_BUILT: &[u8] = b"job line 0: NotYetBuilt\n";
@@ -140,6 +141,15 @@ fn the_oldest_translation_makes_room(rt: HostRuntime) -> Result<(), Fail> {
 fn a_job_that_is_not_accepted_is_told(rt: HostRuntime) -> Result<(), Fail> {
     for (job, told) in REFUSED {
         ends(&rt, job, 7, [&[], &[], &[]], Status::BadJob, told, b"")?;
+    }
+    Ok(())
+}
+
+#[test]
+fn a_job_that_is_cut_is_another(rt: HostRuntime) -> Result<(), Fail> {
+    for (len, status, out, trace) in CUTS {
+        let job = &JOB[..(*len).min(JOB.len())];
+        ends(&rt, job, 16, [&[], &[], &[]], *status, out, trace)?;
     }
     Ok(())
 }

@@ -1,40 +1,108 @@
-// Reads traces from files and says of each how many entries it has, or the line of its fault. The first word is `whole`, or
-// `pieces`: then each is read in pieces of 1, 2 and 7 bytes too, and what was read is printed again.
+// Reads traces from files and says of each how many entries it has, or the line of its fault. A word before their paths says how:
+// `whole`; or `pieces`, and then each is read in pieces of 1, 2 and 7 bytes too, and what was read is printed again; or `cuts`,
+// and then each proper front of each is read, which must be refused with the line that holds the cut.
 #![tactic(auto)]
 
 ghost use Rattle.std.specs.Prelude.{◌<◌};
 
 use sgx_types::entries::Entry;
-use std::alloc::Global;
+use std::alloc::{AllocError, Global};
 use std::{env, fs, io};
 use trace_reader::reader::{TraceReader, read_trace};
 use trace_reader::refusals::TraceRefusal;
 use trace_text::trace::print_trace;
 
 fn main(rt: HostRuntime) -> io::Result<()> {
-    let mut words = env::args(&rt)?.skip(1);
-    let Some(mode) = words.next() else {
-        return Ok(());
-    };
-    let in_pieces = mode.as_str() == "pieces";
-    for path in words {
-        let text = fs::read_to_string(&rt, path.as_str())?;
-        let bytes = text.as_bytes();
-        let told = read_trace(rt.alloc(), bytes);
-        if in_pieces && !are_alike(rt.alloc(), bytes, &told) {
-            println!(rt; "{path}: in pieces another answer")?;
-        }
-        match &told {
-            Ok(entries) if !in_pieces || is_printed(rt.alloc(), entries, bytes) => println!(rt;
-                "{path}: {} entries",
-                entries.len()
-            )?,
-            Ok(_) => println!(rt; "{path}: printed otherwise")?,
-            Err(TraceRefusal::Fault { line }) => println!(rt; "{path}: line {line}")?,
-            Err(TraceRefusal::Memory) => println!(rt; "{path}: no memory")?,
+    let mut mode = Mode::Whole;
+    for word in env::args(&rt)?.skip(1) {
+        match word.as_str() {
+            "whole" => mode = Mode::Whole,
+            "pieces" => mode = Mode::Pieces,
+            "cuts" => mode = Mode::Cuts,
+            path => tell(&rt, mode, path)?,
         }
     }
     Ok(())
+}
+
+// How the texts of the paths behind a word are read.
+#[derive(Clone, Copy, PartialEq, Eq)]
+enum Mode {
+    Whole,
+    Pieces,
+    Cuts,
+}
+
+fn tell(rt: &HostRuntime, mode: Mode, path: &str) -> io::Result<()> {
+    let text = fs::read_to_string(rt, path)?;
+    let bytes = text.as_bytes();
+    match mode {
+        Mode::Cuts => tell_cuts(rt, path, bytes),
+        Mode::Whole => tell_text(rt, path, bytes, false),
+        Mode::Pieces => tell_text(rt, path, bytes, true),
+    }
+}
+
+fn tell_text(rt: &HostRuntime, path: &str, bytes: &[u8], in_pieces: bool) -> io::Result<()> {
+    let told = read_trace(rt.alloc(), bytes);
+    if in_pieces && !are_alike(rt.alloc(), bytes, &told) {
+        println!(rt; "{path}: in pieces another answer")?;
+    }
+    match &told {
+        Ok(entries) if !in_pieces || is_printed(rt.alloc(), entries, bytes) => {
+            println!(rt; "{path}: {} entries", entries.len())
+        }
+        Ok(_) => println!(rt; "{path}: printed otherwise"),
+        Err(TraceRefusal::Fault { line }) => println!(rt; "{path}: line {line}"),
+        Err(TraceRefusal::Memory) => println!(rt; "{path}: no memory"),
+    }
+}
+
+// Says whether each proper front of a text is refused with the line that holds the cut, or which is the first that is not.
+fn tell_cuts(rt: &HostRuntime, path: &str, bytes: &[u8]) -> io::Result<()> {
+    let mut line = 1;
+    for (count, byte) in bytes.iter().enumerate() {
+        if !is_refused(rt.alloc(), &bytes[..count], TraceRefusal::Fault { line }) {
+            return println!(rt; "{path}: another answer to its first {count} bytes");
+        }
+        line = line.saturating_add(u64::from(*byte == b'\n'));
+    }
+    println!(rt; "{path}: {} proper fronts refused", bytes.len())
+}
+
+// Whether the front of a text is refused so, whole and in pieces of 1 byte, and whether that is kept.
+fn is_refused(alloc: Global, front: &[u8], fault: TraceRefusal) -> bool {
+    read_trace(alloc, front).err() == Some(fault)
+        && read_pieces(alloc, front, 1).err() == Some(fault)
+        && is_kept(alloc, front, fault)
+}
+
+// Whether a reader in pieces of 1 byte that finds a fault answers it again at each later call. The line that is cut has its fault at
+// its line feed, since a space stands before it.
+fn is_kept(alloc: Global, front: &[u8], fault: TraceRefusal) -> bool {
+    let Ok(text) = with_a_faulty_line(alloc, front) else {
+        return false;
+    };
+    let mut reader = TraceReader::new(alloc);
+    for (count, piece) in text.chunks(1).enumerate() {
+        let told = reader.feed(alloc, piece);
+        let want = if count <= front.len() {
+            Ok(())
+        } else {
+            Err(fault)
+        };
+        if told != want {
+            return false;
+        }
+    }
+    reader.finish().err() == Some(fault)
+}
+
+// A front of a text, whose cut line goes on with a space and a line feed, and one line more.
+fn with_a_faulty_line(alloc: Global, front: &[u8]) -> Result<Vec<u8>, AllocError> {
+    let mut text = front.to_vec(alloc)?;
+    text.extend_from_slice(b" \n\n")?;
+    Ok(text)
 }
 
 // Whether the entries have these bytes as their text.
