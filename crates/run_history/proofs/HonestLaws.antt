@@ -171,7 +171,7 @@ load_one past f a g slot other s at_a at_g =
     ∙ loads_one (open_start past f) g g other (load_at past f g other s at_g) ∙ same_page-refl g
 
 -- no page is loading into a free frame
-free_no_load : (past : List Entry) (f : ℕ) (g : Page) (slot : SlotAt) → IsSound past → content past f ≡ Free → place past g ≡ Loading f slot → ⊥
+pub free_no_load : (past : List Entry) (f : ℕ) (g : Page) (slot : SlotAt) → IsSound past → content past f ≡ Free → place past g ≡ Loading f slot → ⊥
 free_no_load past f g slot s free at =
     by_start (open_start past f) none load
   where
