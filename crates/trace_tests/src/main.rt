@@ -61,11 +61,11 @@ fn tell_text(rt: &HostRuntime, path: &str, bytes: &[u8], in_pieces: bool) -> io:
 // Says whether each proper front of a text is refused with the line that holds the cut, or which is the first that is not.
 fn tell_cuts(rt: &HostRuntime, path: &str, bytes: &[u8]) -> io::Result<()> {
     let mut line = 1;
-    for (count, byte) in bytes.iter().enumerate() {
+    for count in 0..bytes.len() {
         if !is_refused(rt.alloc(), &bytes[..count], TraceRefusal::Fault { line }) {
             return println!(rt; "{path}: another answer to its first {count} bytes");
         }
-        line = line.saturating_add(u64::from(*byte == b'\n'));
+        line = line.saturating_add(u64::from(bytes[count] == b'\n'));
     }
     println!(rt; "{path}: {} proper fronts refused", bytes.len())
 }
