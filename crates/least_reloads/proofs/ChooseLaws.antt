@@ -53,7 +53,8 @@ chosen_hit frames i page coming pages look look' count count' q holds keeps is c
     }
 
 -- it has none: it is not held
-missed : (i : ℕ) (page : Page) (coming pages : List Page) (look : ℕ → Option Page) (count : ℕ) → Keeps i (page ∷ coming) pages look count → look i ≡ None → has pages page ≡ false
+missed : (i : ℕ) (page : Page) (coming pages : List Page) (look : ℕ → Option Page) (count : ℕ) → Keeps i (page ∷ coming) pages look count
+    → look i ≡ None → has pages page ≡ false
 missed i page coming pages look count keeps none = false_from_ne_true (has pages page) (λ held.
     let j = keeps.found page held in
     let here : i ≡ j.0 = omega (arith, keeps.used j.0 page j.1, use_now page coming page (is_same page)) in
@@ -76,13 +77,15 @@ chosen_fill frames i page coming pages look count keeps none room =
 
 -- the page at the last key is used last
 last_goes : (i : ℕ) (page : Page) (coming pages : List Page) (look : ℕ → Option Page) (count j : ℕ) (old : Page)
-    → Keeps i (page ∷ coming) pages look count → has pages page ≡ false → look j ≡ Some old → ((k : ℕ) (q : Page) → look k ≡ Some q → k ≤ j) → IsUsedLast pages coming old
+    → Keeps i (page ∷ coming) pages look count → has pages page ≡ false → look j ≡ Some old
+    → ((k : ℕ) (q : Page) → look k ≡ Some q → k ≤ j) → IsUsedLast pages coming old
 last_goes i page coming pages look count j old keeps absent is last = λ t used p held.
     let u = used_by t coming old used in
     let k = keeps.found p held in
     let of_old = use_later page coming old (not_same pages page old absent (keeps.holds j old is)) in
     let of_p = use_later page coming p (not_same pages page p absent held) in
-    let sooner : next_use coming p ≤ next_use coming old = omega (arith, keeps.used j old is, keeps.used k.0 p k.1, last k.0 p k.1, of_old, of_p) in
+    let sooner : next_use coming p ≤ next_use coming old =
+    omega (arith, keeps.used j old is, keeps.used k.0 p k.1, last k.0 p k.1, of_old, of_p) in
     by_use t coming p (omega (arith, sooner, u.soon)) (omega (arith, sooner, u.ever))
 
 pub chosen_swap : (frames i : ℕ) (page : Page) (coming pages : List Page) (look look' : ℕ → Option Page) (count count' j : ℕ) (old : Page)
@@ -141,7 +144,8 @@ pub record Missed (i : ℕ) (coming pages : List Page) (entries : List (ℕ × P
   pub keeps : Keeps i coming pages (at entries) (length entries)
   pub none : at entries i ≡ None
 
-pub missed_as : (i : ℕ) (coming pages : List Page) (entries entries' : List (ℕ × Page)) → Keeps i coming pages (at entries) (length entries) → at entries i ≡ None → entries' ≡ entries → Missed i coming pages entries'
+pub missed_as : (i : ℕ) (coming pages : List Page) (entries entries' : List (ℕ × Page))
+    → Keeps i coming pages (at entries) (length entries) → at entries i ≡ None → entries' ≡ entries → Missed i coming pages entries'
 missed_as i coming pages entries entries' keeps none same =
     let M : List (ℕ × Page) → Type 0 = Missed i coming pages in
     let here : Missed i coming pages entries = record { keeps = keeps; none = none } in

@@ -22,10 +22,17 @@ all_kept (h ∷ held) load = ap (λ l. h ∷ l) (all_kept held load)
 -- a step of any plan makes room for at most what it loads
 soon-after : (t : ℕ) (coming held : List Page) (step : StepView) → soon t coming (after held step) ≤ soon t coming held + length step.load
 soon-after t coming held step =
-    omega (arith, count-append (has (take t coming)) (kept held step) step.load, count-filter (has (take t coming)) (λ p. not (has step.out p)) held, count-le (has (take t coming)) step.load)
+    omega (
+      arith,
+      count-append (has (take t coming)) (kept held step) step.load,
+      count-filter (has (take t coming))
+          (λ p. not (has step.out p)) held,
+      count-le (has (take t coming)) step.load,
+    )
 
 -- the next held pages, with a page that is used now among them
-soon-used : (t : ℕ) (page : Page) (coming held : List Page) → has held page ≡ true → soon t coming held + 1 ≤ soon (suc t) (page ∷ coming) held + one (has (take t coming) page)
+soon-used : (t : ℕ) (page : Page) (coming held : List Page) → has held page ≡ true
+    → soon t coming held + 1 ≤ soon (suc t) (page ∷ coming) held + one (has (take t coming) page)
 soon-used t page coming held is = count-or_is_held (has (take t coming)) page held is
 
 -- what a step of ours and one of theirs leave of the difference: as much as ours loads more
@@ -99,7 +106,8 @@ next_swap frames page coming theirs ours d step old distinct is_step behind abse
       paid = omega (arith, one_ahead);
     }
   where
-    by_use : (t : ℕ) (b : Bool) → has (take t coming) old ≡ b → soon t coming (after theirs step) ≤ soon t coming (after ours (swaps old page)) + (length step.load + d - 1)
+    by_use : (t : ℕ) (b : Bool) → has (take t coming) old ≡ b
+        → soon t coming (after theirs step) ≤ soon t coming (after ours (swaps old page)) + (length step.load + d - 1)
     by_use t true used =
         omega (
           arith,
@@ -125,15 +133,19 @@ next_swap frames page coming theirs ours d step old distinct is_step behind abse
         )
 
 next : (frames : ℕ) (page : Page) (coming theirs ours : List Page) (d : ℕ) (their_step our_step : StepView)
-    → IsDistinct same_page ours → IsStep frames theirs page their_step → Behind (page ∷ coming) theirs ours d → IsBest frames ours page coming our_step
+    → IsDistinct same_page ours → IsStep frames theirs page their_step → Behind (page ∷ coming) theirs ours d
+    → IsBest frames ours page coming our_step
     → Next page coming theirs ours d their_step our_step
-next frames page coming theirs ours d their_step _ distinct is_step behind (Hit held) = next_hit frames page coming theirs ours d their_step distinct is_step behind held
-next frames page coming theirs ours d their_step _ distinct is_step behind (Fill absent room) = next_fill frames page coming theirs ours d their_step is_step behind absent
+next frames page coming theirs ours d their_step _ distinct is_step behind (Hit held) =
+    next_hit frames page coming theirs ours d their_step distinct is_step behind held
+next frames page coming theirs ours d their_step _ distinct is_step behind (Fill absent room) =
+    next_fill frames page coming theirs ours d their_step is_step behind absent
 next frames page coming theirs ours d their_step _ distinct is_step behind (Swap old absent full held farthest) =
     next_swap frames page coming theirs ours d their_step old distinct is_step behind absent full held farthest
 
 -- the best steps are lawful
-best_step : (frames : ℕ) (page : Page) (coming ours : List Page) (step : StepView) → 1 ≤ frames → Holds frames ours → IsBest frames ours page coming step → IsStep frames ours page step
+best_step : (frames : ℕ) (page : Page) (coming ours : List Page) (step : StepView) → 1 ≤ frames → Holds frames ours
+    → IsBest frames ours page coming step → IsStep frames ours page step
 best_step frames page coming ours _ some holds (Hit held) =
     let same : after ours stays ≡ ours = append-nil (kept ours stays) ∙ all_kept ours [] in
     record {
@@ -155,20 +167,23 @@ best_step frames page coming ours _ some holds (Fill absent room) = record {
 best_step frames page coming ours _ some holds (Swap old absent full held farthest) = record {
   out_held = λ p h. ap (has ours) (sym (has_one old p h)) ∙ held;
   out_once = one_distinct old;
-  load_absent = λ p h. has-kept ours (swaps old page) p ∙ and_right (not (has (old ∷ []) p)) (has ours p) (ap (has ours) (sym (has_one page p h)) ∙ absent);
+  load_absent = λ p h. has-kept ours (swaps old page) p
+      ∙ and_right (not (has (old ∷ []) p)) (has ours p) (ap (has ours) (sym (has_one page p h)) ∙ absent);
   load_once = one_distinct page;
   fits = omega (arith, length-append (without old ours) (page ∷ []), length-without old ours holds.distinct held, holds.fits);
   accessed_held = loaded ours (swaps old page) page (or_left (same_page page page) false (is_same page));
 }
 
-pub holds_next : (frames : ℕ) (page : Page) (coming ours : List Page) (step : StepView) → 1 ≤ frames → Holds frames ours → IsBest frames ours page coming step
+pub holds_next : (frames : ℕ) (page : Page) (coming ours : List Page) (step : StepView) → 1 ≤ frames → Holds frames ours
+    → IsBest frames ours page coming step
     → IsStep frames ours page step × Holds frames (after ours step)
 holds_next frames page coming ours step some holds best =
     let is_step = best_step frames page coming ours step some holds best in
     (is_step, record { distinct = distinct-after ours step holds.distinct is_step.load_once is_step.load_absent; fits = is_step.fits })
 
 fewest_from : (frames : ℕ) → 1 ≤ frames → (accesses theirs ours : List Page) (d : ℕ) (their_steps our_steps : List StepView)
-    → Holds frames ours → Behind accesses theirs ours d → IsRun frames theirs accesses their_steps → IsBestRun frames ours accesses our_steps
+    → Holds frames ours → Behind accesses theirs ours d → IsRun frames theirs accesses their_steps
+    → IsBestRun frames ours accesses our_steps
     → loads_of our_steps ≤ loads_of their_steps + d
 fewest_from frames some [] theirs ours d _ [] holds behind run best = omega arith
 fewest_from frames some [] theirs ours d _ (t ∷ ts) holds behind run best = absurd best
@@ -183,7 +198,8 @@ fewest_from frames some (page ∷ coming) theirs ours d (their ∷ their_steps) 
           (holds_next frames page coming ours our some holds best.0).1 n.behind run.1 best.1,
     )
 
-lawful_from : (frames : ℕ) → 1 ≤ frames → (accesses ours : List Page) (steps : List StepView) → Holds frames ours → IsBestRun frames ours accesses steps → IsRun frames ours accesses steps
+lawful_from : (frames : ℕ) → 1 ≤ frames → (accesses ours : List Page) (steps : List StepView) → Holds frames ours
+    → IsBestRun frames ours accesses steps → IsRun frames ours accesses steps
 lawful_from frames some [] ours [] holds best = tt
 lawful_from frames some [] ours (t ∷ ts) holds best = absurd best
 lawful_from frames some (page ∷ coming) ours [] holds best = absurd best
@@ -195,11 +211,16 @@ pub holds_none : (frames : ℕ) → Holds frames []
 holds_none frames = record { distinct = none_distinct; fits = omega arith }
 
 -- the plan of best steps is lawful
-pub reached : (frames : ℕ) → 1 ≤ frames → (accesses : List Page) (plan : PlanView) → IsBestRun frames [] accesses plan.steps → plan.loads ≡ loads_of plan.steps → IsLawful accesses frames plan
-reached frames some accesses plan best counted = record { run = lawful_from frames some accesses [] plan.steps (holds_none frames) best; counted = counted }
+pub reached : (frames : ℕ) → 1 ≤ frames → (accesses : List Page) (plan : PlanView) → IsBestRun frames [] accesses plan.steps
+    → plan.loads ≡ loads_of plan.steps → IsLawful accesses frames plan
+reached frames some accesses plan best counted = record {
+  run = lawful_from frames some accesses [] plan.steps (holds_none frames) best;
+  counted = counted;
+}
 
 -- and every lawful plan makes at least as many loads
-pub least : (frames : ℕ) → 1 ≤ frames → (accesses : List Page) (plan : PlanView) → IsBestRun frames [] accesses plan.steps → plan.loads ≡ loads_of plan.steps → IsLeast accesses frames plan
+pub least : (frames : ℕ) → 1 ≤ frames → (accesses : List Page) (plan : PlanView) → IsBestRun frames [] accesses plan.steps
+    → plan.loads ≡ loads_of plan.steps → IsLeast accesses frames plan
 least frames some accesses plan best counted = λ other lawful.
     omega (
       arith,

@@ -18,7 +18,8 @@ has-kept held step p = has-filter (λ x. not (has step.out x)) held p
 pub has-append : (xs ys : List Page) (p : Page) → has (xs ++ ys) p ≡ (has xs p || has ys p)
 has-append xs ys p = list_any-append (same_page p) xs ys
 
-pub has-after : (held : List Page) (step : StepView) (p : Page) → has (after held step) p ≡ ((not (has step.out p) && has held p) || has step.load p)
+pub has-after : (held : List Page) (step : StepView) (p : Page)
+    → has (after held step) p ≡ ((not (has step.out p) && has held p) || has step.load p)
 has-after held step p = has-append (kept held step) step.load p ∙ ap (λ b. b || has step.load p) (has-kept held step p)
 
 pub distinct-filter : (q : Page → Bool) (pages : List Page) → IsDistinct same_page pages → IsDistinct same_page (filter q pages)
@@ -27,22 +28,27 @@ distinct-filter q (x ∷ pages) h =
     let parts = distinct_parts x pages h in
     by_test (q x) (has-filter q pages x ∙ and_right (q x) (has pages x) parts.0) (distinct-filter q pages parts.1)
   where
-    by_test : (b : Bool) → has (filter q pages) x ≡ false → IsDistinct same_page (filter q pages) → IsDistinct same_page (cond b (x ∷ filter q pages) (filter q pages))
+    by_test : (b : Bool) → has (filter q pages) x ≡ false → IsDistinct same_page (filter q pages)
+        → IsDistinct same_page (cond b (x ∷ filter q pages) (filter q pages))
     by_test true absent rest = distinct_cons x (filter q pages) absent rest
     by_test false absent rest = rest
 
-pub distinct-append : (xs ys : List Page) → IsDistinct same_page xs → IsDistinct same_page ys → ((p : Page) → has ys p ≡ true → has xs p ≡ false) → IsDistinct same_page (xs ++ ys)
+pub distinct-append : (xs ys : List Page) → IsDistinct same_page xs → IsDistinct same_page ys
+    → ((p : Page) → has ys p ≡ true → has xs p ≡ false) → IsDistinct same_page (xs ++ ys)
 distinct-append [] ys first second disjoint = second
 distinct-append (x ∷ xs) ys first second disjoint =
     let parts = distinct_parts x xs first in
-    let absent : has ys x ≡ false = false_from_ne_true (has ys x) (λ h. false≢true (sym (disjoint x h) ∙ ap (λ b. b || has xs x) (is_same x))) in
+    let absent : has ys x ≡ false =
+    false_from_ne_true (has ys x) (λ h. false≢true (sym (disjoint x h) ∙ ap (λ b. b || has xs x) (is_same x))) in
     distinct_cons x (xs ++ ys)
     (has-append xs ys x ∙ or_from (has xs x) (has ys x) parts.0 absent)
     (distinct-append xs ys parts.1 second (λ p h. (or_parts (same_page p x) (has xs p) (disjoint p h)).1))
 
 -- the pages that are held after a step are distinct, if those that are loaded were not held
-pub distinct-after : (held : List Page) (step : StepView) → IsDistinct same_page held → IsDistinct same_page step.load → ((p : Page) → has step.load p ≡ true → has (kept held step) p ≡ false) → IsDistinct same_page (after held step)
-distinct-after held step distinct once absent = distinct-append (kept held step) step.load (distinct-filter (λ x. not (has step.out x)) held distinct) once absent
+pub distinct-after : (held : List Page) (step : StepView) → IsDistinct same_page held → IsDistinct same_page step.load
+    → ((p : Page) → has step.load p ≡ true → has (kept held step) p ≡ false) → IsDistinct same_page (after held step)
+distinct-after held step distinct once absent =
+    distinct-append (kept held step) step.load (distinct-filter (λ x. not (has step.out x)) held distinct) once absent
 
 pub has_one : (page p : Page) → has (page ∷ []) p ≡ true → page ≡ p
 has_one page p h = ⊎_elim (λ s. sym (same_is p page s)) (λ e. absurd (false≢true e)) (or_cases (same_page p page) false h)

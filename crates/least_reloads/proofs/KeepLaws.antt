@@ -45,16 +45,19 @@ used_by zero w p h = absurd (false≢true (none w h))
 used_by (suc t) [] p h = absurd (false≢true h)
 used_by (suc t) (x ∷ w) p h = by_test (same_page p x) refl h (used_by t w p)
   where
-    by_test : (b : Bool) → same_page p x ≡ b → (b || has (take t w) p) ≡ true → (has (take t w) p ≡ true → Used t w p) → Used (suc t) (x ∷ w) p
+    by_test : (b : Bool) → same_page p x ≡ b → (b || has (take t w) p) ≡ true → (has (take t w) p ≡ true → Used t w p)
+        → Used (suc t) (x ∷ w) p
     by_test true same h rest = record { soon = omega (arith, use_now x w p same); ever = omega (arith, use_now x w p same) }
-    by_test false other h rest = let r = rest h in record { soon = omega (arith, use_later x w p other, r.soon); ever = omega (arith, use_later x w p other, r.ever) }
+    by_test false other h rest = let r = rest h in
+        record { soon = omega (arith, use_later x w p other, r.soon); ever = omega (arith, use_later x w p other, r.ever) }
 
 pub by_use : (t : ℕ) (w : List Page) (p : Page) → next_use w p < t → next_use w p < length w → has (take t w) p ≡ true
 by_use t [] p soon ever = absurd (omega (arith, ever))
 by_use zero (x ∷ w) p soon ever = absurd (omega (arith, soon))
 by_use (suc t) (x ∷ w) p soon ever = by_test (same_page p x) refl (by_use t w p)
   where
-    by_test : (b : Bool) → same_page p x ≡ b → (next_use w p < t → next_use w p < length w → has (take t w) p ≡ true) → (b || has (take t w) p) ≡ true
+    by_test : (b : Bool) → same_page p x ≡ b → (next_use w p < t → next_use w p < length w → has (take t w) p ≡ true)
+        → (b || has (take t w) p) ≡ true
     by_test true same rest = refl
     by_test false other rest = rest (omega (arith, use_later x w p other, soon)) (omega (arith, use_later x w p other, ever))
 
@@ -63,11 +66,13 @@ pub one_use : (w : List Page) (p q : Page) → next_use w p ≡ next_use w q →
 one_use [] p q e ever = absurd (omega (arith, ever))
 one_use (x ∷ w) p q e ever = by_tests (same_page p x) (same_page q x) refl refl (one_use w p q)
   where
-    by_tests : (b c : Bool) → same_page p x ≡ b → same_page q x ≡ c → (next_use w p ≡ next_use w q → next_use w p < length w → p ≡ q) → p ≡ q
+    by_tests : (b c : Bool) → same_page p x ≡ b → same_page q x ≡ c → (next_use w p ≡ next_use w q → next_use w p < length w → p ≡ q)
+        → p ≡ q
     by_tests true true pb qc rest = same_is p x pb ∙ sym (same_is q x qc)
     by_tests true false pb qc rest = absurd (omega (arith, e, use_now x w p pb, use_later x w q qc))
     by_tests false true pb qc rest = absurd (omega (arith, e, use_later x w p pb, use_now x w q qc))
-    by_tests false false pb qc rest = rest (omega (arith, e, use_later x w p pb, use_later x w q qc)) (omega (arith, ever, use_later x w p pb))
+    by_tests false false pb qc rest =
+        rest (omega (arith, e, use_later x w p pb, use_later x w q qc)) (omega (arith, ever, use_later x w p pb))
 
 -- ---- keys
 is_at_here : (j : ℕ) → is_at (nat_cmp j) j ≡ true
@@ -89,7 +94,8 @@ changed_here : (look look' : ℕ → Option Page) (j : ℕ) (w : Option Page) �
 changed_here look look' j w changes = changes j ∙ ap (λ b. cond b w (look j)) (is_at_here j)
 
 changed_other : (look look' : ℕ → Option Page) (j k : ℕ) (w : Option Page) → Changes look j w look' → (j ≡ k → ⊥) → look' k ≡ look k
-changed_other look look' j k w changes other = changes k ∙ ap (λ b. cond b w (look k)) (false_from_ne_true (is_at (nat_cmp j) k) (λ h. other (is_at_only j k h)))
+changed_other look look' j k w changes other = changes k
+    ∙ ap (λ b. cond b w (look k)) (false_from_ne_true (is_at (nat_cmp j) k) (λ h. other (is_at_only j k h)))
 
 -- what a map has after it lost a key
 lost : (look look' : ℕ → Option Page) (j k : ℕ) (q : Page) → Changes look j None look' → look' k ≡ Some q → (j ≡ k → ⊥) × (look k ≡ Some q)
@@ -98,14 +104,16 @@ lost look look' j k q changes h =
     (other, sym (changed_other look look' j k None changes other) ∙ h)
 
 -- what it has after it gained one
-gained : (look look' : ℕ → Option Page) (j k : ℕ) (x q : Page) → Changes look j (Some x) look' → look' k ≡ Some q → ((j ≡ k) × (x ≡ q)) ⊎ ((j ≡ k → ⊥) × (look k ≡ Some q))
+gained : (look look' : ℕ → Option Page) (j k : ℕ) (x q : Page) → Changes look j (Some x) look' → look' k ≡ Some q
+    → ((j ≡ k) × (x ≡ q)) ⊎ ((j ≡ k → ⊥) × (look k ≡ Some q))
 gained look look' j k x q changes h = ⊎_elim
     (λ e. let here = sym (changed_here look look' j (Some x) changes) ∙ ap look' e ∙ h in let same : x ≡ q = cc here in inl (e, same))
     (λ other. inr (other, sym (changed_other look look' j k (Some x) changes other) ∙ h))
     (cases_eq j k)
 
 pub not_same : (pages : List Page) (x q : Page) → has pages x ≡ false → has pages q ≡ true → same_page q x ≡ false
-not_same pages x q absent held = false_from_ne_true (same_page q x) (λ s. false≢true (sym absent ∙ ap (has pages) (sym (same_is q x s)) ∙ held))
+not_same pages x q absent held =
+    false_from_ne_true (same_page q x) (λ s. false≢true (sym absent ∙ ap (has pages) (sym (same_is q x s)) ∙ held))
 
 pub in_without : (y : Page) (pages : List Page) (q : Page) → has (without y pages) q ≡ (not (same_page q y || false) && has pages q)
 in_without y pages q = has-filter (λ p. not (has (y ∷ []) p)) pages q
@@ -119,21 +127,24 @@ keeps_without i coming pages look look' count count' j y keeps distinct is chang
       let was = lost look look' j k q changes h in
       let other : same_page q y ≡ false = false_from_ne_true (same_page q y)
       (λ s. was.0 (keeps.once j k y is (was.1 ∙ ap (λ p. Some p) (same_is q y s)))) in
-      in_without y pages q ∙ and_from (not (same_page q y || false)) (has pages q) (ap (λ b. not (b || false)) other) (keeps.holds k q was.1);
+      in_without y pages q
+      ∙ and_from (not (same_page q y || false)) (has pages q) (ap (λ b. not (b || false)) other) (keeps.holds k q was.1);
   used = λ k q h. keeps.used k q (lost look look' j k q changes h).1;
   below = λ k q h. keeps.below k q (lost look look' j k q changes h).1;
   found = λ q h.
       let both = and_parts (not (same_page q y || false)) (has pages q) (sym (in_without y pages q) ∙ h) in
       let other = (or_parts (same_page q y) false (not-true (same_page q y || false) both.0)).0 in
       let k = keeps.found q both.1 in
-      let apart : j ≡ k.0 → ⊥ = λ e. let at_j = sym is ∙ ap look e ∙ k.1 in let same : y ≡ q = cc at_j in false≢true (sym other ∙ ap (λ p. same_page p y) (sym same) ∙ is_same y) in
+      let apart : j ≡ k.0 → ⊥ = λ e. let at_j = sym is ∙ ap look e ∙ k.1 in let same : y ≡ q = cc at_j in
+      false≢true (sym other ∙ ap (λ p. same_page p y) (sym same) ∙ is_same y) in
       (k.0, changed_other look look' j k.0 None changes apart ∙ k.1);
   once = λ k l q h h'. keeps.once k l q (lost look look' j k q changes h).1 (lost look look' j l q changes h').1;
   size = omega (arith, less, keeps.size, length-without y pages distinct (keeps.holds j y is));
 }
 
 -- the accessed page, which is not in the map, has no key there
-fresh : (i : ℕ) (page : Page) (coming pages : List Page) (look : ℕ → Option Page) (count u : ℕ) → Keeps i (page ∷ coming) pages look count → has pages page ≡ false → IsUse i page coming u
+fresh : (i : ℕ) (page : Page) (coming pages : List Page) (look : ℕ → Option Page) (count u : ℕ) → Keeps i (page ∷ coming) pages look count
+    → has pages page ≡ false → IsUse i page coming u
     → (o : Option Page) → look u ≡ o → o ≡ None
 fresh i page coming pages look count u keeps absent use_is None is = refl
 fresh i page coming pages look count u keeps absent use_is (Some q) is =
@@ -149,11 +160,14 @@ fresh i page coming pages look count u keeps absent use_is (Some q) is =
 
 -- the access is done, and its page comes into the map with its next use
 pub keeps_next : (i : ℕ) (page : Page) (coming pages : List Page) (look look' : ℕ → Option Page) (count count' u : ℕ)
-    → Keeps i (page ∷ coming) pages look count → has pages page ≡ false → IsUse i page coming u → Changes look u (Some page) look' → count' ≡ count + cond (is_some (look u)) 0 1
+    → Keeps i (page ∷ coming) pages look count → has pages page ≡ false → IsUse i page coming u → Changes look u (Some page) look'
+    → count' ≡ count + cond (is_some (look u)) 0 1
     → Keeps (i + 1) coming (pages ++ page ∷ []) look' count'
 keeps_next i page coming pages look look' count count' u keeps absent use_is changes more = record {
   holds = λ k q h. ⊎_elim
-      (λ here. has-append pages (page ∷ []) q ∙ or_right (has pages q) (has (page ∷ []) q) (or_left (same_page q page) false (ap (λ p. same_page p page) (sym here.1) ∙ is_same page)))
+      (λ here. has-append pages (page ∷ []) q
+      ∙ or_right (has pages q) (has (page ∷ []) q)
+      (or_left (same_page q page) false (ap (λ p. same_page p page) (sym here.1) ∙ is_same page)))
       (λ there. has-append pages (page ∷ []) q ∙ or_left (has pages q) (has (page ∷ []) q) (keeps.holds k q there.1))
       (gained look look' u k page q changes h);
   used = λ k q h. ⊎_elim
@@ -188,7 +202,8 @@ keeps_next i page coming pages look look' count count' u keeps absent use_is cha
     none = fresh i page coming pages look count u keeps absent use_is (look u) refl
 
 -- the same pages in another order
-pub keeps_like : (i : ℕ) (coming pages pages' : List Page) (look : ℕ → Option Page) (count : ℕ) → Keeps i coming pages look count → ((p : Page) → has pages p ≡ has pages' p) → length pages' ≡ length pages
+pub keeps_like : (i : ℕ) (coming pages pages' : List Page) (look : ℕ → Option Page) (count : ℕ) → Keeps i coming pages look count
+    → ((p : Page) → has pages p ≡ has pages' p) → length pages' ≡ length pages
     → Keeps i coming pages' look count
 keeps_like i coming pages pages' look count keeps same size = record {
   holds = λ j p h. sym (same p) ∙ keeps.holds j p h;

@@ -15,7 +15,8 @@ pub has_key : (keys : List PageKey) (page : Page) → has (map page_of keys) pag
 has_key [] page = refl
 has_key (key ∷ keys) page = ap (λ b. same_page page (page_of key) || b) (has_key keys page)
 
-none_same : (key : PageKey) (keys : List PageKey) → AllByRecursion (λ k. same_key key k ≡ false) keys → has (map page_of keys) (page_of key) ≡ false
+none_same : (key : PageKey) (keys : List PageKey) → AllByRecursion (λ k. same_key key k ≡ false) keys
+    → has (map page_of keys) (page_of key) ≡ false
 none_same key [] h = refl
 none_same key (k ∷ keys) h = or_from (same_key key k) (has (map page_of keys) (page_of key)) h.0 (none_same key keys h.1)
 
@@ -33,7 +34,8 @@ pub found : (keys : List PageKey) (key : PageKey) (page : Page) (pages : List Pa
 found keys key page pages is view = ap (λ k. list_any (same_key k) keys) is ∙ sym (has_key keys page) ∙ ap (λ s. has s page) view
 
 -- where one key was put in or taken out, one page was
-pub changed : (old new : List PageKey) (key : PageKey) (page g : Page) (pages : List Page) (b : Bool) → key ≡ key_of page → map page_of old ≡ pages
+pub changed : (old new : List PageKey) (key : PageKey) (page g : Page) (pages : List Page) (b : Bool) → key ≡ key_of page
+    → map page_of old ≡ pages
     → list_any (same_key (key_of g)) new ≡ cond (same_key key (key_of g)) b (list_any (same_key (key_of g)) old)
     → has (map page_of new) g ≡ cond (same_page page g) b (has pages g)
 changed old new key page g pages b is view h =

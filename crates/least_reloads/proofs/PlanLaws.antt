@@ -18,7 +18,8 @@ pub record MadeSoFar (frames : ℕ) (accesses : List Page) (entries : List (ℕ 
   pub counted : loads ≡ loads_of steps
   pub few : loads ≤ i
 
-pub made_none : (frames : ℕ) (accesses : List Page) (entries : List (ℕ × Page)) (steps : List StepView) → entries ≡ [] → steps ≡ [] → MadeSoFar frames accesses entries steps 0 0
+pub made_none : (frames : ℕ) (accesses : List Page) (entries : List (ℕ × Page)) (steps : List StepView) → entries ≡ [] → steps ≡ []
+    → MadeSoFar frames accesses entries steps 0 0
 made_none frames accesses entries steps none no_steps =
     let Made : List (ℕ × Page) → List StepView → Type 0 = λ es ts. MadeSoFar frames accesses es ts 0 0 in
     let MadeEs : List (ℕ × Page) → Type 0 = λ es. Made es steps in
@@ -40,15 +41,19 @@ made_none frames accesses entries steps none no_steps =
     } in
     subst MadeEs (sym none) (subst MadeTs (sym no_steps) made)
 
-one_load : (frames : ℕ) (held : List Page) (page : Page) (coming : List Page) (step : StepView) → IsBest frames held page coming step → length step.load ≤ 1
+one_load : (frames : ℕ) (held : List Page) (page : Page) (coming : List Page) (step : StepView) → IsBest frames held page coming step
+    → length step.load ≤ 1
 one_load frames held page coming _ (Hit h) = omega arith
 one_load frames held page coming _ (Fill h r) = omega arith
 one_load frames held page coming _ (Swap old h f o far) = omega arith
 
-pub made_more : (frames : ℕ) (accesses : List Page) (old now new : List (ℕ × Page)) (steps : List StepView) (loads i u : ℕ) (d : Page) (step : StepView)
+pub made_more : (frames : ℕ) (accesses : List Page) (old now new : List (ℕ × Page)) (steps : List StepView) (loads i u : ℕ) (d : Page)
+    (step : StepView)
     → 1 ≤ frames → i < length accesses → (so_far : MadeSoFar frames accesses old steps loads i)
-    → ((coming pages : List Page) → Holds frames pages → Keeps i (get_or accesses i d ∷ coming) pages (at old) (length old) → Chosen frames i (get_or accesses i d) coming pages step (at now) (length now))
-    → IsUseAt i (drop i accesses) u → Changes (at now) u (Some (get_or accesses i d)) (at new) → length new ≡ length now + cond (is_some (at now u)) 0 1
+    → ((coming pages : List Page) → Holds frames pages → Keeps i (get_or accesses i d ∷ coming) pages (at old) (length old)
+    → Chosen frames i (get_or accesses i d) coming pages step (at now) (length now))
+    → IsUseAt i (drop i accesses) u → Changes (at now) u (Some (get_or accesses i d)) (at new)
+    → length new ≡ length now + cond (is_some (at now u)) 0 1
     → MadeSoFar frames accesses new (steps ++ step ∷ []) (loads + length step.load) (i + 1)
 made_more frames accesses old now new steps loads i u d step some low so_far chooses use_at changes more =
     let page = get_or accesses i d in
@@ -59,11 +64,13 @@ made_more frames accesses old now new steps loads i u d step some low so_far cho
     let Runs : List Page → List StepView → Type 0 = IsBestRun frames so_far.pages in
     let chosen = chooses coming so_far.pages so_far.holds (subst Kept there so_far.keeps) in
     let next = holds_next frames page coming so_far.pages step some so_far.holds chosen.best in
-    let keeps = keeps_next i page coming chosen.others (at now) (at new) (length now) (length new) u chosen.keeps chosen.absent (subst Uses there use_at) changes more in
+    let keeps = keeps_next i page coming chosen.others (at now) (at new) (length now) (length new) u chosen.keeps chosen.absent
+    (subst Uses there use_at) changes more in
     record {
       pages = after so_far.pages step;
       holds = next.1;
-      keeps = keeps_like (i + 1) coming (chosen.others ++ page ∷ []) (after so_far.pages step) (at new) (length new) keeps chosen.same (omega (arith, chosen.size, length-append chosen.others (page ∷ [])));
+      keeps = keeps_like (i + 1) coming (chosen.others ++ page ∷ []) (after so_far.pages step) (at new) (length new) keeps chosen.same
+          (omega (arith, chosen.size, length-append chosen.others (page ∷ [])));
       onward = λ rest run.
           let on = so_far.onward (step ∷ rest) (rw there (chosen.best, run)) in
           rw (append_assoc steps (step ∷ []) rest) on;
@@ -76,7 +83,8 @@ pub record MadeAll (frames : ℕ) (accesses : List Page) (plan : PlanView) : Typ
   pub lawful : IsLawful accesses frames plan
   pub fewest : IsLeast accesses frames plan
 
-pub made_all : (frames : ℕ) (accesses : List Page) (entries : List (ℕ × Page)) (plan : PlanView) (i : ℕ) → 1 ≤ frames → length accesses ≤ i → MadeSoFar frames accesses entries plan.steps plan.loads i → MadeAll frames accesses plan
+pub made_all : (frames : ℕ) (accesses : List Page) (entries : List (ℕ × Page)) (plan : PlanView) (i : ℕ) → 1 ≤ frames → length accesses ≤ i
+    → MadeSoFar frames accesses entries plan.steps plan.loads i → MadeAll frames accesses plan
 made_all frames accesses entries plan i some done so_far =
     let all : IsBestRun frames [] accesses (plan.steps ++ []) = so_far.onward [] (rw (drop_all i accesses done) tt) in
     let run : IsBestRun frames [] accesses plan.steps = rw append-nil at all in

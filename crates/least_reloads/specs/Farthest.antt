@@ -69,7 +69,8 @@ pub record Keeps (i : ℕ) (coming held : List Page) (look : ℕ → Option Page
   pub size : count ≡ length held
 
 -- a best step was chosen, and the map has the other held pages
-pub record Chosen (frames i : ℕ) (page : Page) (coming held : List Page) (step : StepView) (look : ℕ → Option Page) (count : ℕ) : Type 0 where
+pub record Chosen (frames i : ℕ) (page : Page) (coming held : List Page) (step : StepView) (look : ℕ
+    → Option Page) (count : ℕ) : Type 0 where
   pub best : IsBest frames held page coming step
   pub others : List Page
   pub keeps : Keeps i (page ∷ coming) others look count

@@ -14,7 +14,8 @@ returns-then-not-branch c =
 pub loop-page-preserved : goal.loop-page-preserved
 loop-page-preserved c =
     let more =
-    join_more c.args.held.now c.args.pages.now c.loop-page.held c.insert.new.self c.loop-page.page-index _ c.loop-page-test.true c.loop-page.invariant.can c.loop-page.invariant.joined
+    join_more c.args.held.now c.args.pages.now c.loop-page.held c.insert.new.self c.loop-page.page-index _ c.loop-page-test.true
+    c.loop-page.invariant.can c.loop-page.invariant.joined
     (not-true _ (sym c.in_ok-insert.ensures.added ∙ c.if-not-branch.false))
     c.in_ok-insert.ensures.new in
     record { can = more.can; joined = more.joined }

@@ -13,7 +13,8 @@ returns-then-not-remove c =
 pub loop-page-preserved : goal.loop-page-preserved
 loop-page-preserved c =
     let more =
-    leave_more c.args.held.now c.args.pages.now c.loop-page.held c.remove.new.self c.loop-page.page-index _ c.loop-page-test.true c.loop-page.invariant.can c.loop-page.invariant.left
+    leave_more c.args.held.now c.args.pages.now c.loop-page.held c.remove.new.self c.loop-page.page-index _ c.loop-page-test.true
+    c.loop-page.invariant.can c.loop-page.invariant.left
     (sym c.remove.ensures.removed ∙ c.if-not-remove.false)
     c.remove.ensures.new in
     record { can = more.can; left = more.left }

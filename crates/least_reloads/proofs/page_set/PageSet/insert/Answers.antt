@@ -4,7 +4,8 @@ use Rattle.least_reloads.proofs.page_set.PageSet.insert.Goals as goal
 
 pub returns-clause-added : goal.returns-clause-added
 returns-clause-added c =
-    c.in_ok-insert.ensures.added ∙ ap not (found c.self.inside.keys.keys c.of.result c.args.page c.args.self.now c.of.ensures c.self.view_is)
+    c.in_ok-insert.ensures.added
+    ∙ ap not (found c.self.inside.keys.keys c.of.result c.args.page c.args.self.now c.of.ensures c.self.view_is)
 
 pub returns-clause-new : goal.returns-clause-new
 returns-clause-new c = λ g.
