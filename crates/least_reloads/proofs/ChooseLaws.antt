@@ -10,9 +10,9 @@ use Rattle.std.proofs.lemmas.Bool.{false≢true, false_from_ne_true}
 use Rattle.std.proofs.lemmas.List.{length-append, append-nil}
 use Rattle.sgx_types.specs.declared.names.Page.{Page}
 use Rattle.sgx_types.specs.Frames.{same_page}
+use Rattle.sgx_types.proofs.Pages.{same_pages, same_page-refl}
 use Rattle.least_reloads.specs.Plans.{StepView, has, kept, after}
 use Rattle.least_reloads.specs.Farthest.{stays, comes, swaps, IsUsedLast, Hit, Fill, Swap, Holds, next_use, Keeps, Chosen}
-use Rattle.least_reloads.proofs.Pages.{same_is, is_same}
 use Rattle.least_reloads.proofs.Soon.{without, length-without}
 use Rattle.least_reloads.proofs.Held.{has-append}
 use Rattle.least_reloads.proofs.FarthestLaws.{all_kept}
@@ -22,7 +22,7 @@ used_now : (x : Page) (w : List Page) (p : Page) → next_use (x ∷ w) p ≡ 0 
 used_now x w p now = by_test (same_page p x) refl
   where
     by_test : (b : Bool) → same_page p x ≡ b → p ≡ x
-    by_test true same = same_is p x same
+    by_test true same = same_pages p x same
     by_test false other = absurd (omega (arith, now, use_later x w p other))
 
 back_in : (s h : Bool) → (s ≡ true → h ≡ true) → ((not (s || false) && h) || (s || false)) ≡ h
@@ -43,11 +43,11 @@ chosen_hit frames i page coming pages look look' count count' q holds keeps is c
       best = Hit held;
       others = without page pages;
       keeps = keeps_without i (page ∷ coming) pages look look' count count' i page keeps holds.distinct is_page changes less;
-      absent = in_without page pages page ∙ ap (λ b. not (b || false) && has pages page) (is_same page);
+      absent = in_without page pages page ∙ ap (λ b. not (b || false) && has pages page) (same_page-refl page);
       same = λ p.
           has-append (without page pages) (page ∷ []) p
           ∙ ap (λ b. b || (same_page p page || false)) (in_without page pages p)
-          ∙ back_in (same_page p page) (has pages p) (λ s. ap (has pages) (same_is p page s) ∙ held)
+          ∙ back_in (same_page p page) (has pages p) (λ s. ap (has pages) (same_pages p page s) ∙ held)
           ∙ ap (λ l. has l p) (sym stay);
       size = ap length stay ∙ sym (length-without page pages holds.distinct held);
     }
@@ -57,7 +57,7 @@ missed : (i : ℕ) (page : Page) (coming pages : List Page) (look : ℕ → Opti
     → look i ≡ None → has pages page ≡ false
 missed i page coming pages look count keeps none = false_from_ne_true (has pages page) (λ held.
     let j = keeps.found page held in
-    let here : i ≡ j.0 = omega (arith, keeps.used j.0 page j.1, use_now page coming page (is_same page)) in
+    let here : i ≡ j.0 = omega (arith, keeps.used j.0 page j.1, use_now page coming page (same_page-refl page)) in
     let there = sym none ∙ ap look here ∙ j.1 in cc there)
 
 pub chosen_fill : (frames i : ℕ) (page : Page) (coming pages : List Page) (look : ℕ → Option Page) (count : ℕ)

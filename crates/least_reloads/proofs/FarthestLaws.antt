@@ -5,9 +5,10 @@ use Rattle.std.proofs.lemmas.Bool.{false≢true, and_right, or_left}
 use Rattle.std.proofs.lemmas.List.{length-append, append-nil}
 use Rattle.sgx_types.specs.declared.names.Page.{Page}
 use Rattle.sgx_types.specs.Frames.{same_page}
+use Rattle.sgx_types.proofs.Pages.{same_page-refl}
 use Rattle.least_reloads.specs.Plans.{StepView, PlanView, has, kept, after, IsStep, IsRun, loads_of, IsLawful, IsLeast}
 use Rattle.least_reloads.specs.Farthest.{stays, comes, swaps, IsUsedLast, IsBest, Hit, Fill, Swap, IsBestRun, Holds}
-use Rattle.least_reloads.proofs.Pages.{is_same, none_distinct, one_distinct}
+use Rattle.least_reloads.proofs.Pages.{none_distinct, one_distinct}
 use Rattle.least_reloads.proofs.Held.{has-kept, has_one, loaded, distinct-after}
 use Rattle.least_reloads.proofs.Soon.{one, count, soon, count-append, count-le, count-filter, count-all, none_soon, count-or_is_held, count-or_is_absent, count-or_is_once, without, count-without, length-without}
 
@@ -162,7 +163,7 @@ best_step frames page coming ours _ some holds (Fill absent room) = record {
   load_absent = λ p h. ap (λ pages. has pages p) (all_kept ours (page ∷ [])) ∙ ap (has ours) (sym (has_one page p h)) ∙ absent;
   load_once = one_distinct page;
   fits = omega (arith, length-append (kept ours (comes page)) (page ∷ []), ap length (all_kept ours (page ∷ [])), room);
-  accessed_held = loaded ours (comes page) page (or_left (same_page page page) false (is_same page));
+  accessed_held = loaded ours (comes page) page (or_left (same_page page page) false (same_page-refl page));
 }
 best_step frames page coming ours _ some holds (Swap old absent full held farthest) = record {
   out_held = λ p h. ap (has ours) (sym (has_one old p h)) ∙ held;
@@ -171,7 +172,7 @@ best_step frames page coming ours _ some holds (Swap old absent full held farthe
       ∙ and_right (not (has (old ∷ []) p)) (has ours p) (ap (has ours) (sym (has_one page p h)) ∙ absent);
   load_once = one_distinct page;
   fits = omega (arith, length-append (without old ours) (page ∷ []), length-without old ours holds.distinct held, holds.fits);
-  accessed_held = loaded ours (swaps old page) page (or_left (same_page page page) false (is_same page));
+  accessed_held = loaded ours (swaps old page) page (or_left (same_page page page) false (same_page-refl page));
 }
 
 pub holds_next : (frames : ℕ) (page : Page) (coming ours : List Page) (step : StepView) → 1 ≤ frames → Holds frames ours

@@ -6,11 +6,12 @@ use Rattle.std.proofs.lemmas.List.Folds.{list_any-append}
 use Rattle.std.proofs.lemmas.Map.Views.{any-filter_same}
 use Rattle.sgx_types.specs.declared.names.Page.{Page}
 use Rattle.sgx_types.specs.Frames.{same_page}
+use Rattle.sgx_types.proofs.Pages.{same_pages, same_page-refl}
 use Rattle.least_reloads.specs.Plans.{StepView, has, kept, after}
-use Rattle.least_reloads.proofs.Pages.{same_is, is_same, distinct_parts, distinct_cons, none_distinct}
+use Rattle.least_reloads.proofs.Pages.{distinct_parts, distinct_cons, none_distinct}
 
 pub has-filter : (q : Page → Bool) (pages : List Page) (p : Page) → has (filter q pages) p ≡ (q p && has pages p)
-has-filter q pages p = any-filter_same (same_page p) q (q p) (λ k h. ap q (sym (same_is p k h))) pages
+has-filter q pages p = any-filter_same (same_page p) q (q p) (λ k h. ap q (sym (same_pages p k h))) pages
 
 pub has-kept : (held : List Page) (step : StepView) (p : Page) → has (kept held step) p ≡ (not (has step.out p) && has held p)
 has-kept held step p = has-filter (λ x. not (has step.out x)) held p
@@ -39,7 +40,7 @@ distinct-append [] ys first second disjoint = second
 distinct-append (x ∷ xs) ys first second disjoint =
     let parts = distinct_parts x xs first in
     let absent : has ys x ≡ false =
-    false_from_ne_true (has ys x) (λ h. false≢true (sym (disjoint x h) ∙ ap (λ b. b || has xs x) (is_same x))) in
+    false_from_ne_true (has ys x) (λ h. false≢true (sym (disjoint x h) ∙ ap (λ b. b || has xs x) (same_page-refl x))) in
     distinct_cons x (xs ++ ys)
     (has-append xs ys x ∙ or_from (has xs x) (has ys x) parts.0 absent)
     (distinct-append xs ys parts.1 second (λ p h. (or_parts (same_page p x) (has xs p) (disjoint p h)).1))
@@ -51,7 +52,7 @@ distinct-after held step distinct once absent =
     distinct-append (kept held step) step.load (distinct-filter (λ x. not (has step.out x)) held distinct) once absent
 
 pub has_one : (page p : Page) → has (page ∷ []) p ≡ true → page ≡ p
-has_one page p h = ⊎_elim (λ s. sym (same_is p page s)) (λ e. absurd (false≢true e)) (or_cases (same_page p page) false h)
+has_one page p h = ⊎_elim (λ s. sym (same_pages p page s)) (λ e. absurd (false≢true e)) (or_cases (same_page p page) false h)
 
 -- a page that is loaded is held
 pub loaded : (held : List Page) (step : StepView) (p : Page) → has step.load p ≡ true → has (after held step) p ≡ true

@@ -10,9 +10,9 @@ use Rattle.std.proofs.lemmas.Cmp.{ranked}
 use Rattle.std.proofs.lemmas.List.{length-append}
 use Rattle.sgx_types.specs.declared.names.Page.{Page}
 use Rattle.sgx_types.specs.Frames.{same_page}
+use Rattle.sgx_types.proofs.Pages.{same_pages, same_page-refl}
 use Rattle.least_reloads.specs.Plans.{has}
 use Rattle.least_reloads.specs.Farthest.{next_use, IsUse, Keeps}
-use Rattle.least_reloads.proofs.Pages.{same_is, is_same}
 use Rattle.least_reloads.proofs.Soon.{without, length-without}
 use Rattle.least_reloads.proofs.Held.{has-filter, has-append, has_one}
 
@@ -68,7 +68,7 @@ one_use (x ∷ w) p q e ever = by_tests (same_page p x) (same_page q x) refl ref
   where
     by_tests : (b c : Bool) → same_page p x ≡ b → same_page q x ≡ c → (next_use w p ≡ next_use w q → next_use w p < length w → p ≡ q)
         → p ≡ q
-    by_tests true true pb qc rest = same_is p x pb ∙ sym (same_is q x qc)
+    by_tests true true pb qc rest = same_pages p x pb ∙ sym (same_pages q x qc)
     by_tests true false pb qc rest = absurd (omega (arith, e, use_now x w p pb, use_later x w q qc))
     by_tests false true pb qc rest = absurd (omega (arith, e, use_later x w p pb, use_now x w q qc))
     by_tests false false pb qc rest =
@@ -113,7 +113,7 @@ gained look look' j k x q changes h = ⊎_elim
 
 pub not_same : (pages : List Page) (x q : Page) → has pages x ≡ false → has pages q ≡ true → same_page q x ≡ false
 not_same pages x q absent held =
-    false_from_ne_true (same_page q x) (λ s. false≢true (sym absent ∙ ap (has pages) (sym (same_is q x s)) ∙ held))
+    false_from_ne_true (same_page q x) (λ s. false≢true (sym absent ∙ ap (has pages) (sym (same_pages q x s)) ∙ held))
 
 pub in_without : (y : Page) (pages : List Page) (q : Page) → has (without y pages) q ≡ (not (same_page q y || false) && has pages q)
 in_without y pages q = has-filter (λ p. not (has (y ∷ []) p)) pages q
@@ -126,7 +126,7 @@ keeps_without i coming pages look look' count count' j y keeps distinct is chang
   holds = λ k q h.
       let was = lost look look' j k q changes h in
       let other : same_page q y ≡ false = false_from_ne_true (same_page q y)
-      (λ s. was.0 (keeps.once j k y is (was.1 ∙ ap (λ p. Some p) (same_is q y s)))) in
+      (λ s. was.0 (keeps.once j k y is (was.1 ∙ ap (λ p. Some p) (same_pages q y s)))) in
       in_without y pages q
       ∙ and_from (not (same_page q y || false)) (has pages q) (ap (λ b. not (b || false)) other) (keeps.holds k q was.1);
   used = λ k q h. keeps.used k q (lost look look' j k q changes h).1;
@@ -136,7 +136,7 @@ keeps_without i coming pages look look' count count' j y keeps distinct is chang
       let other = (or_parts (same_page q y) false (not-true (same_page q y || false) both.0)).0 in
       let k = keeps.found q both.1 in
       let apart : j ≡ k.0 → ⊥ = λ e. let at_j = sym is ∙ ap look e ∙ k.1 in let same : y ≡ q = cc at_j in
-      false≢true (sym other ∙ ap (λ p. same_page p y) (sym same) ∙ is_same y) in
+      false≢true (sym other ∙ ap (λ p. same_page p y) (sym same) ∙ same_page-refl y) in
       (k.0, changed_other look look' j k.0 None changes apart ∙ k.1);
   once = λ k l q h h'. keeps.once k l q (lost look look' j k q changes h).1 (lost look look' j l q changes h').1;
   size = omega (arith, less, keeps.size, length-without y pages distinct (keeps.holds j y is));
@@ -167,7 +167,7 @@ keeps_next i page coming pages look look' count count' u keeps absent use_is cha
   holds = λ k q h. ⊎_elim
       (λ here. has-append pages (page ∷ []) q
       ∙ or_right (has pages q) (has (page ∷ []) q)
-      (or_left (same_page q page) false (ap (λ p. same_page p page) (sym here.1) ∙ is_same page)))
+      (or_left (same_page q page) false (ap (λ p. same_page p page) (sym here.1) ∙ same_page-refl page)))
       (λ there. has-append pages (page ∷ []) q ∙ or_left (has pages q) (has (page ∷ []) q) (keeps.holds k q there.1))
       (gained look look' u k page q changes h);
   used = λ k q h. ⊎_elim

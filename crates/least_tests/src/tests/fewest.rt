@@ -21,7 +21,7 @@ fn go_along(rt: &impl Abort, alloc: Global, rows: &[Row]) -> Result<(), Fail> {
     Ok(())
 }
 
-// Lists that stand in the textbooks, one page, no access, and forty pages that are accessed in order, twice.
+// The list of the textbooks for three numbers of frames, two pages in one frame, no access, and forty pages in order, twice.
 const KNOWN: &[Row] = &[
     (&[1, 2, 3, 4, 1, 2, 5, 1, 2, 3, 4, 5], 3, 7),
     (&[1, 2, 3, 4, 1, 2, 5, 1, 2, 3, 4, 5], 4, 6),

@@ -46,10 +46,12 @@ loop-i-preserved c =
 
 pub returns-clause-reached : goal.returns-clause-reached
 returns-clause-reached c =
+    let accesses = c.args.accesses.now in
     let plan : PlanView = record { steps = c.loop-i.steps.items; loads = c.loop-i.loads } in
-    (made_all c.args.frames c.args.accesses.now c.loop-i.held.entries plan c.loop-i.i c.requires c.loop-i-test.false c.loop-i.invariant).lawful
+    (made_all c.args.frames accesses c.loop-i.held.entries plan c.loop-i.i c.requires c.loop-i-test.false c.loop-i.invariant).lawful
 
 pub returns-clause-least : goal.returns-clause-least
 returns-clause-least c =
+    let accesses = c.args.accesses.now in
     let plan : PlanView = record { steps = c.loop-i.steps.items; loads = c.loop-i.loads } in
-    (made_all c.args.frames c.args.accesses.now c.loop-i.held.entries plan c.loop-i.i c.requires c.loop-i-test.false c.loop-i.invariant).fewest
+    (made_all c.args.frames accesses c.loop-i.held.entries plan c.loop-i.i c.requires c.loop-i-test.false c.loop-i.invariant).fewest
