@@ -26,9 +26,9 @@ kept held step = filter (λ page. not (has step.out page)) held
 abbrev pub after : List Page → StepView → List Page
 after held step = kept held step ++ step.load
 
--- Where these pages are held, the step can be done and serves an access to this page: each page that goes out was held, and each
--- that is loaded is not held by then, none of them is named twice, and afterwards the held pages fit and the accessed one is
--- among them.
+-- Where these pages are held, the step can be done and serves an access to this page: the pages that go out are held, those that are
+-- loaded are not held any more or never were, neither list names a page twice, and afterwards the held pages fit and the accessed one
+-- is among them.
 pub record IsStep (frames : ℕ) (held : List Page) (accessed : Page) (step : StepView) : Type 0 where
   pub out_held : (page : Page) → has step.out page ≡ true → has held page ≡ true
   pub out_once : IsDistinct same_page step.out

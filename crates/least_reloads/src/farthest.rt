@@ -13,9 +13,9 @@ use sgx_types::names::{Memory, Page};
 use std::alloc::Global;
 use std::collections::{BTreeMap, HashMap};
 
-/// A lawful plan that serves the accesses in so many frames, at least one, with the fewest loads. A page is loaded when it
-/// is accessed, and where there is no room for it the page goes whose next access is farthest. Takes a time in proportion
-/// to n log n for n accesses, however many frames there are.
+/// The plan with the fewest loads that serves the accesses, in this order, in so many frames, of which there is at least one
+/// and none holds a page at first. A page is loaded when it is accessed, and where there is no room for it the page goes
+/// whose next access is farthest. The time for n accesses grows as n log n, however many frames there are.
 pub fn plan(alloc: Global, accesses: &[Page], frames: u32) -> Result<LoadPlan, Memory>
     requires { 1 ≤ frames }
     ensures reached { IfOk result (λ plan. IsLawful accesses.now frames plan) }

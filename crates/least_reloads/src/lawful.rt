@@ -10,9 +10,10 @@ use crate::page_set::PageSet;
 use sgx_types::names::{Memory, Page};
 use std::alloc::Global;
 
-/// Whether the plan serves the accesses, in this order, in so many frames that hold no page at first: a step for each
-/// access, in which pages that are held leave and pages that are not held are loaded, none of them twice, and after
-/// which at most `frames` pages are held and the accessed page is one of them. A plan may load before it must.
+/// Whether the plan serves the accesses, in this order, in so many frames that hold no page at first, and says rightly how
+/// many loads it makes. It has a step for each access. In each, pages that are held leave, each once, and then pages that are
+/// not held are loaded, each once; afterwards at most `frames` pages are held, and the accessed page is one of them. A plan
+/// may load before it must.
 pub fn check(alloc: Global, accesses: &[Page], frames: u32, plan: &LoadPlan) -> Result<bool, Memory>
     ensures { IfOk result (λ lawful. IsTrue lawful ↔ IsLawful accesses.now frames plan.now) }
 {

@@ -3,7 +3,8 @@
 use sgx_types::names::Page;
 use std::marker::Model;
 
-/// What happens before an access: the pages of `out` leave their frames, and then the pages of `load` are loaded.
+/// What happens before an access: the pages of `out` leave their frames, and then the pages of `load` are loaded. Any two
+/// lists of pages can be a step; `check` tells whether a plan's can be done.
 #[derive(Debug, Drop)]
 pub struct Step {
     pub out: Vec<Page>,
@@ -18,7 +19,7 @@ impl Model for Step {
     ghost view = { λ s. record { out = s.out.items; load = s.load.items } };
 }
 
-/// A step for each access, and how many loads they make in all.
+/// Steps, one for each access, and how many loads they make in all.
 #[derive(Debug, Drop)]
 pub struct LoadPlan {
     pub steps: Vec<Step>,
