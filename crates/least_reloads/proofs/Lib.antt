@@ -1,0 +1,11 @@
+pub mod KeyLaws
+pub mod Pages
+pub mod Held
+pub mod RunLaws
+pub mod SetLaws
+pub mod Soon
+pub mod FarthestLaws
+pub mod KeepLaws
+pub mod ChooseLaws
+pub mod UseLaws
+pub mod PlanLaws

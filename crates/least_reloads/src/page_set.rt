@@ -1,0 +1,72 @@
+//! Sets of pages.
+
+ghost use Rattle.std.specs.Prelude.{◌≡◌, [], true, false, not, if◌then◌else◌, length, IfOk, OnOk};
+ghost use Rattle.std.specs.List.{IsDistinct};
+ghost use Rattle.sgx_types.specs.declared.names.Page.{Page};
+ghost use Rattle.sgx_types.specs.Frames.{same_page};
+ghost use Rattle.least_reloads.specs.Plans.{has};
+
+use crate::page_key::PageKey;
+use sgx_types::names::{Memory, Page};
+use std::alloc::Global;
+use std::collections::HashSet;
+use std::marker::Model;
+
+/// A set of pages. No call takes longer where it has more of them.
+#[derive(Drop)]
+pub(crate) struct PageSet {
+    keys: HashSet<PageKey>,
+}
+
+impl Model for PageSet {
+    ghost use Rattle.std.specs.Prelude.{List};
+    ghost use Rattle.sgx_types.specs.declared.names.Page.{Page};
+
+    ghost Value = { List Page };
+
+    ghost use Rattle.least_reloads.specs.KeptPages.{pages_of};
+
+    ghost view = { pages_of };
+}
+
+impl PageSet {
+    /// A set without pages.
+    pub(crate) fn new(alloc: Global) -> PageSet
+        ensures { result ≡ [] }
+    {
+        PageSet {
+            keys: HashSet::new(alloc),
+        }
+    }
+
+    /// How many pages are in the set.
+    pub(crate) fn len(&self) -> usize
+        ensures len { result ≡ length self.now }
+        ensures once { IsDistinct same_page self.now }
+    {
+        self.keys.len()
+    }
+
+    /// Whether a page is in the set.
+    pub(crate) fn contains(&self, page: Page) -> bool
+        ensures { result ≡ has self.now page }
+    {
+        self.keys.contains(&PageKey::of(page))
+    }
+
+    /// Puts a page into the set, and tells whether it was not there.
+    pub(crate) fn insert(&mut self, page: Page) -> Result<bool, Memory>
+        ensures added { IfOk result (λ added. added ≡ not (has self.old page)) }
+        ensures new { OnOk result ((g : Page) → has self.new g ≡ (if same_page page g then true else has self.old g)) }
+    {
+        Ok(self.keys.insert(PageKey::of(page))?)
+    }
+
+    /// Takes a page out of the set, and tells whether it was there.
+    pub(crate) fn remove(&mut self, page: Page) -> bool
+        ensures removed { result ≡ has self.old page }
+        ensures new { (g : Page) → has self.new g ≡ (if same_page page g then false else has self.old g) }
+    {
+        self.keys.remove(&PageKey::of(page))
+    }
+}

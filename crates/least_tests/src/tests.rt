@@ -1,0 +1,4 @@
+mod fewest;
+mod lawful;
+mod long;
+mod pages;
