@@ -1,5 +1,5 @@
 -- Reading the text of a valid job gives the job.
-use Rattle.std.proofs.Common.{◌≡◌, ℕ, ◌+◌, ◌-◌, ◌^◌, ◌≤◌, not, Bool, true, false, List, [], ◌∷◌, ◌++◌, None, Ok, find, length, All, refl, sym, ap, ◌∙◌, arith}
+use Rattle.std.proofs.Common.{Err, ◌≡◌, ℕ, ◌+◌, ◌-◌, ◌^◌, ◌≤◌, not, Bool, true, false, List, [], ◌∷◌, ◌++◌, None, Ok, find, length, All, refl, sym, ap, ◌∙◌, arith}
 use Rattle.std.proofs.lemmas.Bool.{and_from, le-leb, lt-ltb, ne_eqb}
 use Rattle.std.proofs.lemmas.List.Elements.{All-head, All-nil, All-tail}
 use Rattle.job_grammar.specs.Jobs.{JobView}
@@ -8,7 +8,7 @@ use Rattle.job_lines.specs.Words.{lines_of}
 use Rattle.job_text.specs.declared.tcs_lines.TcsLine.{TcsLine}
 use Rattle.job_text.specs.Drafts.{Draft, empty_draft, has_some, job_of, keep}
 use Rattle.job_text.specs.Faults.{is_between, is_in_range, is_missing, is_out_of_order, is_shared, is_too_many, is_twice}
-use Rattle.job_text.specs.Reading.{has_save_pages, is_incomplete, read, read_lines, unsaved_line, whole}
+use Rattle.job_text.specs.Reading.{Read, has_save_pages, is_incomplete, read, read_lines, unsaved_line, whole}
 use Rattle.job_text.proofs.ReadLaws.{read_whole}
 use Rattle.job_text.proofs.WholeLaws.{whole_job}
 use Rattle.job_print.specs.JobText.{enclave_says, job_says, job_text, numbered, options_say, plans_say, script_says}
@@ -117,3 +117,11 @@ reads_back j valid =
 
 pub text_reads_back : (j : JobView) (text : List ℕ) → IsValid j → text ≡ job_text j → read text ≡ Ok j
 text_reads_back j text valid is = rw is (reads_back j valid)
+
+abbrev job_in : Read → JobView → JobView
+job_in (Ok j) other = j
+job_in (Err fault) other = other
+
+pub one_text : (one other : JobView) → IsValid one → IsValid other → job_text one ≡ job_text other → one ≡ other
+one_text one other valid valid' same =
+    ap (λ r. job_in r one) (sym (reads_back one valid) ∙ ap read same ∙ reads_back other valid')

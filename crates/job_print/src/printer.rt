@@ -140,3 +140,9 @@ pub fn print_job(alloc: Global, job: &Job) -> Result<Vec<u8>, Memory>
 pub fn what_is_printed_is_read_again()
     ensures { (job : JobView) → IsValid job → read (job_text job) ≡ Ok job }
 {}
+
+/// No two valid jobs have one text.
+#[tactic(auto, using(crate::proofs::ReadsBack::one_text))]
+pub fn each_job_has_its_own_text()
+    ensures { (one other : JobView) → IsValid one → IsValid other → job_text one ≡ job_text other → one ≡ other }
+{}
