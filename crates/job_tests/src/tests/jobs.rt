@@ -1,13 +1,6 @@
-use super::texts::Want::{Faulty, Read};
-use super::texts::{Row, read_each, want_of};
 use job_grammar::jobs::{Job, Marks, Op, PageLine, needed};
-use job_lines::kinds::JobKind::{
-    EpcTooSmall, Missing, Number, Order, Range, TcsShared, TooLong, Twice, Word,
-};
-use job_text::reader::read_job;
 use sgx_types::names::Perm;
 use std::process::Abort;
-use std::test::Fail;
 
 pub const FIRST: &str = "epc 6
 enclave A 0x10000 0x10000
@@ -72,7 +65,7 @@ const HEAD: Head = (
     6,
 );
 
-fn is_first(rt: &impl Abort, job: &Job) {
+pub fn is_first(rt: &impl Abort, job: &Job) {
     let head = (
         job.epc(),
         job.marks(),
@@ -97,223 +90,57 @@ fn is_first(rt: &impl Abort, job: &Job) {
     }
 }
 
-#[test]
-fn first_job(rt: HostRuntime) -> Result<(), Fail> {
-    let job = read_job(rt.alloc(), FIRST.as_bytes())?;
-    is_first(&rt, &job);
-    Ok(())
-}
+pub const ACCEPTED: &str = "\
+    lower case|0x2000|0x20f8|Read;\
+    a page of state save frames that can also be executed|reg 1 1 rw |reg 1 1 rwx |Read;\
+    the greatest value|rw 7|rw 18446744073709551615|Read;\
+    the last page|reg 2 1 rw 7|reg 2 1 r 7 plain\nreg 15 1 rx 0|Read;\
+    no load|load 0x2000\n||Read;\
+    no entry|eenter A 0\n||Read;\
+    no exit|eexit\n||Read;\
+    no operation|eenter A 0\nload 0x2000\neexit\n||Read;\
+    a second entry|eexit\n|eenter A 0\neexit\neexit\n|Read;\
+    a page that is measured|rw 7 plain|rw 7|Read;\
+    a TCS page that is measured|tcs 0 1 1 plain|tcs 0 1 1|Read;\
+    an entry by a second TCS page|cpu 0\neenter A 0|tcs 3 1 1\ncpu 0\neenter A 3|Read;\
+    65 pages and as many frames as they need|epc 6\nenclave A 0x10000 0x10000\n|epc 67\nenclave A 0x100000 0x100000\nreg 3 62 r 0 plain\n|Read;\
+    4086 pages, a SECS and nine version arrays|epc 6\nenclave A 0x10000 0x10000\n|epc 4096\nenclave A 0x1000000 0x1000000\nreg 3 4083 r 0 plain\n|Read";
 
-const ACCEPTED: &[Row] = &[
-    ("lower case", "0x2000", "0x20f8", Read),
-    (
-        "a page of state save frames that can also be executed",
-        "reg 1 1 rw ",
-        "reg 1 1 rwx ",
-        Read,
-    ),
-    (
-        "the greatest value",
-        "rw 7",
-        "rw 18446744073709551615",
-        Read,
-    ),
-    (
-        "the last page",
-        "reg 2 1 rw 7",
-        "reg 2 1 r 7 plain\nreg 15 1 rx 0",
-        Read,
-    ),
-    ("no load", "load 0x2000\n", "", Read),
-    ("no entry", "eenter A 0\n", "", Read),
-    ("no exit", "eexit\n", "", Read),
-    ("no operation", "eenter A 0\nload 0x2000\neexit\n", "", Read),
-    (
-        "a second entry",
-        "eexit\n",
-        "eenter A 0\neexit\neexit\n",
-        Read,
-    ),
-    ("a page that is measured", "rw 7 plain", "rw 7", Read),
-    (
-        "a TCS page that is measured",
-        "tcs 0 1 1 plain",
-        "tcs 0 1 1",
-        Read,
-    ),
-    (
-        "an entry by a second TCS page",
-        "cpu 0\neenter A 0",
-        "tcs 3 1 1\ncpu 0\neenter A 3",
-        Read,
-    ),
-    (
-        "65 pages and as many frames as they need",
-        "epc 6\nenclave A 0x10000 0x10000\n",
-        "epc 67\nenclave A 0x100000 0x100000\nreg 3 62 r 0 plain\n",
-        Read,
-    ),
-    (
-        "4086 pages, a SECS and nine version arrays",
-        "epc 6\nenclave A 0x10000 0x10000\n",
-        "epc 4096\nenclave A 0x1000000 0x1000000\nreg 3 4083 r 0 plain\n",
-        Read,
-    ),
-];
-
-#[test]
-fn accepted(rt: HostRuntime) -> Result<(), Fail> {
-    read_each(&rt, rt.alloc(), FIRST, ACCEPTED)
-}
-
-const CHANGES: &[Row] = &[
-    ("a leading zero", "epc 6", "epc 06", Read),
-    ("a sign", "epc 6", "epc +6", Faulty(1, Number)),
-    ("hexadecimal where decimal stands", "tcs 0", "tcs 0x0", Read),
-    ("decimal where hexadecimal stands", "0x2000", "8192", Read),
-    ("upper case", "0x2000", "0x20F8", Read),
-    ("two spaces", "tcs 0", "tcs  0", Read),
-    ("a tab", "tcs 0", "tcs\t0", Read),
-    ("a space at the end", "eexit\n", "eexit \n", Read),
-    ("no last line feed", "eexit\n", "eexit", Read),
-    ("a blank line", "cpu 0\n", "\ncpu 0\n", Read),
-    ("a comment", "cpu 0\n", "# one\ncpu 0\n", Read),
-    ("an unknown word", "eexit", "eleave", Faulty(9, Word)),
-    ("a word too many", "cpu 0", "cpu 0 plain", Faulty(6, Word)),
-    (
-        "no processor",
-        "cpu 0\neenter A 0\nload 0x2000\neexit\n",
-        "",
-        Faulty(6, Missing),
-    ),
-    (
-        "two processors",
-        "eexit\n",
-        "eexit\ncpu 1\neenter A 0\neexit\n",
-        Faulty(11, TcsShared),
-    ),
-    (
-        "an operation before the first processor",
-        "cpu 0\n",
-        "eexit\ncpu 0\n",
-        Faulty(6, Order),
-    ),
-    ("an option", "enclave A", "start 1 1\nenclave A", Read),
-    (
-        "too few frames",
-        "epc 6",
-        "epc 5",
-        Faulty(1, EpcTooSmall { needed: 6 }),
-    ),
-    ("too many frames", "epc 6", "epc 4097", Faulty(1, Range)),
-    (
-        "a base that is no multiple of the size",
-        "A 0x10000",
-        "A 0x8000",
-        Faulty(2, Range),
-    ),
-    (
-        "a size that is no power of two",
-        "0x10000\ntcs",
-        "0x18000\ntcs",
-        Faulty(2, Range),
-    ),
-    ("another letter", "enclave A", "enclave B", Faulty(2, Order)),
-    (
-        "an entry into an enclave that is not there",
-        "eenter A",
-        "eenter B",
-        Faulty(7, Missing),
-    ),
-    (
-        "a page past the end",
-        "reg 2 1",
-        "reg 16 1",
-        Faulty(5, Range),
-    ),
-    ("no page", "reg 2 1", "reg 2 0", Faulty(5, Range)),
-    (
-        "more pages than numbers",
-        "reg 2 1",
-        "reg 2 4294967295",
-        Faulty(5, Range),
-    ),
-    ("a page twice", "reg 2 1", "reg 1 1", Faulty(5, Twice)),
-    (
-        "a page without R",
-        "reg 2 1 rw",
-        "reg 2 1 w",
-        Faulty(5, Word),
-    ),
-    (
-        "a value of more than 8 bytes",
-        "rw 7",
-        "rw 18446744073709551616",
-        Faulty(5, Number),
-    ),
-    (
-        "another word for plain",
-        "rw 7 plain",
-        "rw 7 Plain",
-        Faulty(5, Word),
-    ),
-    (
-        "plain twice",
-        "rw 7 plain",
-        "rw 7 plain plain",
-        Faulty(5, Word),
-    ),
-    (
-        "no state save frame",
-        "tcs 0 1 1",
-        "tcs 0 1 0",
-        Faulty(3, Range),
-    ),
-    (
-        "a state save page that is not added",
-        "tcs 0 1 1",
-        "tcs 0 3 1",
-        Faulty(3, Missing),
-    ),
-    (
-        "a state save page without W",
-        "reg 1 1 rw",
-        "reg 1 1 r",
-        Faulty(3, Missing),
-    ),
-    (
-        "an entry by a REG page",
-        "eenter A 0",
-        "eenter A 1",
-        Faulty(7, Missing),
-    ),
-    (
-        "65 pages and one frame too few",
-        "epc 6\nenclave A 0x10000 0x10000\n",
-        "epc 66\nenclave A 0x100000 0x100000\nreg 3 62 r 0 plain\n",
-        Read,
-    ),
-    (
-        "4087 pages, which need 4097 frames",
-        "epc 6\nenclave A 0x10000 0x10000\n",
-        "epc 4096\nenclave A 0x1000000 0x1000000\nreg 3 4084 r 0 plain\n",
-        Read,
-    ),
-];
-
-#[test]
-fn changes(rt: HostRuntime) -> Result<(), Fail> {
-    read_each(&rt, rt.alloc(), FIRST, CHANGES)
-}
-
-#[test]
-fn too_long(rt: HostRuntime) -> Result<(), Fail> {
-    let mut bytes = vec![in rt.alloc(); b'x'; (1 << 24) + 1]?;
-    if let Some(byte) = bytes.get_mut(3) {
-        *byte = b'\n';
-    }
-    assert_eq!(rt; want_of(rt.alloc(), &bytes)?, Faulty(0, TooLong));
-    bytes.pop();
-    assert_eq!(rt; want_of(rt.alloc(), &bytes)?, Faulty(1, Word));
-    Ok(())
-}
+pub const CHANGES: &str = "\
+    a leading zero|epc 6|epc 06|Read;\
+    a sign|epc 6|epc +6|1 Number;\
+    hexadecimal where decimal stands|tcs 0|tcs 0x0|Read;\
+    decimal where hexadecimal stands|0x2000|8192|Read;\
+    upper case|0x2000|0x20F8|Read;\
+    two spaces|tcs 0|tcs  0|Read;\
+    a tab|tcs 0|tcs\t0|Read;\
+    a space at the end|eexit\n|eexit \n|Read;\
+    no last line feed|eexit\n|eexit|Read;\
+    a blank line|cpu 0\n|\ncpu 0\n|Read;\
+    a comment|cpu 0\n|# one\ncpu 0\n|Read;\
+    an unknown word|eexit|eleave|9 Word;\
+    a word too many|cpu 0|cpu 0 plain|6 Word;\
+    no processor|cpu 0\neenter A 0\nload 0x2000\neexit\n||6 Missing;\
+    two processors|eexit\n|eexit\ncpu 1\neenter A 0\neexit\n|11 TcsShared;\
+    an operation before the first processor|cpu 0\n|eexit\ncpu 0\n|6 Order;\
+    an option|enclave A|start 1 1\nenclave A|Read;\
+    too few frames|epc 6|epc 5|1 EpcTooSmall { needed: 6 };\
+    too many frames|epc 6|epc 4097|1 Range;\
+    a base that is no multiple of the size|A 0x10000|A 0x8000|2 Range;\
+    a size that is no power of two|0x10000\ntcs|0x18000\ntcs|2 Range;\
+    another letter|enclave A|enclave B|2 Order;\
+    an entry into an enclave that is not there|eenter A|eenter B|7 Missing;\
+    a page past the end|reg 2 1|reg 16 1|5 Range;\
+    no page|reg 2 1|reg 2 0|5 Range;\
+    more pages than numbers|reg 2 1|reg 2 4294967295|5 Range;\
+    a page twice|reg 2 1|reg 1 1|5 Twice;\
+    a page without R|reg 2 1 rw|reg 2 1 w|5 Word;\
+    a value of more than 8 bytes|rw 7|rw 18446744073709551616|5 Number;\
+    another word for plain|rw 7 plain|rw 7 Plain|5 Word;\
+    plain twice|rw 7 plain|rw 7 plain plain|5 Word;\
+    no state save frame|tcs 0 1 1|tcs 0 1 0|3 Range;\
+    a state save page that is not added|tcs 0 1 1|tcs 0 3 1|3 Missing;\
+    a state save page without W|reg 1 1 rw|reg 1 1 r|3 Missing;\
+    an entry by a REG page|eenter A 0|eenter A 1|7 Missing;\
+    65 pages and one frame too few|epc 6\nenclave A 0x10000 0x10000\n|epc 66\nenclave A 0x100000 0x100000\nreg 3 62 r 0 plain\n|Read;\
+    4087 pages, which need 4097 frames|epc 6\nenclave A 0x10000 0x10000\n|epc 4096\nenclave A 0x1000000 0x1000000\nreg 3 4084 r 0 plain\n|Read";
