@@ -1,2 +1,3 @@
 pub mod TableLaws
 pub mod FaultLaws
+pub mod PassLaws

@@ -13,6 +13,8 @@ use Rattle.fault_handler.specs.declared.answers.FaultAnswer.{FaultAnswer}
 use Rattle.fault_handler.specs.declared.answers.FaultAnswer.TheVariants as answers
 use Rattle.fault_handler.specs.declared.answers.Loaded.{Loaded}
 use Rattle.fault_handler.specs.declared.answers.Loaded.TheVariants as ends
+use Rattle.reclaim_worker.specs.declared.turns.PassTurn.{PassTurn}
+use Rattle.reclaim_worker.specs.declared.turns.PassTurn.TheVariants as turns
 use Rattle.run_history.specs.Calls.{ComesWith, before}
 
 -- behind an entry the calls are these: the last is the one that it comes with, those before it were there, and the tables move with it
@@ -44,3 +46,10 @@ AnswerComes cpu page answer calls longer d d' = IsNoCall calls longer d d'
 abbrev pub EndComes : Cpu → Page → Loaded → List Call → Driver → Driver → Type 0
 EndComes cpu page (ends.Here e) calls d d' = Comes e calls calls d d'
 EndComes cpu page (ends.Bus e why) calls d d' = Comes e calls calls d d' × Comes (bus_of cpu page why) calls calls d' d'
+
+-- a turn of a pass: its entry, or no call
+abbrev pub TurnComes : PassTurn → List Call → List Call → Driver → Driver → Type 0
+TurnComes (turns.One e) calls longer d d' = Comes e calls longer d d'
+TurnComes (turns.Seal e) calls longer d d' = Comes e calls longer d d'
+TurnComes (turns.Spent e) calls longer d d' = Comes e calls longer d d'
+TurnComes turn calls longer d d' = IsNoCall calls longer d d'

@@ -5,14 +5,24 @@ ghost use Rattle.active_list.specs.Places.{IsPlaced};
 ghost use Rattle.active_list.specs.States.{state_of as page_state};
 ghost use Rattle.backing_store.specs.Calls.{Call};
 ghost use Rattle.book_laws.specs.Stores.{TellsStore};
-ghost use Rattle.driver_calls.specs.Comes.{AnswerComes, EndComes, Tells};
+ghost use Rattle.driver_calls.specs.Comes.{AnswerComes, Comes, EndComes, Tells, TurnComes};
 ghost use Rattle.driver_tables.specs.declared.driver.Driver.{Driver};
 ghost use Rattle.fault_handler.specs.Finishing.{CanFinish, IsFinished};
 ghost use Rattle.fault_handler.specs.Resolving.{IsResolved};
 ghost use Rattle.fault_handler.specs.declared.answers.FaultAnswer.{FaultAnswer};
 ghost use Rattle.fault_handler.specs.declared.answers.Loaded.{Loaded};
 ghost use Rattle.paging_laws.specs.State.{State};
-ghost use Rattle.paging_machine.specs.Parts.{Parts};
+ghost use Rattle.paging_machine.specs.Parts.{Parts, state_of};
+ghost use Rattle.job_grammar.specs.Jobs.{JobView};
+ghost use Rattle.reclaim_worker.specs.Asked.{look_in, told_by};
+ghost use Rattle.reclaim_worker.specs.Ready.{Ready};
+ghost use Rattle.reclaim_worker.specs.Rests.{DriverSays, IsWait};
+ghost use Rattle.reclaim_worker.specs.Stored.{StoredSays};
+ghost use Rattle.reclaim_worker.specs.Turning.{TurnSays};
+ghost use Rattle.reclaim_worker.specs.declared.turns.PassTurn.{PassTurn};
+ghost use Rattle.reclaim_worker.specs.declared.turns.Phase.{Phase};
+ghost use Rattle.reclaim_worker.specs.declared.turns.Taken.{Taken};
+ghost use Rattle.sgx_types.specs.Making.{Making};
 ghost use Rattle.sgx_types.specs.declared.entries.Entry.{Entry};
 ghost use Rattle.sgx_types.specs.declared.names.Cpu.{Cpu};
 ghost use Rattle.sgx_types.specs.declared.names.Page.{Page};
@@ -31,4 +41,21 @@ pub fn ends_of_loads_make_no_call()
     ensures { (calls : List Call) (d d' : Driver) (m : Parts) (s t : State) (cpu : Cpu) (page : Page) (loaded : Loaded)
         (can : CanFinish cpu page d m) → length d.states.states ≡ sum d.states.counts
         → IsFinished cpu page can.slot can.frame can.kept d s loaded d' t → EndComes cpu page loaded calls d d' }
+{}
+
+/// The entry of a turn of a pass comes with the call that was made of the store: a look asks for place where it takes its page, or would have
+/// taken it. Kicks, and a turn that waits, make no call.
+pub fn turns_of_a_pass_tell_their_calls()
+    ensures { (calls : List Call) (taken taken' : List Taken) (phase phase' : Phase) (d d' : Driver) (m m' : Parts) (turn : PassTurn)
+        (told : Option (List Call)) → d.states.counts ≡ d.active.counts → length d.states.states ≡ sum d.states.counts
+        → TurnSays taken phase d m turn taken' phase' d' m' → DriverSays phase d d' → (IsWait turn → d' ≡ d)
+        → told ≡ told_by (look_in phase turn) (Some calls) → Tells told (λ longer. TurnComes turn calls longer d d') }
+{}
+
+/// The end of a write-out comes with the put of its record, whether that failed or not.
+pub fn write_outs_tell_their_puts()
+    ensures { (made : Making) (j : JobView) (past : List Entry) (calls : List Call) (taken : List Taken) (phase : Phase) (d d' : Driver)
+        (m m' : Parts) (faults faults' : ℕ) (e : Entry) (told : Option (List Call)) → Ready made j past taken phase d m
+        → StoredSays taken phase (state_of m) d (Some calls) faults e (state_of m') d' told faults'
+        → Tells told (λ longer. Comes e calls longer d d') }
 {}

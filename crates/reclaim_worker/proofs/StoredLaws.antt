@@ -72,7 +72,7 @@ module _ (made : Making) (j : JobView) (past : List Entry) (taken : List Taken) 
     opened : open_start past one.frame.0 ≡ Some start
     opened = sym (start_is columns one.frame.0) ∙ k.out.leaving.opened
 
-    page_is : k.out.leaving.page.page ≡ one.page
+    pub page_is : k.out.leaving.page.page ≡ one.page
     page_is =
         same_pages k.out.leaving.page.page one.page
         (sym (ap (λ c. is_page c one.page) (sym (content_is columns one.frame.0) ∙ k.out.leaving.page.held))
