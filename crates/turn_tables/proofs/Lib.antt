@@ -1,0 +1,3 @@
+mod TableLaws
+mod NoteLaws
+mod PlaceLaws

@@ -1,0 +1,6 @@
+pub mod CpuTurns
+pub mod TcsTurns
+pub mod TcsPlaces
+pub mod Shown
+pub mod Noting
+pub mod Entries
