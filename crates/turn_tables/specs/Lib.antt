@@ -4,3 +4,5 @@ pub mod TcsPlaces
 pub mod Shown
 pub mod Noting
 pub mod Entries
+pub mod Due
+pub mod Asked

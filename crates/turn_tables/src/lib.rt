@@ -2,8 +2,13 @@
 // together tell it, without a trace and without a store.
 #![tactic(auto)]
 
+mod asking;
+mod building;
 pub mod cpu_turns;
+pub mod dues;
 mod noting;
+mod operations;
+mod pages;
 mod replies;
 pub mod tcs_turns;
 pub mod turns;
