@@ -1,0 +1,63 @@
+-- What the answers say, and when the actors can be asked.
+use Rattle.std.specs.Prelude.{ℕ, ◌≡◌, ◌≤◌, List, Option, None, Some}
+use Rattle.sgx_types.specs.declared.entries.Action.TheVariants as actions
+use Rattle.sgx_types.specs.declared.entries.Entry.{Entry}
+use Rattle.sgx_types.specs.declared.names.Page.{Page}
+use Rattle.sgx_types.specs.Frames.{frame_of}
+use Rattle.sgx_types.specs.Making.{Making}
+use Rattle.job_grammar.specs.declared.jobs.PageLine.{PageLine}
+use Rattle.job_grammar.specs.declared.jobs.PageLine.TheVariants as lines
+use Rattle.job_grammar.specs.Jobs.{JobView, lines_at, tcs_line}
+use Rattle.turn_rules.specs.Script.{saved}
+use Rattle.paging_machine.specs.Parts.{Parts}
+use Rattle.driver_rules.specs.Dues.{Due, Ends, Finished, Makes, Reports, Stopped, Waits}
+use Rattle.driver_rules.specs.Places.{Here, Leaving, Place, place}
+use Rattle.driver_rules.specs.Turns.{fetches}
+use Rattle.driver_tables.specs.declared.driver.Driver.{Driver}
+use Rattle.driver_steps.specs.Agrees.{Agrees}
+use Rattle.turn_tables.specs.declared.dues.TurnDue.{TurnDue}
+use Rattle.turn_tables.specs.declared.dues.TurnDue.TheVariants as dues
+use Rattle.turn_tables.specs.declared.turns.Turns.{Turns}
+use Rattle.turn_tables.specs.Shown.{ShowsTurns}
+
+-- an answer as the rules have it. What comes of a page that is needed is said by where it is
+abbrev pub due_in : JobView → List Entry → TurnDue → Due
+due_in j past dues.Stopped = Stopped
+due_in j past dues.Finished = Finished
+due_in j past (dues.Waits why) = Waits why
+due_in j past (dues.Ends f) = Ends (actions.Eld f)
+due_in j past (dues.Makes action) = Makes action
+due_in j past (dues.Reports page why) = Reports page why
+due_in j past (dues.Needs page) = fetches j.epc past page (place past page)
+
+-- ---- state save pages
+
+-- no more of them are in use than the line has
+abbrev pub IsWithin : ℕ → Option PageLine → Type 0
+IsWithin n (Some (lines.Tcs page ossa nssa plain)) = n ≤ nssa
+IsWithin n _ = Unit {0}
+
+-- ---- the frame of a page
+
+-- the frame in which a page stands: it is here, or on its way out
+abbrev pub standing : Place → Option ℕ
+standing (Here f) = Some f
+standing (Leaving f) = Some f
+standing _ = None
+
+-- ---- what the entries of a driver keep
+
+pub record IsOrderly (j : JobView) (past : List Entry) : Type 0 where
+  -- a page is in the frame into which it was last put
+  pub frames : (g : Page) → frame_of past g ≡ standing (place past g)
+  -- no TCS page has more state save pages in use than it has
+  pub room : (g : Page) → IsWithin (saved past g) (tcs_line (lines_at j.enclaves g.enclave) g.number)
+
+-- ---- when the actors can be asked
+
+-- driver, machine and these tables stand for the same entries
+pub record IsReady (j : JobView) (d : Driver) (m : Parts) (t : Turns) : Type 0 where
+  pub made : Making
+  pub past : List Entry
+  pub agrees : Agrees made j past d m
+  pub shows : ShowsTurns j past t

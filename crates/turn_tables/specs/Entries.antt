@@ -1,0 +1,27 @@
+-- What is supposed of an entry, so that the tables that show the entries before it show it too.
+use Rattle.std.specs.Prelude.{ℕ, ◌≡◌, List, is_some}
+use Rattle.sgx_types.specs.declared.entries.Actor.{Actor}
+use Rattle.sgx_types.specs.declared.entries.Actor.TheVariants as actors
+use Rattle.sgx_types.specs.declared.entries.Entry.{Entry}
+use Rattle.sgx_types.specs.Processors.{stay}
+use Rattle.cached_translations.specs.declared.processor.Mode.{Mode}
+use Rattle.job_grammar.specs.Jobs.{JobView}
+use Rattle.paging_laws.specs.Columns.{seat_of_stay}
+use Rattle.paging_machine.specs.Parts.{seat_of_mode}
+use Rattle.driver_rules.specs.Scripts.{ScriptRule}
+use Rattle.driver_laws.specs.Loads.{LoadsAreTheirs}
+use Rattle.driver_laws.specs.Three.{HoldsThree}
+
+-- the entry's processor stood so before it
+abbrev pub StoodSo : List Entry → Actor → Mode → Type 0
+StoodSo past (actors.Cpu p) before = seat_of_mode before ≡ seat_of_stay (stay past p.0)
+StoodSo past _ before = Unit {0}
+
+pub record CanNote (j : JobView) (past : List Entry) (before : Mode) (e : Entry) : Type 0 where
+  -- it is its actor's next, by the rules
+  pub script : ScriptRule j past e
+  pub stood : StoodSo past e.actor before
+  -- each started load is one processor's
+  pub theirs : LoadsAreTheirs past
+  -- what each processor holds; with it, who was interrupted has still to resume
+  pub three : (p : ℕ) → HoldsThree j past p

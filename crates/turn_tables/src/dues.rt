@@ -1,0 +1,30 @@
+//! What is due to an actor, as far as the tables tell it.
+
+use driver_rules::waits::Why;
+use sgx_types::entries::{Action, BusWhy};
+use sgx_types::names::{Frame, Page};
+
+/// What is due to the builder or to a processor. Where a page is needed that is not here, the fault step says what comes of it.
+#[derive(Clone, Copy, Debug, PartialEq, Eq)]
+pub enum TurnDue {
+    /// Nothing, since the run was stopped.
+    Stopped,
+
+    /// Nothing more.
+    Finished,
+
+    /// No entry yet.
+    Waits(Why),
+
+    /// The end of its load into a frame.
+    Ends(Frame),
+
+    /// This instruction.
+    Makes(Action),
+
+    /// An entry that tells why a page did not come back.
+    Reports { page: Page, why: BusWhy },
+
+    /// The first step for a page that it needs, and that is in no frame or on its way out.
+    Needs(Page),
+}

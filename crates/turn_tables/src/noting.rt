@@ -1,0 +1,162 @@
+//! What an entry does to the tables.
+
+ghost use Rattle.std.specs.Prelude.{ℕ, ◌≡◌, ◌<◌, ◌∷◌, ◌^◌, List, length, IfSome};
+ghost use Rattle.sgx_types.specs.declared.entries.Entry.{Entry};
+ghost use Rattle.sgx_types.specs.declared.names.Page.{Page};
+ghost use Rattle.turn_rules.specs.Cursor.{IsCursor};
+ghost use Rattle.turn_tables.specs.CpuTurns.{turn_at};
+ghost use Rattle.turn_tables.specs.Entries.{CanNote};
+ghost use Rattle.turn_tables.specs.Noting.{AreFew, IsAmong, IsBuilt, IsNoted, IsStepped, inits_after, page_left, saves_after, with_kick, with_own};
+ghost use Rattle.turn_tables.specs.Shown.{ShowsTurns};
+ghost use Rattle.turn_tables.specs.TcsTurns.{tcs_at};
+
+use crate::cpu_turns::{CpuTurn, CpuTurns};
+use crate::replies::{spends, turn_after};
+use crate::tcs_turns::TcsTurns;
+use crate::turns::Turns;
+use cached_translations::processor::Mode;
+use job_grammar::jobs::Job;
+use sgx_types::entries::{Action, Actor, Entry, Event};
+use sgx_types::names::Page;
+use turn_rules::cursor::BuildCursor;
+
+impl Turns {
+    /// Takes an entry of any actor into the tables. `before` is how the entry's processor stood before it, and counts for nothing where
+    /// the entry is another actor's.
+    pub fn note(&mut self, job: &Job, before: Mode, entry: &Entry)
+        requires cursor { IsCursor job.now self.old.cursor }
+        requires cpu { IsAmong (length self.old.cpus) entry.now.actor }
+        requires few { AreFew self.old }
+        ensures does { IsNoted job.now self.old before entry.now self.new }
+        ensures right { (past : List Entry) → ShowsTurns job.now past self.old → CanNote job.now past before entry.now
+            → ShowsTurns job.now (entry.now ∷ past) self.new }
+    {
+        self.note_by(job, before, entry);
+    }
+
+    // What it does.
+    fn note_by(&mut self, job: &Job, before: Mode, entry: &Entry)
+        requires cursor { IsCursor job.now self.old.cursor }
+        requires cpu { IsAmong (length self.old.cpus) entry.now.actor }
+        requires few { AreFew self.old }
+        ensures { IsNoted job.now self.old before entry.now self.new }
+    {
+        note_saves(&mut self.tcs, &entry.event, left_by(entry.actor, before));
+        note_own(&mut self.cpus, entry.actor, &entry.event, before);
+        note_kick(&mut self.cpus, &entry.event);
+        self.inits = with_init(self.inits, &entry.event);
+        self.cursor = stepped(self.cursor, job, entry.actor);
+        self.last = Some(entry.actor);
+        self.is_spent = spends(&entry.event) || self.is_spent;
+    }
+}
+
+// Which enclaves are initialised behind an event.
+fn with_init(inits: [bool; 9], event: &Event) -> [bool; 9]
+    requires { length inits ≡ 9 }
+    ensures { result ≡ inits_after event.now inits }
+{
+    let mut inits = inits;
+    if let Event::Did {
+        action: Action::Init { enclave, .. },
+        ..
+    } = *event
+    {
+        if usize::from(enclave) < inits.len() {
+            inits[usize::from(enclave)] = true;
+        }
+    }
+    inits
+}
+
+// The TCS page by which the processor of an entry is inside before it.
+fn left_by(actor: Actor, before: Mode) -> Option<Page>
+    ensures { result ≡ page_left actor before }
+{
+    match (actor, before) {
+        (Actor::Cpu(_), Mode::Inside { enclave, tcs, .. }) => Some(Page {
+            enclave,
+            number: tcs,
+        }),
+        _ => None,
+    }
+}
+
+// An asynchronous exit takes a state save page of the TCS page by which the processor was inside, and a resumption gives one back.
+fn note_saves(tcs: &mut TcsTurns, event: &Event, left: Option<Page>)
+    requires { (g : Page) → IfSome (tcs_at tcs.old g) (λ turn. turn.saved < 2 ^ 63) }
+    ensures { tcs.new ≡ saves_after event.now left tcs.old }
+{
+    let Event::Did { action, .. } = event else {
+        return;
+    };
+    match action {
+        Action::Aex { .. } => {
+            if let Some(page) = left {
+                tcs.save(page);
+            }
+        }
+        Action::Resume {
+            enclave,
+            tcs: number,
+            ..
+        } => tcs.restore(Page {
+            enclave: *enclave,
+            number: *number,
+        }),
+        _ => {}
+    }
+}
+
+// A kick is pending until its processor exits.
+fn note_kick(cpus: &mut CpuTurns, event: &Event)
+    ensures { cpus.new ≡ with_kick event.now cpus.old }
+{
+    if let Event::Kick { cpu } = *event {
+        if usize::from(cpu.0) < cpus.len() {
+            let turn = cpus.get(cpu);
+            cpus.set(
+                cpu,
+                CpuTurn {
+                    is_kicked: true,
+                    ..turn
+                },
+            );
+        }
+    }
+}
+
+// What the entry says of its own processor.
+fn note_own(cpus: &mut CpuTurns, actor: Actor, event: &Event, before: Mode)
+    requires cpu { IsAmong (length cpus.old) actor }
+    requires few { (p : ℕ) → (turn_at cpus.old p).replied < 2 ^ 63 }
+    ensures { cpus.new ≡ with_own actor event.now before cpus.old }
+{
+    if let Actor::Cpu(cpu) = actor {
+        let turn = turn_after(cpus.get(cpu), event, before);
+        cpus.set(cpu, turn);
+    }
+}
+
+// The steps that are left behind an entry. An entry of the builder is a step's.
+fn stepped(cursor: BuildCursor, job: &Job, actor: Actor) -> BuildCursor
+    requires { IsCursor job.now cursor }
+    ensures { IsBuilt job.now actor cursor result }
+{
+    match actor {
+        Actor::Builder => next_step(cursor, job),
+        Actor::Cpu(_) | Actor::Reclaimer => cursor,
+    }
+}
+
+// One step fewer. Where none is left it stays so.
+fn next_step(cursor: BuildCursor, job: &Job) -> BuildCursor
+    requires { IsCursor job.now cursor }
+    ensures { IsStepped job.now cursor result }
+{
+    let mut next = cursor;
+    match next.next(job) {
+        Some(_) => next,
+        None => cursor,
+    }
+}

@@ -1,0 +1,151 @@
+//! The state save pages of each TCS page.
+
+ghost use Rattle.std.specs.Prelude.{ℕ, ◌≡◌, ◌<◌, ◌≤◌, ◌^◌, length, map, slice_index_or, IfOk, IfSome};
+ghost use Rattle.std.specs.List.{All};
+ghost use Rattle.job_grammar.specs.Jobs.{enclave_view, tcs_line};
+ghost use Rattle.active_list.specs.Places.{IsPlaced};
+ghost use Rattle.driver_tables.specs.Counts.{IsLow, IsShort, last_end, line_end};
+ghost use Rattle.turn_tables.specs.TcsTurns.{IsNewTable, has_place, tcs_at, tcs_by, with_less, with_more, with_turn};
+ghost use Rattle.turn_tables.specs.TcsPlaces.{or_line};
+
+use job_grammar::jobs::{EnclaveJob, PageLine};
+use sgx_types::names::{Memory, Page};
+use std::alloc::Global;
+use std::marker::Model;
+
+/// The state save pages of a TCS page: `nssa` pages from page `ossa` on, of which so many are in use.
+#[derive(Clone, Copy, Debug, PartialEq, Eq)]
+pub struct TcsTurn {
+    pub ossa: u32,
+    pub nssa: u32,
+    pub saved: u64,
+}
+
+/// Those of each TCS page of a job. There is a place for each page that the job's lines name, and for those below it.
+#[derive(Debug, Drop)]
+pub struct TcsTurns {
+    // By enclave, and then by page number; there is no enclave 0.
+    pages: Vec<Vec<Option<TcsTurn>>>,
+}
+
+impl Model for TcsTurns {
+    ghost use Rattle.std.specs.Prelude.{List, Option, map};
+    ghost use Rattle.turn_tables.specs.declared.tcs_turns.TcsTurn.{TcsTurn};
+    ghost use Rattle.turn_tables.specs.TcsPlaces.{turns_in};
+
+    ghost Value = { List (List (Option TcsTurn)) };
+
+    ghost view = { λ t. map turns_in t.pages.items };
+}
+
+impl TcsTurns {
+    /// A place for each page of these enclaves, with no state save page in use.
+    pub(crate) fn new(alloc: Global, enclaves: &[EnclaveJob]) -> Result<TcsTurns, Memory>
+        requires { All IsLow enclaves.now }
+        ensures { IfOk result (IsNewTable (map enclave_view enclaves.now)) }
+    {
+        let mut pages = Vec::with_capacity(alloc, enclaves.len())?;
+        pages.push(Vec::new(alloc))?;
+        for enclave in enclaves {
+            pages.push(turns_of(alloc, &enclave.lines)?)?;
+        }
+        Ok(TcsTurns { pages })
+    }
+
+    /// Whether the table has a place for a page.
+    pub(crate) fn has_place(&self, page: Page) -> bool
+        ensures { result ≡ has_place self.now page }
+    {
+        match self.pages.get(usize::from(page.enclave)) {
+            Some(turns) => (page.number as usize) < turns.len(),
+            None => false,
+        }
+    }
+
+    /// What stands of a TCS page, None of every other page.
+    pub fn get(&self, page: Page) -> Option<TcsTurn>
+        ensures value { result ≡ tcs_at self.now page }
+        ensures placed { IfSome result (λ turn. IsPlaced (map length self.now) page) }
+    {
+        let turns = self.pages.get(usize::from(page.enclave))?;
+        let turn = turns.get(page.number as usize)?;
+        *turn
+    }
+
+    // What stands of a page from now on.
+    fn set(&mut self, page: Page, turn: TcsTurn)
+        requires { IsPlaced (map length self.old) page }
+        ensures { self.new ≡ with_turn self.old page turn }
+    {
+        self.pages[usize::from(page.enclave)][page.number as usize] = Some(turn);
+    }
+
+    /// One more state save page of a TCS page is in use.
+    pub(crate) fn save(&mut self, page: Page)
+        requires { IfSome (tcs_at self.old page) (λ turn. turn.saved < 2 ^ 63) }
+        ensures { self.new ≡ with_more self.old page }
+    {
+        if let Some(turn) = self.get(page) {
+            let saved = turn.saved + 1;
+            self.set(page, TcsTurn { saved, ..turn });
+        }
+    }
+
+    /// One fewer is in use, if one was.
+    pub(crate) fn restore(&mut self, page: Page)
+        ensures { self.new ≡ with_less self.old page }
+    {
+        if let Some(turn) = self.get(page) {
+            let saved = turn.saved.saturating_sub(1);
+            self.set(page, TcsTurn { saved, ..turn });
+        }
+    }
+}
+
+// One past the highest page number that the lines name.
+fn places_of(lines: &[PageLine]) -> u32
+    requires { All IsShort lines.now }
+    ensures { result ≡ last_end lines.now }
+{
+    let mut end = 0;
+    for line in lines {
+        end = end.max(line.first() + line.count());
+    }
+    end
+}
+
+// The TCS pages of an enclave, by page number.
+fn turns_of(alloc: Global, lines: &[PageLine]) -> Result<Vec<Option<TcsTurn>>, Memory>
+    requires { All IsShort lines.now }
+    ensures sized { IfOk result (λ turns. length turns.items ≡ last_end lines.now) }
+    ensures turns { IfOk result (λ turns. (n : ℕ) → slice_index_or turns.items n None ≡ tcs_by (tcs_line lines.now n) 0) }
+{
+    let mut turns = vec![in alloc; None; places_of(lines) as usize]?;
+    for line in lines {
+        add_line(&mut turns, line);
+    }
+    Ok(turns)
+}
+
+// A TCS page of a line, unless an earlier line added one of its number.
+fn add_line(turns: &mut [Option<TcsTurn>], line: &PageLine)
+    requires { line_end line.now ≤ length turns.old }
+    ensures { (n : ℕ) → slice_index_or turns.new n None ≡ or_line (slice_index_or turns.old n None) line.now n }
+{
+    if let PageLine::Tcs {
+        page,
+        ossa,
+        nssa,
+        ..
+    } = *line
+    {
+        let turn = &mut turns[page as usize];
+        if turn.is_none() {
+            *turn = Some(TcsTurn {
+                ossa,
+                nssa,
+                saved: 0,
+            });
+        }
+    }
+}
