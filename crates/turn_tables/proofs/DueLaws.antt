@@ -54,7 +54,7 @@ use Rattle.turn_tables.specs.Due.{IsOrderly, IsWithin, due_in}
 use Rattle.turn_tables.specs.Shown.{ShowsCpu, ShowsTurns, last_actor}
 use Rattle.turn_tables.specs.TcsTurns.{tcs_by}
 use Rattle.turn_tables.proofs.FrameLaws.{access_due, frames_due, number_of}
-use Rattle.turn_tables.proofs.LineLaws.{IsTcsLine, few_numbers, op_valid, tcs_line_is}
+use Rattle.turn_tables.proofs.LineLaws.{IsTcsLine, few_numbers, op_valid, saved_within, tcs_line_is}
 use Rattle.turn_tables.proofs.LookLaws.{IsSeen, free_is, looks_are, standing_is}
 
 -- ---- state save pages
@@ -146,7 +146,7 @@ module _ (j : JobView) (past : List Entry) (p : ℕ) (look : Looks) (v : IsValid
       save_is : next_save_of e (look.tcs (page_at e t)) ≡ save_to_enter j past e t
       save_is =
           ap (next_save_of e) (seen.saves (page_at e t))
-          ∙ next_is e (saved past (page_at e t)) (tcs_line (lines_at j.enclaves e) t) (tcs_line_is j e t v) (o.room (page_at e t))
+          ∙ next_is e (saved past (page_at e t)) (tcs_line (lines_at j.enclaves e) t) (tcs_line_is j e t v) (saved_within past p (page_at e t) (tcs_line (lines_at j.enclaves e) t) (o.room p (page_at e t)))
 
   resume_is : (e t : ℕ) (access : Option Page)
       → due_in j past (resumes_by look.frame (page_at e t) (last_save_of e (look.tcs (page_at e t))) access)
@@ -161,7 +161,7 @@ module _ (j : JobView) (past : List Entry) (p : ℕ) (look : Looks) (v : IsValid
       save_is : last_save_of e (look.tcs (page_at e t)) ≡ save_to_resume j past e t
       save_is =
           ap (last_save_of e) (seen.saves (page_at e t))
-          ∙ last_is e (saved past (page_at e t)) (tcs_line (lines_at j.enclaves e) t) (tcs_line_is j e t v) (o.room (page_at e t))
+          ∙ last_is e (saved past (page_at e t)) (tcs_line (lines_at j.enclaves e) t) (tcs_line_is j e t v) (saved_within past p (page_at e t) (tcs_line (lines_at j.enclaves e) t) (o.room p (page_at e t)))
 
   -- ---- accesses
 

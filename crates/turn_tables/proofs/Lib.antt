@@ -5,3 +5,5 @@ mod FrameLaws
 mod LineLaws
 mod LookLaws
 mod DueLaws
+mod OrderLaws
+mod EndLaws

@@ -3,13 +3,17 @@ use Rattle.std.proofs.Common.{◌≡◌, ℕ, zero, suc, ◌+◌, ◌/◌, ◌^�
 use Rattle.std.specs.List.{All, find, list_any}
 use Rattle.std.proofs.lemmas.Bool.{false≢true, leb-true}
 use Rattle.std.proofs.lemmas.List.Elements.{All-head, All-nil, All-tail}
+use Rattle.sgx_types.specs.declared.entries.Entry.{Entry}
+use Rattle.sgx_types.specs.declared.names.Page.{Page}
+use Rattle.sgx_types.specs.Processors.{stay}
 use Rattle.job_grammar.specs.declared.jobs.Op.{Op}
 use Rattle.job_grammar.specs.declared.jobs.PageLine.{PageLine}
 use Rattle.job_grammar.specs.declared.jobs.PageLine.TheVariants as lines
 use Rattle.job_grammar.specs.Jobs.{EnclaveView, JobView, covers, is_tcs_line, is_tcs_page, lines_at, lines_in, tcs_line}
 use Rattle.job_grammar.specs.Valid.{IsValid, IsValidEnclave, IsValidLine, IsValidOp}
 use Rattle.job_grammar.proofs.EnclaveLaws.{lawful-size}
-use Rattle.turn_rules.specs.Script.{script_of}
+use Rattle.turn_rules.specs.Script.{is_seated_at, saved, script_of}
+use Rattle.turn_tables.specs.Due.{IsWithin, in_use}
 
 found_has : {X : Type 0} (test : X → Bool) (P : X → Type 0) (xs : List X) (x : X) → All P xs → find test xs ≡ Some x → P x
 found_has test P [] x all h = cc
@@ -51,6 +55,22 @@ tcs_line_is j (suc e) n v = by_enclave (slice_get j.enclaves e) refl
         let valid : IsValidEnclave x = got_has IsValidEnclave j.enclaves e x v.enclaves is in
         let size : x.size ≤ 2 ^ 24 = lawful-size x valid in
         found_line (x.size / 4096) x.lines n (omega (arith, size)) valid.lines
+
+-- ---- counts
+
+pub within_le : (m n : ℕ) (line : Option PageLine) → m ≤ n → IsWithin n line → IsWithin m line
+within_le m n None low h = tt
+within_le m n (Some (lines.Reg first count perm value plain)) low h = tt
+within_le m n (Some (lines.Tcs page ossa nssa plain)) low h = omega (arith, low, h)
+
+least_le : (b : Bool) (n : ℕ) → n ≤ (if b then n + 1 else n)
+least_le true n = omega arith
+least_le false n = omega arith
+
+-- those in use without the one that is about to be
+pub saved_within : (past : List Entry) (p : ℕ) (g : Page) (line : Option PageLine) → IsWithin (in_use past p g) line
+    → IsWithin (saved past g) line
+saved_within past p g line h = within_le (saved past g) (in_use past p g) line (least_le (is_seated_at g (stay past p)) (saved past g)) h
 
 -- ---- enclaves
 

@@ -1,14 +1,15 @@
 -- What the answers say, and when the actors can be asked.
-use Rattle.std.specs.Prelude.{ℕ, ◌≡◌, ◌≤◌, List, Option, None, Some}
+use Rattle.std.specs.Prelude.{ℕ, ◌≡◌, ◌+◌, ◌≤◌, if◌then◌else◌, List, Option, None, Some}
 use Rattle.sgx_types.specs.declared.entries.Action.TheVariants as actions
 use Rattle.sgx_types.specs.declared.entries.Entry.{Entry}
 use Rattle.sgx_types.specs.declared.names.Page.{Page}
 use Rattle.sgx_types.specs.Frames.{frame_of}
 use Rattle.sgx_types.specs.Making.{Making}
+use Rattle.sgx_types.specs.Processors.{stay}
 use Rattle.job_grammar.specs.declared.jobs.PageLine.{PageLine}
 use Rattle.job_grammar.specs.declared.jobs.PageLine.TheVariants as lines
 use Rattle.job_grammar.specs.Jobs.{JobView, lines_at, tcs_line}
-use Rattle.turn_rules.specs.Script.{saved}
+use Rattle.turn_rules.specs.Script.{is_seated_at, saved}
 use Rattle.paging_machine.specs.Parts.{Parts}
 use Rattle.driver_rules.specs.Dues.{Due, Ends, Finished, Makes, Reports, Stopped, Waits}
 use Rattle.driver_rules.specs.Places.{Here, Leaving, Place, place}
@@ -37,6 +38,10 @@ abbrev pub IsWithin : ℕ → Option PageLine → Type 0
 IsWithin n (Some (lines.Tcs page ossa nssa plain)) = n ≤ nssa
 IsWithin n _ = Unit {0}
 
+-- how many are in use, with the one that a processor inside by the TCS page takes when it leaves
+abbrev pub in_use : List Entry → ℕ → Page → ℕ
+in_use past p g = if is_seated_at g (stay past p) then saved past g + 1 else saved past g
+
 -- ---- the frame of a page
 
 -- the frame in which a page stands: it is here, or on its way out
@@ -50,8 +55,8 @@ standing _ = None
 pub record IsOrderly (j : JobView) (past : List Entry) : Type 0 where
   -- a page is in the frame into which it was last put
   pub frames : (g : Page) → frame_of past g ≡ standing (place past g)
-  -- no TCS page has more state save pages in use than it has
-  pub room : (g : Page) → IsWithin (saved past g) (tcs_line (lines_at j.enclaves g.enclave) g.number)
+  -- no TCS page has more state save pages in use than it has, nor would have when a processor leaves by it
+  pub room : (p : ℕ) (g : Page) → IsWithin (in_use past p g) (tcs_line (lines_at j.enclaves g.enclave) g.number)
 
 -- ---- when the actors can be asked
 

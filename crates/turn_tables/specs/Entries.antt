@@ -1,8 +1,11 @@
 -- What is supposed of an entry, so that the tables that show the entries before it show it too.
-use Rattle.std.specs.Prelude.{ℕ, ◌≡◌, List, is_some}
+use Rattle.std.specs.Prelude.{ℕ, ◌≡◌, ◌≢◌, List}
+use Rattle.sgx_types.specs.declared.entries.Action.TheVariants.{Enter}
 use Rattle.sgx_types.specs.declared.entries.Actor.{Actor}
 use Rattle.sgx_types.specs.declared.entries.Actor.TheVariants as actors
 use Rattle.sgx_types.specs.declared.entries.Entry.{Entry}
+use Rattle.sgx_types.specs.declared.entries.Event.{Event}
+use Rattle.sgx_types.specs.declared.entries.Event.TheVariants.{Did}
 use Rattle.sgx_types.specs.Processors.{stay}
 use Rattle.cached_translations.specs.declared.processor.Mode.{Mode}
 use Rattle.job_grammar.specs.Jobs.{JobView}
@@ -25,3 +28,8 @@ pub record CanNote (j : JobView) (past : List Entry) (before : Mode) (e : Entry)
   pub theirs : LoadsAreTheirs past
   -- what each processor holds; with it, who was interrupted has still to resume
   pub three : (p : ℕ) → HoldsThree j past p
+
+-- who enters names two frames
+abbrev pub EntersApart : Event → Type 0
+EntersApart (Did (Enter enclave tcs tf sf) answer) = tf.0 ≢ sf.0
+EntersApart _ = Unit {0}

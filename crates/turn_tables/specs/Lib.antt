@@ -6,3 +6,4 @@ pub mod Noting
 pub mod Entries
 pub mod Due
 pub mod Asked
+pub mod Ending

@@ -1,0 +1,38 @@
+//! What the entries of a driver keep. A law is the contract of a function without arguments.
+
+ghost use Rattle.std.specs.Prelude.{ℕ, ◌≡◌, ◌<◌, ◌∷◌, [], List, length};
+ghost use Rattle.driver_laws.specs.Kinds.{CanMove};
+ghost use Rattle.driver_laws.specs.Three.{NamesOwn, TcsAreApart};
+ghost use Rattle.driver_rules.specs.Dues.{Finished};
+ghost use Rattle.driver_rules.specs.Scripts.{IsEnded, ScriptRule};
+ghost use Rattle.driver_rules.specs.Turns.{builder_due, cpu_due};
+ghost use Rattle.job_grammar.specs.Jobs.{JobView};
+ghost use Rattle.job_grammar.specs.Valid.{IsValid};
+ghost use Rattle.paging_laws.specs.State.{State};
+ghost use Rattle.paging_laws.specs.Steps.{CanApply, IsStep};
+ghost use Rattle.sgx_types.specs.Rules.{Along};
+ghost use Rattle.sgx_types.specs.declared.entries.Action.{Action};
+ghost use Rattle.sgx_types.specs.declared.entries.Actor.{Actor};
+ghost use Rattle.sgx_types.specs.declared.entries.Entry.{Entry};
+ghost use Rattle.turn_tables.specs.Due.{IsOrderly};
+ghost use Rattle.turn_tables.specs.Ending.{EndsAreTold, IsForRecord, NoneFails};
+ghost use Rattle.turn_tables.specs.Entries.{EntersApart};
+
+/// One entry more keeps that each page is in the frame into which it was last put, and that no TCS page has more state save pages in use
+/// than it has: where all are in use, a processor enters by one frame alone, which a machine refuses.
+pub fn entries_stay_orderly()
+    ensures first { (j : JobView) → IsOrderly j [] }
+    ensures more { (j : JobView) (past : List Entry) (e : Entry) → IsValid j → TcsAreApart j → ((p : ℕ) → NamesOwn j past p)
+        → CanMove past e.event → ScriptRule j past e → EntersApart e.event → IsOrderly j past → IsOrderly j (e ∷ past) }
+    ensures told { (cpus : ℕ) (s : State) (a : Actor) (action : Action) (e : Entry) (t : State) → CanApply cpus a action
+        → IsStep s a action e t → EntersApart e.event }
+{}
+
+/// Where the builder and each processor have nothing more to do, the run is ended, as long as who was ended was told why. So it goes on
+/// where loads are refused only for their records.
+pub fn finished_runs_are_ended()
+    ensures ended { (j : JobView) (past : List Entry) → Along (ScriptRule j) past → EndsAreTold past → NoneFails past
+        → builder_due j past ≡ Finished → ((p : ℕ) → p < length j.scripts → cpu_due j past p ≡ Finished) → IsEnded j past }
+    ensures first { EndsAreTold [] }
+    ensures more { (past : List Entry) (e : Entry) → IsForRecord past e.event → EndsAreTold past → EndsAreTold (e ∷ past) }
+{}
