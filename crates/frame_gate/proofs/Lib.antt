@@ -1,0 +1,4 @@
+pub mod SumLaws
+pub mod CountLaws
+pub mod ProcessorLaws
+pub mod PagerLaws
