@@ -1,5 +1,5 @@
 -- What contracts see of a gate's seats, and what each call makes of it.
-use Rattle.std.specs.Prelude.{◌≡◌, ◌≢◌, ℕ, ◌+◌, ◌-◌, ◌/◌, ◌<◌, ◌≤◌, ◌⊎◌, ◌==◌, Bool, true, false, if◌then◌else◌, List, [], replicate, slice_set, Option, None, Some}
+use Rattle.std.specs.Prelude.{◌≡◌, ◌≢◌, ℕ, ◌+◌, ◌-◌, ◌<◌, ◌≤◌, ◌⊎◌, ◌==◌, Bool, true, false, if◌then◌else◌, List, [], replicate, slice_set, Option, None, Some}
 use Rattle.frame_gate.specs.declared.view.Counter.{Counter}
 use Rattle.frame_gate.specs.declared.view.Ledger.{Ledger}
 use Rattle.frame_gate.specs.declared.view.Visit.{Visit}

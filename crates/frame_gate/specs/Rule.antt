@@ -1,12 +1,11 @@
 -- The rule of a gate: how its words and what its seats know fit together between any two steps, and what each kind of step
 -- tells its seat.
-use Rattle.std.specs.Prelude.{◌≡◌, ℕ, ◌+◌, ◌-◌, ◌*◌, ◌/◌, ◌%◌, ◌^◌, ◌<◌, ◌≤◌, ◌⊎◌, ◌==◌, Bool, true, false, List, [], ◌∷◌, length, slice_index, Option, Some, None}
+use Rattle.std.specs.Prelude.{◌≡◌, ℕ, ◌+◌, ◌-◌, ◌%◌, ◌^◌, ◌<◌, ◌≤◌, ◌⊎◌, ◌==◌, Bool, true, false, List, [], ◌∷◌, length, slice_index, Option, Some, None}
 use mathlib.Core.Option.{some}
 use lib.ListN.{get_elem?}
 use Rattle.atomic_table.specs.Table.{State, Me, Step}
 use Rattle.frame_gate.specs.declared.view.View.{View}
 use Rattle.frame_gate.specs.declared.view.Ledger.{Ledger}
-use Rattle.frame_gate.specs.declared.view.Visit.{Visit}
 use Rattle.frame_gate.specs.declared.view.Pair.{Pair}
 use Rattle.frame_gate.specs.declared.view.Written.{Written}
 use Rattle.frame_gate.specs.declared.view.Role.{Role}

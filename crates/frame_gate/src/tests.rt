@@ -184,6 +184,30 @@ fn at_frame(
     }
 }
 
+// Makes a call, and says what it tells.
+fn make(
+    rt: &impl Abort,
+    gate: &FrameGate,
+    pager: &mut PagerSeat,
+    seat: &mut ProcSeat,
+    call: Call,
+) -> Told
+    requires pager { pager.old.gate ≡ gate.now }
+    requires seat { seat.old.gate ≡ gate.now }
+    ensures pager { pager.new.gate ≡ pager.old.gate }
+    ensures seat { seat.new.gate ≡ seat.old.gate }
+{
+    match call {
+        Enter | Leave | Fill(_) | Touch(_) | Entered => processor(rt, gate, seat, call),
+        Block(frame) | Place(frame) | Evict(frame) | Word(frame) => {
+            at_frame(rt, gate, pager, frame, call)
+        }
+        Settle => settle(gate, pager),
+        Track => track(gate, pager),
+        Epoch => Is(pager.epoch()),
+    }
+}
+
 // Each row of a table: the call, and what it tells.
 fn play(rt: &impl Abort, gate: &FrameGate, pager: &mut PagerSeat, seat: &mut ProcSeat, rows: &[Row])
     requires pager { pager.old.gate ≡ gate.now }
@@ -191,17 +215,10 @@ fn play(rt: &impl Abort, gate: &FrameGate, pager: &mut PagerSeat, seat: &mut Pro
     ensures pager { pager.new.gate ≡ pager.old.gate }
     ensures seat { seat.new.gate ≡ seat.old.gate }
 {
-    for (call, expected) in rows {
-        let told = match *call {
-            Enter | Leave | Fill(_) | Touch(_) | Entered => processor(rt, gate, seat, *call),
-            Block(frame) | Place(frame) | Evict(frame) | Word(frame) => {
-                at_frame(rt, gate, pager, frame, *call)
-            }
-            Settle => settle(gate, pager),
-            Track => track(gate, pager),
-            Epoch => Is(pager.epoch()),
-        };
-        assert_eq!(rt; told, *expected, "{call:?}");
+    for row in rows {
+        let (call, expected) = *row;
+        let told = make(rt, gate, pager, seat, call);
+        assert_eq!(rt; told, expected, "{call:?}");
     }
 }
 

@@ -1,8 +1,8 @@
-use Rattle.std.proofs.Common.{◌≡◌, ◌<◌, ◌+◌, ◌*◌, ◌/◌, ◌%◌, ℕ, List, length, refl, arith, sym, ap, ◌∙◌, subst}
+use Rattle.std.proofs.Common.{◌≡◌, ◌<◌, ◌+◌, ◌*◌, ◌/◌, ℕ, List, length, refl, arith, sym, ap, ◌∙◌, subst}
 use Rattle.frame_gate.specs.declared.view.Written.{Written}
-use Rattle.frame_gate.specs.Words.{TableId, IsFree, IsHeld}
+use Rattle.frame_gate.specs.Words.{TableId}
 use Rattle.frame_gate.specs.Views.{untouched, written_of, IsDrained}
-use Rattle.frame_gate.specs.Known.{PagerKnown, word_now}
+use Rattle.frame_gate.specs.Known.{PagerKnown}
 use Rattle.frame_gate.proofs.PagerLaws.{frees, any_else}
 use Rattle.frame_gate.proofs.gate.FrameGate.free.Goals as goal
 

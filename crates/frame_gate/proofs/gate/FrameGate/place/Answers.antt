@@ -1,7 +1,7 @@
-use Rattle.std.proofs.Common.{◌≡◌, ◌<◌, ◌+◌, ◌*◌, ◌/◌, ◌%◌, ℕ, List, length, refl, arith, sym, ap, ◌∙◌, subst}
+use Rattle.std.proofs.Common.{◌≡◌, ◌<◌, ◌+◌, ◌*◌, ◌/◌, ◌%◌, ℕ, List, length, refl, arith, sym, ap, ◌∙◌}
 use Rattle.frame_gate.specs.declared.view.Written.{Written}
-use Rattle.frame_gate.specs.Words.{TableId, IsFree, IsHeld}
-use Rattle.frame_gate.specs.Views.{untouched, written_of, IsDrained}
+use Rattle.frame_gate.specs.Words.{TableId, IsFree}
+use Rattle.frame_gate.specs.Views.{untouched, written_of}
 use Rattle.frame_gate.specs.Known.{PagerKnown, word_now}
 use Rattle.frame_gate.proofs.PagerLaws.{places, any_else}
 use Rattle.frame_gate.proofs.gate.FrameGate.place.Goals as goal
