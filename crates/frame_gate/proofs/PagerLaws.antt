@@ -1,12 +1,12 @@
 -- Each step of the pager keeps the rule.
-use Rattle.std.proofs.Common.{◌≡◌, ◌≢◌, ◌⊎◌, inr, ℕ, zero, suc, ◌+◌, ◌-◌, ◌*◌, ◌%◌, ◌<◌, ◌≤◌, List, [], ◌∷◌, ◌++◌, length, replicate, get_or, set, Bool, true, false, cond, true≢false, Option, Some, None, refl, sym, ap, ◌∙◌, subst, ⊎_elim, arith, length-set, get_or-set_same, get_or-set_other, eq-eqb, ne_eqb}
+use Rattle.std.proofs.Common.{◌≡◌, ◌≢◌, ◌⊎◌, inr, ℕ, zero, suc, ◌+◌, ◌-◌, ◌*◌, ◌%◌, ◌<◌, ◌≤◌, List, [], ◌∷◌, ◌++◌, length, get_or, set, Bool, true, false, cond, true≢false, Option, Some, None, refl, sym, ap, ◌∙◌, subst, ⊎_elim, arith, length-set, get_or-set_same, get_or-set_other, eq-eqb, ne_eqb}
 use Rattle.std.specs.Prelude.{◌==◌}
-use Rattle.std.proofs.lemmas.List.{set-get_or, length-replicate}
+use Rattle.std.proofs.lemmas.List.{set-get_or}
 use mathlib.Core.Logic.{dite}
-use mathlib.Core.Option.{none, some, some-injective, some-ne-none}
+use mathlib.Core.Option.{none, some}
 use native.Mathlib.Decide.{ℕ_discrete}
 use lib.ListN.{get_elem?}
-use Rattle.atomic_table.specs.Table.{step, keeps, Allows, Splits, opening}
+use Rattle.atomic_table.specs.Table.{step, keeps, Allows, Splits}
 use Rattle.atomic_table.proofs.Lists.{set_here, at_longer, at_snoc}
 use Rattle.frame_gate.specs.declared.view.View.{View}
 use Rattle.frame_gate.specs.declared.view.Counter.{Counter}
@@ -16,8 +16,8 @@ use Rattle.frame_gate.specs.declared.view.Pair.{Pair}
 use Rattle.frame_gate.specs.declared.view.Written.{Written}
 use Rattle.frame_gate.specs.declared.view.Role.{Role}
 use Rattle.frame_gate.specs.declared.view.Role.TheVariants.{Pager, Processor}
-use Rattle.frame_gate.specs.Words.{leave_word, frame_word, free_word, held_word, blocked_word, generation_in, IsFree, IsHeld, IsBlocked}
-use Rattle.frame_gate.specs.Views.{IsDrained, view, after_step, after_load, ledger, start, emptied, settled, set_back, tracked, first_view, first_words, written, untouched, written_of, role_settled, role_set_back, role_tracked, blocked_by, role_wrote, role_split, newcomer}
+use Rattle.frame_gate.specs.Words.{TableId, leave_word, frame_word, free_word, held_word, blocked_word, generation_in, IsFree, IsHeld}
+use Rattle.frame_gate.specs.Views.{IsDrained, view, after_step, after_load, ledger, emptied, settled, set_back, tracked, written, untouched, written_of, role_settled, role_set_back, role_tracked, blocked_by, role_wrote, role_split, newcomer}
 use Rattle.frame_gate.specs.Rule.{Shared, Seat, total, one_if, is_at, role_at, inside_at, role_entries, entries_of, role_seats, seats_of, AreCounted, IsMarked, AreWritten, HasEpoch, IsUntil, CanHold, AreHeld, Fits, IsKept, Settles, SetsBack, Tracks, WritesFrame}
 use Rattle.frame_gate.proofs.SumLaws.{inside, each_set, sum_snoc, sum_none, none_each}
 use Rattle.frame_gate.proofs.CountLaws.{not_true, at_other, learn_counts, still_counts}
@@ -388,80 +388,14 @@ module _ (count : ℕ) where
       let old = drained.tracked in
       ⊎_elim (λ (t : e ≡ l.epoch). absurd (omega arith)) (λ (t : e ≡ before). absurd (apart (drained.empty (omega arith)) t)) which)
 
--- a frame whose word is blocked was blocked at some epoch
-pub has_block : (epoch word : ℕ) (o : Option ℕ) → IsMarked epoch word o → IsBlocked word → o ≢ None
-has_block epoch word None m h e = omega (arith, m, h)
-has_block epoch word (Some b) m h e = absurd (cc)
-
-pub any_else : (l : List Written) (i : ℕ) (d e : Written) → i < length l → get_or l i d ≡ get_or l i e
+any_else : (l : List Written) (i : ℕ) (d e : Written) → i < length l → get_or l i d ≡ get_or l i e
 any_else [] i d e h = absurd (omega arith)
 any_else (x ∷ xs) zero d e h = refl
 any_else (x ∷ xs) (suc i) d e h = any_else xs i d e (omega arith)
 
-zeros : (n i : ℕ) → get_or (replicate {A = ℕ} n 0) i 0 ≡ 0
-zeros zero i = refl
-zeros (suc n) zero = refl
-zeros (suc n) (suc i) = zeros n i
-
-all_free : (n i : ℕ) → written_of (replicate n untouched) i ≡ untouched
-all_free zero i = refl
-all_free (suc n) zero = refl
-all_free (suc n) (suc i) = all_free n i
-
-pub free_marked : (epoch n i : ℕ) → IsMarked epoch (written_of (replicate n untouched) i).word
-    (written_of (replicate n untouched) i).blocked
-free_marked epoch n i = subst (λ (z : Written). IsMarked epoch z.word z.blocked) (sym (all_free n i)) (omega arith)
-
-module _ (count : ℕ) where
-  first_fits : (j : ℕ) (v : View) → get_elem? (first_view count ∷ []) j ≡ some v → Fits count 0 (start 0)
-      (replicate count untouched) 0 j v.role
-  first_fits zero v e = subst (λ (z : View). Fits count 0 (start 0) (replicate count untouched) 0 0 z.role) (some-injective _ _ e)
-      (refl, refl, refl)
-  first_fits (suc j) v e = absurd (some-ne-none v (sym e))
-
-  module _ (ws : List ℕ) (is : ws ≡ first_words count) where
-    zero_at : (i : ℕ) → 0 < i → get_or ws i 0 ≡ 0
-    zero_at i h = ap (λ (l : List ℕ). get_or l i 0) is
-        ∙ (get_or-set_other (replicate (3 + count) 0) 0 i 4294967296 0 (λ q. omega arith) ∙ zeros (3 + count) i)
-
-    long : length ws ≡ 3 + count
-    long = ap length is ∙ (length-set (replicate (3 + count) 0) 0 4294967296 ∙ length-replicate (3 + count) 0)
-
-    first_word : get_or ws 0 0 ≡ 4294967296
-    first_word =
-        let some : length (replicate {A = ℕ} (3 + count) 0) ≡ 3 + count = length-replicate (3 + count) 0 in
-        ap (λ (l : List ℕ). get_or l 0 0) is ∙ get_or-set_same (replicate (3 + count) 0) 0 4294967296 0 (omega arith)
-
-    first_counted : AreCounted (start 0) 0 0 ws (first_view count ∷ [])
-    first_counted = record {
-      wide = let a = long in omega arith;
-      epoch = refl;
-      word = first_word;
-      inside = let a = zero_at 2 (omega arith) in omega arith;
-      older = λ z. absurd (true≢false z);
-      set_back = λ _. (refl, zero_at 1 (omega arith));
-      empty = λ _. refl;
-      seats = refl;
-      few = omega arith;
-      made = omega arith;
-      limited = omega arith;
-    }
-
-    pub opens : IsKept count (opening ws [] (first_view count))
-    opens = record {
-      pager = 0;
-      ledger = start 0;
-      frames = replicate count untouched;
-      before = 0;
-      entries = 0;
-      there = (first_view count, refl, refl);
-      counted = first_counted;
-      written = record {
-        all = length-replicate count untouched;
-        wide = long;
-        word = λ f h. zero_at (3 + f) (omega arith) ∙ sym (ap (λ (z : Written). z.word) (all_free count f));
-        marked = λ f h. free_marked 1 count f;
-      };
-      each = first_fits;
-      drained = all_past_drained count 0 (start 0) (replicate count untouched) 0 0 ws (first_view count ∷ []) first_counted first_fits;
-    }
+-- a frame of the gate is among those of the pager, and what it looks up there is what it has written for the frame
+pub at_frame : (gate seat : TableId) (count f : ℕ) (fs : List Written) (x d : Written) → gate.words ≡ 3 + count → seat ≡ gate
+    → 3 + length fs ≡ seat.words → 3 + f < gate.words → x ≡ get_or fs f d → (f < count) × (x ≡ written_of fs f)
+at_frame gate seat count f fs x d wide here all low is =
+    let same : seat.words ≡ gate.words = ap (λ (t : TableId). t.words) here in
+    (omega arith, is ∙ any_else fs f d untouched (omega arith))

@@ -17,7 +17,7 @@ use Rattle.frame_gate.specs.declared.view.Written.{Written}
 use Rattle.frame_gate.specs.declared.view.Role.{Role}
 use Rattle.frame_gate.specs.declared.view.Role.TheVariants.{Pager, Processor}
 use Rattle.frame_gate.specs.Words.{leave_word, frame_word}
-use Rattle.frame_gate.specs.Views.{view, after_step, after_load, visit, pair, generation_of, put, filled, untouched, written_of, role_entered, role_left, role_filled, role_holds}
+use Rattle.frame_gate.specs.Views.{view, after_step, after_load, visit, pair, generation_of, put, filled, written_of, role_entered, role_left, role_filled, role_holds}
 use Rattle.frame_gate.specs.Rule.{Shared, Seat, total, one_if, is_at, role_at, inside_at, role_entries, entries_of, role_seats, seats_of, AreCounted, IsMarked, AreWritten, HasEpoch, IsUntil, CanHold, AreHeld, Fits, IsPastDrained, IsKept, Enters, Leaves, Meets, Fills, Touches}
 use Rattle.frame_gate.proofs.SumLaws.{each_set, sum_set, sum_below, none_each, one_of}
 use Rattle.frame_gate.proofs.CountLaws.{not_true, at_itself, enter_counts, leave_counts, still_counts}
@@ -301,19 +301,11 @@ is_inside (Some e) h = (e, refl)
 pub holder : (o : Option ℕ) (ps : List Pair) (f : ℕ) → (o ≡ None → ps ≡ []) → generation_of ps f ≢ None → (e : ℕ) × (o ≡ Some e)
 holder o ps f h has = is_inside o (λ z. has (ap (λ (l : List Pair). generation_of l f) (h z)))
 
--- a look that did not find the frame held
-pub not_filled : (ps : List Pair) (f found : ℕ) → found % 4 ≢ 1 → filled ps f found ≡ ps
-not_filled ps f found other = by_had (generation_of ps f)
-  where
-    by_had : (o : Option ℕ) → put ps o f found ≡ ps
-    by_had (Some g) = refl
-    by_had None = ap (λ (b : Bool). cond b (ps ++ pair f (found / 4) ∷ []) ps) (ne_eqb (found % 4) 1 other)
-
 -- a look that found the frame held, which the seat did not hold
-pub filled_new : (ps : List Pair) (f found : ℕ) → generation_of ps f ≡ None → found % 4 ≡ 1 → filled ps f found ≡ ps ++ pair f
-    (found / 4) ∷ []
-filled_new ps f found untouched one = ap (λ (o : Option ℕ). put ps o f found) untouched ∙ ap
-    (λ (b : Bool). cond b (ps ++ pair f (found / 4) ∷ []) ps) (eq-eqb (found % 4) 1 one)
+pub filled_new : (ps : List Pair) (f found : ℕ) → generation_of ps f ≡ None → found % 4 ≡ 1
+    → filled ps f found ≡ ps ++ pair f (found / 4) ∷ []
+filled_new ps f found new one = ap (λ (o : Option ℕ). put ps o f found) new
+    ∙ ap (λ (b : Bool). cond b (ps ++ pair f (found / 4) ∷ []) ps) (eq-eqb (found % 4) 1 one)
 
 pub held_new : (ps : List Pair) (f g : ℕ) → generation_of ps f ≡ None → generation_of (ps ++ pair f g ∷ []) f ≡ Some g
 held_new [] f g h = ap (λ (b : Bool). cond b (Some g) None) (eq-eqb f f refl)

@@ -2,7 +2,8 @@ use Rattle.std.proofs.Common.{◌≡◌, ◌+◌, length, replicate, length-set,
 use Rattle.std.proofs.lemmas.List.{length-replicate}
 use Rattle.frame_gate.specs.declared.view.View.{View}
 use Rattle.frame_gate.specs.Views.{start}
-use Rattle.frame_gate.proofs.PagerLaws.{opens, splits}
+use Rattle.frame_gate.proofs.OpeningLaws.{opens}
+use Rattle.frame_gate.proofs.PagerLaws.{splits}
 use Rattle.frame_gate.proofs.gate.FrameGate.new.Goals as goal
 
 pub of_words-requires : goal.of_words-requires
