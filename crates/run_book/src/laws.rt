@@ -1,11 +1,24 @@
 //! That the book goes on. A law is the contract of a function without arguments.
 
-ghost use Rattle.std.specs.Prelude.{List, ◌∷◌, Option};
+ghost use Rattle.std.specs.Prelude.{◌≡◌, true, false, List, ◌∷◌, Option, length};
 ghost use Rattle.backing_store.specs.Calls.{Call};
 ghost use Rattle.driver_laws.specs.Three.{TcsAreApart};
 ghost use Rattle.driver_tables.specs.declared.driver.Driver.{Driver};
 ghost use Rattle.job_grammar.specs.Jobs.{JobView};
-ghost use Rattle.paging_machine.specs.Parts.{Parts};
+ghost use Rattle.driver_laws.specs.Counted.{CountMoves};
+ghost use Rattle.driver_rules.specs.Passes.{pass};
+ghost use Rattle.driver_rules.specs.Scripts.{ScriptRule};
+ghost use Rattle.driver_steps.specs.Agrees.{Agrees};
+ghost use Rattle.driver_steps.specs.Asked.{IsNextOf};
+ghost use Rattle.driver_steps.specs.Carried.{Carries};
+ghost use Rattle.driver_tables.specs.Tables.{ShowsTables};
+ghost use Rattle.paging_laws.specs.Steps.{IsStep};
+ghost use Rattle.paging_machine.specs.Parts.{Parts, state_of};
+ghost use Rattle.reclaim_worker.specs.Standing.{StandsFor};
+ghost use Rattle.run_book.specs.Plain.{is_plain, is_reclaimer};
+ghost use Rattle.sgx_types.specs.declared.entries.Action.{Action};
+ghost use Rattle.sgx_types.specs.declared.entries.Actor.{Actor};
+ghost use Rattle.version_array.specs.Keeper.{count_out};
 ghost use Rattle.reclaim_worker.specs.declared.turns.Phase.{Phase};
 ghost use Rattle.reclaim_worker.specs.declared.turns.Taken.{Taken};
 ghost use Rattle.run_book.specs.Books.{IsNextIn, KeepsBook};
@@ -20,4 +33,14 @@ pub fn the_book_goes_on()
         (t t' : Turns) (taken taken' : List Taken) (phase phase' : Phase) (e : Entry) → TcsAreApart j
         → KeepsBook made j past told d m t taken phase → IsNextIn made j past told d m e told' d' m' t' taken' phase'
         → KeepsBook made j (e ∷ past) told' d' m' t' taken' phase' }
+{}
+
+/// An instruction of the builder or of a processor that moves no page out or back, and that is its actor's next, is one with which driver and
+/// machine go on to agree: by the machine's own clauses, where the tables show it.
+pub fn instructions_are_next()
+    ensures { (made : Making) (j : JobView) (past : List Entry) (d d' : Driver) (m m' : Parts) (taken : List Taken) (phase : Phase)
+        (actor : Actor) (action : Action) (e : Entry) → is_reclaimer actor ≡ false → is_plain action ≡ true → Agrees made j past d m
+        → StandsFor made.first_epoch past taken phase (pass j past) → ScriptRule j past e
+        → IsStep (state_of m) actor action e (state_of m') → Carries (state_of m) e (state_of m') → length m'.cpus ≡ length m.cpus
+        → ShowsTables j d' (e ∷ past) → CountMoves e.event (count_out d.slots) (count_out d'.slots) → IsNextOf made j past d m e d' m' }
 {}

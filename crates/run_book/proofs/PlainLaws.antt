@@ -1,0 +1,236 @@
+-- An instruction that moves no page out or back is the next of what driver and machine agree on.
+use Rattle.std.proofs.Common.{◌≡◌, ◌⊎◌, inl, inr, ℕ, not, true, false, refl, sym, ◌∙◌, ap, subst, List, [], ◌∷◌, Option, Some, None, MatchOption, is_some, length}
+use Rattle.std.proofs.lemmas.Bool.{false≢true}
+use Rattle.sgx_types.proofs.Rows.{none_holds}
+use Rattle.sgx_types.specs.declared.entries.Action.{Action}
+use Rattle.sgx_types.specs.declared.entries.Action.TheVariants.{Epa, Create, Add, Extend, Init, Block, Track, EwbStart, Ewb, EldStart, Eld}
+use Rattle.sgx_types.specs.declared.entries.Actor.{Actor}
+use Rattle.sgx_types.specs.declared.entries.Actor.TheVariants as actors
+use Rattle.sgx_types.specs.declared.entries.Answer.{Answer}
+use Rattle.sgx_types.specs.declared.entries.Answer.TheVariants as answers
+use Rattle.sgx_types.specs.declared.entries.Entry.{Entry}
+use Rattle.sgx_types.specs.declared.entries.Event.{Event}
+use Rattle.sgx_types.specs.declared.entries.Event.TheVariants.{Did, Refused}
+use Rattle.sgx_types.specs.declared.names.Page.{Page}
+use Rattle.sgx_types.specs.declared.refusals.Refusal.{Refusal}
+use Rattle.sgx_types.specs.declared.refusals.Refusal.TheVariants as why
+use Rattle.sgx_types.specs.Flat.{enclave_sight_of}
+use Rattle.sgx_types.specs.Frames.{added, page_at}
+use Rattle.sgx_types.specs.Making.{Making}
+use Rattle.sgx_types.specs.Rules.{LoadsAwayRule}
+use Rattle.sgx_types.specs.Table.{create_row, epa_row, first_of_row}
+use Rattle.job_grammar.specs.Jobs.{JobView}
+use Rattle.paging_laws.specs.Columns.{HasColumns}
+use Rattle.measure_log.specs.Rule.{IsExpected, IsOther}
+use Rattle.paging_laws.specs.State.{State, after_init, row_of, sight}
+use Rattle.paging_laws.specs.Steps.{IsDone, IsStep, answer_of, did_by, refused_by}
+use Rattle.paging_laws.proofs.BuildLaws.{adds, is_free_frame}
+use Rattle.paging_laws.proofs.ColumnLaws.{added_is, content_is}
+use Rattle.paging_machine.specs.Parts.{Parts, state_of}
+use Rattle.version_array.specs.Keeper.{count_out}
+use Rattle.driver_rules.specs.Ages.{AgeRule, BesideOf, FormOf, IsBeside, KickRule}
+use Rattle.driver_rules.specs.Passes as passes
+use Rattle.driver_rules.specs.Passes.{Between, Blocking, Form, Pass, Scan, Tries, keepers, pass}
+use Rattle.driver_rules.specs.Places.{Absent, Place, place}
+use Rattle.driver_rules.specs.Scripts.{ScriptRule}
+use Rattle.driver_laws.specs.Counted.{CountMoves}
+use Rattle.driver_laws.specs.Kinds.{CanMove}
+use Rattle.driver_laws.specs.Sound.{is_absent}
+use Rattle.driver_laws.specs.Tracks.{TryTells}
+use Rattle.driver_laws.specs.Used.{StartTells}
+use Rattle.driver_tables.specs.declared.driver.Driver.{Driver}
+use Rattle.driver_tables.specs.Tables.{ShowsTables}
+use Rattle.driver_steps.specs.Agrees.{Agrees}
+use Rattle.driver_steps.specs.Asked.{IsNextOf}
+use Rattle.driver_steps.specs.Carried.{Carries}
+use Rattle.reclaim_worker.specs.declared.turns.Form.TheVariants as forms
+use Rattle.reclaim_worker.specs.declared.turns.Phase.{Phase}
+use Rattle.reclaim_worker.specs.declared.turns.Phase.TheVariants as phases
+use Rattle.reclaim_worker.specs.declared.turns.Taken.{Taken}
+use Rattle.reclaim_worker.specs.Standing.{IsForm, StandsFor}
+use Rattle.run_book.specs.Plain.{is_plain, is_reclaimer}
+
+-- ---- the entry of a step
+
+record IsDoneBy (s : State) (a : Actor) (action : Action) (e : Entry) : Type 0 where
+  answer : Answer
+  is : e ≡ did_by a action answer
+  row : first_of_row (row_of s a action) ≡ None
+
+record IsRefusedBy (a : Actor) (action : Action) (e : Entry) : Type 0 where
+  refusal : Refusal
+  is : e ≡ refused_by a action refusal
+
+abbrev IsEntryOf : State → Actor → Action → Entry → Type 0
+IsEntryOf s a action e = IsDoneBy s a action e ⊎ IsRefusedBy a action e
+
+done_by : (s t : State) (a : Actor) (action : Action) (e : Entry) → first_of_row (row_of s a action) ≡ None → IsDone s a action e t
+    → IsEntryOf s a action e
+done_by s t a (Create enclave f base size) e row is = inl (record { answer = _; is = is.0; row = row })
+done_by s t a (Add enclave number f kind perm init) e row is = inl (record { answer = _; is = is.0; row = row })
+done_by s t a (Extend f chunk) e row is = inl (record { answer = _; is = is.0; row = row })
+done_by s t a (Init enclave expect) e row is = by_judged is.judged
+  where
+    by_judged : (IsExpected expect is.digest × (e ≡ did_by a (Init enclave expect) (answers.Hash is.digest)) × (t ≡ after_init s enclave))
+        ⊎ (IsOther expect is.digest × (e ≡ refused_by a (Init enclave expect) (why.BadMeasure is.digest)) × (t ≡ s))
+        → IsEntryOf s a (Init enclave expect) e
+    by_judged (inl k) = inl (record { answer = answers.Hash is.digest; is = k.1; row = row })
+    by_judged (inr k) = inr (record { refusal = why.BadMeasure is.digest; is = k.1 })
+done_by s t a action e row is = inl (record { answer = answer_of s a action; is = is.0; row = row })
+
+entry_by : (s t : State) (a : Actor) (action : Action) (e : Entry) → IsStep s a action e t → IsEntryOf s a action e
+entry_by s t a action e = by_row (first_of_row (row_of s a action)) refl
+  where
+    by_row : (o : Option Refusal) → first_of_row (row_of s a action) ≡ o
+        → MatchOption o (IsDone s a action e t) (λ refusal. (e ≡ refused_by a action refusal) × (t ≡ s)) → IsEntryOf s a action e
+    by_row None row is = done_by s t a action e row is
+    by_row (Some refusal) row is = inr (record { refusal = refusal; is = is.0 })
+
+-- ---- what it asks of the entries before it
+
+record AsksNothing (past : List Entry) (a : Actor) (event : Event) : Type 0 where
+  can : CanMove past event
+  tries : TryTells past event
+  starts : StartTells past event
+  loads : LoadsAwayRule past (record { actor = a; event = event })
+
+absent_is : (p : Place) → not (is_absent p) ≡ false → p ≡ Absent
+absent_is Absent h = refl
+absent_is _ h = absurd (false≢true (sym h))
+
+did_asks : (s : State) (past : List Entry) (a : Actor) (action : Action) (answer : Answer) → is_plain action ≡ true → HasColumns s past
+    → ((g : Page) → is_some (added past g) ≡ not (is_absent (place past g))) → first_of_row (row_of s a action) ≡ None
+    → AsksNothing past a (Did action answer)
+did_asks s past a (Epa f) answer plain columns seen row =
+    let none = none_holds (epa_row (sight s f.0)) row in
+    let free = is_free_frame (s.content f.0) (s.is_sealing f.0) none.1.0 none.1.1.0 in
+    record { can = sym (content_is columns f.0) ∙ free; tries = tt; starts = tt; loads = tt }
+did_asks s past a (Create enclave f base size) answer plain columns seen row =
+    let none = none_holds (create_row enclave base size (is_some (s.enclaves enclave)) (sight s f.0)) row in
+    let free = is_free_frame (s.content f.0) (s.is_sealing f.0) none.1.1.0 none.1.1.1.0 in
+    record { can = sym (content_is columns f.0) ∙ free; tries = tt; starts = tt; loads = tt }
+did_asks s past a (Add enclave number f kind perm init) answer plain columns seen row =
+    let g : Page = page_at enclave number in
+    let one = adds number kind perm init (enclave_sight_of (s.enclaves enclave)) (is_some (s.added g)) (sight s f.0) row in
+    let free = is_free_frame (s.content f.0) (s.is_sealing f.0) one.idle one.empty in
+    record {
+      can = (
+        sym (content_is columns f.0) ∙ free,
+        absent_is (place past g) (sym (seen g) ∙ ap is_some (sym (added_is columns g)) ∙ one.new),
+      );
+      tries = tt;
+      starts = tt;
+      loads = tt;
+    }
+did_asks s past a (Block f) answer plain columns seen row = absurd (false≢true plain)
+did_asks s past a (Track enclave) answer plain columns seen row = absurd (false≢true plain)
+did_asks s past a (EwbStart f slot) answer plain columns seen row = absurd (false≢true plain)
+did_asks s past a (Ewb f) answer plain columns seen row = absurd (false≢true plain)
+did_asks s past a (EldStart f page slot) answer plain columns seen row = absurd (false≢true plain)
+did_asks s past a (Eld f) answer plain columns seen row = absurd (false≢true plain)
+did_asks s past a action answer plain columns seen row = record { can = tt; tries = tt; starts = tt; loads = tt }
+
+refused_asks : (past : List Entry) (a : Actor) (action : Action) (refusal : Refusal) → is_plain action ≡ true
+    → AsksNothing past a (Refused action refusal)
+refused_asks past a (EwbStart f slot) refusal plain = absurd (false≢true plain)
+refused_asks past a (Eld f) refusal plain = absurd (false≢true plain)
+refused_asks past a action refusal plain = record { can = tt; tries = tt; starts = tt; loads = tt }
+
+asks : (s t : State) (past : List Entry) (a : Actor) (action : Action) (e : Entry) → is_plain action ≡ true → HasColumns s past
+    → ((g : Page) → is_some (added past g) ≡ not (is_absent (place past g))) → IsStep s a action e t → AsksNothing past e.actor e.event
+asks s t past a action e plain columns seen is = by_entry (entry_by s t a action e is)
+  where
+    by_entry : IsEntryOf s a action e → AsksNothing past e.actor e.event
+    by_entry (inl k) = rw k.is (did_asks s past a action k.answer plain columns seen k.row)
+    by_entry (inr k) = rw k.is (refused_asks past a action k.refusal plain)
+
+actor_is : (s t : State) (a : Actor) (action : Action) (e : Entry) → IsStep s a action e t → e.actor ≡ a
+actor_is s t a action e is = by_entry (entry_by s t a action e is)
+  where
+    by_entry : IsEntryOf s a action e → e.actor ≡ a
+    by_entry (inl k) = ap (λ (x : Entry). x.actor) k.is
+    by_entry (inr k) = ap (λ (x : Entry). x.actor) k.is
+
+-- ---- the rules on the reclaimer
+
+ages : (j : JobView) (past : List Entry) (a : Actor) (event : Event) → is_reclaimer a ≡ false
+    → AgeRule j past (record { actor = a; event = event })
+ages j past actors.Builder event other = record { look = tt; in_pass = tt }
+ages j past (actors.Cpu p) event other = record { look = tt; in_pass = tt }
+ages j past actors.Reclaimer event other = absurd (false≢true (sym other))
+
+-- no turn ends between two kicks
+beside_form : (first : ℕ) (past : List Entry) (g : Page) (form : _) (block : ℕ) (to : Form) → IsForm first past g form block to
+    → IsBeside to
+beside_form first past g forms.First block to is = subst IsBeside (sym is) tt
+beside_form first past g forms.Track block to is = subst IsBeside (sym is.0) tt
+beside_form first past g forms.Second block to is = subst IsBeside (sym is.0) tt
+beside_form first past g forms.Kick block to is = subst IsBeside (sym is.0) tt
+beside_form first past g forms.Third block to is = by_either is.0
+  where
+    by_either : (to ≡ passes.Third) ⊎ ((to ≡ passes.ToKick) × (keepers past g ≡ [])) → IsBeside to
+    by_either (inl k) = subst IsBeside (sym k) tt
+    by_either (inr k) = subst IsBeside (sym k.0) tt
+
+abbrev BesidePass : Pass → Type 0
+BesidePass (Tries g rest form) = IsBeside form
+BesidePass at = Unit {0}
+
+beside : (first : ℕ) (past : List Entry) (taken : List Taken) (phase : Phase) (at : Pass) → StandsFor first past taken phase at
+    → BesidePass at
+beside first past taken (phases.Idle works) at is = subst BesidePass (sym is.0) tt
+beside first past taken (phases.Scan left) at is = subst BesidePass (sym is.same) tt
+beside first past taken (phases.Block next) at is = subst BesidePass (sym is.same) tt
+beside first past taken (phases.Tries next form block) at is =
+    subst BesidePass (sym is.0.same) (beside_form first past is.0.one.page form block is.0.to is.0.fits)
+beside first past taken (phases.Sealing next slot) at is = subst BesidePass (sym is.0.same) tt
+
+kicks : (j : JobView) (past : List Entry) (a : Actor) (event : Event) → is_reclaimer a ≡ false → BesidePass (pass j past)
+    → KickRule j past (record { actor = a; event = event })
+kicks j past a event other h = record { form = form a (pass j past) other; beside = is_beside a (pass j past) other h }
+  where
+    form : (b : Actor) (at : Pass) → is_reclaimer b ≡ false → FormOf past at b event
+    form actors.Builder (Between works) k = tt
+    form actors.Builder (Scan left taken) k = tt
+    form actors.Builder (Blocking due taken) k = tt
+    form actors.Builder (Tries g rest to) k = tt
+    form (actors.Cpu p) (Between works) k = tt
+    form (actors.Cpu p) (Scan left taken) k = tt
+    form (actors.Cpu p) (Blocking due taken) k = tt
+    form (actors.Cpu p) (Tries g rest to) k = tt
+    form actors.Reclaimer at k = absurd (false≢true (sym k))
+
+    is_beside : (b : Actor) (at : Pass) → is_reclaimer b ≡ false → BesidePass at → BesideOf at b
+    is_beside actors.Builder (Between works) k x = tt
+    is_beside actors.Builder (Scan left taken) k x = tt
+    is_beside actors.Builder (Blocking due taken) k x = tt
+    is_beside actors.Builder (Tries g rest to) k x = x
+    is_beside (actors.Cpu p) (Between works) k x = tt
+    is_beside (actors.Cpu p) (Scan left taken) k x = tt
+    is_beside (actors.Cpu p) (Blocking due taken) k x = tt
+    is_beside (actors.Cpu p) (Tries g rest to) k x = x
+    is_beside actors.Reclaimer at k x = absurd (false≢true (sym k))
+
+-- ---- all of it
+
+pub plain_next : (made : Making) (j : JobView) (past : List Entry) (d d' : Driver) (m m' : Parts) (taken : List Taken) (phase : Phase)
+    (a : Actor) (action : Action) (e : Entry) → is_reclaimer a ≡ false → is_plain action ≡ true → Agrees made j past d m
+    → StandsFor made.first_epoch past taken phase (pass j past) → ScriptRule j past e → IsStep (state_of m) a action e (state_of m')
+    → Carries (state_of m) e (state_of m') → length m'.cpus ≡ length m.cpus → ShowsTables j d' (e ∷ past)
+    → CountMoves e.event (count_out d.slots) (count_out d'.slots) → IsNextOf made j past d m e d' m'
+plain_next made j past d d' m m' taken phase a action e other plain r stands script is carries cpus shows counts =
+    let k = asks (state_of m) (state_of m') past a action e plain r.follows.shape.columns r.sound.added is in
+    let by : is_reclaimer e.actor ≡ false = ap is_reclaimer (actor_is (state_of m) (state_of m') a action e is) ∙ other in
+    record {
+      script = script;
+      age = ages j past e.actor e.event by;
+      kick = kicks j past e.actor e.event by (beside made.first_epoch past taken phase (pass j past) stands);
+      can = k.can;
+      tries = k.tries;
+      starts = k.starts;
+      follows = carries.shape made past r.follows;
+      fits = carries.fits made past r.follows k.loads r.fits;
+      cpus = cpus;
+      shows = shows;
+      counts = counts;
+    }
