@@ -1,2 +1,3 @@
 pub mod BookLaws
 pub mod PlainLaws
+pub mod TurnLaws

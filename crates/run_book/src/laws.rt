@@ -1,6 +1,6 @@
 //! That the book goes on. A law is the contract of a function without arguments.
 
-ghost use Rattle.std.specs.Prelude.{◌≡◌, true, false, List, ◌∷◌, Option, length};
+ghost use Rattle.std.specs.Prelude.{◌≡◌, ◌≤◌, true, false, List, ◌∷◌, Option, length};
 ghost use Rattle.backing_store.specs.Calls.{Call};
 ghost use Rattle.driver_laws.specs.Three.{TcsAreApart};
 ghost use Rattle.driver_tables.specs.declared.driver.Driver.{Driver};
@@ -14,7 +14,15 @@ ghost use Rattle.driver_steps.specs.Carried.{Carries};
 ghost use Rattle.driver_tables.specs.Tables.{ShowsTables};
 ghost use Rattle.paging_laws.specs.Steps.{IsStep};
 ghost use Rattle.paging_machine.specs.Parts.{Parts, state_of};
-ghost use Rattle.reclaim_worker.specs.Standing.{StandsFor};
+ghost use Rattle.driver_rules.specs.Reclaims.{pass_due};
+ghost use Rattle.driver_rules.specs.Stops.{is_spent};
+ghost use Rattle.reclaim_worker.specs.Answers.{IsTurn};
+ghost use Rattle.reclaim_worker.specs.Going.{TurnGoes};
+ghost use Rattle.reclaim_worker.specs.Kept.{TurnKeeps};
+ghost use Rattle.reclaim_worker.specs.Shown.{ShowsAfter};
+ghost use Rattle.reclaim_worker.specs.Standing.{StandsFor, is_kicked};
+ghost use Rattle.reclaim_worker.specs.declared.turns.PassTurn.{PassTurn};
+ghost use Rattle.run_book.specs.Turns.{OfEntry};
 ghost use Rattle.run_book.specs.Plain.{is_plain, is_reclaimer};
 ghost use Rattle.sgx_types.specs.declared.entries.Action.{Action};
 ghost use Rattle.sgx_types.specs.declared.entries.Actor.{Actor};
@@ -43,4 +51,16 @@ pub fn instructions_are_next()
         → StandsFor made.first_epoch past taken phase (pass j past) → ScriptRule j past e
         → IsStep (state_of m) actor action e (state_of m') → Carries (state_of m) e (state_of m') → length m'.cpus ≡ length m.cpus
         → ShowsTables j d' (e ∷ past) → CountMoves e.event (count_out d.slots) (count_out d'.slots) → IsNextOf made j past d m e d' m' }
+{}
+
+/// The entry of a turn of a pass is one with which driver and machine go on to agree, where the run was not stopped, versions begin above 0, and
+/// as many slots are out behind it as it says.
+pub fn turns_of_a_pass_are_next()
+    ensures { (made : Making) (j : JobView) (past : List Entry) (d d' : Driver) (m m' : Parts) (taken : List Taken) (phase : Phase)
+        (turn : PassTurn) → 1 ≤ made.first_version → Agrees made j past d m → StandsFor made.first_epoch past taken phase (pass j past)
+        → is_spent past ≡ false → IsTurn made past d.slots (pass_due j past (is_kicked phase) (pass j past)) turn
+        → TurnKeeps j past (pass j past) turn → TurnGoes (state_of m) turn (state_of m') → length m'.cpus ≡ length m.cpus
+        → ShowsAfter j past (pass j past) turn d'
+        → OfEntry turn (λ e. CountMoves e.event (count_out d.slots) (count_out d'.slots))
+        → OfEntry turn (λ e. IsNextOf made j past d m e d' m') }
 {}

@@ -1,0 +1,194 @@
+-- The entry of a turn of a pass is the next of what driver and machine agree on.
+use Rattle.std.proofs.Common.{◌≡◌, ◌≤◌, ◌<◌, ◌+◌, ◌==◌, ◌^◌, inl, inr, ℕ, Bool, true, false, if◌then◌else◌, refl, sym, ◌∙◌, subst, List, [], ◌∷◌, Option, Some, None, length, arith}
+use Rattle.sgx_types.specs.declared.entries.Action.TheVariants.{Block, Track, EwbStart, Ewb}
+use Rattle.sgx_types.specs.declared.entries.Actor.TheVariants as actors
+use Rattle.sgx_types.specs.declared.entries.Answer.TheVariants as answers
+use Rattle.sgx_types.specs.declared.entries.Entry.{Entry}
+use Rattle.sgx_types.specs.declared.entries.Event.TheVariants.{Did, Refused}
+use Rattle.sgx_types.specs.declared.names.Page.{Page}
+use Rattle.sgx_types.specs.declared.names.SlotAt.{SlotAt}
+use Rattle.sgx_types.specs.declared.names.TheConstants.{LAST_EPOCH}
+use Rattle.sgx_types.specs.declared.refusals.Refusal.TheVariants as why
+use Rattle.sgx_types.specs.Epochs.{epoch, epoch_in}
+use Rattle.sgx_types.specs.Eviction.{is_drained, kept_back}
+use Rattle.sgx_types.specs.Making.{Making}
+use Rattle.sgx_types.specs.Rules.{LoadsAwayRule}
+use Rattle.sgx_types.specs.Slots.{is_draw, next_version}
+use Rattle.sgx_types.specs.Starts.{open_start}
+use Rattle.job_grammar.specs.Jobs.{JobView}
+use Rattle.paging_machine.specs.Parts.{Parts, state_of}
+use Rattle.version_array.specs.Keeper.{Keeper, count_out}
+use Rattle.turn_rules.specs.Script.{frame_at}
+use Rattle.driver_rules.specs.Ages.{head_of}
+use Rattle.driver_rules.specs.declared.waits.Why.TheVariants as waits
+use Rattle.driver_rules.specs.Dues.{Ends, Makes, TriesOut, Waits}
+use Rattle.driver_rules.specs.Passes.{Between, Blocking, First, Form, Kicks, Pass, Scan, Sealing, Second, Third, ToKick, ToTrack, Tries, keepers, pass}
+use Rattle.driver_rules.specs.Places.{Absent, Away, Here, Leaving, Loading, Place, active, frame_leaving, place}
+use Rattle.driver_rules.specs.Reclaims.{are_held, form_due, in_frame, leaving_due, look_at, look_due, pass_due, third_due}
+use Rattle.driver_rules.specs.Scripts.{is_load}
+use Rattle.driver_rules.specs.Stops.{is_spent}
+use Rattle.driver_laws.specs.Counted.{CountMoves}
+use Rattle.driver_laws.specs.Stages.{HasPages, IsTaken, IsTrying}
+use Rattle.driver_laws.specs.Used.{StartTells}
+use Rattle.driver_tables.specs.declared.driver.Driver.{Driver}
+use Rattle.driver_steps.specs.Agrees.{Agrees}
+use Rattle.driver_steps.specs.Asked.{IsNextOf}
+use Rattle.driver_steps.specs.Carried.{Carries}
+use Rattle.reclaim_worker.specs.declared.turns.Phase.{Phase}
+use Rattle.reclaim_worker.specs.declared.turns.PassTurn.{PassTurn}
+use Rattle.reclaim_worker.specs.declared.turns.PassTurn.TheVariants as turns
+use Rattle.reclaim_worker.specs.declared.turns.Taken.{Taken}
+use Rattle.reclaim_worker.specs.Answers.{IsTurn, by_reclaimer, track_turn, try_turn}
+use Rattle.reclaim_worker.specs.Going.{TurnGoes}
+use Rattle.reclaim_worker.specs.Kept.{Keeps, TurnKeeps}
+use Rattle.reclaim_worker.specs.Shown.{ShowsAfter}
+use Rattle.reclaim_worker.specs.Standing.{StandsFor, is_kicked}
+use Rattle.reclaim_worker.specs.Tables.{Shows}
+use Rattle.run_book.specs.Turns.{OfEntry}
+
+-- what an entry of the reclaimer is, besides what its turn keeps
+record IsOwn (past : List Entry) (e : Entry) : Type 0 where
+  actor_is : e.actor ≡ actors.Reclaimer
+  starts : StartTells past e.event
+  no_load : is_load e.event ≡ false
+  loads : LoadsAwayRule past e
+
+first_below : (first : ℕ) (past : List Entry) → first ≤ next_version first past
+first_below first [] = omega arith
+first_below first (e ∷ past) = by_draw (is_draw e.event) (first_below first past)
+  where
+    by_draw : (b : Bool) → first ≤ next_version first past
+        → first ≤ (if b then next_version first past + 1 else next_version first past)
+    by_draw true h = omega (arith, h)
+    by_draw false h = h
+
+module _ (made : Making) (j : JobView) (past : List Entry) (slots : Keeper) (turn : PassTurn) (positive : 1 ≤ made.first_version) where
+  abbrev Mine : Type 0
+  Mine = OfEntry turn (IsOwn past)
+
+  told : (to : PassTurn) → turn ≡ to → OfEntry to (IsOwn past) → Mine
+  told to is own = subst (λ t. OfEntry t (IsOwn past)) (sym is) own
+
+  looks : IsTurn made past slots (look_due j past) turn → Mine
+  looks k = by_head (head_of (active past)) k
+    where
+      by_head : (o : Option Page) → IsTurn made past slots (look_at j past o) turn → Mine
+      by_head None l = told _ l tt
+      by_head (Some g) l = told _ l.told (record { actor_is = refl; starts = tt; no_load = refl; loads = tt })
+
+  blocks : (g : Page) → IsTurn made past slots (leaving_due past g (λ f. Makes (Block (frame_at f)))) turn → Mine
+  blocks g k = by_frame (frame_leaving (place past g)) k
+    where
+      by_frame : (o : Option ℕ) → IsTurn made past slots (in_frame g o (λ f. Makes (Block (frame_at f)))) turn → Mine
+      by_frame None l = told _ l tt
+      by_frame (Some f) l = told _ l (record { actor_is = refl; starts = tt; no_load = refl; loads = tt })
+
+  tracks : (enclave : ℕ) → turn ≡ track_turn made.first_epoch past enclave → Mine
+  tracks enclave k = told _ k (by_last (epoch made.first_epoch past enclave == LAST_EPOCH))
+    where
+      by_last : (b : Bool) → OfEntry (if b then turns.Spent (by_reclaimer (Refused (Track enclave) why.EpochSpent))
+          else turns.One (by_reclaimer (Did (Track enclave) answers.Plain))) (IsOwn past)
+      by_last true = record { actor_is = refl; starts = tt; no_load = refl; loads = tt }
+      by_last false = record { actor_is = refl; starts = tt; no_load = refl; loads = tt }
+
+  tries : (g : Page) → IsTaken past true g → IsTurn made past slots (leaving_due past g TriesOut) turn → Mine
+  tries g w k = by_place (place past g) refl k
+    where
+      try_own : (f : ℕ) (slot : SlotAt) → place past g ≡ Leaving f → OfEntry (try_turn made past f slot) (IsOwn past)
+      try_own f slot at = by_drain (is_drained past f) (next_version made.first_version past == 2 ^ 64)
+        where
+          idle : open_start past f ≡ None
+          idle =
+              let both : Leaving w.frame ≡ Leaving f = sym w.leaving ∙ at in
+              let one : w.frame ≡ f = cc in
+              subst (λ n. open_start past n ≡ None) one w.start
+
+          drawn : 0 < next_version made.first_version past
+          drawn = let low = first_below made.first_version past in omega (arith, low, positive)
+
+          by_drain : (b v : Bool) → OfEntry (if b
+              then (if v then turns.Spent (by_reclaimer (Refused (EwbStart (frame_at f) slot) why.VersionSpent)) else turns.Seal
+              (by_reclaimer (Did (EwbStart (frame_at f) slot) (answers.Version (next_version made.first_version past)))))
+              else turns.One (by_reclaimer (Refused (EwbStart (frame_at f) slot)
+              (why.NotTracked (epoch_in made.first_epoch past f) (kept_back past f))))) (IsOwn past)
+          by_drain true true = record { actor_is = refl; starts = tt; no_load = refl; loads = tt }
+          by_drain true false = record { actor_is = refl; starts = (idle, drawn); no_load = refl; loads = tt }
+          by_drain false v = record { actor_is = refl; starts = tt; no_load = refl; loads = tt }
+
+      by_place : (p : Place) → place past g ≡ p → IsTurn made past slots (in_frame g (frame_leaving p) TriesOut) turn → Mine
+      by_place (Leaving f) at (inl l) = told _ l.told (try_own f l.slot at)
+      by_place (Leaving f) at (inr l) = told _ l.1 tt
+      by_place Absent at l = told _ l tt
+      by_place (Here f) at l = told _ l tt
+      by_place (Loading f slot) at l = told _ l tt
+      by_place (Away slot) at l = told _ l tt
+
+  thirds : (g : Page) (ps : List ℕ) → IsTaken past true g → IsTurn made past slots (third_due past g ps) turn → Mine
+  thirds g [] w k = tries g w k
+  thirds g (p ∷ ps) w k = told _ k tt
+
+  forms : (g : Page) (rest : List Page) (kicked : Bool) (form : Form) → IsTrying past g rest form
+      → IsTurn made past slots (form_due past g kicked form) turn → Mine
+  forms g rest kicked First has k = tries g has.page k
+  forms g rest kicked ToTrack has k = tracks g.enclave k
+  forms g rest kicked Second has k = tries g has.page k
+  forms g rest true ToKick has k = thirds g (keepers past g) has.page k
+  forms g rest false ToKick has k = told _ k tt
+  forms g rest kicked (Kicks ps) has k = told _ k tt
+  forms g rest kicked Third has k = thirds g (keepers past g) has.page k
+  forms g rest kicked Sealing has k = by_frame (frame_leaving (place past g)) k
+    where
+      by_frame : (o : Option ℕ) → IsTurn made past slots (in_frame g o (λ f. Ends (Ewb (frame_at f)))) turn → Mine
+      by_frame None l = told _ l tt
+      by_frame (Some f) l = absurd l
+
+  own : (kicked : Bool) (p : Pass) → HasPages past p → IsTurn made past slots (pass_due j past kicked p) turn → Mine
+  own kicked (Between false) has k = told _ k tt
+  own kicked (Between true) has k = by_held (are_held j past) k
+    where
+      by_held : (b : Bool) → IsTurn made past slots (if b then Waits waits.AllHeld else look_due j past) turn → Mine
+      by_held true l = told _ l tt
+      by_held false l = looks l
+  own kicked (Scan left taken) has k = looks k
+  own kicked (Blocking [] taken) has k = absurd k
+  own kicked (Blocking (g ∷ gs) taken) has k = blocks g k
+  own kicked (Tries g rest form) has k = forms g rest kicked form has k
+
+-- ---- the entry
+
+entry_next : (made : Making) (j : JobView) (past : List Entry) (d d' : Driver) (m m' : Parts) (e : Entry) → Agrees made j past d m
+    → is_spent past ≡ false → IsOwn past e → Keeps j past (pass j past) e.event → Carries (state_of m) e (state_of m')
+    → length m'.cpus ≡ length m.cpus → Shows j d' (e ∷ past) → CountMoves e.event (count_out d.slots) (count_out d'.slots)
+    → IsNextOf made j past d m e d' m'
+entry_next made j past d d' m m' e r going own keeps carries cpus shows counts = record {
+  script = record { not_spent = going; next = rw own.actor_is own.no_load };
+  age = record { look = rw own.actor_is keeps.look; in_pass = rw own.actor_is keeps.in_pass };
+  kick = record { form = rw own.actor_is keeps.form; beside = rw own.actor_is tt };
+  can = keeps.can;
+  tries = keeps.tells;
+  starts = own.starts;
+  follows = carries.shape made past r.follows;
+  fits = carries.fits made past r.follows own.loads r.fits;
+  cpus = cpus;
+  shows = shows.tables;
+  counts = counts;
+}
+
+pub turn_next : (made : Making) (j : JobView) (past : List Entry) (d d' : Driver) (m m' : Parts) (taken : List Taken) (phase : Phase)
+    (turn : PassTurn) → 1 ≤ made.first_version → Agrees made j past d m → StandsFor made.first_epoch past taken phase (pass j past)
+    → is_spent past ≡ false → IsTurn made past d.slots (pass_due j past (is_kicked phase) (pass j past)) turn
+    → TurnKeeps j past (pass j past) turn → TurnGoes (state_of m) turn (state_of m') → length m'.cpus ≡ length m.cpus
+    → ShowsAfter j past (pass j past) turn d' → OfEntry turn (λ e. CountMoves e.event (count_out d.slots) (count_out d'.slots))
+    → OfEntry turn (λ e. IsNextOf made j past d m e d' m')
+turn_next made j past d d' m m' taken phase turn positive r stands going due =
+    by_turn turn (own made j past d.slots turn positive (is_kicked phase) (pass j past) r.pages.pages due)
+  where
+    by_turn : (t : PassTurn) → OfEntry t (IsOwn past) → TurnKeeps j past (pass j past) t → TurnGoes (state_of m) t (state_of m')
+        → length m'.cpus ≡ length m.cpus → ShowsAfter j past (pass j past) t d'
+        → OfEntry t (λ e. CountMoves e.event (count_out d.slots) (count_out d'.slots)) → OfEntry t (λ e. IsNextOf made j past d m e d' m')
+    by_turn (turns.One e) mine keeps goes cpus shows counts = entry_next made j past d d' m m' e r going mine keeps goes cpus shows counts
+    by_turn (turns.Seal e) mine keeps goes cpus shows counts = entry_next made j past d d' m m' e r going mine keeps goes cpus shows counts
+    by_turn (turns.Spent e) mine keeps goes cpus shows counts = entry_next made j past d d' m m' e r going mine keeps goes cpus shows counts
+    by_turn (turns.Kicks bits) mine keeps goes cpus shows counts = tt
+    by_turn (turns.Again reason) mine keeps goes cpus shows counts = tt
+    by_turn turns.NoSlot mine keeps goes cpus shows counts = tt
