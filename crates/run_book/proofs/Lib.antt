@@ -1,3 +1,4 @@
 pub mod BookLaws
 pub mod PlainLaws
 pub mod TurnLaws
+pub mod SlotTurns

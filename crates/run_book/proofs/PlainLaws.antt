@@ -52,16 +52,16 @@ use Rattle.run_book.specs.Plain.{is_plain, is_reclaimer}
 
 -- ---- the entry of a step
 
-record IsDoneBy (s : State) (a : Actor) (action : Action) (e : Entry) : Type 0 where
-  answer : Answer
-  is : e ≡ did_by a action answer
-  row : first_of_row (row_of s a action) ≡ None
+pub record IsDoneBy (s : State) (a : Actor) (action : Action) (e : Entry) : Type 0 where
+  pub answer : Answer
+  pub is : e ≡ did_by a action answer
+  pub row : first_of_row (row_of s a action) ≡ None
 
-record IsRefusedBy (a : Actor) (action : Action) (e : Entry) : Type 0 where
-  refusal : Refusal
-  is : e ≡ refused_by a action refusal
+pub record IsRefusedBy (a : Actor) (action : Action) (e : Entry) : Type 0 where
+  pub refusal : Refusal
+  pub is : e ≡ refused_by a action refusal
 
-abbrev IsEntryOf : State → Actor → Action → Entry → Type 0
+abbrev pub IsEntryOf : State → Actor → Action → Entry → Type 0
 IsEntryOf s a action e = IsDoneBy s a action e ⊎ IsRefusedBy a action e
 
 done_by : (s t : State) (a : Actor) (action : Action) (e : Entry) → first_of_row (row_of s a action) ≡ None → IsDone s a action e t
@@ -78,7 +78,7 @@ done_by s t a (Init enclave expect) e row is = by_judged is.judged
     by_judged (inr k) = inr (record { refusal = why.BadMeasure is.digest; is = k.1 })
 done_by s t a action e row is = inl (record { answer = answer_of s a action; is = is.0; row = row })
 
-entry_by : (s t : State) (a : Actor) (action : Action) (e : Entry) → IsStep s a action e t → IsEntryOf s a action e
+pub entry_by : (s t : State) (a : Actor) (action : Action) (e : Entry) → IsStep s a action e t → IsEntryOf s a action e
 entry_by s t a action e = by_row (first_of_row (row_of s a action)) refl
   where
     by_row : (o : Option Refusal) → first_of_row (row_of s a action) ≡ o

@@ -19,8 +19,10 @@ ghost use Rattle.driver_rules.specs.Stops.{is_spent};
 ghost use Rattle.reclaim_worker.specs.Answers.{IsTurn};
 ghost use Rattle.reclaim_worker.specs.Going.{TurnGoes};
 ghost use Rattle.reclaim_worker.specs.Kept.{TurnKeeps};
+ghost use Rattle.reclaim_worker.specs.Rests.{DriverSays};
 ghost use Rattle.reclaim_worker.specs.Shown.{ShowsAfter};
 ghost use Rattle.reclaim_worker.specs.Standing.{StandsFor, is_kicked};
+ghost use Rattle.reclaim_worker.specs.Turning.{TurnSays};
 ghost use Rattle.reclaim_worker.specs.declared.turns.PassTurn.{PassTurn};
 ghost use Rattle.run_book.specs.Turns.{OfEntry};
 ghost use Rattle.run_book.specs.Plain.{is_plain, is_reclaimer};
@@ -63,4 +65,11 @@ pub fn turns_of_a_pass_are_next()
         → ShowsAfter j past (pass j past) turn d'
         → OfEntry turn (λ e. CountMoves e.event (count_out d.slots) (count_out d'.slots))
         → OfEntry turn (λ e. IsNextOf made j past d m e d' m') }
+{}
+
+/// As many slots are out behind a turn of a pass as its entry says: one more where a write-out has started, else as many as before.
+pub fn turns_of_a_pass_count_slots()
+    ensures { (taken taken' : List Taken) (phase phase' : Phase) (d d' : Driver) (m m' : Parts) (turn : PassTurn)
+        → TurnSays taken phase d m turn taken' phase' d' m' → DriverSays phase d d'
+        → OfEntry turn (λ e. CountMoves e.event (count_out d.slots) (count_out d'.slots)) }
 {}
