@@ -2,3 +2,4 @@ pub mod BookLaws
 pub mod PlainLaws
 pub mod TurnLaws
 pub mod SlotTurns
+pub mod LoadTurns

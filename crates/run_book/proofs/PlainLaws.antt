@@ -153,7 +153,7 @@ actor_is s t a action e is = by_entry (entry_by s t a action e is)
 
 -- ---- the rules on the reclaimer
 
-ages : (j : JobView) (past : List Entry) (a : Actor) (event : Event) → is_reclaimer a ≡ false
+pub ages : (j : JobView) (past : List Entry) (a : Actor) (event : Event) → is_reclaimer a ≡ false
     → AgeRule j past (record { actor = a; event = event })
 ages j past actors.Builder event other = record { look = tt; in_pass = tt }
 ages j past (actors.Cpu p) event other = record { look = tt; in_pass = tt }
@@ -172,11 +172,11 @@ beside_form first past g forms.Third block to is = by_either is.0
     by_either (inl k) = subst IsBeside (sym k) tt
     by_either (inr k) = subst IsBeside (sym k.0) tt
 
-abbrev BesidePass : Pass → Type 0
+abbrev pub BesidePass : Pass → Type 0
 BesidePass (Tries g rest form) = IsBeside form
 BesidePass at = Unit {0}
 
-beside : (first : ℕ) (past : List Entry) (taken : List Taken) (phase : Phase) (at : Pass) → StandsFor first past taken phase at
+pub beside : (first : ℕ) (past : List Entry) (taken : List Taken) (phase : Phase) (at : Pass) → StandsFor first past taken phase at
     → BesidePass at
 beside first past taken (phases.Idle works) at is = subst BesidePass (sym is.0) tt
 beside first past taken (phases.Scan left) at is = subst BesidePass (sym is.same) tt
@@ -185,7 +185,7 @@ beside first past taken (phases.Tries next form block) at is =
     subst BesidePass (sym is.0.same) (beside_form first past is.0.one.page form block is.0.to is.0.fits)
 beside first past taken (phases.Sealing next slot) at is = subst BesidePass (sym is.0.same) tt
 
-kicks : (j : JobView) (past : List Entry) (a : Actor) (event : Event) → is_reclaimer a ≡ false → BesidePass (pass j past)
+pub kicks : (j : JobView) (past : List Entry) (a : Actor) (event : Event) → is_reclaimer a ≡ false → BesidePass (pass j past)
     → KickRule j past (record { actor = a; event = event })
 kicks j past a event other h = record { form = form a (pass j past) other; beside = is_beside a (pass j past) other h }
   where

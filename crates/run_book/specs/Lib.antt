@@ -1,3 +1,4 @@
 pub mod Books
 pub mod Plain
 pub mod Turns
+pub mod Loads

@@ -1,6 +1,6 @@
 //! That the book goes on. A law is the contract of a function without arguments.
 
-ghost use Rattle.std.specs.Prelude.{◌≡◌, ◌≤◌, true, false, List, ◌∷◌, Option, length};
+ghost use Rattle.std.specs.Prelude.{◌≡◌, ◌≤◌, ◌<◌, true, false, List, ◌∷◌, Option, length};
 ghost use Rattle.backing_store.specs.Calls.{Call};
 ghost use Rattle.driver_laws.specs.Three.{TcsAreApart};
 ghost use Rattle.driver_tables.specs.declared.driver.Driver.{Driver};
@@ -15,7 +15,19 @@ ghost use Rattle.driver_tables.specs.Tables.{ShowsTables};
 ghost use Rattle.paging_laws.specs.Steps.{IsStep};
 ghost use Rattle.paging_machine.specs.Parts.{Parts, state_of};
 ghost use Rattle.driver_rules.specs.Reclaims.{pass_due};
+ghost use Rattle.driver_rules.specs.Places.{place};
 ghost use Rattle.driver_rules.specs.Stops.{is_spent};
+ghost use Rattle.driver_rules.specs.Turns.{cpu_due, fetches};
+ghost use Rattle.active_list.specs.States.{state_of as page_state};
+ghost use Rattle.driver_calls.specs.Comes.{bus_of};
+ghost use Rattle.fault_handler.specs.Due.{IsRight};
+ghost use Rattle.fault_handler.specs.Resolving.{IsResolved};
+ghost use Rattle.fault_handler.specs.declared.answers.FaultAnswer.{FaultAnswer};
+ghost use Rattle.fault_handler.specs.declared.answers.FaultAnswer.TheVariants as answers;
+ghost use Rattle.run_book.specs.Loads.{GoesOnWith, OfAnswer};
+ghost use Rattle.sgx_types.specs.declared.entries.BusWhy.{BusWhy};
+ghost use Rattle.sgx_types.specs.declared.names.Cpu.{Cpu};
+ghost use Rattle.sgx_types.specs.declared.names.Page.{Page};
 ghost use Rattle.reclaim_worker.specs.Answers.{IsTurn};
 ghost use Rattle.reclaim_worker.specs.Going.{TurnGoes};
 ghost use Rattle.reclaim_worker.specs.Kept.{TurnKeeps};
@@ -72,4 +84,17 @@ pub fn turns_of_a_pass_count_slots()
     ensures { (taken taken' : List Taken) (phase phase' : Phase) (d d' : Driver) (m m' : Parts) (turn : PassTurn)
         → TurnSays taken phase d m turn taken' phase' d' m' → DriverSays phase d d'
         → OfEntry turn (λ e. CountMoves e.event (count_out d.slots) (count_out d'.slots)) }
+{}
+
+/// The entry of a fault step that is due to a processor is one with which driver and machine go on to agree: the start of a load; or why its page
+/// does not come back, where the machine goes on with that note.
+pub fn fault_steps_are_next()
+    ensures { (made : Making) (j : JobView) (past : List Entry) (d d' : Driver) (m m' : Parts) (taken : List Taken) (phase : Phase) (cpu : Cpu)
+        (page : Page) (answer : FaultAnswer) (told told' : Option (List Call)) → Agrees made j past d m
+        → StandsFor made.first_epoch past taken phase (pass j past) → is_spent past ≡ false → cpu.0 < length j.scripts
+        → cpu_due j past cpu.0 ≡ fetches j.epc past page (place past page)
+        → IsResolved cpu page (page_state d.states page) d m told answer d' m' told' → IsRight j past cpu page answer d'
+        → length m'.cpus ≡ length m.cpus
+        → ((why : BusWhy) → answer ≡ answers.Bus why → GoesOnWith made past (bus_of cpu page why) m)
+        → OfAnswer cpu page answer (λ e. IsNextOf made j past d m e d' m') }
 {}
