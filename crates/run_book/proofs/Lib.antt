@@ -3,3 +3,4 @@ pub mod PlainLaws
 pub mod TurnLaws
 pub mod SlotTurns
 pub mod LoadTurns
+pub mod EndTurns

@@ -9,6 +9,8 @@ use Rattle.paging_machine.specs.Parts.{Parts, state_of}
 use Rattle.driver_calls.specs.Comes.{bus_of}
 use Rattle.fault_handler.specs.declared.answers.FaultAnswer.{FaultAnswer}
 use Rattle.fault_handler.specs.declared.answers.FaultAnswer.TheVariants as answers
+use Rattle.fault_handler.specs.declared.answers.Loaded.{Loaded}
+use Rattle.fault_handler.specs.declared.answers.Loaded.TheVariants as ends
 
 -- a fact of the entry of an answer, if it has one
 abbrev pub OfAnswer : Cpu → Page → FaultAnswer → (Entry → Type 0) → Type 0
@@ -20,3 +22,8 @@ OfAnswer cpu page answer says = Unit {0}
 pub record GoesOnWith (made : Making) (past : List Entry) (e : Entry) (m : Parts) : Type 0 where
   pub shape : ShapeWithRules made (state_of m) (e ∷ past)
   pub fits : FitsApart made.frames (e ∷ past)
+
+-- the entry by which a load ended
+abbrev pub entry_in : Loaded → Entry
+entry_in (ends.Here e) = e
+entry_in (ends.Bus e why) = e

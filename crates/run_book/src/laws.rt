@@ -1,6 +1,6 @@
 //! That the book goes on. A law is the contract of a function without arguments.
 
-ghost use Rattle.std.specs.Prelude.{◌≡◌, ◌≤◌, ◌<◌, true, false, List, ◌∷◌, Option, length};
+ghost use Rattle.std.specs.Prelude.{ℕ, ◌≡◌, ◌≤◌, ◌<◌, true, false, List, ◌∷◌, Option, length};
 ghost use Rattle.backing_store.specs.Calls.{Call};
 ghost use Rattle.driver_laws.specs.Three.{TcsAreApart};
 ghost use Rattle.driver_tables.specs.declared.driver.Driver.{Driver};
@@ -17,19 +17,24 @@ ghost use Rattle.paging_machine.specs.Parts.{Parts, state_of};
 ghost use Rattle.driver_rules.specs.Reclaims.{pass_due};
 ghost use Rattle.driver_rules.specs.Places.{place};
 ghost use Rattle.driver_rules.specs.Stops.{is_spent};
-ghost use Rattle.driver_rules.specs.Turns.{cpu_due, fetches};
+ghost use Rattle.driver_rules.specs.Turns.{Loads, cpu_due, fetches, last_of};
 ghost use Rattle.active_list.specs.States.{state_of as page_state};
 ghost use Rattle.driver_calls.specs.Comes.{bus_of};
-ghost use Rattle.fault_handler.specs.Due.{IsRight};
+ghost use Rattle.fault_handler.specs.Due.{IsRight, IsRightEnd};
+ghost use Rattle.fault_handler.specs.Finishing.{CanFinish, IsFinished};
+ghost use Rattle.fault_handler.specs.declared.answers.Loaded.{Loaded};
 ghost use Rattle.fault_handler.specs.Resolving.{IsResolved};
 ghost use Rattle.fault_handler.specs.declared.answers.FaultAnswer.{FaultAnswer};
 ghost use Rattle.fault_handler.specs.declared.answers.FaultAnswer.TheVariants as answers;
-ghost use Rattle.run_book.specs.Loads.{GoesOnWith, OfAnswer};
+ghost use Rattle.run_book.specs.Loads.{GoesOnWith, OfAnswer, entry_in};
 ghost use Rattle.sgx_types.specs.declared.entries.BusWhy.{BusWhy};
 ghost use Rattle.sgx_types.specs.declared.names.Cpu.{Cpu};
 ghost use Rattle.sgx_types.specs.declared.names.Page.{Page};
 ghost use Rattle.reclaim_worker.specs.Answers.{IsTurn};
+ghost use Rattle.reclaim_worker.specs.Ended.{IsEnded};
 ghost use Rattle.reclaim_worker.specs.Going.{TurnGoes};
+ghost use Rattle.reclaim_worker.specs.Ready.{Ready};
+ghost use Rattle.reclaim_worker.specs.Stored.{StoredSays};
 ghost use Rattle.reclaim_worker.specs.Kept.{TurnKeeps};
 ghost use Rattle.reclaim_worker.specs.Rests.{DriverSays};
 ghost use Rattle.reclaim_worker.specs.Shown.{ShowsAfter};
@@ -97,4 +102,24 @@ pub fn fault_steps_are_next()
         → length m'.cpus ≡ length m.cpus
         → ((why : BusWhy) → answer ≡ answers.Bus why → GoesOnWith made past (bus_of cpu page why) m)
         → OfAnswer cpu page answer (λ e. IsNextOf made j past d m e d' m') }
+{}
+
+/// The end of a load by the processor that has it to end is one with which driver and machine go on to agree.
+pub fn ends_of_loads_are_next()
+    ensures { (made : Making) (j : JobView) (past : List Entry) (d d' : Driver) (m m' : Parts) (taken : List Taken) (phase : Phase) (cpu : Cpu)
+        (page : Page) (n : ℕ) (loaded : Loaded) (can : CanFinish cpu page d m) → Agrees made j past d m
+        → StandsFor made.first_epoch past taken phase (pass j past) → is_spent past ≡ false → cpu.0 < length j.scripts
+        → last_of past cpu.0 ≡ Loads n page → IsFinished cpu page can.slot can.frame can.kept d (state_of m) loaded d' (state_of m')
+        → IsRightEnd j past cpu page can.frame loaded d' → length m'.cpus ≡ length m.cpus
+        → IsNextOf made j past d m (entry_in loaded) d' m' }
+{}
+
+/// The end of a write-out is one with which driver and machine go on to agree.
+pub fn write_outs_are_next()
+    ensures { (made : Making) (j : JobView) (past : List Entry) (d d' : Driver) (m m' : Parts) (taken : List Taken) (phase : Phase)
+        (told told' : Option (List Call)) (faults faults' : ℕ) (e : Entry) (after : List Taken) (behind : Phase) → Agrees made j past d m
+        → Ready made j past taken phase d m → is_spent past ≡ false
+        → StoredSays taken phase (state_of m) d told faults e (state_of m') d' told' faults'
+        → IsEnded made.first_epoch j past e after behind d' → GoesOnWith made past e m' → length m'.cpus ≡ length m.cpus
+        → IsNextOf made j past d m e d' m' }
 {}
