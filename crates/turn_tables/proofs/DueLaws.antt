@@ -83,7 +83,8 @@ last_is e n (Some (lines.Reg first count perm value plain)) ok few = refl
 last_is e n (Some (lines.Tcs page ossa nssa plain)) ok few = by_test (n == 0) refl
   where
     by_test : (b : Bool) → (n == 0) ≡ b
-        → (if b then None else Some (page_at e ((ossa + (min n nssa - 1)) % 2 ^ 32))) ≡ (if b then None else Some (page_at e (ossa + n - 1)))
+        → (if b then None else Some (page_at e ((ossa + (min n nssa - 1)) % 2 ^ 32))) ≡ (if b then None else Some (page_at e
+        (ossa + n - 1)))
     by_test true is = refl
     by_test false is =
         let other : n ≡ 0 → ⊥ = eqb-false n 0 is in
@@ -98,7 +99,7 @@ number_is off low = omega (arith, low)
 page_is : (e off : ℕ) → off < 2 ^ 24 → page_of e off ≡ at_offset e off
 page_is e off low = ap (page_at e) (number_is off low)
 
-access_is : (j : JobView) (e : ℕ) (op : Op) → IsValidOp j op → access_told e op ≡ access_page e (Some op)
+pub access_is : (j : JobView) (e : ℕ) (op : Op) → IsValidOp j op → access_told e op ≡ access_page e (Some op)
 access_is j e (ops.Load off) v = ap Some (page_is e off v.1)
 access_is j e (ops.Store off value) v = ap Some (page_is e off v.0.1)
 access_is j e (ops.Xadd off value) v = ap Some (page_is e off v.0.1)
@@ -119,7 +120,7 @@ inside_same Outside (Some s) h = cc
 inside_same (Inside e t tf sf epoch) None h = cc
 inside_same (Inside e t tf sf epoch) (Some s) h = refl
 
-enclave_same : (e t : ℕ) (tf sf : Frame) (epoch : ℕ) (s : Stay) → seat_of_mode (Inside e t tf sf epoch) ≡ seat_of_stay (Some s)
+pub enclave_same : (e t : ℕ) (tf sf : Frame) (epoch : ℕ) (s : Stay) → seat_of_mode (Inside e t tf sf epoch) ≡ seat_of_stay (Some s)
     → e ≡ s.seat.enclave
 enclave_same e t tf sf epoch s h = ap (λ (x : Seat). x.enclave) same
   where
@@ -134,34 +135,36 @@ module _ (j : JobView) (past : List Entry) (p : ℕ) (look : Looks) (v : IsValid
 
   -- ---- entries and resumptions
 
+  pub enter_save_is : (e t : ℕ) → next_save_of e (look.tcs (page_at e t)) ≡ save_to_enter j past e t
+  enter_save_is e t =
+      ap (next_save_of e) (seen.saves (page_at e t))
+      ∙ next_is e (saved past (page_at e t)) (tcs_line (lines_at j.enclaves e) t) (tcs_line_is j e t v)
+      (saved_within past p (page_at e t) (tcs_line (lines_at j.enclaves e) t) (o.room p (page_at e t)))
+
+  pub resume_save_is : (e t : ℕ) → last_save_of e (look.tcs (page_at e t)) ≡ save_to_resume j past e t
+  resume_save_is e t =
+      ap (last_save_of e) (seen.saves (page_at e t))
+      ∙ last_is e (saved past (page_at e t)) (tcs_line (lines_at j.enclaves e) t) (tcs_line_is j e t v)
+      (saved_within past p (page_at e t) (tcs_line (lines_at j.enclaves e) t) (o.room p (page_at e t)))
+
   enter_is : (e t : ℕ) → due_in j past (enters_by look.frame (page_at e t) (next_save_of e (look.tcs (page_at e t)))) ≡ enters j past e t
   enter_is e t =
-      ap (λ save. due_in j past (enters_by look.frame (page_at e t) save)) save_is
+      ap (λ save. due_in j past (enters_by look.frame (page_at e t) save)) (enter_save_is e t)
       ∙ frames_due j past look.frame seen.frames (page_at e t) (save_to_enter j past e t) [] (λ tf sf. dues.Makes (actions.Enter e t tf sf))
       (λ tf sf. makes_or (waits.Busy (page_at e t)) (enter_with e t tf sf)) (λ tf sf. refl)
       ∙ ap (λ gs. with_pages j past (first_away past (page_at e t ∷ gs)) (makes_or (waits.Busy (page_at e t))
       (enter_with e t (frame_here (place past (page_at e t))) (save_frame past (page_at e t) (save_to_enter j past e t)))))
       (append-nil (listed (save_to_enter j past e t)))
-    where
-      save_is : next_save_of e (look.tcs (page_at e t)) ≡ save_to_enter j past e t
-      save_is =
-          ap (next_save_of e) (seen.saves (page_at e t))
-          ∙ next_is e (saved past (page_at e t)) (tcs_line (lines_at j.enclaves e) t) (tcs_line_is j e t v) (saved_within past p (page_at e t) (tcs_line (lines_at j.enclaves e) t) (o.room p (page_at e t)))
 
   resume_is : (e t : ℕ) (access : Option Page)
       → due_in j past (resumes_by look.frame (page_at e t) (last_save_of e (look.tcs (page_at e t))) access)
       ≡ resumes j past e t (needs_to_resume j past e t ++ listed access)
   resume_is e t access =
-      ap (λ save. due_in j past (resumes_by look.frame (page_at e t) save access)) save_is
+      ap (λ save. due_in j past (resumes_by look.frame (page_at e t) save access)) (resume_save_is e t)
       ∙ frames_due j past look.frame seen.frames (page_at e t) (save_to_resume j past e t) (listed access)
       (λ tf sf. with_access look.frame access (dues.Makes (actions.Resume e t tf sf)))
       (λ tf sf. makes_or (waits.Busy (page_at e t)) (resume_with e t tf sf))
       (λ tf sf. access_due j past look.frame seen.frames access (dues.Makes (actions.Resume e t tf sf)))
-    where
-      save_is : last_save_of e (look.tcs (page_at e t)) ≡ save_to_resume j past e t
-      save_is =
-          ap (last_save_of e) (seen.saves (page_at e t))
-          ∙ last_is e (saved past (page_at e t)) (tcs_line (lines_at j.enclaves e) t) (tcs_line_is j e t v) (saved_within past p (page_at e t) (tcs_line (lines_at j.enclaves e) t) (o.room p (page_at e t)))
 
   -- ---- accesses
 

@@ -390,7 +390,8 @@ pub run_ended : (j : JobView) (past : List Entry) → Along (ScriptRule j) past 
     → builder_due j past ≡ Finished → ((p : ℕ) → p < length j.scripts → cpu_due j past p ≡ Finished) → IsEnded j past
 run_ended j past along told none build cpus fresh = record {
   built = whole;
-  cpus = λ p low bus. cpu_done j past along fresh p told none (le-leb (length (build_of j)) (built past) (omega (arith, whole))) (cpus p low) bus;
+  cpus = λ p low bus. cpu_done j past along fresh p told none (le-leb (length (build_of j)) (built past) (omega (arith, whole)))
+      (cpus p low) bus;
 }
   where
     whole : built past ≡ length (build_of j)

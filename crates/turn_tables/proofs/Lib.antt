@@ -7,3 +7,7 @@ mod LookLaws
 mod DueLaws
 mod OrderLaws
 mod EndLaws
+mod OnceLaws
+mod NeedLaws
+mod PlacedLaws
+mod HoldLaws

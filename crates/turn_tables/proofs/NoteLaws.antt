@@ -62,7 +62,11 @@ stands_on j past actors.Builder ev old new is s = record {
   steps = is.steps ∙ ap (drop 1) s.steps ∙ drop-drop 1 (built past) (build_of j);
 }
 stands_on j past (actors.Cpu p) ev old new is s = record { within = subst (IsCursor j) (sym is) s.within; steps = ap (left j) is ∙ s.steps }
-stands_on j past actors.Reclaimer ev old new is s = record { within = subst (IsCursor j) (sym is) s.within; steps = ap (left j) is ∙ s.steps }
+stands_on j past actors.Reclaimer ev old new is s = record {
+  within = subst (IsCursor j) (sym is) s.within;
+  steps = ap (left j) is
+      ∙ s.steps;
+}
 
 -- ---- kicks
 
@@ -292,7 +296,8 @@ Shows t line count = (g : Page) → tcs_at t g ≡ tcs_by (line g) (count g)
 -- a page's count changed
 changed_shown : (t : List (List (Option TcsTurn))) (line : Page → Option PageLine) (count : Page → ℕ) (page g : Page)
     (f : TcsTurn → TcsTurn) (to : ℕ → ℕ) → ((l : Option PageLine) (n : ℕ) → option_map f (tcs_by l n) ≡ tcs_by l (to n))
-    → Shows t line count → tcs_at (changed t page f (tcs_at t page)) g ≡ tcs_by (line g) (if same_page page g then to (count g) else count g)
+    → Shows t line count → tcs_at (changed t page f (tcs_at t page)) g ≡ tcs_by (line g) (if same_page page g then to
+    (count g) else count g)
 changed_shown t line count page g f to same s = changed_at t page g f ∙ by_test (same_page page g) refl
   where
     by_test : (b : Bool) → same_page page g ≡ b

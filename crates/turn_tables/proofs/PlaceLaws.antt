@@ -52,7 +52,8 @@ rows_more : (es : List EnclaveView) (x : EnclaveView) (t : List (List (Option Tc
     → (e : ℕ) → is_row (get_or (t ++ row ∷ []) e []) (lines_at (es ++ x ∷ []) e)
 rows_more es x t row len is new zero n =
     ap (λ r. get_or r n None) (get_or_append_left t (row ∷ []) [] zero (omega (arith, len))) ∙ is zero n
-rows_more es x t row len is new (suc e) n = ⊎_elim before (λ high. ⊎_elim (there high) (past high) (cases_eq e (length es))) (cases_lt e (length es))
+rows_more es x t row len is new (suc e) n = ⊎_elim before (λ high. ⊎_elim (there high) (past high) (cases_eq e (length es))) (cases_lt e
+    (length es))
   where
     before : e < length es → get_or (get_or (t ++ row ∷ []) (suc e) []) n None ≡ tcs_by (tcs_line (lines_at (es ++ x ∷ []) (suc e)) n) 0
     before low =

@@ -20,7 +20,8 @@ use Rattle.turn_tables.specs.TcsPlaces.{or_line, turns_in}
 -- ---- lists
 
 -- what stands at a place behind a write
-pub get_set : {X : Type 0} (xs : List X) (i k : ℕ) (x d : X) → i < length xs → get_or (set xs i x) k d ≡ (if i == k then x else get_or xs k d)
+pub get_set : {X : Type 0} (xs : List X) (i k : ℕ) (x d : X) → i < length xs
+    → get_or (set xs i x) k d ≡ (if i == k then x else get_or xs k d)
 get_set xs i k x d low = by_test (i == k) refl
   where
     by_test : (b : Bool) → (i == k) ≡ b → get_or (set xs i x) k d ≡ (if b then x else get_or xs k d)

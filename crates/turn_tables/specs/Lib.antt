@@ -7,3 +7,4 @@ pub mod Entries
 pub mod Due
 pub mod Asked
 pub mod Ending
+pub mod Holding

@@ -177,8 +177,8 @@ fn early_turn(mode: Mode, op: Option<Op>) -> TurnDue
     }
 }
 
-// The operation of a processor's script that has so many before it.
-fn op_at(job: &Job, cpu: Cpu, before: u64) -> Option<Op>
+/// The operation of a processor's script that has so many before it.
+pub(crate) fn op_at(job: &Job, cpu: Cpu, before: u64) -> Option<Op>
     ensures { result ≡ op_at job.now cpu.0 before }
 {
     let script = job.scripts().get(usize::from(cpu.0))?;

@@ -29,8 +29,8 @@ pub(crate) fn turn_after(turn: CpuTurn, event: &Event, before: Mode) -> CpuTurn
     }
 }
 
-// Whether an entry answers an operation of a script. A resumption answers one where the processor was not interrupted.
-fn is_reply(interrupted: bool, event: &Event) -> bool
+/// Whether an entry answers an operation of a script. A resumption answers one where the processor was not interrupted.
+pub(crate) fn is_reply(interrupted: bool, event: &Event) -> bool
     ensures { result ≡ is_reply interrupted event.now }
 {
     match event {

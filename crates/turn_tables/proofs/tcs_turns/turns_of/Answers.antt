@@ -17,6 +17,7 @@ loop-line-preserved c =
     record {
       sized = ap length whole ∙ same ∙ c.loop-line.invariant.sized;
       taken = λ n. ap (λ xs. get_or xs n None) whole
-          ∙ taken_more c.args.lines.now c.loop-line.line-index (lines.Tcs 0 0 0 false) c.deref_mut.result.now c.add_line.new.turns c.loop-line-test.true
+          ∙ taken_more c.args.lines.now c.loop-line.line-index
+          (lines.Tcs 0 0 0 false) c.deref_mut.result.now c.add_line.new.turns c.loop-line-test.true
           c.add_line.ensures (λ k. ap (λ xs. get_or xs k None) c.deref_mut.ensures.value ∙ c.loop-line.invariant.taken k) n;
     }

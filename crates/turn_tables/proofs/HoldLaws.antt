@@ -1,0 +1,607 @@
+-- The holds behind an entry are those of the entries with it, and each can be held.
+use Rattle.std.proofs.Common.{◌≡◌, ◌≢◌, ℕ, zero, suc, ◌+◌, ◌-◌, ◌/◌, ◌==◌, ◌<◌, ◌≤◌, ◌||◌, not, Bool, true, false, if◌then◌else◌, List, [], ◌∷◌, ◌++◌, ⊎_elim, Option, Some, None, IfSome, is_some, drop, length, nat_lt, slice_get, get_or, set, refl, sym, ap, subst, ◌∙◌, arith}
+use Rattle.std.specs.Option.{option_map}
+use Rattle.std.proofs.lemmas.Bool.{cases_lt, eq-eqb, eqb-false, eqb-true, false≢true}
+use Rattle.std.proofs.lemmas.List.{append-nil, get_or-set_other, get_or-set_same, get_or_past, length-set, set_past}
+use Rattle.std.proofs.lemmas.List.Folds.{list_any-append}
+use Rattle.sgx_types.specs.declared.entries.Action.{Action}
+use Rattle.sgx_types.specs.declared.entries.Action.TheVariants as actions
+use Rattle.sgx_types.specs.declared.entries.Actor.{Actor}
+use Rattle.sgx_types.specs.declared.entries.Actor.TheVariants as actors
+use Rattle.sgx_types.specs.declared.entries.Cause.TheVariants as causes
+use Rattle.sgx_types.specs.declared.entries.Entry.{Entry}
+use Rattle.sgx_types.specs.declared.entries.Event.{Event}
+use Rattle.sgx_types.specs.declared.names.Cpu.{Cpu}
+use Rattle.sgx_types.specs.declared.names.Frame.{Frame}
+use Rattle.sgx_types.specs.declared.names.Page.{Page}
+use Rattle.sgx_types.specs.Frames.{Content, Free, Holds, IsLoading, IsVa, SecsOf, content, is_page, page_at, same_page}
+use Rattle.sgx_types.specs.Processors.{Stay, stay}
+use Rattle.sgx_types.proofs.Pages.{same_page-refl, same_page-swap, same_pages}
+use Rattle.cached_translations.specs.declared.processor.Mode.{Mode}
+use Rattle.cached_translations.specs.declared.processor.Mode.TheVariants.{Inside, Outside}
+use Rattle.job_grammar.specs.declared.jobs.Op.{Op}
+use Rattle.job_grammar.specs.declared.jobs.Op.TheVariants as ops
+use Rattle.job_grammar.specs.Jobs.{JobView}
+use Rattle.job_grammar.specs.Valid.{IsValid, IsValidOp}
+use Rattle.turn_rules.specs.Script.{action_of, build_of, built, is_interrupted, is_reply, is_reply_of, script_of}
+use Rattle.active_list.specs.Active.{ActiveList, with_hold, without_holds}
+use Rattle.active_list.specs.Holds.{holds_page, joined, most_of, own_of}
+use Rattle.active_list.specs.Places.{IsPlaced}
+use Rattle.paging_laws.specs.Columns.{seat_of_stay}
+use Rattle.paging_machine.specs.Parts.{Parts, seat_of_mode}
+use Rattle.driver_rules.specs.Dues.{IsNext}
+use Rattle.driver_rules.specs.Holds.{access_of_stay, builder_holds, front_to, holds, holds_by, is_among, page_extended, page_in, page_of_stay, up_to}
+use Rattle.driver_rules.specs.Needs.{Interruption, access_page, interruption, listed, needs, needs_by, next_op, save_to_enter, save_to_resume}
+use Rattle.driver_rules.specs.Places.{Absent, Away, Here, Leaving, Loading, Place, frame_here, place}
+use Rattle.driver_rules.specs.Scripts.{ScriptRule}
+use Rattle.driver_rules.specs.Turns.{cpu_due, save_frame}
+use Rattle.driver_laws.specs.Sound.{IsSound, is_absent, stands_in, times}
+use Rattle.driver_laws.specs.Three.{HoldsThree, three}
+use Rattle.driver_laws.proofs.SoundLaws.{entry_of}
+use Rattle.driver_laws.proofs.ThreeLaws.{three_most}
+use Rattle.driver_tables.specs.declared.driver.Driver.{Driver}
+use Rattle.driver_tables.specs.Held.{ShowsHolds}
+use Rattle.driver_tables.proofs.HeldLaws.{SetsHolds, holds_of_builder, holds_of_cpu, holds_stay, sets_holds}
+use Rattle.turn_tables.specs.declared.cpu_turns.CpuTurn.{CpuTurn}
+use Rattle.turn_tables.specs.declared.cpu_turns.Interruption as kept
+use Rattle.turn_tables.specs.declared.holding.HeldPages.{HeldPages}
+use Rattle.turn_tables.specs.declared.holding.Needed.{Needed}
+use Rattle.turn_tables.specs.declared.turns.Turns.{Turns}
+use Rattle.turn_tables.specs.Asked.{Looks, last_save_of, looks_at, next_save_of, op_at}
+use Rattle.turn_tables.specs.CpuTurns.{interruption_told, turn_at}
+use Rattle.turn_tables.specs.Due.{IsOrderly}
+use Rattle.turn_tables.specs.Holding.{CanHold, FitsAll, FitsEntry, FitsHold, FitsNext, FitsOwn, HoldsOnce, KeepsHolds, access_inside_of, held_after, held_of, holding, holding_all, loads_held, measured_next, mode_of, needed_of, own_after, own_held, page_inside_of, pages_of, replies}
+use Rattle.turn_tables.specs.Noting.{IsAmong}
+use Rattle.turn_tables.specs.Shown.{ShowsCpu, ShowsTurns}
+use Rattle.turn_tables.specs.TcsTurns.{tcs_at}
+use Rattle.turn_tables.proofs.DueLaws.{access_is, enclave_same, enter_save_is, resume_save_is}
+use Rattle.turn_tables.proofs.LineLaws.{op_valid}
+use Rattle.turn_tables.proofs.LookLaws.{IsSeen, looks_are}
+use Rattle.turn_tables.proofs.NeedLaws.{Fits, fits_entry}
+use Rattle.turn_tables.proofs.OnceLaws.{holds_all, holds_if, join_all, join_if, longer_if, once_all, once_if, or_right, pigeons}
+use Rattle.turn_tables.proofs.PlacedLaws.{extended_placed}
+
+-- ---- what is held of a list
+
+or_false : (b : Bool) → (b || false) ≡ b
+or_false true = refl
+or_false false = refl
+
+or_twice : (a b : Bool) → (a || (a || b)) ≡ (a || b)
+or_twice true b = refl
+or_twice false b = refl
+
+-- a page in front of others once more
+again_same : (x g : Page) (b : Bool) → (same_page x g || (same_page x g || b)) ≡ (same_page x g || b)
+again_same x g b = or_twice (same_page x g) b
+
+abbrev Same : List Page → List Page → Type 0
+Same xs ys = (g : Page) → is_among xs g ≡ is_among ys g
+
+among_only : (x g : Page) → (same_page x g || false) ≡ true → x ≡ g
+among_only x g h = same_pages x g (sym (or_false (same_page x g)) ∙ h)
+
+-- a page that is brought back, with those before it
+tail_same : (access : Option Page) (page g : Page) → is_among (listed access) page ≡ true
+    → is_among (page ∷ []) g ≡ is_among (front_to page (listed access)) g
+tail_same None page g h = cc
+tail_same (Some a) page g h = ap (λ x. same_page x g || false) (sym (among_only a page h)) ∙ either (same_page a page)
+  where
+    either : (b : Bool) → is_among (a ∷ []) g ≡ is_among (if b then a ∷ [] else a ∷ []) g
+    either true = refl
+    either false = refl
+
+save_same : (save access : Option Page) (page g : Page) → is_among (listed save ++ listed access) page ≡ true
+    → is_among (listed save ++ page ∷ []) g ≡ is_among (front_to page (listed save ++ listed access)) g
+save_same None access page g h = tail_same access page g h
+save_same (Some s) access page g h = by_test (same_page s page) refl h
+  where
+    by_test : (b : Bool) → same_page s page ≡ b → (b || is_among (listed access) page) ≡ true
+        → (same_page s g || is_among (page ∷ []) g) ≡ is_among (if b then s ∷ [] else s ∷ front_to page (listed access)) g
+    by_test true is k =
+        subst (λ y. (same_page s g || (same_page y g || false)) ≡ (same_page s g || false)) (same_pages s page is) (again_same s g false)
+    by_test false is k = ap (λ b. same_page s g || b) (tail_same access page g k)
+
+abbrev three_pages : Page → Bool → Option Page → Page → List Page
+three_pages tcs b save page = tcs ∷ (listed (if b then None else save) ++ page ∷ [])
+
+front_same : (tcs : Page) (save access : Option Page) (page : Page) → is_among (tcs ∷ (listed save ++ listed access)) page ≡ true
+    → Same (pages_of (loads_held (Some (record { tcs = tcs; save = save })) page)) (front_to page (tcs ∷ (listed save ++ listed access)))
+front_same tcs save access page there g =
+    ap (λ b. is_among (three_pages tcs b save page) g) (same_page-swap page tcs) ∙ by_test (same_page tcs page) refl there
+  where
+    by_test : (b : Bool) → same_page tcs page ≡ b → (b || is_among (listed save ++ listed access) page) ≡ true
+        → is_among (three_pages tcs b save page) g ≡ is_among (if b then tcs ∷ [] else tcs ∷ front_to page (listed save ++ listed access)) g
+    by_test true is k =
+        subst (λ y. (same_page tcs g || (same_page y g || false)) ≡ (same_page tcs g || false)) (same_pages tcs page is)
+        (again_same tcs g false)
+    by_test false is k = ap (λ b. same_page tcs g || b) (save_same save access page g k)
+
+loads_same : (tcs : Page) (save access : Option Page) (pages : List Page) (page : Page) → pages ≡ tcs ∷ (listed save ++ listed access)
+    → is_among pages page ≡ true
+    → Same (pages_of (loads_held (Some (record { tcs = tcs; save = save })) page)) (up_to page pages)
+loads_same tcs save access pages page is there g =
+    front_same tcs save access page (subst (λ xs. is_among xs page ≡ true) is there) g
+    ∙ ap (λ xs. is_among (front_to page xs) g) (sym is)
+    ∙ ap (λ b. is_among (if b then front_to page pages else page ∷ []) g) (sym there)
+
+one_same : (o : Option Page) (g : Page) → is_among (listed o ++ ([] ++ [])) g ≡ is_among (listed o) g
+one_same None g = refl
+one_same (Some x) g = refl
+
+page_in_is : (c : Content) (g x : Page) → is_page c g ≡ true → is_among (page_in c) x ≡ (same_page g x || false)
+page_in_is (Holds page kind perm) g x h = ap (λ y. same_page y x || false) (same_pages page g h)
+page_in_is Free g x h = cc
+page_in_is IsVa g x h = cc
+page_in_is (SecsOf e) g x h = cc
+page_in_is (IsLoading page) g x h = cc
+
+stands_there : (at : Place) (n : ℕ) → frame_here at ≡ Some n → stands_in at n ≡ true
+stands_there Absent n h = cc
+stands_there (Here f) n h = let same : f ≡ n = cc in eq-eqb f n same
+stands_there (Leaving f) n h = cc
+stands_there (Loading f slot) n h = cc
+stands_there (Away slot) n h = cc
+
+none_in : (xs : List Page) (page : Page) → xs ≡ [] → is_among xs page ≡ true → ⊥
+none_in xs page is h = false≢true (subst (λ ys. is_among ys page ≡ true) is h)
+
+-- ---- what begins to be held, by the tables and by the rules
+
+module _ (j : JobView) (past : List Entry) (p : ℕ) (look : Looks) (v : IsValid j) (o : IsOrderly j past) (seen : IsSeen j past p look)
+    (sound : IsSound past) where
+  enter_save : (e t : ℕ) → next_save_of e (look.tcs (page_at e t)) ≡ save_to_enter j past e t
+  enter_save = enter_save_is j past p look v o seen
+
+  resume_save : (e t : ℕ) → last_save_of e (look.tcs (page_at e t)) ≡ save_to_resume j past e t
+  resume_save = resume_save_is j past p look v o seen
+
+  inside_same : (mode : Mode) (s : Option Stay) (n : ℕ) → seat_of_mode mode ≡ seat_of_stay s
+      → (g : Page) → is_among (listed (page_inside_of mode n) ++ ([] ++ [])) g ≡ is_among (page_of_stay s n) g
+  inside_same Outside None n h g = refl
+  inside_same Outside (Some s) n h g = cc
+  inside_same (Inside e t tf sf epoch) None n h g = cc
+  inside_same (Inside e t tf sf epoch) (Some s) n h g = ap (λ k. is_among (page_at k n ∷ []) g) (enclave_same e t tf sf epoch s h)
+
+  access_same : (mode : Mode) (s : Option Stay) (op : Option Op) → seat_of_mode mode ≡ seat_of_stay s
+      → ((y : Op) → op ≡ Some y → IsValidOp j y) → next_op j past p ≡ op
+      → (g : Page) → is_among (listed (access_inside_of mode op) ++ ([] ++ [])) g ≡ is_among (access_of_stay j past p s) g
+  access_same Outside None op h ok next g = refl
+  access_same Outside (Some s) op h ok next g = cc
+  access_same (Inside e t tf sf epoch) None op h ok next g = cc
+  access_same (Inside e t tf sf epoch) (Some s) None h ok next g = ap (λ x. is_among (listed (access_page s.seat.enclave x)) g) (sym next)
+  access_same (Inside e t tf sf epoch) (Some s) (Some y) h ok next g =
+      one_same (access_inside_of (Inside e t tf sf epoch) (Some y)) g
+      ∙ ap (λ x. is_among (listed x) g) (access_is j e y (ok y refl) ∙ ap (λ k. access_page k (Some y)) (enclave_same e t tf sf epoch s h)
+      ∙ ap (access_page s.seat.enclave) (sym next))
+
+  resume_same : (e t : ℕ) (tf sf : Frame) → frame_here (place past (page_at e t)) ≡ Some tf.0
+      → save_frame past (page_at e t) (save_to_resume j past e t) ≡ Some sf.0
+      → Same (page_at e t ∷ (listed (last_save_of e (look.tcs (page_at e t))) ++ [])) (page_at e t ∷ page_in (content past sf.0))
+  resume_same e t tf sf is at g =
+      ap (λ x. is_among (page_at e t ∷ (listed x ++ [])) g) (resume_save e t) ∙ by_save (save_to_resume j past e t) at
+    where
+      used : (h : Page) → frame_here (place past h) ≡ Some sf.0 → is_among (page_in (content past sf.0)) g ≡ (same_page h g || false)
+      used h k = page_in_is (content past sf.0) h g (sound.places.frames h sf.0 ∙ stands_there (place past h) sf.0 k)
+
+      by_save : (x : Option Page) → save_frame past (page_at e t) x ≡ Some sf.0
+          → is_among (page_at e t ∷ (listed x ++ [])) g ≡ is_among (page_at e t ∷ page_in (content past sf.0)) g
+      by_save None k =
+          sym (again_same (page_at e t) g false) ∙ ap (λ b. same_page (page_at e t) g || b) (sym (used (page_at e t) k))
+      by_save (Some x) k = ap (λ b. same_page (page_at e t) g || b) (sym (used x k))
+
+  load_same : (i : Option kept.Interruption) (op : Option Op) (page : Page) → interruption past p ≡ interruption_told i
+      → next_op j past p ≡ op → is_among (needs j past p) page ≡ true
+      → Same (pages_of (loads_held (needed_of look.tcs i op) page)) (up_to page (needs j past p))
+  load_same (Some i) op page is next there =
+      subst (λ save. Same (pages_of (loads_held (Some (record { tcs = page_at i.enclave i.tcs; save = save })) page)) (up_to page
+      (needs j past p)))
+      (sym (resume_save i.enclave i.tcs))
+      (by_page i.for_page (ap (needs_by j past p) is))
+    where
+      by_page : (b : Bool)
+          → needs j past p ≡ page_at i.enclave i.tcs ∷ (listed (save_to_resume j past i.enclave i.tcs) ++ (if b then listed
+          (access_page i.enclave (next_op j past p)) else []))
+          → Same (pages_of (loads_held (Some
+          (record { tcs = page_at i.enclave i.tcs; save = save_to_resume j past i.enclave i.tcs })) page))
+          (up_to page (needs j past p))
+      by_page true same =
+          loads_same (page_at i.enclave i.tcs) (save_to_resume j past i.enclave i.tcs) (access_page i.enclave (next_op j past p))
+          (needs j past p) page same there
+      by_page false same =
+          loads_same (page_at i.enclave i.tcs) (save_to_resume j past i.enclave i.tcs) None (needs j past p) page same there
+  load_same None None page is next there = absurd (none_in (needs j past p) page (rw (is, next) refl) there)
+  load_same None (Some (ops.Enter e t)) page is next there =
+      subst (λ save. Same (pages_of (loads_held (Some (record { tcs = page_at e t; save = save })) page)) (up_to page (needs j past p)))
+      (sym (enter_save e t))
+      (loads_same (page_at e t) (save_to_enter j past e t) None (needs j past p) page same there)
+    where
+      same : needs j past p ≡ page_at e t ∷ (listed (save_to_enter j past e t) ++ [])
+      same = rw (is, next) (ap (λ xs. page_at e t ∷ xs) (sym (append-nil (listed (save_to_enter j past e t)))))
+  load_same None (Some (ops.Resume e t)) page is next there =
+      subst (λ save. Same (pages_of (loads_held (Some (record { tcs = page_at e t; save = save })) page)) (up_to page (needs j past p)))
+      (sym (resume_save e t))
+      (loads_same (page_at e t) (save_to_resume j past e t) None (needs j past p) page same there)
+    where
+      same : needs j past p ≡ page_at e t ∷ (listed (save_to_resume j past e t) ++ [])
+      same = rw (is, next) (ap (λ xs. page_at e t ∷ xs) (sym (append-nil (listed (save_to_resume j past e t)))))
+  load_same None (Some op) page is next there = absurd (none_in (needs j past p) page (rw (is, next) refl) there)
+
+  held_same : (i : Option kept.Interruption) (op : Option Op) → interruption past p ≡ interruption_told i → next_op j past p ≡ op
+      → ((y : Op) → op ≡ Some y → IsValidOp j y) → (action : Action) → Fits j past p action
+      → Same (pages_of (held_of look.tcs look.mode i op (Some action))) (holds_by j past p (Some action))
+  held_same i op is next ok (actions.Fill n f) fits = inside_same look.mode (stay past p) n seen.seat
+  held_same i op is next ok (actions.Aex causes.Fault) fits = access_same look.mode (stay past p) op seen.seat ok next
+  held_same i op is next ok (actions.Aex causes.Timer) fits = λ g. refl
+  held_same i op is next ok (actions.Aex causes.Kick) fits = λ g. refl
+  held_same i op is next ok (actions.Aex causes.End) fits = λ g. refl
+  held_same i op is next ok (actions.EldStart f page slot) fits = load_same i op page is next fits.exact
+  held_same i op is next ok (actions.Resume e t tf sf) fits = resume_same e t tf sf fits.exact.0 fits.exact.1
+  held_same i op is next ok action fits = λ g. refl
+
+  -- .. behind an event that is no reply
+  event_same : (i : Option kept.Interruption) (op : Option Op) → interruption past p ≡ interruption_told i → next_op j past p ≡ op
+      → ((y : Op) → op ≡ Some y → IsValidOp j y) → (x : Option Action) → ((action : Action) → x ≡ Some action → Fits j past p action)
+      → Same (pages_of (held_of look.tcs look.mode i op x)) (holds_by j past p x)
+  event_same i op is next ok None fits = λ g. refl
+  event_same i op is next ok (Some action) fits = held_same i op is next ok action (fits action refl)
+
+  event_there : (x : Option Action) → ((action : Action) → x ≡ Some action → Fits j past p action) → (g : Page)
+      → is_among (holds_by j past p x) g ≡ true → is_absent (place past g) ≡ false
+  event_there None fits g h = absurd (false≢true h)
+  event_there (Some action) fits g h = (fits action refl).there g h
+
+-- ---- lists that are held
+
+-- a page that is held is among the pages, and the other way round
+holds_among : (xs : List Page) (g : Page) → holds_page xs g ≡ is_among xs g
+holds_among [] g = refl
+holds_among (x ∷ xs) g = ap (λ b. b || holds_page xs g) (same_page-swap g x) ∙ ap (λ b. same_page x g || b) (holds_among xs g)
+
+told_some : (i : Option kept.Interruption) → is_some (interruption_told i) ≡ is_some i
+told_some None = refl
+told_some (Some i) = refl
+
+-- an actor's pages with one more
+own_holding : (list : ActiveList) (holder : ℕ) (x : Option Page) → holder < length list.own
+    → own_of (holding list holder x).own holder ≡ join_if (own_of list.own holder) x
+own_holding list holder None low = refl
+own_holding list holder (Some g) low = get_or-set_same list.own holder (joined (own_of list.own holder) g) [] low
+
+length_holding : (list : ActiveList) (holder : ℕ) (x : Option Page) → length (holding list holder x).own ≡ length list.own
+length_holding list holder None = refl
+length_holding list holder (Some g) = length-set list.own holder (joined (own_of list.own holder) g)
+
+counts_holding : (list : ActiveList) (holder : ℕ) (x : Option Page) → (holding list holder x).counts ≡ list.counts
+counts_holding list holder None = refl
+counts_holding list holder (Some g) = refl
+
+sets_none : (own : List (List Page)) (holder : ℕ) → SetsHolds own own holder
+sets_none own holder = record { holders = refl; others = λ p other. refl }
+
+sets_holding : (list : ActiveList) (holder : ℕ) (x : Option Page) → SetsHolds list.own (holding list holder x).own holder
+sets_holding list holder None = sets_none list.own holder
+sets_holding list holder (Some g) = sets_holds list.own holder (joined (own_of list.own holder) g)
+
+sets_then : (a b c : List (List Page)) (holder : ℕ) → SetsHolds a b holder → SetsHolds b c holder → SetsHolds a c holder
+sets_then a b c holder one two =
+    record { holders = two.holders ∙ one.holders; others = λ p other. two.others p other ∙ one.others p other }
+
+own_dropped : (own : List (List Page)) (holder : ℕ) → own_of (set own holder []) holder ≡ []
+own_dropped own holder = ⊎_elim (λ low. get_or-set_same own holder [] [] low)
+    (λ high. ap (λ xs. own_of xs holder) (set_past own holder [] high) ∙ get_or_past own holder [] high) (cases_lt holder (length own))
+
+-- each actor's pages once, where one actor's are
+once_sets : (old new : List (List Page)) (holder : ℕ) → SetsHolds old new holder → ((g : Page) → times (own_of new holder) g ≤ 1)
+    → HoldsOnce old → HoldsOnce new
+once_sets old new holder sets own once p g = by_test (p == holder) refl
+  where
+    by_test : (b : Bool) → (p == holder) ≡ b → times (own_of new p) g ≤ 1
+    by_test true is = subst (λ q. times (own_of new q) g ≤ 1) (sym (eqb-true p holder is)) (own g)
+    by_test false is = subst (λ xs. times xs g ≤ 1) (sym (sets.others p (eqb-false p holder is))) (once p g)
+
+in_first : (x : Option Page) (xs : List Page) (g : Page) → x ≡ Some g → is_among (listed x ++ xs) g ≡ true
+in_first x xs g is = subst (λ y. is_among (listed y ++ xs) g ≡ true) (sym is) (rw (same_page-refl g) refl)
+
+in_rest : (x : Option Page) (xs : List Page) (g : Page) → is_among xs g ≡ true → is_among (listed x ++ xs) g ≡ true
+in_rest None xs g h = h
+in_rest (Some y) xs g h = or_right (same_page y g) (is_among xs g) h
+
+in_last : (x : Option Page) (g : Page) → x ≡ Some g → is_among (listed x) g ≡ true
+in_last x g is = subst (λ y. is_among (listed y) g ≡ true) (sym is) (rw (same_page-refl g) refl)
+
+most_three : (holder : ℕ) → holder < 16 → most_of holder ≡ 3
+most_three holder low = by_test (holder == 16) refl
+  where
+    by_test : (b : Bool) → (holder == 16) ≡ b → ◌≡◌ {A = ℕ} (if b then 1 else 3) 3
+    by_test true is = let same : holder ≡ 16 = eqb-true holder 16 is in absurd (omega (arith, low, same))
+    by_test false is = refl
+
+fits_one : (list : ActiveList) (holder : ℕ) (x : Option Page) → ((g : Page) → x ≡ Some g → IsPlaced list.counts g)
+    → length (join_if (own_of list.own holder) x) ≤ most_of holder → IfSome x (FitsHold list holder)
+fits_one list holder None placed room = tt
+fits_one list holder (Some g) placed room = record { placed = placed g refl; room = room }
+
+module _ (list : ActiveList) (holder : ℕ) (h : HeldPages) (low : holder < length list.own) where
+  own_first : own_of (holding list holder h.first).own holder ≡ join_if (own_of list.own holder) h.first
+  own_first = own_holding list holder h.first low
+
+  low_first : holder < length (holding list holder h.first).own
+  low_first = let same = length_holding list holder h.first in omega (arith, same, low)
+
+  own_second : own_of (holding (holding list holder h.first) holder h.second).own holder
+      ≡ join_if (join_if (own_of list.own holder) h.first) h.second
+  own_second = own_holding (holding list holder h.first) holder h.second low_first ∙ ap (λ xs. join_if xs h.second) own_first
+
+  low_second : holder < length (holding (holding list holder h.first) holder h.second).own
+  low_second = let same = length_holding (holding list holder h.first) holder h.second in let before = low_first in omega
+      (arith, same, before)
+
+  pub own_all : own_of (holding_all list holder h).own holder ≡ join_all (own_of list.own holder) h
+  own_all =
+      own_holding (holding (holding list holder h.first) holder h.second) holder h.third low_second
+      ∙ ap (λ xs. join_if xs h.third) own_second
+
+  pub sets_all : SetsHolds list.own (holding_all list holder h).own holder
+  sets_all =
+      sets_then list.own (holding (holding list holder h.first) holder h.second).own (holding_all list holder h).own holder
+      (sets_then list.own (holding list holder h.first).own (holding (holding list holder h.first) holder h.second).own holder
+      (sets_holding list holder h.first) (sets_holding (holding list holder h.first) holder h.second))
+      (sets_holding (holding (holding list holder h.first) holder h.second) holder h.third)
+
+  pub fits_all : holder < 16 → ((g : Page) → is_among (pages_of h) g ≡ true → IsPlaced list.counts g)
+      → length (join_all (own_of list.own holder) h) ≤ 3 → FitsAll list holder h
+  fits_all few placed room = record {
+    first = fits_one list holder h.first (λ g is. placed g (in_first h.first (listed h.second ++ listed h.third) g is))
+        (let one = longer_if (join_if (own_of list.own holder) h.first) h.second in omega (arith, most, one, two, room));
+    second = fits_one (holding list holder h.first) holder h.second
+        (λ g is. subst (λ counts. IsPlaced counts g) (sym (counts_holding list holder h.first))
+        (placed g (in_rest h.first (listed h.second ++ listed h.third) g (in_first h.second (listed h.third) g is))))
+        (subst (λ xs. length (join_if xs h.second) ≤ most_of holder) (sym own_first) (omega (arith, most, two, room)));
+    third = fits_one (holding (holding list holder h.first) holder h.second) holder h.third
+        (λ g is. subst (λ counts. IsPlaced counts g)
+        (sym (counts_holding (holding list holder h.first) holder h.second ∙ counts_holding list holder h.first))
+        (placed g (in_rest h.first (listed h.second ++ listed h.third) g (in_rest h.second (listed h.third) g (in_last h.third g is)))))
+        (subst (λ xs. length (join_if xs h.third) ≤ most_of holder) (sym own_second) (omega (arith, most, room)));
+  }
+    where
+      most : most_of holder ≡ 3
+      most = most_three holder few
+
+      two : length (join_if (join_if (own_of list.own holder) h.first) h.second) ≤ length (join_all (own_of list.own holder) h)
+      two = longer_if (join_if (join_if (own_of list.own holder) h.first) h.second) h.third
+
+-- ---- an entry of a processor
+
+module _ (j : JobView) (d : Driver) (m : Parts) (t : Turns) (c : Cpu) (ev : Event) (can : CanHold j d m t (entry_of
+    (actors.Cpu c) ev)) where
+  low_cpu : c.0 < length j.scripts
+  low_cpu = can.script.next.0
+
+  few_cpu : c.0 < 16
+  few_cpu = let low = low_cpu in let few = can.shows.valid.few_scripts in omega (arith, low, few)
+
+  in_table : c.0 < length t.cpus
+  in_table = let low = low_cpu in let each = can.shows.each in omega (arith, low, each)
+
+  in_own : c.0 < length d.active.own
+  in_own = let few = few_cpu in let all = can.holds.shows.holders in omega (arith, few, all)
+
+  shown : ShowsCpu can.past c.0 (turn_at t.cpus c.0)
+  shown = can.shows.cpus c.0 low_cpu
+
+  broken : is_some (turn_at t.cpus c.0).interruption ≡ is_interrupted can.past c.0
+  broken =
+      sym (told_some (turn_at t.cpus c.0).interruption) ∙ ap is_some shown.interruption ∙ sym (can.three c.0).interrupted
+
+  reply_is : replies t c.0 ev ≡ is_reply (is_interrupted can.past c.0) ev
+  reply_is = ap (λ b. is_reply b ev) broken
+
+  fits : replies t c.0 ev ≡ false → (action : Action) → action_of ev ≡ Some action → Fits j can.past c.0 action
+  fits quiet = fits_entry j can.past c.0 can.agrees.sound (can.three c.0) ev can.script.next.1 (sym reply_is ∙ quiet)
+
+  next_is : next_op j can.past c.0 ≡ op_at j c.0 (turn_at t.cpus c.0).replied
+  next_is = ap (slice_get (script_of j c.0)) (sym shown.replied)
+
+  same : replies t c.0 ev ≡ false
+      → Same (pages_of (own_held j t c.0 (mode_of m (actors.Cpu c)) ev)) (holds_by j can.past c.0 (action_of ev))
+  same quiet =
+      event_same j can.past c.0 (looks_at d m t c.0) can.shows.valid can.orderly
+      (looks_are can.made j can.past d m t can.agrees can.shows c.0) can.agrees.sound (turn_at t.cpus c.0).interruption
+      (op_at j c.0 (turn_at t.cpus c.0).replied) (sym shown.interruption) next_is
+      (λ y at. op_valid j c.0 (turn_at t.cpus c.0).replied y can.shows.valid at) (action_of ev) (fits quiet)
+
+  placed : replies t c.0 ev ≡ false → (g : Page) → is_among (pages_of (own_held j t c.0 (mode_of m (actors.Cpu c)) ev)) g ≡ true
+      → IsPlaced d.active.counts g
+  placed quiet g h =
+      subst (λ counts. IsPlaced counts g) can.agrees.shows.counts
+      (can.agrees.shows.placed g (event_there j can.past c.0 (looks_at d m t c.0) can.shows.valid can.orderly
+      (looks_are can.made j can.past d m t can.agrees can.shows c.0) can.agrees.sound (action_of ev) (fits quiet) g (sym (same quiet g)
+      ∙ h)))
+
+  -- what it holds then
+  members : replies t c.0 ev ≡ false → (g : Page)
+      → holds_page (join_all (own_of d.active.own c.0) (own_held j t c.0 (mode_of m (actors.Cpu c)) ev)) g
+      ≡ is_among (holds j (entry_of (actors.Cpu c) ev ∷ can.past) c.0) g
+  members quiet g =
+      holds_all (own_of d.active.own c.0) (own_held j t c.0 (mode_of m (actors.Cpu c)) ev) g
+      ∙ ap (λ b. b || is_among (pages_of (own_held j t c.0 (mode_of m (actors.Cpu c)) ev)) g) (can.holds.shows.cpus c.0 g low_cpu)
+      ∙ ap (λ b. is_among (holds j can.past c.0) g || b) (same quiet g)
+      ∙ sym (list_any-append (λ h. same_page h g) (holds j can.past c.0) (holds_by j can.past c.0 (action_of ev)))
+      ∙ ap (λ xs. is_among xs g) (sym longer)
+    where
+      longer : holds j (entry_of (actors.Cpu c) ev ∷ can.past) c.0 ≡ holds j can.past c.0 ++ holds_by j can.past c.0 (action_of ev)
+      longer = let k = sym reply_is ∙ quiet in rw (eq-eqb c.0 c.0 refl, k) refl
+
+  once : (g : Page) → times (join_all (own_of d.active.own c.0) (own_held j t c.0 (mode_of m (actors.Cpu c)) ev)) g ≤ 1
+  once = once_all (own_of d.active.own c.0) (own_held j t c.0 (mode_of m (actors.Cpu c)) ev) (can.holds.once c.0)
+
+  room : replies t c.0 ev ≡ false → length (join_all (own_of d.active.own c.0) (own_held j t c.0 (mode_of m (actors.Cpu c)) ev)) ≤ 3
+  room quiet =
+      let few = three_most j (entry_of (actors.Cpu c) ev ∷ can.past) c.0 in
+      let within = pigeons (three j (entry_of (actors.Cpu c) ev ∷ can.past) c.0)
+      (join_all (own_of d.active.own c.0) (own_held j t c.0 (mode_of m (actors.Cpu c)) ev)) once
+      (λ g h. (can.after c.0).held g (sym (members quiet g) ∙ holds_among (join_all (own_of d.active.own c.0)
+      (own_held j t c.0 (mode_of m (actors.Cpu c)) ev)) g ∙ h)) in
+      omega (arith, few, within)
+
+  pub cpu_fits : FitsOwn j t (mode_of m (actors.Cpu c)) c.0 ev d.active
+  cpu_fits = record {
+    turn = in_table;
+    holder = few_cpu;
+    pages = λ quiet. fits_all d.active c.0 (own_held j t c.0 (mode_of m (actors.Cpu c)) ev) in_own few_cpu (placed quiet) (room quiet);
+  }
+
+  pub cpu_keeps : KeepsHolds j (own_after (replies t c.0 ev) d.active c.0 (own_held j t c.0 (mode_of m (actors.Cpu c)) ev)).own
+      (entry_of (actors.Cpu c) ev ∷ can.past)
+  cpu_keeps = by_reply (replies t c.0 ev) refl
+    where
+      dropped : replies t c.0 ev ≡ true → (g : Page)
+          → holds_page (own_of (set d.active.own c.0 []) c.0) g ≡ is_among (holds j (entry_of (actors.Cpu c) ev ∷ can.past) c.0) g
+      dropped reply g =
+          ap (λ xs. holds_page xs g) (own_dropped d.active.own c.0)
+          ∙ (let k = sym reply_is ∙ reply in rw (eq-eqb c.0 c.0 refl, k) refl)
+
+      by_reply : (b : Bool) → replies t c.0 ev ≡ b
+          → KeepsHolds j (own_after b d.active c.0 (own_held j t c.0 (mode_of m (actors.Cpu c)) ev)).own
+          (entry_of (actors.Cpu c) ev ∷ can.past)
+      by_reply true is = record {
+        shows = holds_of_cpu j d.active.own (set d.active.own c.0 []) can.past c ev low_cpu can.shows.valid.few_scripts
+            (sets_holds d.active.own c.0 []) (dropped is) can.holds.shows;
+        once = once_sets d.active.own (set d.active.own c.0 []) c.0 (sets_holds d.active.own c.0 [])
+            (λ g. subst (λ xs. times xs g ≤ 1) (sym (own_dropped d.active.own c.0)) (omega arith)) can.holds.once;
+      }
+      by_reply false is = record {
+        shows = holds_of_cpu j d.active.own (holding_all d.active c.0 (own_held j t c.0 (mode_of m (actors.Cpu c)) ev)).own can.past c ev
+            low_cpu can.shows.valid.few_scripts (sets_all d.active c.0 (own_held j t c.0 (mode_of m (actors.Cpu c)) ev) in_own)
+            (λ g. ap (λ xs. holds_page xs g) (own_all d.active c.0 (own_held j t c.0 (mode_of m (actors.Cpu c)) ev) in_own)
+            ∙ members is g) can.holds.shows;
+        once = once_sets d.active.own (holding_all d.active c.0 (own_held j t c.0 (mode_of m (actors.Cpu c)) ev)).own c.0
+            (sets_all d.active c.0 (own_held j t c.0 (mode_of m (actors.Cpu c)) ev) in_own)
+            (λ g. subst (λ xs. times xs g ≤ 1)
+            (sym (own_all d.active c.0 (own_held j t c.0 (mode_of m (actors.Cpu c)) ev) in_own)) (once g)) can.holds.once;
+      }
+
+-- ---- an entry of the builder
+
+second_left : {X : Type 0} (xs : List X) (n : ℕ) → slice_get (drop n xs) 1 ≡ slice_get xs (n + 1)
+second_left xs zero = refl
+second_left [] (suc n) = refl
+second_left (x ∷ xs) (suc n) = second_left xs n ∙ ap (slice_get (x ∷ xs)) (let same : suc (n + 1) ≡ suc n + 1 = omega arith in same)
+
+module _ (j : JobView) (d : Driver) (m : Parts) (t : Turns) (ev : Event) (can : CanHold j d m t (entry_of actors.Builder ev)) where
+  measured_is : measured_next j t ≡ builder_holds j (entry_of actors.Builder ev ∷ can.past)
+  measured_is =
+      ap (λ steps. page_extended (slice_get steps 1)) can.shows.steps ∙ ap page_extended (second_left (build_of j) (built can.past))
+
+  cleared : own_of (set d.active.own 16 []) 16 ≡ []
+  cleared = own_dropped d.active.own 16
+
+  pub builder_fits : FitsNext j t d.active
+  builder_fits = record {
+    cursor = can.shows.within;
+    page = fits_one (without_holds d.active 16) 16 (measured_next j t)
+        (λ g is. subst (λ counts. IsPlaced counts g) (sym can.agrees.shows.of_job)
+        (extended_placed j (built can.past + 1) g (sym measured_is ∙ is)))
+        (subst (λ xs. length (join_if xs (measured_next j t)) ≤ 1) (sym cleared) (one (measured_next j t)));
+  }
+    where
+      one : (x : Option Page) → length (join_if [] x) ≤ 1
+      one None = omega arith
+      one (Some g) = omega arith
+
+  in_all : 16 < length (set d.active.own 16 [])
+  in_all = let same = length-set d.active.own 16 [] in let all = can.holds.shows.holders in omega (arith, same, all)
+
+  sets : SetsHolds d.active.own (holding (without_holds d.active 16) 16 (measured_next j t)).own 16
+  sets =
+      sets_then d.active.own (set d.active.own 16 []) (holding (without_holds d.active 16) 16 (measured_next j t)).own 16
+      (sets_holds d.active.own 16 []) (sets_holding (without_holds d.active 16) 16 (measured_next j t))
+
+  owns : own_of (holding (without_holds d.active 16) 16 (measured_next j t)).own 16 ≡ join_if [] (measured_next j t)
+  owns = own_holding (without_holds d.active 16) 16 (measured_next j t) in_all ∙ ap (λ xs. join_if xs (measured_next j t)) cleared
+
+  pub builder_keeps : KeepsHolds j (holding (without_holds d.active 16) 16 (measured_next j t)).own (entry_of actors.Builder ev ∷ can.past)
+  builder_keeps = record {
+    shows = holds_of_builder j d.active.own (holding (without_holds d.active 16) 16 (measured_next j t)).own can.past ev
+        can.shows.valid.few_scripts sets
+        (λ g. ap (λ xs. holds_page xs g) owns ∙ holds_if [] (measured_next j t) g ∙ ap (λ x. is_among (listed x) g) measured_is)
+        can.holds.shows;
+    once = once_sets d.active.own (holding (without_holds d.active 16) 16 (measured_next j t)).own 16 sets
+        (λ g. subst (λ xs. times xs g ≤ 1) (sym owns) (once_if [] (measured_next j t) (λ x. omega arith) g)) can.holds.once;
+  }
+
+-- ---- any entry
+
+pub entry_fits : (j : JobView) (d : Driver) (m : Parts) (t : Turns) (e : Entry) → CanHold j d m t e
+    → FitsEntry j t (mode_of m e.actor) e.actor e.event d.active
+entry_fits j d m t e can = by_actor e.actor e.event can
+  where
+    by_actor : (a : Actor) (ev : Event) → CanHold j d m t (entry_of a ev) → FitsEntry j t (mode_of m a) a ev d.active
+    by_actor actors.Builder ev k = builder_fits j d m t ev k
+    by_actor (actors.Cpu c) ev k = cpu_fits j d m t c ev k
+    by_actor actors.Reclaimer ev k = tt
+
+pub entry_keeps : (j : JobView) (d : Driver) (m : Parts) (t : Turns) (e : Entry) (can : CanHold j d m t e)
+    → KeepsHolds j (held_after j t (mode_of m e.actor) e.actor e.event d.active).own (e ∷ can.past)
+entry_keeps j d m t e can = by_actor e.actor e.event can
+  where
+    by_actor : (a : Actor) (ev : Event) (k : CanHold j d m t (entry_of a ev))
+        → KeepsHolds j (held_after j t (mode_of m a) a ev d.active).own (entry_of a ev ∷ k.past)
+    by_actor actors.Builder ev k = builder_keeps j d m t ev k
+    by_actor (actors.Cpu c) ev k = cpu_keeps j d m t c ev k
+    by_actor actors.Reclaimer ev k = record { shows = holds_stay j d.active.own k.past ev k.holds.shows; once = k.holds.once }
+
+pub entry_among : (j : JobView) (d : Driver) (m : Parts) (t : Turns) (e : Entry) → CanHold j d m t e → IsAmong (length m.cpus) e.actor
+entry_among j d m t e can = by_actor e.actor e.event can
+  where
+    by_actor : (a : Actor) (ev : Event) → CanHold j d m t (entry_of a ev) → IsAmong (length m.cpus) a
+    by_actor actors.Builder ev k = tt
+    by_actor (actors.Cpu c) ev k =
+        let low = k.script.next.0 in
+        let one = k.agrees.cpus in
+        let two = k.agrees.shows.cpus in omega (arith, low, one, two)
+    by_actor actors.Reclaimer ev k = tt
+
+-- only who holds what changes
+pub record IsSameBut (a b : ActiveList) : Type 0 where
+  pub pages : b.pages ≡ a.pages
+  pub counts : b.counts ≡ a.counts
+
+holding_others : (list : ActiveList) (holder : ℕ) (x : Option Page) → IsSameBut list (holding list holder x)
+holding_others list holder None = record { pages = refl; counts = refl }
+holding_others list holder (Some g) = record { pages = refl; counts = refl }
+
+but_then : (a b c : ActiveList) → IsSameBut a b → IsSameBut b c → IsSameBut a c
+but_then a b c one two = record { pages = two.pages ∙ one.pages; counts = two.counts ∙ one.counts }
+
+pub entry_others : (j : JobView) (m : Parts) (t : Turns) (before : Mode) (a : Actor) (ev : Event) (list : ActiveList)
+    → IsSameBut list (held_after j t before a ev list)
+entry_others j m t before actors.Builder ev list =
+    but_then list (without_holds list 16) (holding (without_holds list 16) 16 (measured_next j t)) (record { pages = refl; counts = refl })
+    (holding_others (without_holds list 16) 16 (measured_next j t))
+entry_others j m t before (actors.Cpu c) ev list = by_reply (replies t c.0 ev)
+  where
+    by_reply : (b : Bool) → IsSameBut list (own_after b list c.0 (own_held j t c.0 before ev))
+    by_reply true = record { pages = refl; counts = refl }
+    by_reply false =
+        let h = own_held j t c.0 before ev in
+        but_then list (holding list c.0 h.first) (holding_all list c.0 h) (holding_others list c.0 h.first)
+        (but_then (holding list c.0 h.first) (holding (holding list c.0 h.first) c.0 h.second) (holding_all list c.0 h)
+        (holding_others (holding list c.0 h.first) c.0 h.second)
+        (holding_others (holding (holding list c.0 h.first) c.0 h.second) c.0 h.third))
+entry_others j m t before actors.Reclaimer ev list = record { pages = refl; counts = refl }
+
+but_own : (a b : ActiveList) → IsSameBut a b → b ≡ record a { own = b.own }
+but_own a b same = λ i. record { pages = same.pages i; counts = same.counts i; own = b.own }
+
+pub with_active : (d : Driver) (new list : ActiveList) → new ≡ list → IsSameBut d.active list
+    → ◌≡◌ {A = Driver} (record d { active = new }) (record d { active = record d.active { own = new.own } })
+with_active d new list is same = λ i. record d { active = whole i }
+  where
+    whole : new ≡ record d.active { own = new.own }
+    whole = but_own d.active new (record {
+      pages = ap (λ (x : ActiveList). x.pages) is ∙ same.pages;
+      counts = ap (λ
+          (x : ActiveList). x.counts) is ∙ same.counts;
+    })

@@ -1,0 +1,146 @@
+-- Each page that a build measures has a place in the tables.
+use Rattle.std.proofs.Common.{◌≡◌, ℕ, zero, suc, ◌+◌, ◌-◌, ◌<◌, ◌≤◌, Bool, true, false, List, [], ◌∷◌, ◌++◌, Option, Some, None, length, map, replicate, get_or, slice_get, slice_index, refl, sym, ap, subst, ◌∙◌, arith}
+use Rattle.std.specs.List.{All, flat_map}
+use Rattle.std.proofs.lemmas.List.Elements.{All-cons, All-head, All-nil, All-tail}
+use Rattle.sgx_types.specs.declared.entries.PageInit.{PageInit}
+use Rattle.sgx_types.specs.declared.entries.PageInit.TheVariants as inits
+use Rattle.sgx_types.specs.declared.names.Kind.{Kind}
+use Rattle.sgx_types.specs.declared.names.Kind.TheVariants as kinds
+use Rattle.sgx_types.specs.declared.names.Page.{Page}
+use Rattle.sgx_types.specs.declared.names.Perm.{Perm}
+use Rattle.sgx_types.specs.Frames.{no_perm, page_at}
+use Rattle.job_grammar.specs.declared.jobs.PageLine.{PageLine}
+use Rattle.job_grammar.specs.declared.jobs.PageLine.TheVariants as lines
+use Rattle.job_grammar.specs.Jobs.{EnclaveView, JobView, va_pages}
+use Rattle.turn_rules.specs.declared.steps.BuildStep.{BuildStep}
+use Rattle.turn_rules.specs.declared.steps.BuildStep.TheVariants as builds
+use Rattle.turn_rules.specs.Script.{build_of, chunk_steps, enclave_steps, enclaves_steps, line_steps, numbers_from, page_steps}
+use Rattle.active_list.specs.Places.{IsPlaced}
+use Rattle.driver_rules.specs.Holds.{page_extended}
+use Rattle.driver_tables.specs.Counts.{enclave_places, last_end, line_end, page_counts}
+use Rattle.turn_tables.proofs.PlaceLaws.{each_end}
+
+-- a step that measures names a page of this enclave below a number
+abbrev IsLow : ℕ → ℕ → BuildStep → Type 0
+IsLow enclave end (builds.Extend e n chunk) = (e ≡ enclave) × (n < end)
+IsLow enclave end _ = Unit {0}
+
+-- .. a page that has a place
+abbrev HasPlace : List ℕ → BuildStep → Type 0
+HasPlace counts (builds.Extend e n chunk) = n < get_or counts e 0
+HasPlace counts _ = Unit {0}
+
+-- what holds along a list, by recursion
+abbrev Each : {X : Type 0} → (X → Type 0) → List X → Type 0
+Each P [] = Unit {0}
+Each P (x ∷ xs) = P x × Each P xs
+
+each_append : {X : Type 0} (P : X → Type 0) (xs ys : List X) → Each P xs → Each P ys → Each P (xs ++ ys)
+each_append P [] ys h k = k
+each_append P (x ∷ xs) ys h k = (h.0, each_append P xs ys h.1 k)
+
+each_then : {X : Type 0} (P Q : X → Type 0) (xs : List X) → ((x : X) → P x → Q x) → Each P xs → Each Q xs
+each_then P Q [] f h = tt
+each_then P Q (x ∷ xs) f h = (f x h.0, each_then P Q xs f h.1)
+
+each_got : {X : Type 0} (P : X → Type 0) (xs : List X) (n : ℕ) (x : X) → Each P xs → slice_get xs n ≡ Some x → P x
+each_got P [] n x h is = cc
+each_got P (y ∷ ys) zero x h is = let same : y ≡ x = cc in subst P same h.0
+each_got P (y ∷ ys) (suc n) x h is = each_got P ys n x h.1 is
+
+chunks_low : (enclave end n k count : ℕ) → n < end → Each (IsLow enclave end) (map (builds.Extend enclave n) (numbers_from k count))
+chunks_low enclave end n k zero low = tt
+chunks_low enclave end n k (suc count) low = ((refl, low), chunks_low enclave end n (k + 1) count low)
+
+page_low : (enclave end n : ℕ) (kind : Kind) (perm : Perm) (init : PageInit) (plain : Bool) → n < end
+    → Each (IsLow enclave end) (page_steps enclave n kind perm init plain)
+page_low enclave end n kind perm init true low = (tt, tt)
+page_low enclave end n kind perm init false low = (tt, chunks_low enclave end n 0 16 low)
+
+pages_low : (enclave end : ℕ) (kind : Kind) (perm : Perm) (init : PageInit) (plain : Bool) (first count : ℕ) → first + count ≤ end
+    → Each (IsLow enclave end) (flat_map (λ n. page_steps enclave n kind perm init plain) (numbers_from first count))
+pages_low enclave end kind perm init plain first zero low = tt
+pages_low enclave end kind perm init plain first (suc count) low =
+    each_append (IsLow enclave end) (page_steps enclave first kind perm init plain)
+    (flat_map (λ n. page_steps enclave n kind perm init plain) (numbers_from (first + 1) count))
+    (page_low enclave end first kind perm init plain (omega (arith, low)))
+    (pages_low enclave end kind perm init plain (first + 1) count (omega (arith, low)))
+
+line_low : (enclave end : ℕ) (line : PageLine) → line_end line ≤ end → Each (IsLow enclave end) (line_steps enclave line)
+line_low enclave end (lines.Tcs page ossa nssa plain) low =
+    page_low enclave end page kinds.Tcs no_perm (inits.Tcs ossa nssa) plain (omega (arith, low))
+line_low enclave end (lines.Reg first count perm value plain) low =
+    pages_low enclave end kinds.Reg perm (inits.Words value) plain first count low
+
+lines_low : (enclave end : ℕ) (ls : List PageLine) → All (λ line. line_end line ≤ end) ls
+    → Each (IsLow enclave end) (flat_map (line_steps enclave) ls)
+lines_low enclave end [] all = tt
+lines_low enclave end (x ∷ xs) all =
+    each_append (IsLow enclave end) (line_steps enclave x) (flat_map (line_steps enclave) xs)
+    (line_low enclave end x (All-head (λ line. line_end line ≤ end) x xs all))
+    (lines_low enclave end xs (All-tail (λ line. line_end line ≤ end) x xs all))
+
+enclave_low : (enclave : ℕ) (e : EnclaveView) → Each (IsLow enclave (enclave_places e)) (enclave_steps enclave e)
+enclave_low enclave e = (
+  tt,
+  each_append (IsLow enclave (enclave_places e)) (flat_map (line_steps enclave) e.lines) (builds.Init enclave e.expect ∷ [])
+      (lines_low enclave (enclave_places e) e.lines (λ k d low. each_end e.lines k d low)) (tt, tt),
+)
+
+-- the counts of the enclaves from this number on
+low_has : (counts : List ℕ) (enclave end : ℕ) → get_or counts enclave 0 ≡ end → (x : BuildStep) → IsLow enclave end x → HasPlace counts x
+low_has counts enclave end is (builds.Extend e n chunk) h =
+    let count : get_or counts e 0 ≡ end = ap (λ k. get_or counts k 0) h.0 ∙ is in
+    let low = h.1 in omega (arith, count, low)
+low_has counts enclave end is builds.Va h = tt
+low_has counts enclave end is (builds.Create enclave' base size) h = tt
+low_has counts enclave end is (builds.Add enclave' number kind perm init) h = tt
+low_has counts enclave end is (builds.Init enclave' expect) h = tt
+
+enclaves_have : (counts : List ℕ) (enclave : ℕ) (es : List EnclaveView)
+    → ((k : ℕ) (e : EnclaveView) → slice_get es k ≡ Some e → get_or counts (enclave + k) 0 ≡ enclave_places e)
+    → Each (HasPlace counts) (enclaves_steps enclave es)
+enclaves_have counts enclave [] is = tt
+enclaves_have counts enclave (e ∷ es) is =
+    each_append (HasPlace counts) (enclave_steps enclave e) (enclaves_steps (enclave + 1) es)
+    (each_then (IsLow enclave (enclave_places e)) (HasPlace counts) (enclave_steps enclave e)
+    (low_has counts enclave (enclave_places e)
+    (ap (λ k. get_or counts k 0) (let same : enclave ≡ enclave + 0 = omega arith in same) ∙ is 0 e refl)) (enclave_low enclave e))
+    (enclaves_have counts (enclave + 1) es (λ k x at.
+    ap (λ n. get_or counts n 0) (let same : enclave + 1 + k ≡ enclave + suc k = omega arith in same) ∙ is (suc k) x at))
+
+count_at : (es : List EnclaveView) (k : ℕ) (e : EnclaveView) → slice_get es k ≡ Some e
+    → get_or (map enclave_places es) k 0 ≡ enclave_places e
+count_at [] k e is = cc
+count_at (x ∷ xs) zero e is = let same : x ≡ e = cc in ap enclave_places same
+count_at (x ∷ xs) (suc k) e is = count_at xs k e is
+
+arrays_have : (counts : List ℕ) (n : ℕ) → Each (HasPlace counts) (replicate n builds.Va)
+arrays_have counts zero = tt
+arrays_have counts (suc n) = (tt, arrays_have counts n)
+
+build_has : (j : JobView) → Each (HasPlace (0 ∷ page_counts j)) (build_of j)
+build_has j =
+    each_append (HasPlace (0 ∷ page_counts j)) (replicate (va_pages j) builds.Va) (enclaves_steps 1 j.enclaves)
+    (arrays_have (0 ∷ page_counts j) (va_pages j))
+    (enclaves_have (0 ∷ page_counts j) 1 j.enclaves
+    (λ k e is. ap (λ n. get_or (0 ∷ page_counts j) n 0) (let same : 1 + k ≡ suc k = omega arith in same) ∙ count_at j.enclaves k e is))
+
+-- the page of a step that measures has a place
+pub extended_placed : (j : JobView) (n : ℕ) (g : Page) → page_extended (slice_get (build_of j) n) ≡ Some g
+    → IsPlaced (0 ∷ page_counts j) g
+extended_placed j n g is = by_step (slice_get (build_of j) n) refl is
+  where
+    by_build : (x : BuildStep) → slice_get (build_of j) n ≡ Some x → page_extended (Some x) ≡ Some g → IsPlaced (0 ∷ page_counts j) g
+    by_build (builds.Extend e k chunk) at h =
+        let same : page_at e k ≡ g = cc in
+        subst (IsPlaced (0 ∷ page_counts j)) same
+        (record { within = each_got (HasPlace (0 ∷ page_counts j)) (build_of j) n (builds.Extend e k chunk) (build_has j) at })
+    by_build builds.Va at h = cc
+    by_build (builds.Create e base size) at h = cc
+    by_build (builds.Add e k kind perm init) at h = cc
+    by_build (builds.Init e expect) at h = cc
+
+    by_step : (o : Option BuildStep) → slice_get (build_of j) n ≡ o → page_extended o ≡ Some g → IsPlaced (0 ∷ page_counts j) g
+    by_step None at h = cc
+    by_step (Some x) at h = by_build x at h

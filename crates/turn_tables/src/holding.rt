@@ -1,0 +1,293 @@
+//! The holds behind an entry.
+
+ghost use Rattle.std.specs.Prelude.{◌≡◌, ◌<◌, ◌∷◌, length, IfSome};
+ghost use Rattle.active_list.specs.Active.{without_holds};
+ghost use Rattle.active_list.specs.Holds.{holder_of};
+ghost use Rattle.turn_rules.specs.Cursor.{IsCursor};
+ghost use Rattle.turn_rules.specs.Script.{action_of};
+ghost use Rattle.turn_tables.specs.Asked.{op_at};
+ghost use Rattle.turn_tables.specs.Holding.{CanHold, FitsAll, FitsEntry, FitsHold, FitsNext, FitsOwn, KeepsHolds, access_inside_of};
+ghost use Rattle.turn_tables.specs.Holding.{enter_needs, held_after, held_of, holding, holding_all, loads_held, measured_next, mode_of};
+ghost use Rattle.turn_tables.specs.Holding.{needed_of, one_held, own_after, own_held, page_inside_of, replies, resume_needs};
+ghost use Rattle.turn_tables.specs.Noting.{IsAmong};
+ghost use Rattle.turn_tables.specs.TcsTurns.{tcs_at};
+
+use crate::asking::op_at;
+use crate::cpu_turns::{CpuTurn, Interruption};
+use crate::operations::access_page;
+use crate::replies::is_reply;
+use crate::turns::Turns;
+use active_list::active::Active;
+use cached_translations::processor::Mode;
+use driver_tables::driver::Driver;
+use job_grammar::jobs::{Job, Op};
+use paging_machine::machine::Machine;
+use sgx_types::entries::{Action, Actor, Cause, Entry, Event};
+use sgx_types::names::{Cpu, Page};
+use turn_rules::steps::BuildStep;
+
+/// The pages that a processor begins to hold by an entry, at most three.
+#[derive(Clone, Copy, Debug)]
+pub(crate) struct HeldPages {
+    pub first: Option<Page>,
+    pub second: Option<Page>,
+    pub third: Option<Page>,
+}
+
+/// The TCS page and the state save page that a processor outside needs.
+#[derive(Clone, Copy, Debug)]
+pub(crate) struct Needed {
+    pub tcs: Page,
+    pub save: Option<Page>,
+}
+
+const NO_PAGES: HeldPages = HeldPages {
+    first: None,
+    second: None,
+    third: None,
+};
+
+impl Turns {
+    /// The holds behind an entry, in the driver's list, before the entry is noted here. Those of a processor end with its reply; else it
+    /// begins to hold the page whose translation it takes, the page for which it left, a page that it brings back with those that it
+    /// needs before it, and the TCS page and the state save page by which it resumes. The builder holds the page that it measures next.
+    pub fn hold(&self, job: &Job, driver: &mut Driver, machine: &Machine, entry: &Entry)
+        requires { CanHold job.now driver.old machine.now self.now entry.now }
+        ensures holds { (can : CanHold job.now driver.old machine.now self.now entry.now)
+            → KeepsHolds job.now driver.new.active.own (entry.now ∷ can.past) }
+        ensures others { driver.new ≡ record driver.old { active = record driver.old.active { own = driver.new.active.own } } }
+    {
+        let before = mode_of(machine, entry.actor);
+        self.hold_by(job, &mut driver.active, before, entry);
+    }
+
+    // .. by how the entry's processor stood before it.
+    fn hold_by(&self, job: &Job, active: &mut Active, before: Mode, entry: &Entry)
+        requires { FitsEntry job.now self.now before entry.now.actor entry.now.event active.old }
+        ensures { active.new ≡ held_after job.now self.now before entry.now.actor entry.now.event active.old }
+    {
+        match entry.actor {
+            Actor::Builder => self.hold_next(job, active),
+            Actor::Cpu(cpu) => self.hold_own(job, active, cpu, before, &entry.event),
+            Actor::Reclaimer => {}
+        }
+    }
+
+    // The holds of a processor end with each reply, and else some begin.
+    fn hold_own(&self, job: &Job, active: &mut Active, cpu: Cpu, before: Mode, event: &Event)
+        requires { FitsOwn job.now self.now before cpu.0 event.now active.old }
+        ensures { active.new ≡ own_after (replies self.now cpu.0 event.now) active.old cpu.0
+            (own_held job.now self.now cpu.0 before event.now) }
+    {
+        let turn = self.cpus.get(cpu);
+        if is_reply(turn.interruption.is_some(), event) {
+            active.drop_holds(Actor::Cpu(cpu));
+            return;
+        }
+        let held = self.held_by(job, cpu, turn, before, event);
+        hold_all(active, cpu, held);
+    }
+
+    // Behind an entry of the builder it holds the page that it measures next.
+    fn hold_next(&self, job: &Job, active: &mut Active)
+        requires { FitsNext job.now self.now active.old }
+        ensures { active.new ≡ holding (without_holds active.old 16) 16 (measured_next job.now self.now) }
+    {
+        let next = self.measured_next(job);
+        active.drop_holds(Actor::Builder);
+        hold_page(active, Actor::Builder, next);
+    }
+
+    // The page that the builder measures behind its next step.
+    fn measured_next(&self, job: &Job) -> Option<Page>
+        requires { IsCursor job.now self.now.cursor }
+        ensures { result ≡ measured_next job.now self.now }
+    {
+        let mut cursor = self.cursor;
+        cursor.next(job)?;
+        match cursor.next(job) {
+            Some(
+                BuildStep::Extend {
+                    enclave,
+                    number,
+                    ..
+                },
+            ) => Some(Page { enclave, number }),
+            _ => None,
+        }
+    }
+
+    // What a processor, which stood so before it, begins to hold by an entry.
+    fn held_by(&self, job: &Job, cpu: Cpu, turn: CpuTurn, before: Mode, event: &Event) -> HeldPages
+        ensures { result ≡ held_of (tcs_at self.now.tcs) before turn.interruption (op_at job.now cpu.0 turn.replied)
+            (action_of event.now) }
+    {
+        let Some(action) = action_of(event) else {
+            return NO_PAGES;
+        };
+        let op = op_at(job, cpu, turn.replied);
+        self.held_of(turn.interruption, op, before, &action)
+    }
+
+    fn held_of(
+        &self,
+        interruption: Option<Interruption>,
+        op: Option<Op>,
+        before: Mode,
+        action: &Action,
+    ) -> HeldPages
+        ensures { result ≡ held_of (tcs_at self.now.tcs) before interruption op (Some action.now) }
+    {
+        match *action {
+            Action::Fill { number, .. } => one_held(page_inside(before, number)),
+            Action::Aex {
+                cause: Cause::Fault,
+            } => one_held(access_inside(before, op)),
+            Action::EldStart { page, .. } => loads_held(self.needed(interruption, op), page),
+            Action::Resume { enclave, tcs, .. } => {
+                let needed = self.resume_needs(enclave, tcs);
+                HeldPages {
+                    first: Some(needed.tcs),
+                    second: needed.save,
+                    third: None,
+                }
+            }
+            _ => NO_PAGES,
+        }
+    }
+
+    // The TCS page and the state save page that a processor outside needs.
+    fn needed(&self, interruption: Option<Interruption>, op: Option<Op>) -> Option<Needed>
+        ensures { result ≡ needed_of (tcs_at self.now.tcs) interruption op }
+    {
+        if let Some(i) = interruption {
+            return Some(self.resume_needs(i.enclave, i.tcs));
+        }
+        match op {
+            Some(Op::Enter { enclave, tcs }) => Some(self.enter_needs(enclave, tcs)),
+            Some(Op::Resume { enclave, tcs }) => Some(self.resume_needs(enclave, tcs)),
+            _ => None,
+        }
+    }
+
+    fn enter_needs(&self, enclave: u16, tcs: u32) -> Needed
+        ensures { result ≡ enter_needs (tcs_at self.now.tcs) enclave tcs }
+    {
+        let tcs = Page {
+            enclave,
+            number: tcs,
+        };
+        Needed {
+            tcs,
+            save: self.next_save(tcs),
+        }
+    }
+
+    fn resume_needs(&self, enclave: u16, tcs: u32) -> Needed
+        ensures { result ≡ resume_needs (tcs_at self.now.tcs) enclave tcs }
+    {
+        let tcs = Page {
+            enclave,
+            number: tcs,
+        };
+        Needed {
+            tcs,
+            save: self.last_save(tcs),
+        }
+    }
+}
+
+// How the processor of an entry stands before it.
+fn mode_of(machine: &Machine, actor: Actor) -> Mode
+    requires { IsAmong (length machine.now.cpus) actor }
+    ensures { result ≡ mode_of machine.now actor }
+{
+    match actor {
+        Actor::Cpu(cpu) => machine.mode(cpu),
+        Actor::Builder | Actor::Reclaimer => Mode::Outside,
+    }
+}
+
+// Holds a page, if there is one.
+fn hold_page(active: &mut Active, who: Actor, page: Option<Page>)
+    requires holder { holder_of who < 17 }
+    requires fits { IfSome page (FitsHold active.old (holder_of who)) }
+    ensures { active.new ≡ holding active.old (holder_of who) page }
+{
+    if let Some(page) = page {
+        active.hold(who, page);
+    }
+}
+
+// Holds these pages for a processor.
+fn hold_all(active: &mut Active, cpu: Cpu, held: HeldPages)
+    requires holder { cpu.0 < 16 }
+    requires fits { FitsAll active.old cpu.0 held }
+    ensures { active.new ≡ holding_all active.old cpu.0 held }
+{
+    hold_page(active, Actor::Cpu(cpu), held.first);
+    hold_page(active, Actor::Cpu(cpu), held.second);
+    hold_page(active, Actor::Cpu(cpu), held.third);
+}
+
+// The instruction of an entry, done or refused.
+fn action_of(event: &Event) -> Option<Action>
+    ensures { result ≡ action_of event.now }
+{
+    match *event {
+        Event::Did { action, .. } | Event::Refused { action, .. } => Some(action),
+        _ => None,
+    }
+}
+
+fn one_held(page: Option<Page>) -> HeldPages
+    ensures { result ≡ one_held page }
+{
+    HeldPages {
+        first: page,
+        second: None,
+        third: None,
+    }
+}
+
+// The page of a number in the enclave that the processor is inside.
+fn page_inside(before: Mode, number: u32) -> Option<Page>
+    ensures { result ≡ page_inside_of before number }
+{
+    match before {
+        Mode::Outside => None,
+        Mode::Inside { enclave, .. } => Some(Page { enclave, number }),
+    }
+}
+
+// The page of its access.
+fn access_inside(before: Mode, op: Option<Op>) -> Option<Page>
+    ensures { result ≡ access_inside_of before op }
+{
+    match (before, op) {
+        (Mode::Inside { enclave, .. }, Some(op)) => access_page(enclave, op),
+        _ => None,
+    }
+}
+
+// A page that it brings back, with those that it needs before it.
+fn loads_held(needed: Option<Needed>, page: Page) -> HeldPages
+    ensures { result ≡ loads_held needed page }
+{
+    let Some(needed) = needed else {
+        return HeldPages {
+            first: None,
+            second: None,
+            third: Some(page),
+        };
+    };
+    HeldPages {
+        first: Some(needed.tcs),
+        second: if page == needed.tcs {
+            None
+        } else {
+            needed.save
+        },
+        third: Some(page),
+    }
+}
