@@ -1,9 +1,8 @@
 -- How scripts grow while they are drawn, and when they are whole.
-use Rattle.std.proofs.Common.{◌≡◌, ℕ, zero, suc, ◌+◌, ◌-◌, ◌<◌, ◌≤◌, List, [], ◌∷◌, ◌++◌, append_assoc, refl, sym, ap, ◌∙◌, arith}
+use Rattle.std.proofs.Common.{◌≡◌, ℕ, suc, ◌+◌, ◌-◌, ◌<◌, ◌≤◌, List, [], ◌∷◌, ◌++◌, append_assoc, refl, sym, ap, ◌∙◌, arith}
 use Rattle.std.specs.Global.{Vec}
 use Rattle.std.proofs.lemmas.List.{append-nil, map_push}
 use Rattle.job_grammar.specs.declared.jobs.Op.{Op}
-use Rattle.job_grammar.specs.declared.jobs.Op.TheVariants as ops
 use Rattle.job_grammar.specs.Jobs.{script_ops}
 use Rattle.job_make.specs.MadeOps.{made_op, made_ops, made_script, made_scripts, state_behind_op, state_behind_ops}
 

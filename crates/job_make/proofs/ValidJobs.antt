@@ -1,16 +1,15 @@
 -- A made job is valid, and which parts make it.
-use Rattle.std.proofs.Common.{◌≡◌, ℕ, ◌+◌, ◌*◌, ◌/◌, ◌^◌, ◌<◌, ◌≤◌, List, [], ◌∷◌, ◌++◌, map, replicate, All, refl, ap, arith}
+use Rattle.std.proofs.Common.{◌≡◌, ℕ, ◌<◌, ◌≤◌, List, [], ◌∷◌, ◌++◌, map, replicate, refl, ap, arith}
 use Rattle.std.specs.Global.{Vec}
 use Rattle.std.proofs.lemmas.List.Elements.{All-cons, All-nil, All-replicate}
 use Rattle.text_words.specs.Reading.{IsDigest}
 use Rattle.io_edges.specs.declared.plans.PlanLine.{PlanLine}
 use Rattle.job_grammar.specs.declared.jobs.EnclaveJob.{EnclaveJob}
-use Rattle.job_grammar.specs.declared.jobs.JobParts.{JobParts}
 use Rattle.job_grammar.specs.declared.jobs.Marks.{Marks}
 use Rattle.job_grammar.specs.declared.jobs.Op.{Op}
 use Rattle.job_grammar.specs.Jobs.{EnclaveView, default_marks, enclave_view, parts_view, script_ops}
 use Rattle.job_grammar.specs.Valid.{AreValidMarks, IsPlanAmong, IsValid, IsValidEnclave}
-use Rattle.job_make.specs.MadeJob.{made_bytes, made_enclave, made_epc, made_job, made_lines}
+use Rattle.job_make.specs.MadeJob.{made_enclave, made_epc, made_job}
 use Rattle.job_make.specs.MadeOps.{made_scripts}
 use Rattle.job_make.proofs.EnclaveSizes.{least_is_least, lawful_most}
 use Rattle.job_make.proofs.ValidLines.{lines_once, lines_saved, lines_valid, tcs_there}

@@ -1,5 +1,5 @@
 -- The lines of the made enclave are valid.
-use Rattle.std.proofs.Common.{◌≡◌, ℕ, zero, suc, ◌+◌, ◌-◌, ◌*◌, ◌/◌, ◌^◌, ◌<◌, ◌≤◌, ◌==◌, ◌&&◌, Bool, true, false, cond, List, [], ◌∷◌, nat_le, nat_lt, count_by, All, refl, sym, ap, ◌∙◌, arith, inl, inr}
+use Rattle.std.proofs.Common.{◌≡◌, ℕ, zero, suc, ◌+◌, ◌<◌, ◌≤◌, true, false, cond, List, [], ◌∷◌, count_by, All, refl, ◌∙◌, arith, inl, inr}
 use Rattle.std.proofs.lemmas.Bool.{and_parts, cases_Bool, eqb-true, leb-true, ltb-true}
 use Rattle.std.proofs.lemmas.List.Elements.{All-from_recursion}
 use Rattle.std.proofs.lemmas.List.Sums.{sum_by-cons}
@@ -7,7 +7,7 @@ use Rattle.job_grammar.specs.declared.jobs.PageLine.{PageLine}
 use Rattle.job_grammar.specs.declared.jobs.PageLine.TheVariants as pages
 use Rattle.job_grammar.specs.Jobs.{covers, first_page, is_save_page, is_tcs_page, page_count}
 use Rattle.job_grammar.specs.Valid.{HasSavePages, IsValidLine}
-use Rattle.job_make.specs.MadeJob.{made_lines, tcs_of}
+use Rattle.job_make.specs.MadeJob.{made_lines}
 
 -- ---- each page once
 

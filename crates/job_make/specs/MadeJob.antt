@@ -9,6 +9,7 @@ use Rattle.job_make.specs.MadeOps.{made_scripts}
 
 -- ---- the enclave
 
+-- pages that can be read and written
 abbrev pub read_write : Perm
 read_write = record { r = true; w = true; x = false }
 
@@ -38,6 +39,7 @@ pub record IsLeastLawful (base bytes size : ℕ) : Type 0 where
   pub room : bytes ≤ size
   pub least : (other : ℕ) → is_lawful base other ≡ true → bytes ≤ other → size ≤ other
 
+-- the enclave, of which no measurement is expected
 abbrev pub made_enclave : ℕ → EnclaveView
 made_enclave size = record { base = 0x10000000; size = least_size (made_bytes size); lines = made_lines size; expect = None }
 

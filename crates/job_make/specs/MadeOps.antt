@@ -37,6 +37,7 @@ unfoldable pub made_ops : ℕ → ℕ → ℕ → ℕ → List Op
 made_ops size cpu zero x = []
 made_ops size cpu (suc n) x = made_op size cpu x ∷ made_ops size cpu n (state_behind_op x)
 
+-- the state behind so many
 unfoldable pub state_behind_ops : ℕ → ℕ → ℕ
 state_behind_ops zero x = x
 state_behind_ops (suc n) x = state_behind_ops n (state_behind_op x)

@@ -3,14 +3,14 @@
 ghost use Rattle.std.specs.Prelude.{◌≡◌, ◌≤◌};
 ghost use Rattle.job_make.specs.Generator.{after, draw};
 
-/// The multiplier and the increment of the generator: those of Knuth's MMIX (The Art of Computer Programming, volume 2,
-/// section 3.3.4).
+/// The multiplier of Knuth's MMIX generator.
 const MULTIPLIER: u64 = 6364136223846793005;
 
+/// Its increment.
 const INCREMENT: u64 = 1442695040888963407;
 
 /// A linear congruential generator mod 2^64, of which a draw gives the upper 31 bits.
-#[derive(Clone, Copy, Debug)]
+#[derive(Debug, Drop)]
 pub(crate) struct Generator {
     pub(crate) state: u64,
 }

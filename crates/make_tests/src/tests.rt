@@ -67,3 +67,14 @@ fn texts_of_made_jobs(rt: HostRuntime) -> Result<(), Fail> {
     }
     Ok(())
 }
+
+// So many bytes do the texts of a hundred jobs of the largest size have, by the same program in Python.
+#[test]
+fn hundred_large_jobs(rt: HostRuntime) -> Result<(), Fail> {
+    let mut bytes: usize = 0;
+    for number in 0..100 {
+        bytes = bytes.saturating_add(text_of(rt.alloc(), number, 2000)?.len());
+    }
+    assert_eq!(rt; bytes, 13_132_821);
+    Ok(())
+}

@@ -1,4 +1,3 @@
-use Rattle.std.proofs.Common.{arith}
 use Rattle.job_make.specs.MadeOps.{made_scripts}
 use Rattle.job_make.proofs.MadeLists.{script_more, scripts_whole}
 use Rattle.job_make.proofs.scripts.draw_scripts.Goals as goal
