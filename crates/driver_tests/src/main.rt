@@ -1,0 +1,82 @@
+// Plays given traces, each with one machine, one driver and one store. The entries say who is next, and each has to be what is made.
+// Says of each trace how many of its entries, and of the calls of its store, are as they are given.
+#![tactic(auto)]
+
+mod calls;
+mod checks;
+mod counts;
+mod needs;
+mod seats;
+mod slots;
+mod stage;
+mod tables;
+mod turns;
+
+use calls::print_calls;
+use job_text::reader::read_job;
+use sgx_types::names::Memory;
+use stage::play;
+use std::alloc::Global;
+use std::{env, fs, io};
+use trace_reader::reader::read_trace;
+
+fn main(rt: HostRuntime) -> io::Result<()> {
+    for name in env::args(&rt)?.skip(1) {
+        let trace = read(&rt, name.as_str(), ".trace")?;
+        let given = run_name(name.as_str());
+        let job = read(&rt, given, ".job")?;
+        let calls = read(&rt, given, ".calls")?;
+        match compare(rt.alloc(), &job, &trace, &calls) {
+            Ok(Told::Part { played, entries }) => println!(rt;
+                "{name}: {played} of {entries} entries"
+            )?,
+            Ok(Told::All { entries }) => println!(rt;
+                "{name}: all {entries} entries, and all calls of the store"
+            )?,
+            Ok(Told::OtherCalls) => println!(rt;
+                "{name}: all entries, and other calls of the store"
+            )?,
+            Ok(Told::Unread) => println!(rt; "{name}: no job, or no trace")?,
+            Err(Memory) => println!(rt; "{name}: no memory")?,
+        }
+    }
+    Ok(())
+}
+
+// Of which run a trace is: what stands before a dash, where one was changed.
+fn run_name(name: &str) -> &str {
+    match name.split_once('-') {
+        Some((given, _)) => given,
+        None => name,
+    }
+}
+
+// A file of this name.
+fn read(rt: &HostRuntime, name: &str, end: &str) -> io::Result<Vec<u8>> {
+    let path = format!(in rt.alloc(); "{name}{end}")?;
+    fs::read(rt, path.as_str())
+}
+
+// How much of a trace is made.
+#[derive(Clone, Copy)]
+enum Told {
+    Part { played: usize, entries: usize },
+    All { entries: usize },
+    OtherCalls,
+    Unread,
+}
+
+fn compare(alloc: Global, job: &[u8], trace: &[u8], calls: &[u8]) -> Result<Told, Memory> {
+    let (Ok(job), Ok(entries)) = (read_job(alloc, job), read_trace(alloc, trace)) else {
+        return Ok(Told::Unread);
+    };
+    let (played, made) = play(alloc, &job, &entries)?;
+    let entries = entries.len();
+    if played < entries {
+        return Ok(Told::Part { played, entries });
+    }
+    if made.as_slice() == calls {
+        return Ok(Told::All { entries });
+    }
+    Ok(Told::OtherCalls)
+}
