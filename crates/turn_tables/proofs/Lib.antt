@@ -11,3 +11,4 @@ mod OnceLaws
 mod NeedLaws
 mod PlacedLaws
 mod HoldLaws
+mod FirstLaws

@@ -275,7 +275,7 @@ again_within n (Some (lines.Reg first count perm value plain)) ok h = tt
 again_within n (Some (lines.Tcs page ossa nssa plain)) ok h = let some = ok.0 in omega (arith, some, h)
 
 -- by whom a count grows
-saved_step : (ev : Event) (l : Bool) (g : Page) (n : ℕ)
+pub saved_step : (ev : Event) (l : Bool) (g : Page) (n : ℕ)
     → (saved_after ev l g n ≤ n) ⊎ ((l ≡ true) × (saved_after ev l g n ≡ n + 1))
 saved_step (Did (actions.Aex cause) answer) true g n = inr (refl, refl)
 saved_step (Did (actions.Aex cause) answer) false g n = inl (omega arith)

@@ -1,6 +1,6 @@
 //! What the entries of a driver keep. A law is the contract of a function without arguments.
 
-ghost use Rattle.std.specs.Prelude.{ℕ, ◌≡◌, ◌<◌, ◌∷◌, [], List, length};
+ghost use Rattle.std.specs.Prelude.{ℕ, ◌≡◌, ◌<◌, ◌^◌, ◌∷◌, [], List, length, replicate};
 ghost use Rattle.driver_laws.specs.Kinds.{CanMove};
 ghost use Rattle.driver_laws.specs.Three.{NamesOwn, TcsAreApart};
 ghost use Rattle.driver_rules.specs.Dues.{Finished};
@@ -17,6 +17,10 @@ ghost use Rattle.sgx_types.specs.declared.entries.Entry.{Entry};
 ghost use Rattle.turn_tables.specs.Due.{IsOrderly};
 ghost use Rattle.turn_tables.specs.Ending.{EndsAreTold, IsForRecord, NoneFails};
 ghost use Rattle.turn_tables.specs.Entries.{EntersApart};
+ghost use Rattle.turn_tables.specs.Holding.{KeepsHolds};
+ghost use Rattle.turn_tables.specs.Noting.{AreFew};
+ghost use Rattle.turn_tables.specs.Shown.{ShowsTurns};
+ghost use Rattle.turn_tables.specs.declared.turns.Turns.{Turns};
 
 /// One entry more keeps that each page is in the frame into which it was last put, and that no TCS page has more state save pages in use
 /// than it has: where all are in use, a processor enters by one frame alone, which a machine refuses.
@@ -35,4 +39,14 @@ pub fn finished_runs_are_ended()
         → builder_due j past ≡ Finished → ((p : ℕ) → p < length j.scripts → cpu_due j past p ≡ Finished) → IsEnded j past }
     ensures first { EndsAreTold [] }
     ensures more { (past : List Entry) (e : Entry) → IsForRecord past e.event → EndsAreTold past → EndsAreTold (e ∷ past) }
+{}
+
+/// Nobody holds a page before a job's first entry.
+pub fn holds_begin()
+    ensures { (j : JobView) → KeepsHolds j (replicate 17 []) [] }
+{}
+
+/// No count of the tables is larger than the number of entries that they show.
+pub fn counts_are_few()
+    ensures { (j : JobView) (past : List Entry) (t : Turns) → ShowsTurns j past t → length past < 2 ^ 63 → AreFew t }
 {}
