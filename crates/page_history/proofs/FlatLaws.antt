@@ -70,7 +70,7 @@ memory_kinds actors.Builder action m g h = refl
 memory_kinds actors.Reclaimer action m g h = refl
 
 -- .. whether flat memory takes it or not
-event_kinds : (actor : Actor) (action : Action) (answer : Answer) (m : FlatMemory) (g : Page) → is_add action ≡ false
+pub event_kinds : (actor : Actor) (action : Action) (answer : Answer) (m : FlatMemory) (g : Page) → is_add action ≡ false
     → added_as ((event_after actor (Did action answer) m).pages g) ≡ added_as (m.pages g)
 event_kinds actor action answer m g h = cond_both (accepts m actor action) (memory_after actor action m) m
     (λ (now : FlatMemory). added_as (now.pages g) ≡ added_as (m.pages g)) (λ _. memory_kinds actor action m g h) (λ _. refl)

@@ -74,7 +74,7 @@ epa_brings s past a f allowed stands =
 -- ---- create
 
 -- the row of `create` in flat memory, whatever frame is given
-create_open : (enclave base size : ℕ) (is_created : Bool) (v : FrameSight) → first_of_row (create_row enclave base size is_created v) ≡ None
+pub create_open : (enclave base size : ℕ) (is_created : Bool) (v : FrameSight) → first_of_row (create_row enclave base size is_created v) ≡ None
     → first_of_row (create_row enclave base size is_created open_frame) ≡ None
 create_open enclave base size is_created v allowed =
     let none = none_holds (create_row enclave base size is_created v) allowed in
@@ -115,7 +115,7 @@ create_brings s past a enclave f base size begun allowed holds stands =
 -- ---- add
 
 -- the row of `add`, whatever frame is given
-add_open : (number : ℕ) (kind : Kind) (perm : Perm) (init : PageInit) (o : Option EnclaveSight) (is_added : Bool) (v : FrameSight)
+pub add_open : (number : ℕ) (kind : Kind) (perm : Perm) (init : PageInit) (o : Option EnclaveSight) (is_added : Bool) (v : FrameSight)
     → first_of_row (add_row number kind perm init o is_added v) ≡ None
     → first_of_row (add_row number kind perm init o is_added open_frame) ≡ None
 add_open number kind perm init None is_added v allowed =
