@@ -1,6 +1,7 @@
 -- The book goes on with one entry more.
 use Rattle.std.proofs.Common.{sym, subst, List, ◌∷◌, Option, None, Some, IfSome}
 use Rattle.sgx_types.specs.declared.entries.Entry.{Entry}
+use Rattle.sgx_types.specs.declared.names.Page.{Page}
 use Rattle.sgx_types.specs.Making.{Making}
 use Rattle.job_grammar.specs.Jobs.{JobView}
 use Rattle.backing_store.specs.Calls.{Call}
@@ -11,28 +12,75 @@ use Rattle.driver_laws.proofs.EndLaws.{their_rule}
 use Rattle.driver_laws.proofs.TcsLaws.{apart_stay}
 use Rattle.driver_tables.specs.declared.driver.Driver.{Driver}
 use Rattle.driver_steps.proofs.AgreesLaws.{agrees_more}
-use Rattle.reclaim_worker.specs.declared.turns.Phase.{Phase}
-use Rattle.reclaim_worker.specs.declared.turns.Taken.{Taken}
+use Rattle.driver_laws.specs.Kinds.{CanMove}
+use Rattle.driver_steps.specs.Agrees.{Agrees}
+use Rattle.driver_tables.specs.Tables.{ShowsTables}
 use Rattle.turn_tables.specs.declared.turns.Turns.{Turns}
+use Rattle.turn_tables.specs.Holding.{KeepsHolds}
+use Rattle.turn_tables.specs.Shown.{ShowsTurns}
+use Rattle.turn_tables.proofs.OrderLaws.{orderly_more}
 use Rattle.run_history.specs.Given.{UnforgedRun, made_in}
 use Rattle.run_history.proofs.RunLaws.{unforged_before}
 use Rattle.book_laws.specs.Stores.{TellsStore}
 use Rattle.book_laws.proofs.StoreLaws.{tells_more}
-use Rattle.run_book.specs.Books.{IsNextIn, KeepsBook, KeepsBytes}
+use Rattle.run_book.specs.Books.{IsMade, KeepsBook, KeepsBytes, with_own}
 
-module _ (made : Making) (j : JobView) (past : List Entry) (d d' : Driver) (m m' : Parts) (t t' : Turns) (taken taken' : List Taken)
-    (phase phase' : Phase) (e : Entry) where
-  store_more : (told told' : Option (List Call)) → KeepsBook made j past told d m t taken phase
-      → IsNextIn made j past told d m e told' d' m' t' taken' phase' → IfSome told' (λ calls. TellsStore j.key (e ∷ past) calls d')
+-- ---- holds change nothing else of the tables
+
+shows_with : (j : JobView) (d : Driver) (past : List Entry) (own : List (List Page)) → ShowsTables j d past
+    → ShowsTables j (with_own d own) past
+shows_with j d past own t = record {
+  list = t.list;
+  states = t.states;
+  placed = t.placed;
+  slots = t.slots;
+  copies = t.copies;
+  counts = t.counts;
+  of_job = t.of_job;
+  sized = t.sized;
+  rooms = t.rooms;
+  marks = t.marks;
+  cpus = t.cpus;
+  few = t.few;
+}
+
+agrees_with : (made : Making) (j : JobView) (past : List Entry) (d : Driver) (m : Parts) (own : List (List Page)) → Agrees made j past d m
+    → Agrees made j past (with_own d own) m
+agrees_with made j past d m own r = record {
+  follows = r.follows;
+  fits = r.fits;
+  sound = r.sound;
+  used = r.used;
+  counted = r.counted;
+  built = r.built;
+  theirs = r.theirs;
+  tracks = r.tracks;
+  pages = r.pages;
+  shows = shows_with j d past own r.shows;
+  frames = r.frames;
+  cpus = r.cpus;
+}
+
+tells_with : (key : List ℕ) (past : List Entry) (calls : List Call) (d : Driver) (own : List (List Page)) → TellsStore key past calls d
+    → TellsStore key past calls (with_own d own)
+tells_with key past calls d own t = record { store = t.store; gifts = t.gifts; lost = t.lost }
+
+-- ---- one entry more
+
+module _ (made : Making) (j : JobView) (past : List Entry) (d d' : Driver) (m m' : Parts) (t : Turns) (e : Entry)
+    (own : List (List Page)) where
+  store_more : (told told' : Option (List Call)) → KeepsBook made j past told d m t → IsMade made j past told d m e told' d' m'
+      → IfSome told' (λ calls. TellsStore j.key (e ∷ past) calls (with_own d' own))
   store_more None None k n = tt
   store_more None (Some longer) k n = absurd n.store
   store_more (Some calls) None k n = absurd n.store
   store_more (Some calls) (Some longer) k n =
-      tells_more j.key past e longer d d' k.agrees.sound n.next.can k.agrees.theirs (their_rule j past e n.next.script) n.store.comes.comes
-      n.store.tells n.store.comes.moves (subst (λ c. TellsStore j.key past c d) (sym n.store.comes.earlier) k.store)
+      tells_with j.key (e ∷ past) longer d' own
+      (tells_more j.key past e longer d d' k.agrees.sound n.next.can k.agrees.theirs (their_rule j past e n.next.script)
+      n.store.comes.comes n.store.tells n.store.comes.moves (subst (λ c. TellsStore j.key past c d) (sym n.store.comes.earlier) k.store))
 
-  bytes_more : (told told' : Option (List Call)) → KeepsBook made j past told d m t taken phase
-      → IsNextIn made j past told d m e told' d' m' t' taken' phase' → IfSome told' (KeepsBytes made j (e ∷ past) m')
+  bytes_more : (told told' : Option (List Call)) → KeepsBook made j past told d m t → IsMade made j past told d m e told' d' m'
+      → IfSome told' (KeepsBytes made j (e ∷ past) m')
   bytes_more None None k n = tt
   bytes_more None (Some longer) k n = absurd n.store
   bytes_more (Some calls) None k n = absurd n.store
@@ -42,19 +90,19 @@ module _ (made : Making) (j : JobView) (past : List Entry) (d d' : Driver) (m m'
       (k.bytes (subst (UnforgedRun j.key past) n.store.comes.earlier (unforged_before j.key e past longer unforged))))
 
 pub book_more : (made : Making) (j : JobView) (past : List Entry) (told told' : Option (List Call)) (d d' : Driver) (m m' : Parts)
-    (t t' : Turns) (taken taken' : List Taken) (phase phase' : Phase) (e : Entry) → TcsAreApart j
-    → KeepsBook made j past told d m t taken phase → IsNextIn made j past told d m e told' d' m' t' taken' phase'
-    → KeepsBook made j (e ∷ past) told' d' m' t' taken' phase'
-book_more made j past told told' d d' m m' t t' taken taken' phase phase' e tcs k n = record {
-  agrees = agrees_more made j past d d' m m' e k.agrees n.next;
-  turns = n.turns;
-  orderly = n.orderly;
-  holds = n.holds;
+    (t t' : Turns) (e : Entry) (own : List (List Page)) → TcsAreApart j → KeepsBook made j past told d m t
+    → IsMade made j past told d m e told' d' m' → ShowsTurns j (e ∷ past) t' → KeepsHolds j own (e ∷ past)
+    → KeepsBook made j (e ∷ past) told' (with_own d' own) m' t'
+book_more made j past told told' d d' m m' t t' e own tcs k n turns holds = record {
+  agrees = agrees_with made j (e ∷ past) d' m' own (agrees_more made j past d d' m m' e k.agrees n.next);
+  turns = turns;
+  orderly = orderly_more j past e k.turns.valid tcs (λ p. (k.apart p).own) n.next.can n.next.script n.enters k.orderly;
+  holds = holds;
   apart = apart_stay j past e tcs k.agrees.sound n.next.script n.next.age k.apart;
-  stands = n.stands;
+  flat = n.flat;
   script = (n.next.script, k.script);
   age = (n.next.age, k.age);
   kick = (n.next.kick, k.kick);
-  store = store_more made j past d d' m m' t t' taken taken' phase phase' e told told' k n;
-  bytes = bytes_more made j past d d' m m' t t' taken taken' phase phase' e told told' k n;
+  store = store_more made j past d d' m m' t e own told told' k n;
+  bytes = bytes_more made j past d d' m m' t e own told told' k n;
 }

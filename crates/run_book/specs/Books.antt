@@ -1,6 +1,7 @@
 -- What the book of a run keeps, and what an entry has to be, so that it goes on to.
 use Rattle.std.specs.Prelude.{ℕ, List, ◌∷◌, Option, None, Some, IfSome}
 use Rattle.sgx_types.specs.declared.entries.Entry.{Entry}
+use Rattle.sgx_types.specs.declared.names.Page.{Page}
 use Rattle.sgx_types.specs.Making.{Making}
 use Rattle.sgx_types.specs.Rules.{Along}
 use Rattle.job_grammar.specs.Jobs.{JobView}
@@ -8,21 +9,19 @@ use Rattle.backing_store.specs.Calls.{Call}
 use Rattle.paging_laws.specs.Histories.{StandsWithAllRules}
 use Rattle.paging_machine.specs.Parts.{Parts, state_of}
 use Rattle.driver_rules.specs.Ages.{AgeRule, KickRule}
-use Rattle.driver_rules.specs.Passes.{pass}
 use Rattle.driver_rules.specs.Scripts.{ScriptRule}
 use Rattle.driver_laws.specs.Three.{IsApart}
 use Rattle.driver_tables.specs.declared.driver.Driver.{Driver}
-use Rattle.driver_tables.specs.Held.{ShowsHolds}
 use Rattle.driver_steps.specs.Agrees.{Agrees}
 use Rattle.driver_steps.specs.Asked.{IsNextOf}
-use Rattle.reclaim_worker.specs.declared.turns.Phase.{Phase}
-use Rattle.reclaim_worker.specs.declared.turns.Taken.{Taken}
-use Rattle.reclaim_worker.specs.Standing.{StandsFor}
 use Rattle.turn_tables.specs.declared.turns.Turns.{Turns}
 use Rattle.turn_tables.specs.Due.{IsOrderly}
+use Rattle.turn_tables.specs.Entries.{EntersApart}
+use Rattle.turn_tables.specs.Holding.{KeepsHolds}
 use Rattle.turn_tables.specs.Shown.{ShowsTurns}
 use Rattle.run_history.specs.Calls.{before}
 use Rattle.run_history.specs.Given.{UnforgedRun, gift, made_in}
+use Rattle.run_history.specs.Honest.{EnclavesAreFlat}
 use Rattle.run_history.specs.Stored.{Tells}
 use Rattle.book_laws.specs.Stores.{TellsStore}
 use Rattle.driver_calls.specs.Comes.{Comes}
@@ -31,18 +30,19 @@ use Rattle.driver_calls.specs.Comes.{Comes}
 abbrev pub KeepsBytes : Making → JobView → List Entry → Parts → List Call → Type 0
 KeepsBytes made j past m calls = UnforgedRun j.key past calls → StandsWithAllRules made (state_of m) past (made_in past calls)
 
-pub record KeepsBook (made : Making) (j : JobView) (past : List Entry) (told : Option (List Call)) (d : Driver) (m : Parts) (t : Turns)
-    (taken : List Taken) (phase : Phase) : Type 0 where
+-- driver, machine and the tables of what is due stand for the entries, which keep the rules
+pub record KeepsBook (made : Making) (j : JobView) (past : List Entry) (told : Option (List Call)) (d : Driver) (m : Parts)
+    (t : Turns) : Type 0 where
   -- driver and machine agree on the entries
   pub agrees : Agrees made j past d m
   -- what is due to the builder and to each processor is what the entries say
   pub turns : ShowsTurns j past t
   pub orderly : IsOrderly j past
   -- the holds are those of the entries, and each processor's are of three pages
-  pub holds : ShowsHolds j d.active.own past
+  pub holds : KeepsHolds j d.active.own past
   pub apart : (p : ℕ) → IsApart j past p
-  -- the reclaimer's pass is as far as the entries are
-  pub stands : StandsFor made.first_epoch past taken phase (pass j past)
+  -- flat memory has each enclave and page as the entries made it
+  pub flat : EnclavesAreFlat past
   -- each actor made its next entry, and the reclaimer's are of the pages that were due, within three tries
   pub script : Along (ScriptRule j) past
   pub age : Along (AgeRule j) past
@@ -64,18 +64,26 @@ AreTold j past e (Some calls) (Some longer) d d' = IsTold j past e calls longer 
 AreTold j past e None None d d' = Unit {0}
 AreTold j past e _ _ d d' = ⊥
 
-pub record IsNextIn (made : Making) (j : JobView) (past : List Entry) (told : Option (List Call)) (d : Driver) (m : Parts) (e : Entry)
-    (told' : Option (List Call)) (d' : Driver) (m' : Parts) (t' : Turns) (taken' : List Taken) (phase' : Phase) : Type 0 where
+-- where no record was forged till behind the entry, and the machine stood for the entries before it, it stands for them with it
+abbrev pub CarriesBytes : Making → JobView → List Entry → Parts → Entry → Parts → List Call → Type 0
+CarriesBytes made j past m e m' longer = UnforgedRun j.key (e ∷ past) longer
+    → StandsWithAllRules made (state_of m) past (made_in past (before e.event longer))
+    → StandsWithAllRules made (state_of m') (e ∷ past) (made_in (e ∷ past) longer)
+
+-- an entry that was made, and what is so of it before its holds and the tables of what is due take it in
+pub record IsMade (made : Making) (j : JobView) (past : List Entry) (told : Option (List Call)) (d : Driver) (m : Parts) (e : Entry)
+    (told' : Option (List Call)) (d' : Driver) (m' : Parts) : Type 0 where
   -- it is its actor's next by the rules, and driver and machine go on with it
   pub next : IsNextOf made j past d m e d' m'
-  -- so do the tables of what is due, the holds and the pass
-  pub turns : ShowsTurns j (e ∷ past) t'
-  pub orderly : IsOrderly j (e ∷ past)
-  pub holds : ShowsHolds j d'.active.own (e ∷ past)
-  pub stands : StandsFor made.first_epoch (e ∷ past) taken' phase' (pass j (e ∷ past))
-  -- and the store's calls
+  -- who holds which pages is as before it
+  pub own : d'.active.own ≡ d.active.own
+  -- who enters names two frames
+  pub enters : EntersApart e.event
+  pub flat : EnclavesAreFlat (e ∷ past)
+  -- so do the store's calls, and where no record was forged the machine with all the rules
   pub store : AreTold j past e told told' d d'
-  -- where no record was forged till behind it, and the machine stood for the entries before it, it stands for them with it
-  pub bytes : IfSome told' (λ longer. UnforgedRun j.key (e ∷ past) longer
-      → StandsWithAllRules made (state_of m) past (made_in past (before e.event longer))
-      → StandsWithAllRules made (state_of m') (e ∷ past) (made_in (e ∷ past) longer))
+  pub bytes : IfSome told' (CarriesBytes made j past m e m')
+
+-- the tables with these holds
+abbrev pub with_own : Driver → List (List Page) → Driver
+with_own d own = record d { active = record d.active { own = own } }

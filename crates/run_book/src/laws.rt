@@ -48,18 +48,20 @@ ghost use Rattle.sgx_types.specs.declared.entries.Actor.{Actor};
 ghost use Rattle.version_array.specs.Keeper.{count_out};
 ghost use Rattle.reclaim_worker.specs.declared.turns.Phase.{Phase};
 ghost use Rattle.reclaim_worker.specs.declared.turns.Taken.{Taken};
-ghost use Rattle.run_book.specs.Books.{IsNextIn, KeepsBook};
+ghost use Rattle.run_book.specs.Books.{IsMade, KeepsBook, with_own};
 ghost use Rattle.sgx_types.specs.Making.{Making};
 ghost use Rattle.sgx_types.specs.declared.entries.Entry.{Entry};
 ghost use Rattle.turn_tables.specs.declared.turns.Turns.{Turns};
+ghost use Rattle.turn_tables.specs.Holding.{KeepsHolds};
+ghost use Rattle.turn_tables.specs.Shown.{ShowsTurns};
 
-/// What the book keeps of some entries it keeps of one entry more, of any actor and any kind, which is that actor's next, where machine,
-/// tables, pass and store go on with it.
+/// What the book keeps of some entries it keeps of one entry more, of any actor and any kind, which was made as that actor's next, once the
+/// tables of what is due and the holds have taken it in.
 pub fn the_book_goes_on()
     ensures { (made : Making) (j : JobView) (past : List Entry) (told told' : Option (List Call)) (d d' : Driver) (m m' : Parts)
-        (t t' : Turns) (taken taken' : List Taken) (phase phase' : Phase) (e : Entry) → TcsAreApart j
-        → KeepsBook made j past told d m t taken phase → IsNextIn made j past told d m e told' d' m' t' taken' phase'
-        → KeepsBook made j (e ∷ past) told' d' m' t' taken' phase' }
+        (t t' : Turns) (e : Entry) (own : List (List Page)) → TcsAreApart j → KeepsBook made j past told d m t
+        → IsMade made j past told d m e told' d' m' → ShowsTurns j (e ∷ past) t' → KeepsHolds j own (e ∷ past)
+        → KeepsBook made j (e ∷ past) told' (with_own d' own) m' t' }
 {}
 
 /// An instruction of the builder or of a processor that moves no page out or back, and that is its actor's next, is one with which driver and

@@ -373,8 +373,8 @@ module _ (list : ActiveList) (holder : ℕ) (h : HeldPages) (low : holder < leng
 
 -- ---- an entry of a processor
 
-module _ (j : JobView) (d : Driver) (m : Parts) (t : Turns) (c : Cpu) (ev : Event) (can : CanHold j d m t (entry_of
-    (actors.Cpu c) ev)) where
+module _ (j : JobView) (list : ActiveList) (before : Mode) (t : Turns) (c : Cpu) (ev : Event)
+    (can : CanHold j list before t (entry_of (actors.Cpu c) ev)) where
   low_cpu : c.0 < length j.scripts
   low_cpu = can.script.next.0
 
@@ -384,7 +384,7 @@ module _ (j : JobView) (d : Driver) (m : Parts) (t : Turns) (c : Cpu) (ev : Even
   in_table : c.0 < length t.cpus
   in_table = let low = low_cpu in let each = can.shows.each in omega (arith, low, each)
 
-  in_own : c.0 < length d.active.own
+  in_own : c.0 < length list.own
   in_own = let few = few_cpu in let all = can.holds.shows.holders in omega (arith, few, all)
 
   shown : ShowsCpu can.past c.0 (turn_at t.cpus c.0)
@@ -404,28 +404,29 @@ module _ (j : JobView) (d : Driver) (m : Parts) (t : Turns) (c : Cpu) (ev : Even
   next_is = ap (slice_get (script_of j c.0)) (sym shown.replied)
 
   same : replies t c.0 ev ≡ false
-      → Same (pages_of (own_held j t c.0 (mode_of m (actors.Cpu c)) ev)) (holds_by j can.past c.0 (action_of ev))
+      → Same (pages_of (own_held j t c.0 before ev)) (holds_by j can.past c.0 (action_of ev))
   same quiet =
-      event_same j can.past c.0 (looks_at d m t c.0) can.shows.valid can.orderly
-      (looks_are can.made j can.past d m t can.agrees can.shows c.0) can.agrees.sound (turn_at t.cpus c.0).interruption
+      subst (λ b. Same (pages_of (own_held j t c.0 b ev)) (holds_by j can.past c.0 (action_of ev))) (sym can.stood)
+      (event_same j can.past c.0 (looks_at can.d can.m t c.0) can.shows.valid can.orderly
+      (looks_are can.made j can.past can.d can.m t can.agrees can.shows c.0) can.agrees.sound (turn_at t.cpus c.0).interruption
       (op_at j c.0 (turn_at t.cpus c.0).replied) (sym shown.interruption) next_is
-      (λ y at. op_valid j c.0 (turn_at t.cpus c.0).replied y can.shows.valid at) (action_of ev) (fits quiet)
+      (λ y at. op_valid j c.0 (turn_at t.cpus c.0).replied y can.shows.valid at) (action_of ev) (fits quiet))
 
-  placed : replies t c.0 ev ≡ false → (g : Page) → is_among (pages_of (own_held j t c.0 (mode_of m (actors.Cpu c)) ev)) g ≡ true
-      → IsPlaced d.active.counts g
+  placed : replies t c.0 ev ≡ false → (g : Page) → is_among (pages_of (own_held j t c.0 before ev)) g ≡ true
+      → IsPlaced list.counts g
   placed quiet g h =
-      subst (λ counts. IsPlaced counts g) can.agrees.shows.counts
-      (can.agrees.shows.placed g (event_there j can.past c.0 (looks_at d m t c.0) can.shows.valid can.orderly
-      (looks_are can.made j can.past d m t can.agrees can.shows c.0) can.agrees.sound (action_of ev) (fits quiet) g (sym (same quiet g)
+      subst (λ counts. IsPlaced counts g) (can.agrees.shows.counts ∙ sym can.counts)
+      (can.agrees.shows.placed g (event_there j can.past c.0 (looks_at can.d can.m t c.0) can.shows.valid can.orderly
+      (looks_are can.made j can.past can.d can.m t can.agrees can.shows c.0) can.agrees.sound (action_of ev) (fits quiet) g (sym (same quiet g)
       ∙ h)))
 
   -- what it holds then
   members : replies t c.0 ev ≡ false → (g : Page)
-      → holds_page (join_all (own_of d.active.own c.0) (own_held j t c.0 (mode_of m (actors.Cpu c)) ev)) g
+      → holds_page (join_all (own_of list.own c.0) (own_held j t c.0 before ev)) g
       ≡ is_among (holds j (entry_of (actors.Cpu c) ev ∷ can.past) c.0) g
   members quiet g =
-      holds_all (own_of d.active.own c.0) (own_held j t c.0 (mode_of m (actors.Cpu c)) ev) g
-      ∙ ap (λ b. b || is_among (pages_of (own_held j t c.0 (mode_of m (actors.Cpu c)) ev)) g) (can.holds.shows.cpus c.0 g low_cpu)
+      holds_all (own_of list.own c.0) (own_held j t c.0 before ev) g
+      ∙ ap (λ b. b || is_among (pages_of (own_held j t c.0 before ev)) g) (can.holds.shows.cpus c.0 g low_cpu)
       ∙ ap (λ b. is_among (holds j can.past c.0) g || b) (same quiet g)
       ∙ sym (list_any-append (λ h. same_page h g) (holds j can.past c.0) (holds_by j can.past c.0 (action_of ev)))
       ∙ ap (λ xs. is_among xs g) (sym longer)
@@ -433,53 +434,53 @@ module _ (j : JobView) (d : Driver) (m : Parts) (t : Turns) (c : Cpu) (ev : Even
       longer : holds j (entry_of (actors.Cpu c) ev ∷ can.past) c.0 ≡ holds j can.past c.0 ++ holds_by j can.past c.0 (action_of ev)
       longer = let k = sym reply_is ∙ quiet in rw (eq-eqb c.0 c.0 refl, k) refl
 
-  once : (g : Page) → times (join_all (own_of d.active.own c.0) (own_held j t c.0 (mode_of m (actors.Cpu c)) ev)) g ≤ 1
-  once = once_all (own_of d.active.own c.0) (own_held j t c.0 (mode_of m (actors.Cpu c)) ev) (can.holds.once c.0)
+  once : (g : Page) → times (join_all (own_of list.own c.0) (own_held j t c.0 before ev)) g ≤ 1
+  once = once_all (own_of list.own c.0) (own_held j t c.0 before ev) (can.holds.once c.0)
 
-  room : replies t c.0 ev ≡ false → length (join_all (own_of d.active.own c.0) (own_held j t c.0 (mode_of m (actors.Cpu c)) ev)) ≤ 3
+  room : replies t c.0 ev ≡ false → length (join_all (own_of list.own c.0) (own_held j t c.0 before ev)) ≤ 3
   room quiet =
       let few = three_most j (entry_of (actors.Cpu c) ev ∷ can.past) c.0 in
       let within = pigeons (three j (entry_of (actors.Cpu c) ev ∷ can.past) c.0)
-      (join_all (own_of d.active.own c.0) (own_held j t c.0 (mode_of m (actors.Cpu c)) ev)) once
-      (λ g h. (can.after c.0).held g (sym (members quiet g) ∙ holds_among (join_all (own_of d.active.own c.0)
-      (own_held j t c.0 (mode_of m (actors.Cpu c)) ev)) g ∙ h)) in
+      (join_all (own_of list.own c.0) (own_held j t c.0 before ev)) once
+      (λ g h. (can.after c.0).held g (sym (members quiet g) ∙ holds_among (join_all (own_of list.own c.0)
+      (own_held j t c.0 before ev)) g ∙ h)) in
       omega (arith, few, within)
 
-  pub cpu_fits : FitsOwn j t (mode_of m (actors.Cpu c)) c.0 ev d.active
+  pub cpu_fits : FitsOwn j t before c.0 ev list
   cpu_fits = record {
     turn = in_table;
     holder = few_cpu;
-    pages = λ quiet. fits_all d.active c.0 (own_held j t c.0 (mode_of m (actors.Cpu c)) ev) in_own few_cpu (placed quiet) (room quiet);
+    pages = λ quiet. fits_all list c.0 (own_held j t c.0 before ev) in_own few_cpu (placed quiet) (room quiet);
   }
 
-  pub cpu_keeps : KeepsHolds j (own_after (replies t c.0 ev) d.active c.0 (own_held j t c.0 (mode_of m (actors.Cpu c)) ev)).own
+  pub cpu_keeps : KeepsHolds j (own_after (replies t c.0 ev) list c.0 (own_held j t c.0 before ev)).own
       (entry_of (actors.Cpu c) ev ∷ can.past)
   cpu_keeps = by_reply (replies t c.0 ev) refl
     where
       dropped : replies t c.0 ev ≡ true → (g : Page)
-          → holds_page (own_of (set d.active.own c.0 []) c.0) g ≡ is_among (holds j (entry_of (actors.Cpu c) ev ∷ can.past) c.0) g
+          → holds_page (own_of (set list.own c.0 []) c.0) g ≡ is_among (holds j (entry_of (actors.Cpu c) ev ∷ can.past) c.0) g
       dropped reply g =
-          ap (λ xs. holds_page xs g) (own_dropped d.active.own c.0)
+          ap (λ xs. holds_page xs g) (own_dropped list.own c.0)
           ∙ (let k = sym reply_is ∙ reply in rw (eq-eqb c.0 c.0 refl, k) refl)
 
       by_reply : (b : Bool) → replies t c.0 ev ≡ b
-          → KeepsHolds j (own_after b d.active c.0 (own_held j t c.0 (mode_of m (actors.Cpu c)) ev)).own
+          → KeepsHolds j (own_after b list c.0 (own_held j t c.0 before ev)).own
           (entry_of (actors.Cpu c) ev ∷ can.past)
       by_reply true is = record {
-        shows = holds_of_cpu j d.active.own (set d.active.own c.0 []) can.past c ev low_cpu can.shows.valid.few_scripts
-            (sets_holds d.active.own c.0 []) (dropped is) can.holds.shows;
-        once = once_sets d.active.own (set d.active.own c.0 []) c.0 (sets_holds d.active.own c.0 [])
-            (λ g. subst (λ xs. times xs g ≤ 1) (sym (own_dropped d.active.own c.0)) (omega arith)) can.holds.once;
+        shows = holds_of_cpu j list.own (set list.own c.0 []) can.past c ev low_cpu can.shows.valid.few_scripts
+            (sets_holds list.own c.0 []) (dropped is) can.holds.shows;
+        once = once_sets list.own (set list.own c.0 []) c.0 (sets_holds list.own c.0 [])
+            (λ g. subst (λ xs. times xs g ≤ 1) (sym (own_dropped list.own c.0)) (omega arith)) can.holds.once;
       }
       by_reply false is = record {
-        shows = holds_of_cpu j d.active.own (holding_all d.active c.0 (own_held j t c.0 (mode_of m (actors.Cpu c)) ev)).own can.past c ev
-            low_cpu can.shows.valid.few_scripts (sets_all d.active c.0 (own_held j t c.0 (mode_of m (actors.Cpu c)) ev) in_own)
-            (λ g. ap (λ xs. holds_page xs g) (own_all d.active c.0 (own_held j t c.0 (mode_of m (actors.Cpu c)) ev) in_own)
+        shows = holds_of_cpu j list.own (holding_all list c.0 (own_held j t c.0 before ev)).own can.past c ev
+            low_cpu can.shows.valid.few_scripts (sets_all list c.0 (own_held j t c.0 before ev) in_own)
+            (λ g. ap (λ xs. holds_page xs g) (own_all list c.0 (own_held j t c.0 before ev) in_own)
             ∙ members is g) can.holds.shows;
-        once = once_sets d.active.own (holding_all d.active c.0 (own_held j t c.0 (mode_of m (actors.Cpu c)) ev)).own c.0
-            (sets_all d.active c.0 (own_held j t c.0 (mode_of m (actors.Cpu c)) ev) in_own)
+        once = once_sets list.own (holding_all list c.0 (own_held j t c.0 before ev)).own c.0
+            (sets_all list c.0 (own_held j t c.0 before ev) in_own)
             (λ g. subst (λ xs. times xs g ≤ 1)
-            (sym (own_all d.active c.0 (own_held j t c.0 (mode_of m (actors.Cpu c)) ev) in_own)) (once g)) can.holds.once;
+            (sym (own_all list c.0 (own_held j t c.0 before ev) in_own)) (once g)) can.holds.once;
       }
 
 -- ---- an entry of the builder
@@ -489,19 +490,20 @@ second_left xs zero = refl
 second_left [] (suc n) = refl
 second_left (x ∷ xs) (suc n) = second_left xs n ∙ ap (slice_get (x ∷ xs)) (let same : suc (n + 1) ≡ suc n + 1 = omega arith in same)
 
-module _ (j : JobView) (d : Driver) (m : Parts) (t : Turns) (ev : Event) (can : CanHold j d m t (entry_of actors.Builder ev)) where
+module _ (j : JobView) (list : ActiveList) (before : Mode) (t : Turns) (ev : Event)
+    (can : CanHold j list before t (entry_of actors.Builder ev)) where
   measured_is : measured_next j t ≡ builder_holds j (entry_of actors.Builder ev ∷ can.past)
   measured_is =
       ap (λ steps. page_extended (slice_get steps 1)) can.shows.steps ∙ ap page_extended (second_left (build_of j) (built can.past))
 
-  cleared : own_of (set d.active.own 16 []) 16 ≡ []
-  cleared = own_dropped d.active.own 16
+  cleared : own_of (set list.own 16 []) 16 ≡ []
+  cleared = own_dropped list.own 16
 
-  pub builder_fits : FitsNext j t d.active
+  pub builder_fits : FitsNext j t list
   builder_fits = record {
     cursor = can.shows.within;
-    page = fits_one (without_holds d.active 16) 16 (measured_next j t)
-        (λ g is. subst (λ counts. IsPlaced counts g) (sym can.agrees.shows.of_job)
+    page = fits_one (without_holds list 16) 16 (measured_next j t)
+        (λ g is. subst (λ counts. IsPlaced counts g) (sym (can.counts ∙ can.agrees.shows.of_job))
         (extended_placed j (built can.past + 1) g (sym measured_is ∙ is)))
         (subst (λ xs. length (join_if xs (measured_next j t)) ≤ 1) (sym cleared) (one (measured_next j t)));
   }
@@ -510,58 +512,47 @@ module _ (j : JobView) (d : Driver) (m : Parts) (t : Turns) (ev : Event) (can : 
       one None = omega arith
       one (Some g) = omega arith
 
-  in_all : 16 < length (set d.active.own 16 [])
-  in_all = let same = length-set d.active.own 16 [] in let all = can.holds.shows.holders in omega (arith, same, all)
+  in_all : 16 < length (set list.own 16 [])
+  in_all = let same = length-set list.own 16 [] in let all = can.holds.shows.holders in omega (arith, same, all)
 
-  sets : SetsHolds d.active.own (holding (without_holds d.active 16) 16 (measured_next j t)).own 16
+  sets : SetsHolds list.own (holding (without_holds list 16) 16 (measured_next j t)).own 16
   sets =
-      sets_then d.active.own (set d.active.own 16 []) (holding (without_holds d.active 16) 16 (measured_next j t)).own 16
-      (sets_holds d.active.own 16 []) (sets_holding (without_holds d.active 16) 16 (measured_next j t))
+      sets_then list.own (set list.own 16 []) (holding (without_holds list 16) 16 (measured_next j t)).own 16
+      (sets_holds list.own 16 []) (sets_holding (without_holds list 16) 16 (measured_next j t))
 
-  owns : own_of (holding (without_holds d.active 16) 16 (measured_next j t)).own 16 ≡ join_if [] (measured_next j t)
-  owns = own_holding (without_holds d.active 16) 16 (measured_next j t) in_all ∙ ap (λ xs. join_if xs (measured_next j t)) cleared
+  owns : own_of (holding (without_holds list 16) 16 (measured_next j t)).own 16 ≡ join_if [] (measured_next j t)
+  owns = own_holding (without_holds list 16) 16 (measured_next j t) in_all ∙ ap (λ xs. join_if xs (measured_next j t)) cleared
 
-  pub builder_keeps : KeepsHolds j (holding (without_holds d.active 16) 16 (measured_next j t)).own (entry_of actors.Builder ev ∷ can.past)
+  pub builder_keeps : KeepsHolds j (holding (without_holds list 16) 16 (measured_next j t)).own (entry_of actors.Builder ev ∷ can.past)
   builder_keeps = record {
-    shows = holds_of_builder j d.active.own (holding (without_holds d.active 16) 16 (measured_next j t)).own can.past ev
+    shows = holds_of_builder j list.own (holding (without_holds list 16) 16 (measured_next j t)).own can.past ev
         can.shows.valid.few_scripts sets
         (λ g. ap (λ xs. holds_page xs g) owns ∙ holds_if [] (measured_next j t) g ∙ ap (λ x. is_among (listed x) g) measured_is)
         can.holds.shows;
-    once = once_sets d.active.own (holding (without_holds d.active 16) 16 (measured_next j t)).own 16 sets
+    once = once_sets list.own (holding (without_holds list 16) 16 (measured_next j t)).own 16 sets
         (λ g. subst (λ xs. times xs g ≤ 1) (sym owns) (once_if [] (measured_next j t) (λ x. omega arith) g)) can.holds.once;
   }
 
 -- ---- any entry
 
-pub entry_fits : (j : JobView) (d : Driver) (m : Parts) (t : Turns) (e : Entry) → CanHold j d m t e
-    → FitsEntry j t (mode_of m e.actor) e.actor e.event d.active
-entry_fits j d m t e can = by_actor e.actor e.event can
+pub entry_fits : (j : JobView) (list : ActiveList) (before : Mode) (t : Turns) (e : Entry) → CanHold j list before t e
+    → FitsEntry j t before e.actor e.event list
+entry_fits j list before t e can = by_actor e.actor e.event can
   where
-    by_actor : (a : Actor) (ev : Event) → CanHold j d m t (entry_of a ev) → FitsEntry j t (mode_of m a) a ev d.active
-    by_actor actors.Builder ev k = builder_fits j d m t ev k
-    by_actor (actors.Cpu c) ev k = cpu_fits j d m t c ev k
+    by_actor : (a : Actor) (ev : Event) → CanHold j list before t (entry_of a ev) → FitsEntry j t before a ev list
+    by_actor actors.Builder ev k = builder_fits j list before t ev k
+    by_actor (actors.Cpu c) ev k = cpu_fits j list before t c ev k
     by_actor actors.Reclaimer ev k = tt
 
-pub entry_keeps : (j : JobView) (d : Driver) (m : Parts) (t : Turns) (e : Entry) (can : CanHold j d m t e)
-    → KeepsHolds j (held_after j t (mode_of m e.actor) e.actor e.event d.active).own (e ∷ can.past)
-entry_keeps j d m t e can = by_actor e.actor e.event can
+pub entry_keeps : (j : JobView) (list : ActiveList) (before : Mode) (t : Turns) (e : Entry) (can : CanHold j list before t e)
+    → KeepsHolds j (held_after j t before e.actor e.event list).own (e ∷ can.past)
+entry_keeps j list before t e can = by_actor e.actor e.event can
   where
-    by_actor : (a : Actor) (ev : Event) (k : CanHold j d m t (entry_of a ev))
-        → KeepsHolds j (held_after j t (mode_of m a) a ev d.active).own (entry_of a ev ∷ k.past)
-    by_actor actors.Builder ev k = builder_keeps j d m t ev k
-    by_actor (actors.Cpu c) ev k = cpu_keeps j d m t c ev k
-    by_actor actors.Reclaimer ev k = record { shows = holds_stay j d.active.own k.past ev k.holds.shows; once = k.holds.once }
-
-pub entry_among : (j : JobView) (d : Driver) (m : Parts) (t : Turns) (e : Entry) → CanHold j d m t e → IsAmong (length m.cpus) e.actor
-entry_among j d m t e can = by_actor e.actor e.event can
-  where
-    by_actor : (a : Actor) (ev : Event) → CanHold j d m t (entry_of a ev) → IsAmong (length m.cpus) a
-    by_actor actors.Builder ev k = tt
-    by_actor (actors.Cpu c) ev k =
-        let low = k.script.next.0 in
-        let one = k.agrees.cpus in
-        let two = k.agrees.shows.cpus in omega (arith, low, one, two)
-    by_actor actors.Reclaimer ev k = tt
+    by_actor : (a : Actor) (ev : Event) (k : CanHold j list before t (entry_of a ev))
+        → KeepsHolds j (held_after j t before a ev list).own (entry_of a ev ∷ k.past)
+    by_actor actors.Builder ev k = builder_keeps j list before t ev k
+    by_actor (actors.Cpu c) ev k = cpu_keeps j list before t c ev k
+    by_actor actors.Reclaimer ev k = record { shows = holds_stay j list.own k.past ev k.holds.shows; once = k.holds.once }
 
 -- only who holds what changes
 pub record IsSameBut (a b : ActiveList) : Type 0 where
@@ -575,12 +566,12 @@ holding_others list holder (Some g) = record { pages = refl; counts = refl }
 but_then : (a b c : ActiveList) → IsSameBut a b → IsSameBut b c → IsSameBut a c
 but_then a b c one two = record { pages = two.pages ∙ one.pages; counts = two.counts ∙ one.counts }
 
-pub entry_others : (j : JobView) (m : Parts) (t : Turns) (before : Mode) (a : Actor) (ev : Event) (list : ActiveList)
+pub entry_others : (j : JobView) (t : Turns) (before : Mode) (a : Actor) (ev : Event) (list : ActiveList)
     → IsSameBut list (held_after j t before a ev list)
-entry_others j m t before actors.Builder ev list =
+entry_others j t before actors.Builder ev list =
     but_then list (without_holds list 16) (holding (without_holds list 16) 16 (measured_next j t)) (record { pages = refl; counts = refl })
     (holding_others (without_holds list 16) 16 (measured_next j t))
-entry_others j m t before (actors.Cpu c) ev list = by_reply (replies t c.0 ev)
+entry_others j t before (actors.Cpu c) ev list = by_reply (replies t c.0 ev)
   where
     by_reply : (b : Bool) → IsSameBut list (own_after b list c.0 (own_held j t c.0 before ev))
     by_reply true = record { pages = refl; counts = refl }
@@ -590,18 +581,7 @@ entry_others j m t before (actors.Cpu c) ev list = by_reply (replies t c.0 ev)
         (but_then (holding list c.0 h.first) (holding (holding list c.0 h.first) c.0 h.second) (holding_all list c.0 h)
         (holding_others (holding list c.0 h.first) c.0 h.second)
         (holding_others (holding (holding list c.0 h.first) c.0 h.second) c.0 h.third))
-entry_others j m t before actors.Reclaimer ev list = record { pages = refl; counts = refl }
+entry_others j t before actors.Reclaimer ev list = record { pages = refl; counts = refl }
 
-but_own : (a b : ActiveList) → IsSameBut a b → b ≡ record a { own = b.own }
+pub but_own : (a b : ActiveList) → IsSameBut a b → b ≡ record a { own = b.own }
 but_own a b same = λ i. record { pages = same.pages i; counts = same.counts i; own = b.own }
-
-pub with_active : (d : Driver) (new list : ActiveList) → new ≡ list → IsSameBut d.active list
-    → ◌≡◌ {A = Driver} (record d { active = new }) (record d { active = record d.active { own = new.own } })
-with_active d new list is same = λ i. record d { active = whole i }
-  where
-    whole : new ≡ record d.active { own = new.own }
-    whole = but_own d.active new (record {
-      pages = ap (λ (x : ActiveList). x.pages) is ∙ same.pages;
-      counts = ap (λ
-          (x : ActiveList). x.counts) is ∙ same.counts;
-    })

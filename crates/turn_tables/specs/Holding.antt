@@ -159,15 +159,22 @@ pub record KeepsHolds (j : JobView) (own : List (List Page)) (past : List Entry)
   pub shows : ShowsHolds j own past
   pub once : HoldsOnce own
 
--- what is supposed of an entry, so that its holds can be kept
-pub record CanHold (j : JobView) (d : Driver) (m : Parts) (t : Turns) (e : Entry) : Type 0 where
+-- what is supposed of an entry, so that its holds can be kept. The list is that of the tables but for its pages and their marks
+pub record CanHold (j : JobView) (list : ActiveList) (before : Mode) (t : Turns) (e : Entry) : Type 0 where
   pub made : Making
   pub past : List Entry
+  -- the tables and the machine before the entry
+  pub d : Driver
+  pub m : Parts
   pub agrees : Agrees made j past d m
+  pub own : list.own ≡ d.active.own
+  pub counts : list.counts ≡ d.active.counts
+  -- the entry's processor stood so before it
+  pub stood : before ≡ mode_of m e.actor
   pub shows : ShowsTurns j past t
   pub orderly : IsOrderly j past
   pub script : ScriptRule j past e
-  pub holds : KeepsHolds j d.active.own past
+  pub holds : KeepsHolds j list.own past
   -- what each processor holds is of three pages, behind the entry too
   pub three : (p : ℕ) → HoldsThree j past p
   pub after : (p : ℕ) → HoldsThree j (e ∷ past) p

@@ -19,7 +19,6 @@ use crate::replies::is_reply;
 use crate::turns::Turns;
 use active_list::active::Active;
 use cached_translations::processor::Mode;
-use driver_tables::driver::Driver;
 use job_grammar::jobs::{Job, Op};
 use paging_machine::machine::Machine;
 use sgx_types::entries::{Action, Actor, Cause, Entry, Event};
@@ -48,17 +47,17 @@ const NO_PAGES: HeldPages = HeldPages {
 };
 
 impl Turns {
-    /// The holds behind an entry, in the driver's list, before the entry is noted here. Those of a processor end with its reply; else it
-    /// begins to hold the page whose translation it takes, the page for which it left, a page that it brings back with those that it
-    /// needs before it, and the TCS page and the state save page by which it resumes. The builder holds the page that it measures next.
-    pub fn hold(&self, job: &Job, driver: &mut Driver, machine: &Machine, entry: &Entry)
-        requires { CanHold job.now driver.old machine.now self.now entry.now }
-        ensures holds { (can : CanHold job.now driver.old machine.now self.now entry.now)
-            → KeepsHolds job.now driver.new.active.own (entry.now ∷ can.past) }
-        ensures others { driver.new ≡ record driver.old { active = record driver.old.active { own = driver.new.active.own } } }
+    /// The holds behind an entry, before the entry is noted here. `before` is how the entry's processor stood before it, and counts for
+    /// nothing where the entry is another actor's. The holds of a processor end with its reply; else it begins to hold the page whose
+    /// translation it takes, the page for which it left, a page that it brings back with those that it needs before it, and the TCS
+    /// page and the state save page by which it resumes. The builder holds the page that it measures next.
+    pub fn hold(&self, job: &Job, active: &mut Active, before: Mode, entry: &Entry)
+        requires { CanHold job.now active.old before self.now entry.now }
+        ensures holds { (can : CanHold job.now active.old before self.now entry.now)
+            → KeepsHolds job.now active.new.own (entry.now ∷ can.past) }
+        ensures others { active.new ≡ record active.old { own = active.new.own } }
     {
-        let before = mode_of(machine, entry.actor);
-        self.hold_by(job, &mut driver.active, before, entry);
+        self.hold_by(job, active, before, entry);
     }
 
     // .. by how the entry's processor stood before it.
@@ -197,8 +196,8 @@ impl Turns {
     }
 }
 
-// How the processor of an entry stands before it.
-fn mode_of(machine: &Machine, actor: Actor) -> Mode
+/// How an actor stands before its entry, outside where it is no processor.
+pub fn mode_of(machine: &Machine, actor: Actor) -> Mode
     requires { IsAmong (length machine.now.cpus) actor }
     ensures { result ≡ mode_of machine.now actor }
 {

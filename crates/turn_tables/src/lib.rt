@@ -6,7 +6,7 @@ mod asking;
 mod building;
 pub mod cpu_turns;
 pub mod dues;
-mod holding;
+pub mod holding;
 pub mod laws;
 mod noting;
 mod operations;

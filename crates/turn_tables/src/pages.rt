@@ -39,7 +39,7 @@ impl Turns {
     }
 
     /// The state save page that an entry by a TCS page takes, None where all are in use.
-    pub(crate) fn next_save(&self, tcs: Page) -> Option<Page>
+    pub fn next_save(&self, tcs: Page) -> Option<Page>
         ensures { result ≡ next_save_of tcs.enclave (tcs_at self.now.tcs tcs) }
     {
         let turn = self.tcs.get(tcs)?;
@@ -54,7 +54,7 @@ impl Turns {
     }
 
     /// The state save page of a TCS page that was used last, None where none is in use. No more are in use than there are.
-    pub(crate) fn last_save(&self, tcs: Page) -> Option<Page>
+    pub fn last_save(&self, tcs: Page) -> Option<Page>
         ensures { result ≡ last_save_of tcs.enclave (tcs_at self.now.tcs tcs) }
     {
         let turn = self.tcs.get(tcs)?;
