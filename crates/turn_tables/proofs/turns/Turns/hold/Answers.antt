@@ -1,4 +1,4 @@
-use Rattle.std.proofs.Common.{ap, subst, sym, ◌∙◌, ◌∷◌}
+use Rattle.std.proofs.Common.{◌≡◌, ◌∷◌, subst, sym}
 use Rattle.active_list.specs.Active.{ActiveList}
 use Rattle.turn_tables.specs.Holding.{KeepsHolds, held_after}
 use Rattle.turn_tables.proofs.HoldLaws.{but_own, entry_fits, entry_keeps, entry_others}
