@@ -53,7 +53,7 @@ impl TcsTurns {
     }
 
     /// Whether the table has a place for a page.
-    pub(crate) fn has_place(&self, page: Page) -> bool
+    pub fn has_place(&self, page: Page) -> bool
         ensures { result ≡ has_place self.now page }
     {
         match self.pages.get(usize::from(page.enclave)) {
