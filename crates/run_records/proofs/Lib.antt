@@ -1,0 +1,5 @@
+pub mod FlatSteps
+pub mod KindLaws
+pub mod ToldLaws
+pub mod LoadRecords
+pub mod PassRecords

@@ -1,0 +1,148 @@
+-- The entries that tell nothing of a record.
+use Rattle.std.proofs.Common.{◌≡◌, ℕ, Bool, true, false, refl, ◌∙◌, ap, List, Option, Some, None, IfSome, MatchOption}
+use Rattle.sgx_types.specs.declared.entries.Action.{Action}
+use Rattle.sgx_types.specs.declared.entries.Action.TheVariants.{Block, Track, EwbStart, Ewb, EldStart, Eld}
+use Rattle.sgx_types.specs.declared.entries.Actor.{Actor}
+use Rattle.sgx_types.specs.declared.entries.Answer.{Answer}
+use Rattle.sgx_types.specs.declared.entries.Entry.{Entry}
+use Rattle.sgx_types.specs.declared.entries.Event.{Event}
+use Rattle.sgx_types.specs.declared.entries.Event.TheVariants.{Did, Refused, Kick}
+use Rattle.sgx_types.specs.declared.names.Cpu.{Cpu}
+use Rattle.sgx_types.specs.declared.names.Frame.{Frame}
+use Rattle.sgx_types.specs.declared.names.Page.{Page}
+use Rattle.sgx_types.specs.declared.names.SlotAt.{SlotAt}
+use Rattle.sgx_types.specs.declared.refusals.Refusal.{Refusal}
+use Rattle.sgx_types.specs.Sealed.{Sealed}
+use Rattle.sgx_types.specs.Table.{first_of_row}
+use Rattle.job_grammar.specs.Jobs.{JobView}
+use Rattle.turn_rules.specs.Script.{action_of}
+use Rattle.backing_store.specs.Calls.{Call}
+use Rattle.paging_laws.specs.State.{State, row_of}
+use Rattle.paging_laws.specs.Steps.{IsDone, IsStep, answer_of, did_by, refused_by}
+use Rattle.driver_tables.specs.declared.driver.Driver.{Driver}
+use Rattle.run_history.specs.Calls.{ComesWith, before}
+use Rattle.run_history.specs.Given.{gift}
+use Rattle.run_history.specs.Stored.{Tells}
+use Rattle.book_laws.specs.Stores.{StoreMoves}
+use Rattle.run_book.specs.Books.{AreTold}
+use Rattle.run_book.specs.Plain.{is_plain}
+use Rattle.run_records.specs.Silent.{IsSilent}
+
+-- ---- entries that come with no call
+
+-- it comes with no call, and tells nothing of a record
+record IsMute (ev : Event) : Type 0 where
+  comes : (calls : List Call) → ComesWith ev calls
+  earlier : (calls : List Call) → before ev calls ≡ calls
+  tells : (key : List ℕ) (past : List Entry) (gifts : ℕ → Option Sealed) (calls : List Call) → Tells key past gifts ev calls
+
+-- an instruction that moves no page out or back and was done
+did_mute : (action : Action) (answer : Answer) → is_plain action ≡ true → IsMute (Did action answer)
+did_mute (Ewb f) answer h = cc
+did_mute (EldStart f page slot) answer h = cc
+did_mute (Eld f) answer h = cc
+did_mute action answer h =
+    record { comes = λ calls. tt; earlier = λ calls. refl; tells = λ key past gifts calls. tt }
+
+-- .. or was refused
+refused_mute : (action : Action) (refusal : Refusal) → is_plain action ≡ true → IsMute (Refused action refusal)
+refused_mute (EldStart f page slot) refusal h = cc
+refused_mute (Eld f) refusal h = cc
+refused_mute action refusal h =
+    record { comes = λ calls. tt; earlier = λ calls. refl; tells = λ key past gifts calls. tt }
+
+-- an instruction that moves no page out or back, done or refused
+plain_mute : (ev : Event) (action : Action) → action_of ev ≡ Some action → is_plain action ≡ true → IsMute ev
+plain_mute (Did done answer) action is plain =
+    let same : done ≡ action = cc in did_mute done answer (ap is_plain same ∙ plain)
+plain_mute (Refused refused refusal) action is plain =
+    let same : refused ≡ action = cc in refused_mute refused refusal (ap is_plain same ∙ plain)
+plain_mute _ action is plain = cc
+
+-- where the tables keep their records and their lost pages
+mute_told : (j : JobView) (past : List Entry) (e : Entry) (told : Option (List Call)) (d d' : Driver) → IsMute e.event
+    → IfSome told (λ calls. StoreMoves e calls d d') → AreTold j past e told told d d'
+mute_told j past e None d d' mute moves = tt
+mute_told j past e (Some calls) d d' mute moves = record {
+  comes = record { comes = mute.comes calls; earlier = mute.earlier calls; moves = moves };
+  tells = mute.tells j.key past (gift past (before e.event calls)) calls;
+}
+
+-- .. of an instruction that moves no page out or back
+pub plain_told : (j : JobView) (past : List Entry) (e : Entry) (action : Action) (told : Option (List Call)) (d d' : Driver)
+    → action_of e.event ≡ Some action → is_plain action ≡ true → IfSome told (λ calls. StoreMoves e calls d d')
+    → AreTold j past e told told d d'
+plain_told j past e action told d d' is plain moves = mute_told j past e told d d' (plain_mute e.event action is plain) moves
+
+-- ---- kicks
+
+-- a kick changes no table
+kick_moves : (e : Entry) (cpu : Cpu) (calls : List Call) (d : Driver) → e.event ≡ Kick cpu → StoreMoves e calls d d
+kick_moves e cpu calls d is = record {
+  counts = refl;
+  given = λ p f page slot answer mine no. cc;
+  others = λ p other. refl;
+  lost = λ g placed. rw is refl;
+}
+
+-- .. and comes with no call
+pub kick_told : (j : JobView) (past : List Entry) (e : Entry) (cpu : Cpu) (told : Option (List Call)) (d : Driver) → e.event ≡ Kick cpu
+    → AreTold j past e told told d d
+kick_told j past e cpu told d is = mute_told j past e told d d (rw is kick_mute) (by_told told)
+  where
+    kick_mute : IsMute (Kick cpu)
+    kick_mute = record { comes = λ calls. tt; earlier = λ calls. refl; tells = λ key past gifts calls. tt }
+
+    by_told : (o : Option (List Call)) → IfSome o (λ calls. StoreMoves e calls d d)
+    by_told None = tt
+    by_told (Some calls) = kick_moves e cpu calls d is
+
+-- ---- blocks, tracks and starts
+
+-- a block, a track, or the start of a write-out or a load
+abbrev is_start : Action → Bool
+is_start (Block f) = true
+is_start (Track enclave) = true
+is_start (EwbStart f slot) = true
+is_start (EldStart f page slot) = true
+is_start action = false
+
+-- it tells nothing of a record where it was done
+did_silent : (a : Actor) (action : Action) (answer : Answer) → is_start action ≡ true → IsSilent (did_by a action answer)
+did_silent a (Block f) answer h = record { building = refl; tells = λ key past gifts calls. tt }
+did_silent a (Track enclave) answer h = record { building = refl; tells = λ key past gifts calls. tt }
+did_silent a (EwbStart f slot) answer h = record { building = refl; tells = λ key past gifts calls. tt }
+did_silent a (EldStart f page slot) answer h = record { building = refl; tells = λ key past gifts calls. tt }
+did_silent a action answer h = cc
+
+-- .. and where it was refused
+refused_silent : (a : Actor) (action : Action) (refusal : Refusal) → is_start action ≡ true → IsSilent (refused_by a action refusal)
+refused_silent a (Block f) refusal h = record { building = refl; tells = λ key past gifts calls. tt }
+refused_silent a (Track enclave) refusal h = record { building = refl; tells = λ key past gifts calls. tt }
+refused_silent a (EwbStart f slot) refusal h = record { building = refl; tells = λ key past gifts calls. tt }
+refused_silent a (EldStart f page slot) refusal h = record { building = refl; tells = λ key past gifts calls. tt }
+refused_silent a action refusal h = cc
+
+-- done or refused
+step_silent : (s t : State) (a : Actor) (action : Action) (e : Entry) → is_start action ≡ true
+    → (IsDone s a action e t → e ≡ did_by a action (answer_of s a action)) → IsStep s a action e t → IsSilent e
+step_silent s t a action e start done = by_row (first_of_row (row_of s a action))
+  where
+    by_row : (o : Option Refusal) → MatchOption o (IsDone s a action e t)
+        (λ refusal. (e ≡ refused_by a action refusal) × (t ≡ s)) → IsSilent e
+    by_row None is = rw (done is) (did_silent a action (answer_of s a action) start)
+    by_row (Some refusal) is = rw is.0 (refused_silent a action refusal start)
+
+-- each of the four by its step
+pub block_silent : (s t : State) (a : Actor) (f : Frame) (e : Entry) → IsStep s a (Block f) e t → IsSilent e
+block_silent s t a f e = step_silent s t a (Block f) e refl (λ k. k.0)
+
+pub track_silent : (s t : State) (a : Actor) (enclave : ℕ) (e : Entry) → IsStep s a (Track enclave) e t → IsSilent e
+track_silent s t a enclave e = step_silent s t a (Track enclave) e refl (λ k. k.0)
+
+pub ewbstart_silent : (s t : State) (a : Actor) (f : Frame) (slot : SlotAt) (e : Entry) → IsStep s a (EwbStart f slot) e t → IsSilent e
+ewbstart_silent s t a f slot e = step_silent s t a (EwbStart f slot) e refl (λ k. k.0)
+
+pub eldstart_silent : (s t : State) (a : Actor) (f : Frame) (page : Page) (slot : SlotAt) (e : Entry)
+    → IsStep s a (EldStart f page slot) e t → IsSilent e
+eldstart_silent s t a f page slot e = step_silent s t a (EldStart f page slot) e refl (λ k. k.0)

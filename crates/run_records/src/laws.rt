@@ -1,0 +1,141 @@
+//! Laws on what each entry of a run tells of the record of its call. A law is the contract of a function without arguments.
+
+ghost use Rattle.std.specs.Prelude.{ℕ, ◌≡◌, ◌<◌, true, false, List, [], ◌∷◌, Option, Some, IfSome, length, sum};
+ghost use Rattle.active_list.specs.Places.{IsPlaced};
+ghost use Rattle.active_list.specs.States.{state_of as page_state};
+ghost use Rattle.backing_store.specs.Calls.{Call};
+ghost use Rattle.book_laws.specs.Stores.{StoreMoves};
+ghost use Rattle.driver_rules.specs.Turns.{Loads, last_of};
+ghost use Rattle.driver_tables.specs.declared.driver.Driver.{Driver};
+ghost use Rattle.fault_handler.specs.Finishing.{CanFinish, IsFinished};
+ghost use Rattle.fault_handler.specs.Resolving.{IsResolved};
+ghost use Rattle.fault_handler.specs.declared.answers.FaultAnswer.{FaultAnswer};
+ghost use Rattle.fault_handler.specs.declared.answers.Loaded.{Loaded};
+ghost use Rattle.job_grammar.specs.Jobs.{JobView};
+ghost use Rattle.paging_laws.specs.Columns.{HasColumns};
+ghost use Rattle.paging_laws.specs.State.{State};
+ghost use Rattle.paging_laws.specs.Steps.{IsStep};
+ghost use Rattle.paging_machine.specs.Parts.{Parts, state_of};
+ghost use Rattle.reclaim_worker.specs.Asked.{look_in, told_by};
+ghost use Rattle.reclaim_worker.specs.Ready.{Ready};
+ghost use Rattle.reclaim_worker.specs.Rests.{DriverSays, IsWait};
+ghost use Rattle.reclaim_worker.specs.Stored.{StoredSays};
+ghost use Rattle.reclaim_worker.specs.Turning.{TurnSays};
+ghost use Rattle.reclaim_worker.specs.declared.turns.PassTurn.{PassTurn};
+ghost use Rattle.reclaim_worker.specs.declared.turns.Phase.{Phase};
+ghost use Rattle.reclaim_worker.specs.declared.turns.Taken.{Taken};
+ghost use Rattle.run_book.specs.Books.{AreTold, KeepsBook};
+ghost use Rattle.run_book.specs.Loads.{OfAnswer, entry_in};
+ghost use Rattle.run_book.specs.Plain.{is_plain};
+ghost use Rattle.run_book.specs.Turns.{OfEntry};
+ghost use Rattle.run_history.specs.Honest.{EnclavesAreFlat};
+ghost use Rattle.run_records.specs.Builds.{is_building};
+ghost use Rattle.run_records.specs.Silent.{HasNoEntry, MakesNoEntry, OfBus};
+ghost use Rattle.sgx_types.specs.Making.{Making};
+ghost use Rattle.sgx_types.specs.declared.entries.Action.{Action};
+ghost use Rattle.sgx_types.specs.declared.entries.Actor.{Actor};
+ghost use Rattle.sgx_types.specs.declared.entries.Entry.{Entry};
+ghost use Rattle.sgx_types.specs.declared.entries.Event.TheVariants.{Kick};
+ghost use Rattle.sgx_types.specs.declared.names.Cpu.{Cpu};
+ghost use Rattle.sgx_types.specs.declared.names.Page.{Page};
+ghost use Rattle.turn_rules.specs.Script.{action_of};
+ghost use Rattle.turn_tables.specs.declared.turns.Turns.{Turns};
+
+/// Before the first entry flat memory has no enclave and no page, and none was made.
+pub fn enclaves_are_flat_at_first()
+    ensures { EnclavesAreFlat [] }
+{}
+
+/// Flat memory goes on to have each enclave and page as the entries made it, with any instruction of the machine but the end of a write-out
+/// or of a load, done or refused, whatever the bytes of pages are: a create, an add or an init that is done is one that flat memory takes.
+pub fn steps_keep_enclaves_flat()
+    ensures { (s t : State) (past : List Entry) (actor : Actor) (action : Action) (e : Entry) → HasColumns s past
+        → IsStep s actor action e t → EnclavesAreFlat past → EnclavesAreFlat (e ∷ past) }
+{}
+
+/// .. and with any entry that is no done create, add or init.
+pub fn other_entries_keep_enclaves_flat()
+    ensures { (past : List Entry) (e : Entry) → is_building e.event ≡ false → EnclavesAreFlat past → EnclavesAreFlat (e ∷ past) }
+{}
+
+/// .. so with the entry of a fault step.
+pub fn fault_steps_keep_enclaves_flat()
+    ensures { (past : List Entry) (cpu : Cpu) (page : Page) (d d' : Driver) (m m' : Parts) (told told' : Option (List Call))
+        (answer : FaultAnswer) → IsResolved cpu page (page_state d.states page) d m told answer d' m' told' → EnclavesAreFlat past
+        → OfAnswer cpu page answer (λ e. EnclavesAreFlat (e ∷ past)) }
+{}
+
+/// .. with the end of a load, and the bus behind one that is refused.
+pub fn ends_of_loads_keep_enclaves_flat()
+    ensures { (past : List Entry) (d d' : Driver) (m m' : Parts) (cpu : Cpu) (page : Page) (loaded : Loaded) (can : CanFinish cpu page d m)
+        → IsFinished cpu page can.slot can.frame can.kept d (state_of m) loaded d' (state_of m') → EnclavesAreFlat past
+        → EnclavesAreFlat (entry_in loaded ∷ past) × OfBus cpu page loaded (λ e bus. EnclavesAreFlat (bus ∷ e ∷ past)) }
+{}
+
+/// .. with the entry of a turn of a pass.
+pub fn turns_of_a_pass_keep_enclaves_flat()
+    ensures { (past : List Entry) (taken taken' : List Taken) (phase phase' : Phase) (d d' : Driver) (m m' : Parts) (turn : PassTurn)
+        → TurnSays taken phase d m turn taken' phase' d' m' → EnclavesAreFlat past → OfEntry turn (λ e. EnclavesAreFlat (e ∷ past)) }
+{}
+
+/// .. and with the end of a write-out.
+pub fn write_outs_keep_enclaves_flat()
+    ensures { (past : List Entry) (taken : List Taken) (phase : Phase) (d d' : Driver) (m m' : Parts) (told told' : Option (List Call))
+        (faults faults' : ℕ) (e : Entry) → StoredSays taken phase (state_of m) d told faults e (state_of m') d' told' faults'
+        → EnclavesAreFlat past → EnclavesAreFlat (e ∷ past) }
+{}
+
+/// An instruction of the builder or of a processor that moves no page out or back, done or refused, comes with no call, where the tables
+/// keep their records and their lost pages.
+pub fn instructions_tell_their_records()
+    ensures { (j : JobView) (past : List Entry) (e : Entry) (action : Action) (told : Option (List Call)) (d d' : Driver)
+        → action_of e.event ≡ Some action → is_plain action ≡ true → IfSome told (λ calls. StoreMoves e calls d d')
+        → AreTold j past e told told d d' }
+{}
+
+/// A kick comes with no call.
+pub fn kicks_tell_their_records()
+    ensures { (j : JobView) (past : List Entry) (e : Entry) (cpu : Cpu) (told : Option (List Call)) (d : Driver) → e.event ≡ Kick cpu
+        → AreTold j past e told told d d }
+{}
+
+/// The entry of a fault step comes with its call, and tells what is so of its record. Without an entry there is no call.
+pub fn fault_steps_tell_their_records()
+    ensures { (made : Making) (j : JobView) (past : List Entry) (told told' : Option (List Call)) (d d' : Driver) (m m' : Parts) (t : Turns)
+        (cpu : Cpu) (page : Page) (answer : FaultAnswer) → KeepsBook made j past told d m t → cpu.0 < length d.kept
+        → IsPlaced d.states.counts page → length d.states.states ≡ sum d.states.counts
+        → IsResolved cpu page (page_state d.states page) d m told answer d' m' told'
+        → OfAnswer cpu page answer (λ e. AreTold j past e told told' d d') × (HasNoEntry answer → told' ≡ told) }
+{}
+
+/// The end of a load comes with no call. Done, it tells the tag of the record that the store gave for it, which has the page's header;
+/// refused, it tells why that record is none of the page's own under its version. The bus behind a refusal comes with no call.
+pub fn ends_of_loads_tell_their_records()
+    ensures { (made : Making) (j : JobView) (past : List Entry) (told : Option (List Call)) (d d' : Driver) (m m' : Parts) (t : Turns)
+        (cpu : Cpu) (page : Page) (n : ℕ) (loaded : Loaded) (can : CanFinish cpu page d m) → KeepsBook made j past told d m t
+        → made.key ≡ j.key → last_of past cpu.0 ≡ Loads n page
+        → IsFinished cpu page can.slot can.frame can.kept d (state_of m) loaded d' (state_of m')
+        → AreTold j past (entry_in loaded) told told d d' × OfBus cpu page loaded (λ e bus. AreTold j (e ∷ past) bus told told d' d') }
+{}
+
+/// The entry of a turn of a pass comes with its call, and tells nothing of a record.
+pub fn turns_of_a_pass_tell_their_records()
+    ensures { (j : JobView) (past : List Entry) (told told' : Option (List Call)) (taken taken' : List Taken) (phase phase' : Phase)
+        (d d' : Driver) (m m' : Parts) (turn : PassTurn) → d.states.counts ≡ d.active.counts
+        → length d.states.states ≡ sum d.states.counts → TurnSays taken phase d m turn taken' phase' d' m' → DriverSays phase d d'
+        → (IsWait turn → d' ≡ d) → told' ≡ told_by (look_in phase turn) told → OfEntry turn (λ e. AreTold j past e told told' d d') }
+{}
+
+/// A turn of a pass with no entry of the reclaimer makes no call.
+pub fn turns_without_an_entry_make_no_call()
+    ensures { (told : Option (List Call)) (phase : Phase) (turn : PassTurn) → MakesNoEntry turn
+        → told_by (look_in phase turn) told ≡ told }
+{}
+
+/// The end of a write-out comes with the put of its record, which has the page's header and the tag of its version.
+pub fn write_outs_tell_their_records()
+    ensures { (made : Making) (j : JobView) (past : List Entry) (told told' : Option (List Call)) (d d' : Driver) (m m' : Parts) (t : Turns)
+        (taken : List Taken) (phase : Phase) (faults faults' : ℕ) (e : Entry) → KeepsBook made j past told d m t → made.key ≡ j.key
+        → Ready made j past taken phase d m → StoredSays taken phase (state_of m) d told faults e (state_of m') d' told' faults'
+        → AreTold j past e told told' d d' }
+{}
