@@ -1,5 +1,5 @@
 -- What the book of a run keeps, and what an entry has to be, so that it goes on to.
-use Rattle.std.specs.Prelude.{ℕ, List, ◌∷◌, Option, None, Some, IfSome}
+use Rattle.std.specs.Prelude.{ℕ, ◌≡◌, List, ◌∷◌, Option, None, Some, IfSome}
 use Rattle.sgx_types.specs.declared.entries.Entry.{Entry}
 use Rattle.sgx_types.specs.declared.names.Page.{Page}
 use Rattle.sgx_types.specs.Making.{Making}
