@@ -1,5 +1,5 @@
 -- The book goes on with one entry more.
-use Rattle.std.proofs.Common.{sym, subst, List, ◌∷◌, Option, None, Some, IfSome}
+use Rattle.std.proofs.Common.{ℕ, sym, subst, List, ◌∷◌, Option, None, Some, IfSome}
 use Rattle.sgx_types.specs.declared.entries.Entry.{Entry}
 use Rattle.sgx_types.specs.declared.names.Page.{Page}
 use Rattle.sgx_types.specs.Making.{Making}

@@ -5,7 +5,7 @@ mod FrameLaws
 mod LineLaws
 mod LookLaws
 mod DueLaws
-mod OrderLaws
+pub mod OrderLaws
 mod EndLaws
 mod OnceLaws
 mod NeedLaws
