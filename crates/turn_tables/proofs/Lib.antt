@@ -1,14 +1,14 @@
-mod TableLaws
-mod NoteLaws
-mod PlaceLaws
-mod FrameLaws
-mod LineLaws
-mod LookLaws
-mod DueLaws
+pub mod TableLaws
+pub mod NoteLaws
+pub mod PlaceLaws
+pub mod FrameLaws
+pub mod LineLaws
+pub mod LookLaws
+pub mod DueLaws
 pub mod OrderLaws
-mod EndLaws
-mod OnceLaws
-mod NeedLaws
-mod PlacedLaws
-mod HoldLaws
-mod FirstLaws
+pub mod EndLaws
+pub mod OnceLaws
+pub mod NeedLaws
+pub mod PlacedLaws
+pub mod HoldLaws
+pub mod FirstLaws

@@ -1,0 +1,5 @@
+pub mod BitLaws
+pub mod MakeLaws
+pub mod StayLaws
+pub mod EntryLaws
+pub mod KickLaws

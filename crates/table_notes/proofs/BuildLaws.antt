@@ -1,0 +1,171 @@
+-- Behind the steps that make version array pages a build makes none, and each page that it adds has a place in the tables.
+use Rattle.std.proofs.Common.{◌≡◌, ◌⊎◌, inl, inr, ⊎_elim, ℕ, zero, suc, ◌+◌, ◌<◌, ◌≤◌, Bool, true, false, List, [], ◌∷◌, ◌++◌, Some, map, fold, get_or, max, replicate, slice_get, refl, ap, subst, ◌∙◌, arith}
+use Rattle.std.proofs.lemmas.Bool.{false≢true}
+use Rattle.std.specs.List.{All, flat_map}
+use Rattle.std.proofs.lemmas.List.Elements.{All-cons, All-head, All-nil, All-tail}
+use Rattle.sgx_types.specs.declared.entries.PageInit.{PageInit}
+use Rattle.sgx_types.specs.declared.entries.PageInit.TheVariants as inits
+use Rattle.sgx_types.specs.declared.names.Kind.{Kind}
+use Rattle.sgx_types.specs.declared.names.Kind.TheVariants as kinds
+use Rattle.sgx_types.specs.declared.names.Perm.{Perm}
+use Rattle.sgx_types.specs.Frames.{no_perm, page_at}
+use Rattle.job_grammar.specs.declared.jobs.PageLine.{PageLine}
+use Rattle.job_grammar.specs.declared.jobs.PageLine.TheVariants as lines
+use Rattle.job_grammar.specs.Jobs.{EnclaveView, JobView, va_pages}
+use Rattle.turn_rules.specs.declared.steps.BuildStep.{BuildStep}
+use Rattle.turn_rules.specs.declared.steps.BuildStep.TheVariants as builds
+use Rattle.turn_rules.specs.Script.{build_of, enclave_steps, enclaves_steps, line_steps, numbers_from, page_steps}
+use Rattle.active_list.specs.Places.{IsPlaced}
+use Rattle.driver_laws.specs.Keeps.{is_va_step}
+use Rattle.driver_tables.specs.Counts.{enclave_places, line_end, page_counts}
+
+-- a step makes no version array page, and adds a page of this enclave below a number
+abbrev IsLow : ℕ → ℕ → BuildStep → Type 0
+IsLow enclave end builds.Va = ⊥
+IsLow enclave end (builds.Add e n kind perm init) = (e ≡ enclave) × (n < end)
+IsLow enclave end _ = Unit {0}
+
+-- .. a page that has a place
+abbrev IsBehind : List ℕ → BuildStep → Type 0
+IsBehind counts builds.Va = ⊥
+IsBehind counts (builds.Add e n kind perm init) = n < get_or counts e 0
+IsBehind counts _ = Unit {0}
+
+-- what holds along a list, by recursion
+abbrev Each : {X : Type 0} → (X → Type 0) → List X → Type 0
+Each P [] = Unit {0}
+Each P (x ∷ xs) = P x × Each P xs
+
+each_append : {X : Type 0} (P : X → Type 0) (xs ys : List X) → Each P xs → Each P ys → Each P (xs ++ ys)
+each_append P [] ys h k = k
+each_append P (x ∷ xs) ys h k = (h.0, each_append P xs ys h.1 k)
+
+each_then : {X : Type 0} (P Q : X → Type 0) (xs : List X) → ((x : X) → P x → Q x) → Each P xs → Each Q xs
+each_then P Q [] f h = tt
+each_then P Q (x ∷ xs) f h = (f x h.0, each_then P Q xs f h.1)
+
+each_got : {X : Type 0} (P : X → Type 0) (xs : List X) (n : ℕ) (x : X) → Each P xs → slice_get xs n ≡ Some x → P x
+each_got P [] n x h is = cc
+each_got P (y ∷ ys) zero x h is = let same : y ≡ x = cc in subst P same h.0
+each_got P (y ∷ ys) (suc n) x h is = each_got P ys n x h.1 is
+
+-- ---- lines
+
+chunks_low : (enclave end n k count : ℕ) → Each (IsLow enclave end) (map (builds.Extend enclave n) (numbers_from k count))
+chunks_low enclave end n k zero = tt
+chunks_low enclave end n k (suc count) = (tt, chunks_low enclave end n (k + 1) count)
+
+page_low : (enclave end n : ℕ) (kind : Kind) (perm : Perm) (init : PageInit) (plain : Bool) → n < end
+    → Each (IsLow enclave end) (page_steps enclave n kind perm init plain)
+page_low enclave end n kind perm init true low = ((refl, low), tt)
+page_low enclave end n kind perm init false low = ((refl, low), chunks_low enclave end n 0 16)
+
+pages_low : (enclave end : ℕ) (kind : Kind) (perm : Perm) (init : PageInit) (plain : Bool) (first count : ℕ) → first + count ≤ end
+    → Each (IsLow enclave end) (flat_map (λ n. page_steps enclave n kind perm init plain) (numbers_from first count))
+pages_low enclave end kind perm init plain first zero low = tt
+pages_low enclave end kind perm init plain first (suc count) low =
+    each_append (IsLow enclave end) (page_steps enclave first kind perm init plain)
+    (flat_map (λ n. page_steps enclave n kind perm init plain) (numbers_from (first + 1) count))
+    (page_low enclave end first kind perm init plain (omega (arith, low)))
+    (pages_low enclave end kind perm init plain (first + 1) count (omega (arith, low)))
+
+line_low : (enclave end : ℕ) (line : PageLine) → line_end line ≤ end → Each (IsLow enclave end) (line_steps enclave line)
+line_low enclave end (lines.Tcs page ossa nssa plain) low =
+    page_low enclave end page kinds.Tcs no_perm (inits.Tcs ossa nssa) plain (omega (arith, low))
+line_low enclave end (lines.Reg first count perm value plain) low =
+    pages_low enclave end kinds.Reg perm (inits.Words value) plain first count low
+
+lines_low : (enclave end : ℕ) (ls : List PageLine) → All (λ line. line_end line ≤ end) ls
+    → Each (IsLow enclave end) (flat_map (line_steps enclave) ls)
+lines_low enclave end [] all = tt
+lines_low enclave end (x ∷ xs) all =
+    each_append (IsLow enclave end) (line_steps enclave x) (flat_map (line_steps enclave) xs)
+    (line_low enclave end x (All-head (λ line. line_end line ≤ end) x xs all))
+    (lines_low enclave end xs (All-tail (λ line. line_end line ≤ end) x xs all))
+
+max_more : (ls : List PageLine) (end : ℕ) → end ≤ fold (λ a line. max a (line_end line)) end ls
+max_more [] end = omega arith
+max_more (x ∷ xs) end = let rest = max_more xs (max end (line_end x)) in omega (arith, rest)
+
+lines_below : (ls : List PageLine) (end : ℕ) → All (λ line. line_end line ≤ fold (λ a line. max a (line_end line)) end ls) ls
+lines_below [] end = All-nil (λ line. line_end line ≤ end)
+lines_below (x ∷ xs) end =
+    All-cons (λ line. line_end line ≤ fold (λ a line. max a (line_end line)) (max end (line_end x)) xs) x xs
+    (let rest = max_more xs (max end (line_end x)) in omega (arith, rest)) (lines_below xs (max end (line_end x)))
+
+-- ---- enclaves
+
+enclave_low : (enclave : ℕ) (e : EnclaveView) → Each (IsLow enclave (enclave_places e)) (enclave_steps enclave e)
+enclave_low enclave e = (
+  tt,
+  each_append (IsLow enclave (enclave_places e)) (flat_map (line_steps enclave) e.lines) (builds.Init enclave e.expect ∷ [])
+      (lines_low enclave (enclave_places e) e.lines (lines_below e.lines 0)) (tt, tt),
+)
+
+low_behind : (counts : List ℕ) (enclave end : ℕ) → get_or counts enclave 0 ≡ end → (x : BuildStep) → IsLow enclave end x
+    → IsBehind counts x
+low_behind counts enclave end is (builds.Add e n kind perm init) h =
+    let count : get_or counts e 0 ≡ end = ap (λ k. get_or counts k 0) h.0 ∙ is in
+    let low = h.1 in omega (arith, count, low)
+low_behind counts enclave end is builds.Va h = h
+low_behind counts enclave end is (builds.Create e base size) h = tt
+low_behind counts enclave end is (builds.Extend e n chunk) h = tt
+low_behind counts enclave end is (builds.Init e expect) h = tt
+
+enclaves_behind : (counts : List ℕ) (enclave : ℕ) (es : List EnclaveView)
+    → ((k : ℕ) (e : EnclaveView) → slice_get es k ≡ Some e → get_or counts (enclave + k) 0 ≡ enclave_places e)
+    → Each (IsBehind counts) (enclaves_steps enclave es)
+enclaves_behind counts enclave [] is = tt
+enclaves_behind counts enclave (e ∷ es) is =
+    each_append (IsBehind counts) (enclave_steps enclave e) (enclaves_steps (enclave + 1) es)
+    (each_then (IsLow enclave (enclave_places e)) (IsBehind counts) (enclave_steps enclave e)
+    (low_behind counts enclave (enclave_places e)
+    (ap (λ k. get_or counts k 0) (let same : enclave ≡ enclave + 0 = omega arith in same) ∙ is 0 e refl)) (enclave_low enclave e))
+    (enclaves_behind counts (enclave + 1) es (λ k x at.
+    ap (λ n. get_or counts n 0) (let same : enclave + 1 + k ≡ enclave + suc k = omega arith in same) ∙ is (suc k) x at))
+
+count_at : (es : List EnclaveView) (k : ℕ) (e : EnclaveView) → slice_get es k ≡ Some e
+    → get_or (map enclave_places es) k 0 ≡ enclave_places e
+count_at [] k e is = cc
+count_at (x ∷ xs) zero e is = let same : x ≡ e = cc in ap enclave_places same
+count_at (x ∷ xs) (suc k) e is = count_at xs k e is
+
+all_behind : (j : JobView) → Each (IsBehind (0 ∷ page_counts j)) (enclaves_steps 1 j.enclaves)
+all_behind j =
+    enclaves_behind (0 ∷ page_counts j) 1 j.enclaves
+    (λ k e is. ap (λ n. get_or (0 ∷ page_counts j) n 0) (let same : 1 + k ≡ suc k = omega arith in same) ∙ count_at j.enclaves k e is)
+
+-- ---- the build
+
+-- a step is one of the first, or is behind them
+got_either : (P : BuildStep → Type 0) (k n : ℕ) (xs : List BuildStep) (x : BuildStep) → Each P xs
+    → slice_get (replicate k builds.Va ++ xs) n ≡ Some x → ((n < k) × (x ≡ builds.Va)) ⊎ P x
+got_either P zero n xs x h is = inr (each_got P xs n x h is)
+got_either P (suc k) zero xs x h is = inl (let low : zero < suc k = omega arith in low, cc)
+got_either P (suc k) (suc n) xs x h is =
+    ⊎_elim (λ (m : (n < k) × (x ≡ builds.Va)). inl (let low : n < k = m.0 in omega (arith, low), m.1)) (λ m. inr m)
+    (got_either P k n xs x h is)
+
+no_array : (counts : List ℕ) (x : BuildStep) → is_va_step x ≡ true → IsBehind counts x → ⊥
+no_array counts builds.Va h k = k
+no_array counts (builds.Create e base size) h k = false≢true h
+no_array counts (builds.Add e n kind perm init) h k = false≢true h
+no_array counts (builds.Extend e n chunk) h k = false≢true h
+no_array counts (builds.Init e expect) h k = false≢true h
+
+-- a step that makes a version array page is one of the first
+pub arrays_before : (j : JobView) (n : ℕ) (x : BuildStep) → slice_get (build_of j) n ≡ Some x → is_va_step x ≡ true → n < va_pages j
+arrays_before j n x is va =
+    ⊎_elim (λ (k : (n < va_pages j) × (x ≡ builds.Va)). k.0) (λ k. absurd (no_array (0 ∷ page_counts j) x va k))
+    (got_either (IsBehind (0 ∷ page_counts j)) (va_pages j) n (enclaves_steps 1 j.enclaves) x (all_behind j) is)
+
+-- the page of a step that adds one has a place
+pub add_placed : (j : JobView) (n e k : ℕ) (kind : Kind) (perm : Perm) (init : PageInit)
+    → slice_get (build_of j) n ≡ Some (builds.Add e k kind perm init) → IsPlaced (0 ∷ page_counts j) (page_at e k)
+add_placed j n e k kind perm init is =
+    ⊎_elim
+    (λ (m : (n < va_pages j) × (builds.Add e k kind perm init ≡ builds.Va)).
+    (let same : builds.Add e k kind perm init ≡ builds.Va = m.1 in absurd cc))
+    (λ (m : k < get_or (0 ∷ page_counts j) e 0). record { within = m })
+    (got_either (IsBehind (0 ∷ page_counts j)) (va_pages j) n (enclaves_steps 1 j.enclaves) (builds.Add e k kind perm init) (all_behind j)
+    is)

@@ -1,0 +1,135 @@
+-- The entry of a step by its row: done, or refused. What it asks of the entries before it, and whose it is.
+use Rattle.std.proofs.Common.{◌≡◌, ◌⊎◌, inl, inr, ℕ, not, Bool, true, false, refl, sym, ◌∙◌, ap, List, Option, Some, None, MatchOption, is_some}
+use Rattle.std.proofs.lemmas.Bool.{false≢true}
+use Rattle.sgx_types.proofs.Rows.{none_holds}
+use Rattle.sgx_types.specs.declared.entries.Action.{Action}
+use Rattle.sgx_types.specs.declared.entries.Action.TheVariants.{Epa, Create, Add, Extend, Init, Block, Track, EwbStart, Ewb, EldStart, Eld}
+use Rattle.sgx_types.specs.declared.entries.Actor.{Actor}
+use Rattle.sgx_types.specs.declared.entries.Actor.TheVariants as actors
+use Rattle.sgx_types.specs.declared.entries.Answer.{Answer}
+use Rattle.sgx_types.specs.declared.entries.Answer.TheVariants as answers
+use Rattle.sgx_types.specs.declared.entries.Entry.{Entry}
+use Rattle.sgx_types.specs.declared.entries.Event.{Event}
+use Rattle.sgx_types.specs.declared.entries.Event.TheVariants.{Did}
+use Rattle.sgx_types.specs.declared.names.Page.{Page}
+use Rattle.sgx_types.specs.declared.refusals.Refusal.{Refusal}
+use Rattle.sgx_types.specs.declared.refusals.Refusal.TheVariants as why
+use Rattle.sgx_types.specs.Flat.{enclave_sight_of}
+use Rattle.sgx_types.specs.Frames.{added, page_at}
+use Rattle.sgx_types.specs.Table.{create_row, epa_row, first_of_row}
+use Rattle.job_grammar.specs.Jobs.{JobView}
+use Rattle.turn_rules.specs.Script.{is_builder, step_action}
+use Rattle.turn_rules.specs.declared.steps.BuildStep.{BuildStep}
+use Rattle.turn_rules.specs.declared.steps.BuildStep.TheVariants as builds
+use Rattle.measure_log.specs.Rule.{IsExpected, IsOther}
+use Rattle.paging_laws.specs.Columns.{HasColumns}
+use Rattle.paging_laws.specs.State.{State, after_init, row_of, sight}
+use Rattle.paging_laws.specs.Steps.{IsDone, IsStep, answer_of, did_by, refused_by}
+use Rattle.paging_laws.proofs.BuildLaws.{adds, is_free_frame}
+use Rattle.paging_laws.proofs.ColumnLaws.{added_is, content_is}
+use Rattle.driver_rules.specs.Ages.{AgeRule}
+use Rattle.driver_rules.specs.Places.{Absent, Place, place}
+use Rattle.driver_rules.specs.Scripts.{ScriptRule}
+use Rattle.driver_laws.specs.Kinds.{CanMove}
+use Rattle.driver_laws.specs.Sound.{is_absent}
+use Rattle.driver_laws.proofs.StepLaws.{Builds, ByStep, NoStep, builds_by, builds_or_none}
+use Rattle.table_notes.specs.Plain.{is_plain, is_reclaimer}
+
+-- ---- done or refused
+
+pub record IsDoneBy (s : State) (a : Actor) (action : Action) (e : Entry) : Type 0 where
+  pub answer : Answer
+  pub is : e ≡ did_by a action answer
+  pub row : first_of_row (row_of s a action) ≡ None
+
+abbrev pub is_init : Action → Bool
+is_init (Init enclave expect) = true
+is_init action = false
+
+pub record IsRefusedBy (s : State) (a : Actor) (action : Action) (e : Entry) : Type 0 where
+  pub refusal : Refusal
+  pub is : e ≡ refused_by a action refusal
+  -- its row refuses it, unless it is an `init` whose measurement is not as expected
+  pub row : is_init action ≡ false → first_of_row (row_of s a action) ≡ Some refusal
+
+abbrev pub IsEntryOf : State → Actor → Action → Entry → Type 0
+IsEntryOf s a action e = IsDoneBy s a action e ⊎ IsRefusedBy s a action e
+
+done_by : (s t : State) (a : Actor) (action : Action) (e : Entry) → first_of_row (row_of s a action) ≡ None → IsDone s a action e t
+    → IsEntryOf s a action e
+done_by s t a (Create enclave f base size) e row is = inl (record { answer = _; is = is.0; row = row })
+done_by s t a (Add enclave number f kind perm init) e row is = inl (record { answer = _; is = is.0; row = row })
+done_by s t a (Extend f chunk) e row is = inl (record { answer = _; is = is.0; row = row })
+done_by s t a (Init enclave expect) e row is = by_judged is.judged
+  where
+    by_judged : (IsExpected expect is.digest × (e ≡ did_by a (Init enclave expect) (answers.Hash is.digest)) × (t ≡ after_init s enclave))
+        ⊎ (IsOther expect is.digest × (e ≡ refused_by a (Init enclave expect) (why.BadMeasure is.digest)) × (t ≡ s))
+        → IsEntryOf s a (Init enclave expect) e
+    by_judged (inl k) = inl (record { answer = answers.Hash is.digest; is = k.1; row = row })
+    by_judged (inr k) = inr (record { refusal = why.BadMeasure is.digest; is = k.1; row = λ h. absurd (false≢true (sym h)) })
+done_by s t a action e row is = inl (record { answer = answer_of s a action; is = is.0; row = row })
+
+pub entry_by : (s t : State) (a : Actor) (action : Action) (e : Entry) → IsStep s a action e t → IsEntryOf s a action e
+entry_by s t a action e = by_row (first_of_row (row_of s a action)) refl
+  where
+    by_row : (o : Option Refusal) → first_of_row (row_of s a action) ≡ o
+        → MatchOption o (IsDone s a action e t) (λ refusal. (e ≡ refused_by a action refusal) × (t ≡ s)) → IsEntryOf s a action e
+    by_row None row is = done_by s t a action e row is
+    by_row (Some refusal) row is = inr (record { refusal = refusal; is = is.0; row = λ h. row })
+
+-- ---- what a move asks of the entries before it
+
+absent_is : (p : Place) → not (is_absent p) ≡ false → p ≡ Absent
+absent_is Absent h = refl
+absent_is _ h = absurd (false≢true (sym h))
+
+pub did_moves : (s : State) (past : List Entry) (a : Actor) (action : Action) (answer : Answer) → is_plain action ≡ true
+    → HasColumns s past → ((g : Page) → is_some (added past g) ≡ not (is_absent (place past g)))
+    → first_of_row (row_of s a action) ≡ None → CanMove past (Did action answer)
+did_moves s past a (Epa f) answer plain columns seen row =
+    let none = none_holds (epa_row (sight s f.0)) row in
+    sym (content_is columns f.0) ∙ is_free_frame (s.content f.0) (s.is_sealing f.0) none.1.0 none.1.1.0
+did_moves s past a (Create enclave f base size) answer plain columns seen row =
+    let none = none_holds (create_row enclave base size (is_some (s.enclaves enclave)) (sight s f.0)) row in
+    sym (content_is columns f.0) ∙ is_free_frame (s.content f.0) (s.is_sealing f.0) none.1.1.0 none.1.1.1.0
+did_moves s past a (Add enclave number f kind perm init) answer plain columns seen row =
+    let g : Page = page_at enclave number in
+    let one = adds number kind perm init (enclave_sight_of (s.enclaves enclave)) (is_some (s.added g)) (sight s f.0) row in (
+      sym (content_is columns f.0) ∙ is_free_frame (s.content f.0) (s.is_sealing f.0) one.idle one.empty,
+      absent_is (place past g) (sym (seen g) ∙ ap is_some (sym (added_is columns g)) ∙ one.new),
+    )
+did_moves s past a (Block f) answer plain columns seen row = absurd (false≢true plain)
+did_moves s past a (Track enclave) answer plain columns seen row = absurd (false≢true plain)
+did_moves s past a (EwbStart f slot) answer plain columns seen row = absurd (false≢true plain)
+did_moves s past a (Ewb f) answer plain columns seen row = absurd (false≢true plain)
+did_moves s past a (EldStart f page slot) answer plain columns seen row = absurd (false≢true plain)
+did_moves s past a (Eld f) answer plain columns seen row = absurd (false≢true plain)
+did_moves s past a action answer plain columns seen row = tt
+
+-- ---- whose it is
+
+-- the rule Age is on the reclaimer alone
+pub ages : (j : JobView) (past : List Entry) (a : Actor) (event : Event) → is_reclaimer a ≡ false
+    → AgeRule j past (record { actor = a; event = event })
+ages j past actors.Builder event other = record { look = tt; in_pass = tt }
+ages j past (actors.Cpu p) event other = record { look = tt; in_pass = tt }
+ages j past actors.Reclaimer event other = absurd (false≢true (sym other))
+
+step_builds : (step : BuildStep) (f : ℕ) (answer : Answer) → builds_by (Did (step_action step f) answer) ≡ true
+step_builds builds.Va f answer = refl
+step_builds (builds.Create enclave base size) f answer = refl
+step_builds (builds.Add enclave number kind perm init) f answer = refl
+step_builds (builds.Extend enclave number chunk) f answer = refl
+step_builds (builds.Init enclave expect) f answer = refl
+
+-- the builder builds, and nobody else does
+pub builder_builds : (j : JobView) (past : List Entry) (a : Actor) (action : Action) (answer : Answer) → is_reclaimer a ≡ false
+    → ScriptRule j past (did_by a action answer) → builds_by (Did action answer) ≡ is_builder a
+builder_builds j past a action answer other script =
+    by_step (builds_or_none j past (did_by a action answer) script (ages j past a (Did action answer) other))
+  where
+    by_step : Builds j past a (Did action answer) → builds_by (Did action answer) ≡ is_builder a
+    by_step (NoStep none builds_none) = builds_none ∙ sym none
+    by_step (ByStep is s) =
+        let told : action ≡ step_action s.step s.frame = cc in
+        ap (λ x. builds_by (Did x answer)) told ∙ step_builds s.step s.frame answer ∙ sym (ap is_builder is)

@@ -1,0 +1,8 @@
+pub mod EntryLaws
+mod BuildLaws
+pub mod ArrayLaws
+pub mod NameLaws
+mod SaveLaws
+pub mod UseLaws
+mod FitLaws
+pub mod NotedLaws

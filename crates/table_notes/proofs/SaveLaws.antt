@@ -1,0 +1,101 @@
+-- The state save page that the tables find is the one that the rules name.
+use Rattle.std.proofs.Common.{◌≡◌, ℕ, zero, suc, ◌+◌, ◌-◌, ◌%◌, ◌^◌, ◌<◌, ◌≤◌, ◌==◌, Bool, true, false, if◌then◌else◌, List, [], ◌∷◌, Option, Some, None, get_or, min, nat_le, sum, refl, ap, ◌∙◌, arith}
+use Rattle.std.proofs.lemmas.Bool.{eqb-false}
+use Rattle.std.proofs.lemmas.List.Sums.{sum_by-cons}
+use Rattle.sgx_types.specs.declared.entries.Entry.{Entry}
+use Rattle.sgx_types.specs.declared.names.Page.{Page}
+use Rattle.sgx_types.specs.Frames.{page_at}
+use Rattle.sgx_types.specs.Processors.{stay}
+use Rattle.job_grammar.specs.declared.jobs.PageLine.{PageLine}
+use Rattle.job_grammar.specs.declared.jobs.PageLine.TheVariants as lines
+use Rattle.job_grammar.specs.Jobs.{JobView, lines_at, tcs_line}
+use Rattle.job_grammar.specs.Valid.{IsValid}
+use Rattle.turn_rules.specs.Script.{is_seated_at, saved}
+use Rattle.active_list.specs.Places.{IsPlaced}
+use Rattle.driver_rules.specs.Needs.{last_save, next_save, save_to_enter, save_to_resume}
+use Rattle.driver_tables.specs.Counts.{page_counts}
+use Rattle.driver_tables.proofs.CountLaws.{few_places}
+use Rattle.turn_tables.specs.declared.turns.Turns.{Turns}
+use Rattle.turn_tables.specs.Asked.{last_save_of, next_save_of}
+use Rattle.turn_tables.specs.Due.{IsOrderly, IsWithin, in_use}
+use Rattle.turn_tables.specs.Shown.{ShowsTurns}
+use Rattle.turn_tables.specs.TcsTurns.{tcs_at, tcs_by}
+
+-- ---- numbers
+
+at_most_sum : (xs : List ℕ) (i : ℕ) → get_or xs i 0 ≤ sum xs
+at_most_sum [] i = omega arith
+at_most_sum (x ∷ xs) zero = let more = sum_by-cons (λ n. n) x xs in omega (arith, more)
+at_most_sum (x ∷ xs) (suc i) =
+    let rest = at_most_sum xs i in let more = sum_by-cons (λ n. n) x xs in omega (arith, rest, more)
+
+-- a page that has a place has a number of 32 bits
+pub placed_low : (j : JobView) (g : Page) → IsValid j → IsPlaced (0 ∷ page_counts j) g → g.number < 2 ^ 32
+placed_low j g v placed =
+    let low : g.number < get_or (0 ∷ page_counts j) g.enclave 0 = placed.within in
+    let most = at_most_sum (0 ∷ page_counts j) g.enclave in
+    let first = sum_by-cons (λ n. n) 0 (page_counts j) in
+    let few = few_places j v in omega (arith, low, most, first, few)
+
+-- ---- state save pages
+
+saved_within : (past : List Entry) (p : ℕ) (g : Page) (line : Option PageLine) → IsWithin (in_use past p g) line
+    → IsWithin (saved past g) line
+saved_within past p g None h = tt
+saved_within past p g (Some (lines.Reg first count perm value plain)) h = tt
+saved_within past p g (Some (lines.Tcs page ossa nssa plain)) h = by_test (is_seated_at g (stay past p)) h
+  where
+    by_test : (b : Bool) → (if b then saved past g + 1 else saved past g) ≤ nssa → saved past g ≤ nssa
+    by_test true k = omega (arith, k)
+    by_test false k = k
+
+next_is : (e n : ℕ) (line : Option PageLine) (g : Page) → IsWithin n line → next_save e n line ≡ Some g → g.number < 2 ^ 32
+    → next_save_of e (tcs_by line n) ≡ Some g
+next_is e n None g few is low = is
+next_is e n (Some (lines.Reg first count perm value plain)) g few is low = is
+next_is e n (Some (lines.Tcs page ossa nssa plain)) g few is low = by_test (n == nssa) refl is
+  where
+    by_test : (b : Bool) → (n == nssa) ≡ b → (if b then None else Some (page_at e (ossa + n))) ≡ Some g
+        → (if nat_le nssa n then None else Some (page_at e ((ossa + n) % 2 ^ 32))) ≡ Some g
+    by_test true same k = cc
+    by_test false other k =
+        let apart : n ≡ nssa → ⊥ = eqb-false n nssa other in
+        let fewer : n < nssa = omega (arith, few, apart) in
+        let page : page_at e (ossa + n) ≡ g = cc in
+        let number : ossa + n ≡ g.number = ap (λ (x : Page). x.number) page in
+        let short : (ossa + n) % 2 ^ 32 ≡ ossa + n = omega (arith, number, low) in
+        let test : nat_le nssa n ≡ false = grind (arith, fewer) in
+        ap (λ b. if b then None else Some (page_at e ((ossa + n) % 2 ^ 32))) test ∙ ap (λ k. Some (page_at e k)) short ∙ ap Some page
+
+last_is : (e n : ℕ) (line : Option PageLine) (g : Page) → IsWithin n line → last_save e n line ≡ Some g → g.number < 2 ^ 32
+    → last_save_of e (tcs_by line n) ≡ Some g
+last_is e n None g few is low = is
+last_is e n (Some (lines.Reg first count perm value plain)) g few is low = is
+last_is e n (Some (lines.Tcs page ossa nssa plain)) g few is low = by_test (n == 0) refl is
+  where
+    by_test : (b : Bool) → (n == 0) ≡ b → (if b then None else Some (page_at e (ossa + n - 1))) ≡ Some g
+        → (if b then None else Some (page_at e ((ossa + (min n nssa - 1)) % 2 ^ 32))) ≡ Some g
+    by_test true same k = cc
+    by_test false other k =
+        let apart : n ≡ 0 → ⊥ = eqb-false n 0 other in
+        let page : page_at e (ossa + n - 1) ≡ g = cc in
+        let number : ossa + n - 1 ≡ g.number = ap (λ (x : Page). x.number) page in
+        let short : (ossa + (min n nssa - 1)) % 2 ^ 32 ≡ ossa + n - 1 = omega (arith, few, apart, number, low) in
+        ap (λ k. Some (page_at e k)) short ∙ ap Some page
+
+module _ (j : JobView) (past : List Entry) (t : Turns) (shows : ShowsTurns j past t) (orderly : IsOrderly j past) (e n : ℕ) (g : Page)
+    (low : g.number < 2 ^ 32) where
+  few : IsWithin (saved past (page_at e n)) (tcs_line (lines_at j.enclaves e) n)
+  few = saved_within past 0 (page_at e n) (tcs_line (lines_at j.enclaves e) n) (orderly.room 0 (page_at e n))
+
+  -- by which a processor enters
+  pub enter_save : save_to_enter j past e n ≡ Some g → next_save_of e (tcs_at t.tcs (page_at e n)) ≡ Some g
+  enter_save is =
+      ap (next_save_of e) (shows.saves (page_at e n))
+      ∙ next_is e (saved past (page_at e n)) (tcs_line (lines_at j.enclaves e) n) g few is low
+
+  -- .. and resumes
+  pub resume_save : save_to_resume j past e n ≡ Some g → last_save_of e (tcs_at t.tcs (page_at e n)) ≡ Some g
+  resume_save is =
+      ap (last_save_of e) (shows.saves (page_at e n))
+      ∙ last_is e (saved past (page_at e n)) (tcs_line (lines_at j.enclaves e) n) g few is low
