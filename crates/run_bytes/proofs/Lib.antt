@@ -1,0 +1,4 @@
+pub mod StepBytes
+pub mod TurnBytes
+pub mod FaultBytes
+pub mod EndBytes

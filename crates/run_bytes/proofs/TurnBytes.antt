@@ -1,0 +1,82 @@
+-- The entry of a turn of a pass, and that of an instruction, is no done write-out, so it carries the standing on by its own clause.
+use Rattle.std.proofs.Common.{◌≡◌, ◌==◌, ◌^◌, inl, inr, ℕ, Bool, true, false, if◌then◌else◌, refl, sym, subst, List}
+use Rattle.sgx_types.specs.declared.entries.Action.TheVariants.{Block, Track, EwbStart}
+use Rattle.sgx_types.specs.declared.entries.Answer.TheVariants as answers
+use Rattle.sgx_types.specs.declared.entries.Entry.{Entry}
+use Rattle.sgx_types.specs.declared.entries.Event.TheVariants.{Did, Refused}
+use Rattle.sgx_types.specs.declared.names.SlotAt.{SlotAt}
+use Rattle.sgx_types.specs.declared.names.TheConstants.{LAST_EPOCH}
+use Rattle.sgx_types.specs.declared.refusals.Refusal.TheVariants as why
+use Rattle.sgx_types.specs.Epochs.{epoch, epoch_in}
+use Rattle.sgx_types.specs.Eviction.{is_drained, kept_back}
+use Rattle.sgx_types.specs.Making.{Making}
+use Rattle.sgx_types.specs.Slots.{next_version}
+use Rattle.job_grammar.specs.Jobs.{JobView}
+use Rattle.backing_store.specs.Calls.{Call}
+use Rattle.paging_machine.specs.Parts.{Parts, state_of}
+use Rattle.version_array.specs.Keeper.{Keeper}
+use Rattle.turn_rules.specs.Script.{frame_at}
+use Rattle.driver_rules.specs.Dues.{Due, KicksAll, LooksAt, Makes, TriesOut, Waits}
+use Rattle.reclaim_worker.specs.declared.turns.PassTurn.{PassTurn}
+use Rattle.reclaim_worker.specs.declared.turns.PassTurn.TheVariants as turns
+use Rattle.reclaim_worker.specs.Answers.{IsTurn, by_reclaimer, track_turn, try_turn}
+use Rattle.reclaim_worker.specs.Going.{TurnGoes}
+use Rattle.run_book.specs.Books.{CarriesBytes}
+use Rattle.run_book.specs.Turns.{OfEntry}
+use Rattle.run_bytes.specs.Records.{writes_out}
+use Rattle.run_bytes.proofs.StepBytes.{step_bytes}
+
+-- ---- which entry a turn made
+
+module _ (made : Making) (past : List Entry) (slots : Keeper) (turn : PassTurn) where
+  abbrev Quiet : PassTurn → Type 0
+  Quiet t = OfEntry t (λ e. writes_out e.event ≡ false)
+
+  told : (to : PassTurn) → turn ≡ to → Quiet to → Quiet turn
+  told to is quiet = subst Quiet (sym is) quiet
+
+  track_quiet : (enclave : ℕ) → Quiet (track_turn made.first_epoch past enclave)
+  track_quiet enclave = by_last (epoch made.first_epoch past enclave == LAST_EPOCH)
+    where
+      by_last : (b : Bool) → Quiet (if b then turns.Spent (by_reclaimer (Refused (Track enclave) why.EpochSpent))
+          else turns.One (by_reclaimer (Did (Track enclave) answers.Plain)))
+      by_last true = refl
+      by_last false = refl
+
+  try_quiet : (f : ℕ) (slot : SlotAt) → Quiet (try_turn made past f slot)
+  try_quiet f slot = by_drain (is_drained past f) (next_version made.first_version past == 2 ^ 64)
+    where
+      by_drain : (b v : Bool) → Quiet (if b
+          then (if v then turns.Spent (by_reclaimer (Refused (EwbStart (frame_at f) slot) why.VersionSpent)) else turns.Seal
+          (by_reclaimer (Did (EwbStart (frame_at f) slot) (answers.Version (next_version made.first_version past)))))
+          else turns.One (by_reclaimer (Refused (EwbStart (frame_at f) slot)
+          (why.NotTracked (epoch_in made.first_epoch past f) (kept_back past f)))))
+      by_drain true true = refl
+      by_drain true false = refl
+      by_drain false v = refl
+
+  turn_quiet : (due : Due) → IsTurn made past slots due turn → Quiet turn
+  turn_quiet (Waits reason) k = told _ k tt
+  turn_quiet (LooksAt page held young) k = told _ k.told refl
+  turn_quiet (Makes (Block f)) k = told _ k refl
+  turn_quiet (Makes (Track enclave)) k = told _ k (track_quiet enclave)
+  turn_quiet (TriesOut f) (inl k) = told _ k.told (try_quiet f k.slot)
+  turn_quiet (TriesOut f) (inr k) = told _ k.1 tt
+  turn_quiet (KicksAll ps) k = told _ k tt
+  turn_quiet due k = absurd k
+
+-- ---- the entry carries the standing on
+
+pub turn_bytes : (made : Making) (j : JobView) (past : List Entry) (m m' : Parts) (slots : Keeper) (due : Due) (turn : PassTurn)
+    → IsTurn made past slots due turn → TurnGoes (state_of m) turn (state_of m')
+    → OfEntry turn (λ e. (longer : List Call) → CarriesBytes made j past m e m' longer)
+turn_bytes made j past m m' slots due turn is = by_turn turn (turn_quiet made past slots turn due is)
+  where
+    by_turn : (t : PassTurn) → OfEntry t (λ e. writes_out e.event ≡ false) → TurnGoes (state_of m) t (state_of m')
+        → OfEntry t (λ e. (longer : List Call) → CarriesBytes made j past m e m' longer)
+    by_turn (turns.One e) quiet goes = λ longer. step_bytes made j past m m' e longer goes quiet
+    by_turn (turns.Seal e) quiet goes = λ longer. step_bytes made j past m m' e longer goes quiet
+    by_turn (turns.Spent e) quiet goes = λ longer. step_bytes made j past m m' e longer goes quiet
+    by_turn (turns.Kicks bits) quiet goes = tt
+    by_turn (turns.Again reason) quiet goes = tt
+    by_turn turns.NoSlot quiet goes = tt
