@@ -12,7 +12,6 @@ use Rattle.driver_laws.proofs.EndLaws.{their_rule}
 use Rattle.driver_laws.proofs.TcsLaws.{apart_stay}
 use Rattle.driver_tables.specs.declared.driver.Driver.{Driver}
 use Rattle.driver_steps.proofs.AgreesLaws.{agrees_more}
-use Rattle.driver_laws.specs.Kinds.{CanMove}
 use Rattle.driver_steps.specs.Agrees.{Agrees}
 use Rattle.driver_tables.specs.Tables.{ShowsTables}
 use Rattle.turn_tables.specs.declared.turns.Turns.{Turns}

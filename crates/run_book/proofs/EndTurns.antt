@@ -54,7 +54,8 @@ use Rattle.reclaim_worker.specs.Standing.{AreInFrames, StandsFor}
 use Rattle.reclaim_worker.specs.Stored.{IsStored, StoredSays}
 use Rattle.reclaim_worker.proofs.DueLaws.{drop_get}
 use Rattle.run_book.specs.Loads.{GoesOnWith, entry_in}
-use Rattle.run_book.proofs.PlainLaws.{ages, beside, kicks}
+use Rattle.table_notes.proofs.EntryLaws.{ages}
+use Rattle.run_book.proofs.PlainLaws.{beside, kicks}
 
 -- ---- the end of a load
 

@@ -52,7 +52,8 @@ use Rattle.reclaim_worker.specs.declared.turns.Phase.{Phase}
 use Rattle.reclaim_worker.specs.declared.turns.Taken.{Taken}
 use Rattle.reclaim_worker.specs.Standing.{StandsFor}
 use Rattle.run_book.specs.Loads.{GoesOnWith, OfAnswer}
-use Rattle.run_book.proofs.PlainLaws.{ages, beside, kicks}
+use Rattle.table_notes.proofs.EntryLaws.{ages}
+use Rattle.run_book.proofs.PlainLaws.{beside, kicks}
 
 -- ---- what a fault step did
 

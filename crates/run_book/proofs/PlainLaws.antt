@@ -1,37 +1,30 @@
 -- An instruction that moves no page out or back is the next of what driver and machine agree on.
-use Rattle.std.proofs.Common.{◌≡◌, ◌⊎◌, inl, inr, ℕ, not, true, false, refl, sym, ◌∙◌, ap, subst, List, [], ◌∷◌, Option, Some, None, MatchOption, is_some, length}
+use Rattle.std.proofs.Common.{◌≡◌, ◌⊎◌, inl, inr, ℕ, not, true, false, sym, ◌∙◌, ap, subst, List, [], ◌∷◌, None, is_some, length}
 use Rattle.std.proofs.lemmas.Bool.{false≢true}
-use Rattle.sgx_types.proofs.Rows.{none_holds}
 use Rattle.sgx_types.specs.declared.entries.Action.{Action}
-use Rattle.sgx_types.specs.declared.entries.Action.TheVariants.{Epa, Create, Add, Extend, Init, Block, Track, EwbStart, Ewb, EldStart, Eld}
+use Rattle.sgx_types.specs.declared.entries.Action.TheVariants.{Block, Track, EwbStart, Ewb, EldStart, Eld}
 use Rattle.sgx_types.specs.declared.entries.Actor.{Actor}
 use Rattle.sgx_types.specs.declared.entries.Actor.TheVariants as actors
 use Rattle.sgx_types.specs.declared.entries.Answer.{Answer}
-use Rattle.sgx_types.specs.declared.entries.Answer.TheVariants as answers
 use Rattle.sgx_types.specs.declared.entries.Entry.{Entry}
 use Rattle.sgx_types.specs.declared.entries.Event.{Event}
 use Rattle.sgx_types.specs.declared.entries.Event.TheVariants.{Did, Refused}
 use Rattle.sgx_types.specs.declared.names.Page.{Page}
 use Rattle.sgx_types.specs.declared.refusals.Refusal.{Refusal}
-use Rattle.sgx_types.specs.declared.refusals.Refusal.TheVariants as why
-use Rattle.sgx_types.specs.Flat.{enclave_sight_of}
-use Rattle.sgx_types.specs.Frames.{added, page_at}
+use Rattle.sgx_types.specs.Frames.{added}
 use Rattle.sgx_types.specs.Making.{Making}
 use Rattle.sgx_types.specs.Rules.{LoadsAwayRule}
-use Rattle.sgx_types.specs.Table.{create_row, epa_row, first_of_row}
+use Rattle.sgx_types.specs.Table.{first_of_row}
 use Rattle.job_grammar.specs.Jobs.{JobView}
 use Rattle.paging_laws.specs.Columns.{HasColumns}
-use Rattle.measure_log.specs.Rule.{IsExpected, IsOther}
-use Rattle.paging_laws.specs.State.{State, after_init, row_of, sight}
-use Rattle.paging_laws.specs.Steps.{IsDone, IsStep, answer_of, did_by, refused_by}
-use Rattle.paging_laws.proofs.BuildLaws.{adds, is_free_frame}
-use Rattle.paging_laws.proofs.ColumnLaws.{added_is, content_is}
+use Rattle.paging_laws.specs.State.{State, row_of}
+use Rattle.paging_laws.specs.Steps.{IsStep}
 use Rattle.paging_machine.specs.Parts.{Parts, state_of}
 use Rattle.version_array.specs.Keeper.{count_out}
-use Rattle.driver_rules.specs.Ages.{AgeRule, BesideOf, FormOf, IsBeside, KickRule}
+use Rattle.driver_rules.specs.Ages.{BesideOf, FormOf, IsBeside, KickRule}
 use Rattle.driver_rules.specs.Passes as passes
 use Rattle.driver_rules.specs.Passes.{Between, Blocking, Form, Pass, Scan, Tries, keepers, pass}
-use Rattle.driver_rules.specs.Places.{Absent, Place, place}
+use Rattle.driver_rules.specs.Places.{place}
 use Rattle.driver_rules.specs.Scripts.{ScriptRule}
 use Rattle.driver_laws.specs.Counted.{CountMoves}
 use Rattle.driver_laws.specs.Kinds.{CanMove}
@@ -48,43 +41,8 @@ use Rattle.reclaim_worker.specs.declared.turns.Phase.{Phase}
 use Rattle.reclaim_worker.specs.declared.turns.Phase.TheVariants as phases
 use Rattle.reclaim_worker.specs.declared.turns.Taken.{Taken}
 use Rattle.reclaim_worker.specs.Standing.{IsForm, StandsFor}
-use Rattle.run_book.specs.Plain.{is_plain, is_reclaimer}
-
--- ---- the entry of a step
-
-pub record IsDoneBy (s : State) (a : Actor) (action : Action) (e : Entry) : Type 0 where
-  pub answer : Answer
-  pub is : e ≡ did_by a action answer
-  pub row : first_of_row (row_of s a action) ≡ None
-
-pub record IsRefusedBy (a : Actor) (action : Action) (e : Entry) : Type 0 where
-  pub refusal : Refusal
-  pub is : e ≡ refused_by a action refusal
-
-abbrev pub IsEntryOf : State → Actor → Action → Entry → Type 0
-IsEntryOf s a action e = IsDoneBy s a action e ⊎ IsRefusedBy a action e
-
-done_by : (s t : State) (a : Actor) (action : Action) (e : Entry) → first_of_row (row_of s a action) ≡ None → IsDone s a action e t
-    → IsEntryOf s a action e
-done_by s t a (Create enclave f base size) e row is = inl (record { answer = _; is = is.0; row = row })
-done_by s t a (Add enclave number f kind perm init) e row is = inl (record { answer = _; is = is.0; row = row })
-done_by s t a (Extend f chunk) e row is = inl (record { answer = _; is = is.0; row = row })
-done_by s t a (Init enclave expect) e row is = by_judged is.judged
-  where
-    by_judged : (IsExpected expect is.digest × (e ≡ did_by a (Init enclave expect) (answers.Hash is.digest)) × (t ≡ after_init s enclave))
-        ⊎ (IsOther expect is.digest × (e ≡ refused_by a (Init enclave expect) (why.BadMeasure is.digest)) × (t ≡ s))
-        → IsEntryOf s a (Init enclave expect) e
-    by_judged (inl k) = inl (record { answer = answers.Hash is.digest; is = k.1; row = row })
-    by_judged (inr k) = inr (record { refusal = why.BadMeasure is.digest; is = k.1 })
-done_by s t a action e row is = inl (record { answer = answer_of s a action; is = is.0; row = row })
-
-pub entry_by : (s t : State) (a : Actor) (action : Action) (e : Entry) → IsStep s a action e t → IsEntryOf s a action e
-entry_by s t a action e = by_row (first_of_row (row_of s a action)) refl
-  where
-    by_row : (o : Option Refusal) → first_of_row (row_of s a action) ≡ o
-        → MatchOption o (IsDone s a action e t) (λ refusal. (e ≡ refused_by a action refusal) × (t ≡ s)) → IsEntryOf s a action e
-    by_row None row is = done_by s t a action e row is
-    by_row (Some refusal) row is = inr (record { refusal = refusal; is = is.0 })
+use Rattle.table_notes.proofs.EntryLaws.{IsEntryOf, ages, did_moves, entry_by}
+use Rattle.table_notes.specs.Plain.{is_plain, is_reclaimer}
 
 -- ---- what it asks of the entries before it
 
@@ -94,41 +52,21 @@ record AsksNothing (past : List Entry) (a : Actor) (event : Event) : Type 0 wher
   starts : StartTells past event
   loads : LoadsAwayRule past (record { actor = a; event = event })
 
-absent_is : (p : Place) → not (is_absent p) ≡ false → p ≡ Absent
-absent_is Absent h = refl
-absent_is _ h = absurd (false≢true (sym h))
-
 did_asks : (s : State) (past : List Entry) (a : Actor) (action : Action) (answer : Answer) → is_plain action ≡ true → HasColumns s past
     → ((g : Page) → is_some (added past g) ≡ not (is_absent (place past g))) → first_of_row (row_of s a action) ≡ None
     → AsksNothing past a (Did action answer)
-did_asks s past a (Epa f) answer plain columns seen row =
-    let none = none_holds (epa_row (sight s f.0)) row in
-    let free = is_free_frame (s.content f.0) (s.is_sealing f.0) none.1.0 none.1.1.0 in
-    record { can = sym (content_is columns f.0) ∙ free; tries = tt; starts = tt; loads = tt }
-did_asks s past a (Create enclave f base size) answer plain columns seen row =
-    let none = none_holds (create_row enclave base size (is_some (s.enclaves enclave)) (sight s f.0)) row in
-    let free = is_free_frame (s.content f.0) (s.is_sealing f.0) none.1.1.0 none.1.1.1.0 in
-    record { can = sym (content_is columns f.0) ∙ free; tries = tt; starts = tt; loads = tt }
-did_asks s past a (Add enclave number f kind perm init) answer plain columns seen row =
-    let g : Page = page_at enclave number in
-    let one = adds number kind perm init (enclave_sight_of (s.enclaves enclave)) (is_some (s.added g)) (sight s f.0) row in
-    let free = is_free_frame (s.content f.0) (s.is_sealing f.0) one.idle one.empty in
-    record {
-      can = (
-        sym (content_is columns f.0) ∙ free,
-        absent_is (place past g) (sym (seen g) ∙ ap is_some (sym (added_is columns g)) ∙ one.new),
-      );
-      tries = tt;
-      starts = tt;
-      loads = tt;
-    }
 did_asks s past a (Block f) answer plain columns seen row = absurd (false≢true plain)
 did_asks s past a (Track enclave) answer plain columns seen row = absurd (false≢true plain)
 did_asks s past a (EwbStart f slot) answer plain columns seen row = absurd (false≢true plain)
 did_asks s past a (Ewb f) answer plain columns seen row = absurd (false≢true plain)
 did_asks s past a (EldStart f page slot) answer plain columns seen row = absurd (false≢true plain)
 did_asks s past a (Eld f) answer plain columns seen row = absurd (false≢true plain)
-did_asks s past a action answer plain columns seen row = record { can = tt; tries = tt; starts = tt; loads = tt }
+did_asks s past a action answer plain columns seen row = record {
+  can = did_moves s past a action answer plain columns seen row;
+  tries = tt;
+  starts = tt;
+  loads = tt;
+}
 
 refused_asks : (past : List Entry) (a : Actor) (action : Action) (refusal : Refusal) → is_plain action ≡ true
     → AsksNothing past a (Refused action refusal)
@@ -152,12 +90,6 @@ actor_is s t a action e is = by_entry (entry_by s t a action e is)
     by_entry (inr k) = ap (λ (x : Entry). x.actor) k.is
 
 -- ---- the rules on the reclaimer
-
-pub ages : (j : JobView) (past : List Entry) (a : Actor) (event : Event) → is_reclaimer a ≡ false
-    → AgeRule j past (record { actor = a; event = event })
-ages j past actors.Builder event other = record { look = tt; in_pass = tt }
-ages j past (actors.Cpu p) event other = record { look = tt; in_pass = tt }
-ages j past actors.Reclaimer event other = absurd (false≢true (sym other))
 
 -- no turn ends between two kicks
 beside_form : (first : ℕ) (past : List Entry) (g : Page) (form : _) (block : ℕ) (to : Form) → IsForm first past g form block to

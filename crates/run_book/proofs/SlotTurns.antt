@@ -34,7 +34,7 @@ use Rattle.reclaim_worker.specs.Scans.{IsScanned}
 use Rattle.reclaim_worker.specs.Tried.{SlotsAfter, count_from, is_kept_by}
 use Rattle.reclaim_worker.specs.Turning.{IsFormTurn, TurnSays, WithPage}
 use Rattle.run_book.specs.Turns.{OfEntry}
-use Rattle.run_book.proofs.PlainLaws.{IsEntryOf, entry_by}
+use Rattle.table_notes.proofs.EntryLaws.{IsEntryOf, entry_by}
 
 abbrev Counts : Driver → Driver → Entry → Type 0
 Counts d d' e = CountMoves e.event (count_out d.slots) (count_out d'.slots)

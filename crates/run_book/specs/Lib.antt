@@ -1,4 +1,3 @@
 pub mod Books
-pub mod Plain
 pub mod Turns
 pub mod Loads

@@ -42,7 +42,7 @@ ghost use Rattle.reclaim_worker.specs.Standing.{StandsFor, is_kicked};
 ghost use Rattle.reclaim_worker.specs.Turning.{TurnSays};
 ghost use Rattle.reclaim_worker.specs.declared.turns.PassTurn.{PassTurn};
 ghost use Rattle.run_book.specs.Turns.{OfEntry};
-ghost use Rattle.run_book.specs.Plain.{is_plain, is_reclaimer};
+ghost use Rattle.table_notes.specs.Plain.{is_plain, is_reclaimer};
 ghost use Rattle.sgx_types.specs.declared.entries.Action.{Action};
 ghost use Rattle.sgx_types.specs.declared.entries.Actor.{Actor};
 ghost use Rattle.version_array.specs.Keeper.{count_out};

@@ -33,8 +33,8 @@ use Rattle.reclaim_worker.specs.Stored.{IsStored, StoredSays}
 use Rattle.run_history.specs.Calls.{before}
 use Rattle.run_history.specs.Given.{made_in, made_more}
 use Rattle.run_book.specs.Books.{CarriesBytes}
-use Rattle.run_book.specs.Plain.{is_plain}
-use Rattle.run_book.proofs.PlainLaws.{IsEntryOf, entry_by}
+use Rattle.table_notes.specs.Plain.{is_plain}
+use Rattle.table_notes.proofs.EntryLaws.{IsEntryOf, entry_by}
 use Rattle.run_bytes.specs.Records.{StaysWith, writes_out}
 
 -- ---- entries that make no record

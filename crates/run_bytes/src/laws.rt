@@ -27,7 +27,7 @@ ghost use Rattle.reclaim_worker.specs.declared.turns.Phase.{Phase};
 ghost use Rattle.reclaim_worker.specs.declared.turns.Taken.{Taken};
 ghost use Rattle.run_book.specs.Books.{CarriesBytes};
 ghost use Rattle.run_book.specs.Loads.{OfAnswer, entry_in};
-ghost use Rattle.run_book.specs.Plain.{is_plain};
+ghost use Rattle.table_notes.specs.Plain.{is_plain};
 ghost use Rattle.run_book.specs.Turns.{OfEntry};
 ghost use Rattle.run_bytes.specs.Records.{StaysWith, writes_out};
 ghost use Rattle.sgx_types.specs.declared.entries.Action.{Action};

@@ -25,7 +25,7 @@ use Rattle.run_history.specs.Given.{gift}
 use Rattle.run_history.specs.Stored.{Tells}
 use Rattle.book_laws.specs.Stores.{StoreMoves}
 use Rattle.run_book.specs.Books.{AreTold}
-use Rattle.run_book.specs.Plain.{is_plain}
+use Rattle.table_notes.specs.Plain.{is_plain}
 use Rattle.run_records.specs.Silent.{IsSilent}
 
 -- ---- entries that come with no call

@@ -26,7 +26,7 @@ ghost use Rattle.reclaim_worker.specs.declared.turns.Phase.{Phase};
 ghost use Rattle.reclaim_worker.specs.declared.turns.Taken.{Taken};
 ghost use Rattle.run_book.specs.Books.{AreTold, KeepsBook};
 ghost use Rattle.run_book.specs.Loads.{OfAnswer, entry_in};
-ghost use Rattle.run_book.specs.Plain.{is_plain};
+ghost use Rattle.table_notes.specs.Plain.{is_plain};
 ghost use Rattle.run_book.specs.Turns.{OfEntry};
 ghost use Rattle.run_history.specs.Honest.{EnclavesAreFlat};
 ghost use Rattle.run_records.specs.Builds.{is_building};

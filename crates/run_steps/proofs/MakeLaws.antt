@@ -17,7 +17,7 @@ use Rattle.driver_rules.specs.Dues.{Due, Makes, Stopped, makes_or}
 use Rattle.driver_rules.specs.Stops.{is_spent}
 use Rattle.driver_rules.specs.Turns.{Fails, Last, Loads, Other, WasEnded, builder_due, cpu_due, due_after, is_last, last_of, step_turn, turn_due}
 use Rattle.driver_laws.proofs.OwnLaws.{OfTurn, is_script, turn_script}
-use Rattle.run_book.specs.Plain.{is_plain}
+use Rattle.table_notes.specs.Plain.{is_plain}
 
 -- ---- the builder
 

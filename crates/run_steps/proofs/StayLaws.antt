@@ -21,7 +21,7 @@ use Rattle.reclaim_worker.specs.declared.turns.Phase.{Phase}
 use Rattle.reclaim_worker.specs.declared.turns.Taken.{Taken}
 use Rattle.reclaim_worker.specs.Standing.{StandsFor}
 use Rattle.reclaim_worker.proofs.NoteLaws.{others_stand}
-use Rattle.run_book.specs.Plain.{is_reclaimer}
+use Rattle.table_notes.specs.Plain.{is_reclaimer}
 
 -- looks, kicks, blocks, tracks and write-outs are none of an actor that is not the reclaimer
 pub others_make_none : (j : JobView) (past : List Entry) (e : Entry) → ScriptRule j past e → is_reclaimer e.actor ≡ false

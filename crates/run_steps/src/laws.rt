@@ -29,7 +29,7 @@ ghost use Rattle.reclaim_worker.specs.declared.turns.Phase.{Phase};
 ghost use Rattle.reclaim_worker.specs.declared.turns.Taken.{Taken};
 ghost use Rattle.run_book.specs.Books.{IsMade, KeepsBook};
 ghost use Rattle.run_book.specs.Loads.{GoesOnWith};
-ghost use Rattle.run_book.specs.Plain.{is_plain, is_reclaimer};
+ghost use Rattle.table_notes.specs.Plain.{is_plain, is_reclaimer};
 ghost use Rattle.run_steps.specs.Bits.{AllBelow, GoesOnBy, RisesFrom, below, has_bit, is_member};
 ghost use Rattle.run_steps.specs.Behind.{CanHoldBehind};
 ghost use Rattle.sgx_types.specs.Making.{Making};

@@ -1,0 +1,201 @@
+-- What a turn of the reclaimer answers.
+use Rattle.std.proofs.Common.{◌≡◌, ℕ, ◌≤◌, ◌+◌, ◌⊎◌, inl, inr, true, false, if◌then◌else◌, List, Option, vec_len, vec_capacity, refl, sym, ap, subst, ◌∙◌, arith}
+use Rattle.sgx_types.specs.declared.entries.Actor.{Actor}
+use Rattle.sgx_types.specs.declared.entries.Actor.TheVariants as actors
+use Rattle.sgx_types.specs.declared.entries.Entry.{Entry}
+use Rattle.seal_record.specs.declared.seal.SealWork.{SealWork}
+use Rattle.job_grammar.specs.Jobs.{JobView}
+use Rattle.backing_store.specs.Calls.{Call}
+use Rattle.turn_rules.specs.Machines.{machine_of}
+use Rattle.paging_machine.specs.Parts.{Parts}
+use Rattle.driver_rules.specs.Dues.{Stopped}
+use Rattle.driver_rules.specs.Passes.{pass}
+use Rattle.driver_rules.specs.Reclaims.{all_finished, due_with, pass_due, reclaimer_due}
+use Rattle.driver_rules.specs.Stops.{frame_started, is_spent, last_event}
+use Rattle.driver_tables.specs.declared.driver.Driver.{Driver}
+use Rattle.reclaim_worker.specs.declared.passes.Pass as worker
+use Rattle.reclaim_worker.specs.declared.turns.Phase.{Phase}
+use Rattle.reclaim_worker.specs.declared.turns.PassTurn.{PassTurn}
+use Rattle.reclaim_worker.specs.declared.turns.PassTurn.TheVariants as passed
+use Rattle.reclaim_worker.specs.Rests.{IsWait}
+use Rattle.reclaim_worker.specs.Standing.{is_kicked, is_sealing}
+use Rattle.reclaim_worker.proofs.NextLaws.{next_is_pass}
+use Rattle.run_turns.specs.declared.course.Course.{Course}
+use Rattle.run_turns.specs.declared.turn.Turn.{Turn}
+use Rattle.run_turns.specs.declared.turn.Turn.TheVariants as turns
+use Rattle.run_turns.specs.Courses.{Grows, IsSame, KeepsCourse, past_of}
+use Rattle.run_turns.specs.Passing.{FollowsBy, HasDone, HasSealed, IsFollowed, IsOwnEntry, IsSealOf}
+use Rattle.run_turns.specs.Turns.{IsAtRest, IsReclaimerTurn, IsWaitBy, due_of}
+use Rattle.run_turns.proofs.FollowLaws.{IsStepped, course_ready, tells_of}
+use Rattle.run_turns.proofs.KeepLaws.{same_self}
+use Rattle.run_turns.proofs.RestLaws.{rest_behind, rest_keeps, same_grows, same_past, same_twice}
+
+-- ---- what is taken in
+
+-- an entry of a turn that goes on, or that found nothing left
+pub own_by : (c : Course) (turn : PassTurn) (e : Entry) (longer : Option (List Call)) (spare : ℕ)
+    → (turn ≡ passed.One e) ⊎ (turn ≡ passed.Spent e) → FollowsBy c turn longer spare → IsOwnEntry c e longer spare
+own_by c turn e longer spare (inl is) by = subst (λ t. FollowsBy c t longer spare) is by
+own_by c turn e longer spare (inr is) by = subst (λ t. FollowsBy c t longer spare) is by
+
+pub did_by : (old : Course) (turn : PassTurn) (e : Entry) (result : Turn) (new : Course) (told : Option (List Call)) (spare : ℕ)
+    → (turn ≡ passed.One e) ⊎ (turn ≡ passed.Spent e) → HasDone old result new told spare → IsFollowed old turn result new told spare
+did_by old turn e result new told spare (inl is) h = subst (λ t. IsFollowed old t result new told spare) (sym is) h
+did_by old turn e result new told spare (inr is) h = subst (λ t. IsFollowed old t result new told spare) (sym is) h
+
+-- the room for the work of a page is no part of what a course keeps
+room_grows : (old mid : Course) (by : Actor) (n : ℕ) (told : Option (List Call)) (spare : ℕ) (room : Option SealWork)
+    → Grows old by n mid told spare → Grows old by n (record mid { room = room }) told spare
+room_grows old mid by n told spare room g = record {
+  entries = g.entries;
+  count = g.count;
+  actors = g.actors;
+  past = g.past;
+  job = g.job;
+  keeps = rest_keeps mid (record mid { room = room }) told spare (record {
+    job = refl;
+    state = refl;
+    driver = refl;
+    turns = refl;
+    taken = refl;
+    phase = refl;
+    entries = refl;
+    room = omega arith;
+  }) g.keeps;
+}
+
+-- the work of a write-out that has started behind its entry
+pub sealed_by : (old mid new : Course) (result : Turn) (told : Option (List Call)) (spare : ℕ) → IsSealOf mid result
+    → new ≡ record mid { room = new.room } → Grows old actors.Reclaimer 1 mid told spare → HasSealed old result new told spare
+sealed_by old mid new (turns.Seal work) told spare seals others grows =
+    subst (λ c. HasSealed old (turns.Seal work) c told spare) (sym others)
+    (seals, room_grows old mid actors.Reclaimer 1 told spare new.room grows)
+sealed_by old mid new (turns.Did n) told spare seals others grows = absurd seals
+sealed_by old mid new (turns.Unseal work) told spare seals others grows = absurd seals
+sealed_by old mid new (turns.Again reason) told spare seals others grows = absurd seals
+sealed_by old mid new turns.Finished told spare seals others grows = absurd seals
+sealed_by old mid new turns.Stopped told spare seals others grows = absurd seals
+
+-- .. or that was open before
+pub seal_again : (c : Course) (result : Turn) (told : Option (List Call)) (spare : ℕ) → IsSealOf c result
+    → IsReclaimerTurn c result c told spare
+seal_again c (turns.Seal work) told spare seals = (seals, inr (same_self c))
+seal_again c (turns.Did n) told spare seals = absurd seals
+seal_again c (turns.Unseal work) told spare seals = absurd seals
+seal_again c (turns.Again reason) told spare seals = absurd seals
+seal_again c turns.Finished told spare seals = absurd seals
+seal_again c turns.Stopped told spare seals = absurd seals
+
+-- ---- a turn of the pass
+
+module _ (c : Course) (told longer : Option (List Call)) (before spare : ℕ) (p : worker.Pass) (d : Driver) (m : Parts) (c' : Course)
+    (k : KeepsCourse c told before) (going : is_spent (past_of c) ≡ false) (room : vec_len c.entries + 64 ≤ vec_capacity c.entries)
+    (idle : is_sealing c.pass.phase ≡ false) (some : all_finished c.job (past_of c) ≡ false) where
+  abbrev after : Course
+  after = record c { pass = p; driver = d; machine = m }
+
+  -- nothing that a course keeps has changed where it waits
+  abbrev Waits : PassTurn → Type 0
+  Waits turn = IsWait turn → (d ≡ c.driver) × ((p.phase ≡ c.pass.phase) × (p.taken.items ≡ c.pass.taken.items))
+
+  rests : (reason : _) → IsStepped c told (passed.Again reason) p d m longer spare → Waits (passed.Again reason) → IsAtRest c after
+  rests reason s waits = record {
+    job = refl;
+    state = s.goes;
+    driver = (waits tt).0;
+    turns = refl;
+    taken = (waits tt).1.1;
+    phase = (waits tt).1.0;
+    entries = refl;
+    room = omega arith;
+  }
+
+  due_is : due_of c ≡ pass_due c.job (past_of c) (is_kicked c.pass.phase) (pass c.job (past_of c))
+  due_is = next_is_pass (machine_of c.job) c.job (past_of c) c.pass.taken.items c.pass.phase c.driver c.machine (is_kicked c.pass.phase)
+      (course_ready c told before k) k.book.age idle going some
+
+  did : (result : Turn) → HasDone after result c' longer spare → IsReclaimerTurn c result c' longer spare
+  did (turns.Did n) g = same_grows c after c' actors.Reclaimer n longer spare refl refl g
+  did (turns.Seal work) g = absurd g
+  did (turns.Unseal work) g = absurd g
+  did (turns.Again reason) g = absurd g
+  did turns.Finished g = absurd g
+  did turns.Stopped g = absurd g
+
+  sealed : (result : Turn) → HasSealed after result c' longer spare → IsReclaimerTurn c result c' longer spare
+  sealed (turns.Seal work) g = (g.0, inl (same_grows c after c' actors.Reclaimer 1 longer spare refl refl g.1))
+  sealed (turns.Did n) g = absurd g
+  sealed (turns.Unseal work) g = absurd g
+  sealed (turns.Again reason) g = absurd g
+  sealed turns.Finished g = absurd g
+  sealed turns.Stopped g = absurd g
+
+  -- what it answers
+  pub turn_answers : (turn : PassTurn) (result : Turn) → IsStepped c told turn p d m longer spare → Waits turn
+      → IsFollowed after turn result c' longer spare → IsReclaimerTurn c result c' longer spare
+  turn_answers (passed.One e) result s waits h = did result h
+  turn_answers (passed.Spent e) result s waits h = did result h
+  turn_answers (passed.Kicks bits) result s waits h = did result h
+  turn_answers (passed.Seal e) result s waits h = sealed result h
+  turn_answers (passed.Again reason) result s waits h =
+      let told_due = tells_of c told longer before spare p d m k going room (passed.Again reason) s in
+      subst (λ r. IsReclaimerTurn c r c' longer spare) (sym h.0)
+      (subst (λ due. IsWaitBy due reason) (sym (due_is ∙ told_due)) refl, subst (IsAtRest c) (sym h.1) (rests reason s waits))
+  turn_answers passed.NoSlot result s waits h = absurd h
+
+  did_keeps : (result : Turn) → HasDone after result c' longer spare → KeepsCourse c' longer spare
+  did_keeps (turns.Did n) g = g.keeps
+  did_keeps (turns.Seal work) g = absurd g
+  did_keeps (turns.Unseal work) g = absurd g
+  did_keeps (turns.Again reason) g = absurd g
+  did_keeps turns.Finished g = absurd g
+  did_keeps turns.Stopped g = absurd g
+
+  sealed_keeps : (result : Turn) → HasSealed after result c' longer spare → KeepsCourse c' longer spare
+  sealed_keeps (turns.Seal work) g = g.1.keeps
+  sealed_keeps (turns.Did n) g = absurd g
+  sealed_keeps (turns.Unseal work) g = absurd g
+  sealed_keeps (turns.Again reason) g = absurd g
+  sealed_keeps turns.Finished g = absurd g
+  sealed_keeps turns.Stopped g = absurd g
+
+  -- .. and what stands behind it
+  pub turn_keeps : (turn : PassTurn) (result : Turn) → IsStepped c told turn p d m longer spare → Waits turn
+      → (IsWait turn → KeepsCourse c longer spare) → IsFollowed after turn result c' longer spare → KeepsCourse c' longer spare
+  turn_keeps (passed.One e) result s waits still h = did_keeps result h
+  turn_keeps (passed.Spent e) result s waits still h = did_keeps result h
+  turn_keeps (passed.Kicks bits) result s waits still h = did_keeps result h
+  turn_keeps (passed.Seal e) result s waits still h = sealed_keeps result h
+  turn_keeps (passed.Again reason) result s waits still h =
+      subst (λ x. KeepsCourse x longer spare) (sym h.1) (rest_keeps c after longer spare (rests reason s waits) (still tt))
+  turn_keeps passed.NoSlot result s waits still h = absurd h
+
+-- ---- behind room for it
+
+same_due : (a b : Course) → IsSame a b → due_of b ≡ due_of a
+same_due a b same =
+    ap (λ (j : JobView). reclaimer_due j (past_of b) (is_kicked b.pass.phase)) same.job
+    ∙ ap (λ past. reclaimer_due a.job past (is_kicked b.pass.phase)) (same_past a b same.entries)
+    ∙ ap (λ (phase : Phase). reclaimer_due a.job (past_of a) (is_kicked phase)) same.phase
+
+-- a course that is the same answers the same
+pub same_answers : (a b c : Course) (result : Turn) (told : Option (List Call)) (spare : ℕ) → IsSame a b
+    → IsReclaimerTurn b result c told spare → IsReclaimerTurn a result c told spare
+same_answers a b c (turns.Did n) told spare same g =
+    same_grows a b c actors.Reclaimer n told spare same.job (same_past a b same.entries) g
+same_answers a b c (turns.Seal work) told spare same (seals, inl g) =
+    (seals, inl (same_grows a b c actors.Reclaimer 1 told spare same.job (same_past a b same.entries) g))
+same_answers a b c (turns.Seal work) told spare same (seals, inr h) = (seals, inr (same_twice a b c same h))
+same_answers a b c (turns.Again reason) told spare same h =
+    (subst (λ due. IsWaitBy due reason) (same_due a b same) h.0, rest_behind a b c same h.1)
+same_answers a b c turns.Finished told spare same h = (sym (same_due a b same) ∙ h.0, same_twice a b c same h.1)
+same_answers a b c turns.Stopped told spare same h = (sym (same_due a b same) ∙ h.0, same_twice a b c same h.1)
+same_answers a b c (turns.Unseal work) told spare same h = absurd h
+
+-- ---- nothing to do
+
+-- a run that was stopped
+pub stopped_due : (c : Course) → is_spent (past_of c) ≡ true → due_of c ≡ Stopped
+stopped_due c spent =
+    ap (λ b. if b then Stopped else due_with c.job (past_of c) (is_kicked c.pass.phase) (frame_started (last_event (past_of c) actors.Reclaimer)))
+    spent

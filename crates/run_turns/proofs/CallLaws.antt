@@ -1,0 +1,75 @@
+-- A store that tells its calls goes on to, whatever the reclaimer asks of it.
+use Rattle.std.proofs.Common.{◌≡◌, ℕ, List, Option, Some, None, is_some, refl, ap, ◌∙◌}
+use Rattle.std.specs.Option.{IsSomeAnd}
+use Rattle.sgx_types.specs.declared.entries.Entry.{Entry}
+use Rattle.sgx_types.specs.declared.entries.Look.{Look}
+use Rattle.sgx_types.specs.declared.entries.Look.TheVariants as looks
+use Rattle.sgx_types.specs.declared.names.Page.{Page}
+use Rattle.backing_store.specs.Calls.{Call, with_call}
+use Rattle.paging_laws.specs.State.{State}
+use Rattle.driver_tables.specs.declared.driver.Driver.{Driver}
+use Rattle.reclaim_worker.specs.declared.turns.PassTurn.{PassTurn}
+use Rattle.reclaim_worker.specs.declared.turns.PassTurn.TheVariants as passed
+use Rattle.reclaim_worker.specs.declared.turns.Phase.{Phase}
+use Rattle.reclaim_worker.specs.declared.turns.Phase.TheVariants as phases
+use Rattle.reclaim_worker.specs.declared.turns.Taken.{Taken}
+use Rattle.reclaim_worker.specs.Asked.{look_in, told_by}
+use Rattle.reclaim_worker.specs.Looked.{told_look}
+use Rattle.reclaim_worker.specs.Rests.{IsWait}
+use Rattle.reclaim_worker.specs.Stored.{IsStored, StoredSays}
+use Rattle.run_turns.specs.declared.course.Course.{Course}
+use Rattle.run_turns.specs.declared.turn.Turn.{Turn}
+use Rattle.run_turns.specs.declared.turn.Turn.TheVariants as turns
+use Rattle.run_turns.specs.Passing.{IsFollowed, IsWaiting}
+
+call_tells : (call : Call) (told : Option (List Call)) → is_some (with_call call told) ≡ is_some told
+call_tells call None = refl
+call_tells call (Some calls) = refl
+
+look_tells : (page : Page) (look : Look) (told : Option (List Call)) → is_some (told_look page look told) ≡ is_some told
+look_tells page looks.Taken told = call_tells _ told
+look_tells page looks.NoRoom told = call_tells _ told
+look_tells page look told = refl
+
+-- .. a turn of a pass
+pub turn_tells : (phase : Phase) (turn : PassTurn) (told told' : Option (List Call)) → told' ≡ told_by (look_in phase turn) told
+    → is_some told' ≡ is_some told
+turn_tells phase turn told told' is = ap is_some is ∙ by_look (look_in phase turn)
+  where
+    by_look : (o : Option (Page × Look)) → is_some (told_by o told) ≡ is_some told
+    by_look None = refl
+    by_look (Some x) = look_tells x.0 x.1 told
+
+-- .. or the end of a write-out
+pub stored_tells : (taken : List Taken) (phase : Phase) (s t : State) (d d' : Driver) (told told' : Option (List Call)) (before after : ℕ)
+    (e : Entry) → StoredSays taken phase s d told before e t d' told' after → is_some told' ≡ is_some told
+stored_tells taken (phases.Sealing next slot) s t d d' told told' before after e says = by_one _ says
+  where
+    by_one : (o : Option Taken) → IsSomeAnd o (λ one. IsStored one slot s d told before e t d' told' after) → is_some told' ≡ is_some told
+    by_one None k = absurd k
+    by_one (Some one) k = ap is_some k.call ∙ call_tells _ told
+stored_tells taken (phases.Idle works) s t d d' told told' before after e says = absurd says
+stored_tells taken (phases.Scan left) s t d d' told told' before after e says = absurd says
+stored_tells taken (phases.Block next) s t d d' told told' before after e says = absurd says
+stored_tells taken (phases.Tries next form block) s t d d' told told' before after e says = absurd says
+
+-- what only answers was a turn of the pass that waits
+pub followed_waits : (old new : Course) (turn : PassTurn) (result : Turn) (told : Option (List Call)) (spare : ℕ)
+    → IsFollowed old turn result new told spare → IsWaiting result → IsWait turn
+followed_waits old new (passed.Again why) result told spare is w = tt
+followed_waits old new passed.NoSlot result told spare is w = tt
+followed_waits old new turn (turns.Did n) told spare is w = absurd w
+followed_waits old new turn (turns.Seal work) told spare is w = absurd w
+followed_waits old new turn (turns.Unseal work) told spare is w = absurd w
+followed_waits old new (passed.One e) (turns.Again why) told spare is w = absurd is
+followed_waits old new (passed.One e) turns.Finished told spare is w = absurd is
+followed_waits old new (passed.One e) turns.Stopped told spare is w = absurd is
+followed_waits old new (passed.Spent e) (turns.Again why) told spare is w = absurd is
+followed_waits old new (passed.Spent e) turns.Finished told spare is w = absurd is
+followed_waits old new (passed.Spent e) turns.Stopped told spare is w = absurd is
+followed_waits old new (passed.Kicks bits) (turns.Again why) told spare is w = absurd is
+followed_waits old new (passed.Kicks bits) turns.Finished told spare is w = absurd is
+followed_waits old new (passed.Kicks bits) turns.Stopped told spare is w = absurd is
+followed_waits old new (passed.Seal e) (turns.Again why) told spare is w = absurd is
+followed_waits old new (passed.Seal e) turns.Finished told spare is w = absurd is
+followed_waits old new (passed.Seal e) turns.Stopped told spare is w = absurd is

@@ -1,0 +1,209 @@
+-- What holds before the first entry.
+use Rattle.std.proofs.Common.{◌≡◌, ℕ, suc, ◌≤◌, ◌<◌, false, cond, List, [], ◌∷◌, Option, Some, None, IfSome, length, reverse, count_by, vec_len, if◌then◌else◌, refl, sym, ap, subst, ◌∙◌, arith}
+use Rattle.std.proofs.lemmas.Bool.{false≢true}
+use Rattle.std.proofs.lemmas.List.{length-replicate}
+use Rattle.std.proofs.lemmas.List.Sums.{sum_by-cons}
+use Rattle.sgx_types.specs.Making.{Making}
+use Rattle.job_grammar.specs.Jobs.{JobView, va_pages}
+use Rattle.job_grammar.specs.Valid.{IsValid}
+use Rattle.backing_store.specs.Calls.{Call}
+use Rattle.epcm_entry.specs.Epc.{free_frame}
+use Rattle.paging_laws.specs.Histories.{StandsWithAllRules}
+use Rattle.paging_laws.specs.Shape.{FitsApart, ShapeWithRules}
+use Rattle.paging_laws.specs.State.{making_of}
+use Rattle.paging_machine.specs.Parts.{Parts, idle, made, state_of}
+use Rattle.turn_rules.specs.Machines.{machine_of}
+use Rattle.driver_rules.specs.Passes.{pass}
+use Rattle.driver_rules.specs.Turns as dues
+use Rattle.driver_laws.specs.Counted.{CountsSlots}
+use Rattle.driver_laws.proofs.BuiltLaws.{first_built}
+use Rattle.driver_laws.proofs.CountLaws.{first_counts}
+use Rattle.driver_laws.proofs.HistoryLaws.{first_sound}
+use Rattle.driver_laws.proofs.LoadLaws.{first_theirs}
+use Rattle.driver_laws.proofs.StageLaws.{first_pages}
+use Rattle.driver_laws.proofs.TcsLaws.{apart_first}
+use Rattle.driver_laws.proofs.UsedLaws.{first_used}
+use Rattle.driver_tables.specs.declared.driver.Driver.{Driver}
+use Rattle.driver_tables.specs.Tables.{IsNew}
+use Rattle.driver_tables.proofs.FirstLaws.{shows_first}
+use Rattle.driver_steps.specs.Agrees.{Agrees}
+use Rattle.reclaim_worker.specs.Standing.{StandsFor, is_sealing}
+use Rattle.reclaim_worker.specs.Stored.{still_out}
+use Rattle.reclaim_worker.specs.declared.turns.Phase.{Phase}
+use Rattle.reclaim_worker.specs.declared.turns.Phase.TheVariants as phases
+use Rattle.reclaim_worker.specs.declared.turns.Taken.{Taken}
+use Rattle.turn_tables.specs.declared.cpu_turns.CpuTurn.{CpuTurn}
+use Rattle.turn_tables.specs.declared.cpu_turns.Last.{Last}
+use Rattle.turn_tables.specs.declared.cpu_turns.Last.TheVariants as ways
+use Rattle.turn_tables.specs.declared.turns.Turns.{Turns}
+use Rattle.turn_tables.specs.CpuTurns.{last_told, turn_at}
+use Rattle.turn_tables.specs.Ending.{EndsAreTold, NoneFails}
+use Rattle.turn_tables.specs.Holding.{KeepsHolds}
+use Rattle.turn_tables.specs.Shown.{ShowsTurns}
+use Rattle.turn_tables.proofs.EndLaws.{ends_first}
+use Rattle.turn_tables.proofs.FirstLaws.{holds_first}
+use Rattle.turn_tables.proofs.OrderLaws.{orderly_first}
+use Rattle.table_notes.specs.Arrays.{KeepsArrays}
+use Rattle.table_notes.proofs.ArrayLaws.{arrays_begin}
+use Rattle.book_laws.specs.Stores.{TellsStore}
+use Rattle.book_laws.proofs.StoreLaws.{tells_first}
+use Rattle.run_book.specs.Books.{KeepsBook, KeepsBytes}
+use Rattle.run_records.proofs.FlatSteps.{flat_first}
+use Rattle.run_turns.specs.declared.course.Course.{Course}
+use Rattle.run_turns.specs.Courses.{KeepsCourse, is_load, is_loading, open_starts, past_of}
+use Rattle.run_turns.proofs.TcsLaws.{tcs_apart}
+
+-- ---- the machine
+
+-- a new machine, which was made for the job and stands for no entry
+pub record IsFresh (j : JobView) (m : Parts) : Type 0 where
+  pub value : m ≡ made j.epc (length j.scripts) j.key j.start_epoch j.start_version
+  pub shape : ShapeWithRules (making_of (state_of m)) (state_of m) []
+  pub history : StandsWithAllRules (making_of (state_of m)) (state_of m) [] []
+
+-- with the numbers of the job it was made for the job
+pub made_same : (j : JobView) (m : Parts) (frames cpus : ℕ) (key : List ℕ) (epoch version : ℕ) → m ≡ made frames cpus key epoch version
+    → frames ≡ j.epc → cpus ≡ length j.scripts → key ≡ j.key → epoch ≡ j.start_epoch → version ≡ j.start_version
+    → m ≡ made j.epc (length j.scripts) j.key j.start_epoch j.start_version
+made_same j m frames cpus key epoch version is same_frames same_cpus same_key same_epoch same_version =
+    is ∙ (λ i. made (same_frames i) (same_cpus i) (same_key i) (same_epoch i) (same_version i))
+
+-- it is the job's machine
+fresh_making : (j : JobView) (m : Parts) → IsFresh j m → making_of (state_of m) ≡ machine_of j
+fresh_making j m fresh = ap (λ (x : Parts). making_of (state_of x)) fresh.value ∙ (λ i. record {
+  frames = length-replicate j.epc free_frame i;
+  cpus = length-replicate (length j.scripts) idle i;
+  key = j.key;
+  first_epoch = j.start_epoch;
+  first_version = j.start_version;
+})
+
+-- .. with a processor for each script
+fresh_cpus : (j : JobView) (m : Parts) → IsFresh j m → length m.cpus ≡ length j.scripts
+fresh_cpus j m fresh = ap (λ (x : Parts). length x.cpus) fresh.value ∙ length-replicate (length j.scripts) idle
+
+-- no frame holds a page, and none is loading one
+fits_first : (frames : ℕ) → FitsApart frames []
+fits_first frames = record {
+  fits = record { entries = tt; pages = λ m n g one other. absurd (false≢true one) };
+  apart = record { frames = λ m n g h. absurd (false≢true h); loads = λ m n g one other. absurd (false≢true one) };
+}
+
+-- ---- driver and machine
+
+-- they agree on no entry
+agrees_first : (j : JobView) (d : Driver) (m : Parts) → IsValid j → IsNew j d → IsFresh j m → Agrees (machine_of j) j [] d m
+agrees_first j d m valid new fresh = record {
+  follows = subst (λ (x : Making). ShapeWithRules x (state_of m) []) (fresh_making j m fresh) fresh.shape;
+  fits = fits_first j.epc;
+  sound = first_sound;
+  used = first_used;
+  counted = subst (λ k. CountsSlots k []) (sym new.slots) (first_counts (va_pages j));
+  built = first_built j;
+  theirs = first_theirs;
+  tracks = λ n p low. refl;
+  pages = first_pages j;
+  shows = shows_first j d valid new;
+  frames = refl;
+  cpus = fresh_cpus j m fresh ∙ sym new.cpus;
+}
+
+-- a store that tells its calls has told none
+store_first : (j : JobView) (d : Driver) (told : Option (List Call)) → IsNew j d → IfSome told (λ calls. calls ≡ [])
+    → IfSome told (λ calls. TellsStore j.key [] calls d)
+store_first j d None new none = tt
+store_first j d (Some calls) new none = subst (λ x. TellsStore j.key [] x d) (sym none) (tells_first j.key j d new)
+
+-- .. and the machine stands for no entry with all the rules
+bytes_first : (j : JobView) (m : Parts) (told : Option (List Call)) → IsFresh j m → IfSome told (KeepsBytes (machine_of j) j [] m)
+bytes_first j m None fresh = tt
+bytes_first j m (Some calls) fresh =
+    λ unforged. subst (λ (x : Making). StandsWithAllRules x (state_of m) [] []) (fresh_making j m fresh) fresh.history
+
+-- all that the book keeps
+book_first : (j : JobView) (d : Driver) (m : Parts) (t : Turns) (told : Option (List Call)) → IsNew j d → IsFresh j m
+    → ShowsTurns j [] t → IfSome told (λ calls. calls ≡ []) → KeepsBook (machine_of j) j [] told d m t
+book_first j d m t told new fresh shows none = record {
+  agrees = agrees_first j d m shows.valid new fresh;
+  turns = shows;
+  orderly = orderly_first j;
+  holds = subst (λ a. KeepsHolds j a.own []) (sym new.active) (holds_first j);
+  apart = apart_first j;
+  flat = flat_first;
+  script = tt;
+  age = tt;
+  kick = tt;
+  store = store_first j d told new none;
+  bytes = bytes_first j m told fresh;
+}
+
+-- ---- the pass
+
+-- it is before its first page
+stands_first : (j : JobView) (taken : List Taken) (phase : Phase) → taken ≡ [] → phase ≡ phases.Idle false
+    → StandsFor j.start_epoch [] taken phase (pass j [])
+stands_first j taken phase none idle =
+    subst (λ (x : Phase). StandsFor j.start_epoch [] taken x (pass j [])) (sym idle) (refl, none)
+
+-- .. so that no page has still to go out
+places_first : (taken : List Taken) (phase : Phase) (spare : ℕ) → taken ≡ [] → phase ≡ phases.Idle false → still_out taken phase ≤ spare
+places_first taken phase spare none idle =
+    let out : still_out taken phase ≡ 0 = ap (still_out taken) idle ∙ ap length none in omega (arith, out)
+
+-- ---- open starts
+
+-- by how its last entry left it, a processor has started no load
+not_loading : (last : Last) → last_told last ≡ dues.Other → is_load last ≡ false
+not_loading (ways.Loads f page) is = cc
+not_loading (ways.Fails page why) is = refl
+not_loading ways.WasEnded is = refl
+not_loading ways.Other is = refl
+
+-- .. so that none of the processors counts
+none_loads : (cpus : List CpuTurn) → ((p : ℕ) → p < length cpus → is_loading (turn_at cpus p) ≡ false) → count_by is_loading cpus ≡ 0
+none_loads [] none = refl
+none_loads (x ∷ xs) none =
+    let count = sum_by-cons (λ (y : CpuTurn). cond (is_loading y) 1 0) x xs in
+    let first : ◌≡◌ {A = ℕ} (cond (is_loading x) 1 0) 0 = ap (λ b. cond b 1 0) (none 0 (omega arith)) in
+    let rest = none_loads xs (λ p low. none (suc p) (omega (arith, low))) in
+    omega (arith, count, first, rest)
+
+-- .. nor the pass
+no_starts : (c : Course) → ShowsTurns c.job [] c.turns → c.pass.phase ≡ phases.Idle false → open_starts c ≡ 0
+no_starts c shows idle =
+    let loads : count_by is_loading c.turns.cpus ≡ 0 = none_loads c.turns.cpus (λ p low. not_loading (turn_at c.turns.cpus p).last
+    ((shows.cpus p (let each = shows.each in omega (arith, low, each))).last)) in
+    let seals : ◌≡◌ {A = ℕ} (if is_sealing c.pass.phase then 1 else 0) 0 = ap (λ x. if is_sealing x then 1 else 0) idle in
+    omega (arith, loads, seals)
+
+-- ---- the course
+
+-- of machine, driver, tables and pass each is new, and there is no entry
+pub record Begins (c : Course) : Type 0 where
+  pub machine : IsFresh c.job c.machine
+  pub driver : IsNew c.job c.driver
+  pub turns : ShowsTurns c.job [] c.turns
+  pub taken : c.pass.taken.items ≡ []
+  pub phase : c.pass.phase ≡ phases.Idle false
+  pub entries : c.entries.items ≡ []
+
+-- so it keeps all that a course has to
+pub course_first : (c : Course) (told : Option (List Call)) (spare : ℕ) → Begins c → IfSome told (λ calls. calls ≡ [])
+    → KeepsCourse c told spare
+course_first c told spare first none =
+    let past : past_of c ≡ [] = ap reverse first.entries in
+    record {
+      tcs = tcs_apart c.job first.turns.valid;
+      book = subst (λ h. KeepsBook (machine_of c.job) c.job h told c.driver c.machine c.turns) (sym past)
+          (book_first c.job c.driver c.machine c.turns told first.driver first.machine first.turns none);
+      stands = subst (λ h. StandsFor c.job.start_epoch h c.pass.taken.items c.pass.phase (pass c.job h)) (sym past)
+          (stands_first c.job c.pass.taken.items c.pass.phase first.taken first.phase);
+      places = places_first c.pass.taken.items c.pass.phase spare first.taken first.phase;
+      arrays = subst (KeepsArrays c.job c.driver.slots) (sym past) (arrays_begin c.job c.driver first.driver);
+      ends = subst EndsAreTold (sym past) ends_first;
+      none = subst NoneFails (sym past) (λ p page why h. cc);
+      room =
+          let few : vec_len c.entries ≡ 0 = c.entries.ok.0 ∙ ap length first.entries in
+          let starts = no_starts c first.turns first.phase in
+          omega (arith, few, starts);
+    }

@@ -1,0 +1,217 @@
+-- An instruction that is due, and its entry.
+use Rattle.std.proofs.Common.{◌≡◌, ◌+◌, ◌≤◌, ◌<◌, Bool, true, false, if◌then◌else◌, List, ◌∷◌, Option, Some, None, IfSome, length, vec_len, vec_capacity, inl, inr, refl, sym, ap, subst, ◌∙◌, arith}
+use Rattle.std.specs.Option.{option_map}
+use Rattle.std.proofs.lemmas.Bool.{false≢true}
+use Rattle.sgx_types.specs.declared.entries.Action.{Action}
+use Rattle.sgx_types.specs.declared.entries.Action.TheVariants.{Eld}
+use Rattle.sgx_types.specs.declared.entries.Actor.{Actor}
+use Rattle.sgx_types.specs.declared.entries.Actor.TheVariants as actors
+use Rattle.sgx_types.specs.declared.entries.Entry.{Entry}
+use Rattle.sgx_types.specs.declared.entries.Event.{Event}
+use Rattle.sgx_types.specs.declared.entries.Event.TheVariants.{Refused}
+use Rattle.job_grammar.specs.Jobs.{JobView}
+use Rattle.turn_rules.specs.Machines.{machine_of}
+use Rattle.turn_rules.specs.Script.{action_of}
+use Rattle.backing_store.specs.Calls.{Call}
+use Rattle.book_laws.specs.Stores.{StoreMoves}
+use Rattle.cached_translations.specs.declared.processor.Mode.{Mode}
+use Rattle.paging_laws.specs.Steps.{CanApply, IsStep}
+use Rattle.paging_machine.specs.Parts.{Parts, state_of}
+use Rattle.driver_rules.specs.Dues.{Due, IsNext, Makes, Stopped}
+use Rattle.driver_rules.specs.Passes.{pass, pass_after}
+use Rattle.driver_rules.specs.Scripts.{IsActors, ScriptRule}
+use Rattle.driver_rules.specs.Stops.{is_spent}
+use Rattle.driver_tables.specs.declared.driver.Driver.{Driver}
+use Rattle.driver_steps.specs.Carried.{Carries}
+use Rattle.reclaim_worker.specs.declared.passes.Pass as passes
+use Rattle.reclaim_worker.specs.Standing.{StandsFor}
+use Rattle.turn_tables.specs.Holding.{mode_of}
+use Rattle.turn_tables.specs.Noting.{IsAmong}
+use Rattle.turn_tables.proofs.OrderLaws.{enters_apart}
+use Rattle.table_notes.specs.Noted.{AreNoted, CanNoteTables}
+use Rattle.table_notes.proofs.EntryLaws.{IsEntryOf, entry_by}
+use Rattle.run_book.specs.Books.{CarriesBytes, IsMade, KeepsBook}
+use Rattle.table_notes.specs.Plain.{is_plain, is_reclaimer}
+use Rattle.run_book.proofs.PlainLaws.{plain_next}
+use Rattle.run_records.proofs.FlatSteps.{flat_step}
+use Rattle.run_records.proofs.ToldLaws.{plain_told}
+use Rattle.run_bytes.proofs.StepBytes.{plain_bytes}
+use Rattle.run_steps.proofs.StayLaws.{passes_stay_next}
+use Rattle.run_steps.proofs.MakeLaws.{builder_makes, cpu_makes}
+use Rattle.run_turns.specs.declared.course.Course.{Course}
+use Rattle.run_turns.proofs.EndedLaws.{is_failed}
+use Rattle.run_turns.proofs.KeepLaws.{Enters}
+use Rattle.run_turns.specs.Courses.{past_of}
+use Rattle.run_turns.specs.Turns.{CanInstruct, IsDueTo}
+
+-- ---- what is due
+
+-- its actor is the builder or a processor of the machine, and it moves no page out or back
+pub record IsLawful (c : Course) (actor : Actor) (action : Action) : Type 0 where
+  pub can : CanApply (length c.machine.cpus) actor action
+  pub plain : is_plain action ≡ true
+  pub other : is_reclaimer actor ≡ false
+  pub among : IsAmong (length c.machine.cpus) actor
+
+-- as many processors as the job has scripts
+pub cpus_of : (c : Course) (past : List Entry) (told : Option (List Call)) → KeepsBook (machine_of c.job) c.job past told c.driver c.machine c.turns
+    → length c.machine.cpus ≡ length c.job.scripts
+cpus_of c past told k = k.agrees.cpus ∙ k.agrees.shows.cpus
+
+pub lawful : (c : Course) (actor : Actor) (action : Action) → CanInstruct c actor action → IsLawful c actor action
+lawful c actor action k = by_actor actor k.due
+  where
+    same : length c.machine.cpus ≡ length c.job.scripts
+    same = cpus_of c (past_of c) k.told k.keeps.book
+
+    by_actor : (a : Actor) → IsDueTo c a action → IsLawful c a action
+    by_actor actors.Builder due =
+        let both = builder_makes (length c.machine.cpus) c.job (past_of c) action due in
+        record { can = both.0; plain = both.1; other = refl; among = tt }
+    by_actor (actors.Cpu cpu) due =
+        let low = due.0 in
+        let within : cpu.0 < length c.machine.cpus = omega (arith, low, same) in
+        let both = cpu_makes (length c.machine.cpus) c.job (past_of c) cpu.0 cpu action due.1 within refl in
+        record { can = both.0; plain = both.1.0; other = refl; among = within }
+    by_actor actors.Reclaimer due = absurd due
+
+-- nothing was used up before an instruction that is due
+going_by : (j : JobView) (past : List Entry) (a : Actor) (action : Action) (due : Due)
+    → (if is_spent past then Stopped else due) ≡ Makes action → is_spent past ≡ false
+going_by j past a action due = by_test (is_spent past)
+  where
+    by_test : (b : Bool) → (if b then Stopped else due) ≡ Makes action → b ≡ false
+    by_test true h = cc
+    by_test false h = refl
+
+-- the entry of a step by its action
+pub acts : (s t : Parts) (a : Actor) (action : Action) (e : Entry) → IsStep (state_of s) a action e (state_of t)
+    → (e.actor ≡ a) × (action_of e.event ≡ Some action)
+acts s t a action e is = by_entry (entry_by (state_of s) (state_of t) a action e is)
+  where
+    by_entry : IsEntryOf (state_of s) a action e → (e.actor ≡ a) × (action_of e.event ≡ Some action)
+    by_entry (inl k) = rw k.is (refl, refl)
+    by_entry (inr k) = rw k.is (refl, refl)
+
+-- the entry of an instruction that is due is its actor's next
+pub scripted : (c : Course) (m' : Parts) (actor : Actor) (action : Action) (e : Entry) → IsDueTo c actor action
+    → IsStep (state_of c.machine) actor action e (state_of m') → ScriptRule c.job (past_of c) e
+scripted c m' actor action e due is =
+    let both = acts c.machine m' actor action e is in
+    record {
+      not_spent = spent actor due;
+      next = subst (λ a. IsActors c.job (past_of c) a e.event) (sym both.0) (next actor due both.1);
+    }
+  where
+    spent : (a : Actor) → IsDueTo c a action → is_spent (past_of c) ≡ false
+    spent actors.Builder h = going_by c.job (past_of c) actors.Builder action _ h
+    spent (actors.Cpu cpu) h = going_by c.job (past_of c) (actors.Cpu cpu) action _ h.1
+    spent actors.Reclaimer h = absurd h
+
+    next : (a : Actor) → IsDueTo c a action → action_of e.event ≡ Some action → IsActors c.job (past_of c) a e.event
+    next actors.Builder h told = subst (λ due. IsNext due e.event) (sym h) told
+    next (actors.Cpu cpu) h told = (h.0, subst (λ due. IsNext due e.event) (sym h.1) told)
+    next actors.Reclaimer h told = absurd h
+
+-- ---- the tables
+
+pub notable : (c : Course) (m' : Parts) (actor : Actor) (action : Action) (e : Entry) (before : Mode) → CanInstruct c actor action
+    → IsStep (state_of c.machine) actor action e (state_of m') → before ≡ mode_of c.machine actor
+    → CanNoteTables c.turns c.driver before e
+notable c m' actor action e before k is stood =
+    let w = lawful c actor action k in
+    let b = k.keeps.book in
+    record {
+      made = machine_of c.job;
+      j = c.job;
+      past = past_of c;
+      m = c.machine;
+      m' = m';
+      actor = actor;
+      action = action;
+      plain = w.plain;
+      other = w.other;
+      step = is;
+      script = scripted c m' actor action e k.due is;
+      stood = stood ∙ ap (mode_of c.machine) (sym (acts c.machine m' actor action e is).0);
+      agrees = b.agrees;
+      shows = b.turns;
+      orderly = b.orderly;
+      arrays = k.keeps.arrays;
+    }
+
+-- .. so they are brought to it
+pub noted_by : (c : Course) (d' : Driver) (m' : Parts) (actor : Actor) (action : Action) (e : Entry) (before : Mode)
+    → CanInstruct c actor action → IsStep (state_of c.machine) actor action e (state_of m') → before ≡ mode_of c.machine actor
+    → ((can : CanNoteTables c.turns c.driver before e) → AreNoted can.j can.past c.driver e d') → AreNoted c.job (past_of c) c.driver e d'
+unfolding notable
+noted_by c d' m' actor action e before k is stood notes = notes (notable c m' actor action e before k is stood)
+
+-- ---- what was made
+
+pub instructed : (c : Course) (d' : Driver) (m' : Parts) (actor : Actor) (action : Action) (e : Entry) (k : CanInstruct c actor action)
+    → IsStep (state_of c.machine) actor action e (state_of m') → Carries (state_of c.machine) e (state_of m')
+    → length m'.cpus ≡ length c.machine.cpus → AreNoted c.job (past_of c) c.driver e d'
+    → IsMade (machine_of c.job) c.job (past_of c) k.told c.driver c.machine e k.told d' m'
+instructed c d' m' actor action e k is carries cpus noted =
+    let made = machine_of c.job in
+    let past = past_of c in
+    let w = lawful c actor action k in
+    let b = k.keeps.book in
+    record {
+      next = plain_next made c.job past c.driver d' c.machine m' c.pass.taken.items c.pass.phase actor action e w.other w.plain b.agrees
+          k.keeps.stands (scripted c m' actor action e k.due is) is carries cpus noted.shows noted.counts;
+      own = noted.own;
+      enters = enters_apart (length c.machine.cpus) (state_of c.machine) actor action e (state_of m') w.can is;
+      flat = flat_step (state_of c.machine) (state_of m') past actor action e b.agrees.follows.shape.columns is b.flat;
+      store = plain_told c.job past e action k.told c.driver d' (acts c.machine m' actor action e is).1 w.plain (moves k.told);
+      bytes = bytes k.told;
+    }
+  where
+    moves : (o : Option (List Call)) → IfSome o (λ calls. StoreMoves e calls c.driver d')
+    moves None = tt
+    moves (Some calls) = noted.moves calls
+
+    bytes : (o : Option (List Call)) → IfSome o (CarriesBytes (machine_of c.job) c.job (past_of c) c.machine e m')
+    bytes None = tt
+    bytes (Some calls) =
+        plain_bytes (machine_of c.job) c.job (past_of c) c.machine m' actor action e calls (lawful c actor action k).plain is carries
+
+-- ---- the course behind it
+
+abbrev holds : Option Bool → Bool
+holds None = false
+holds (Some b) = b
+
+pub plain_event : (event : Event) (action : Action) → action_of event ≡ Some action → is_plain action ≡ true → is_failed event ≡ false
+plain_event (Refused (Eld f) refusal) action is plain =
+    absurd (false≢true (ap holds (subst (λ o. option_map is_plain o ≡ Some true) (sym is) (ap Some plain))))
+plain_event event action is plain = refl
+
+-- ---- its way into the course
+
+pub entered : (c x : Course) (m' : Parts) (actor : Actor) (action : Action) (e : Entry) (before : Mode) (k : CanInstruct c actor action)
+    → IsStep (state_of c.machine) actor action e (state_of m') → Carries (state_of c.machine) e (state_of m')
+    → length m'.cpus ≡ length c.machine.cpus → before ≡ mode_of c.machine actor
+    → ((can : CanNoteTables c.turns c.driver before e) → AreNoted can.j can.past c.driver e x.driver) → x.machine ≡ m'
+    → x.job ≡ c.job → x.turns ≡ c.turns → x.pass ≡ c.pass → x.entries.items ≡ c.entries.items
+    → vec_len x.entries + 1 ≤ vec_capacity x.entries → Enters c x before e k.told k.told
+entered c x m' actor action e before k is carries cpus stood notes machine job turns same items place =
+    let noted = noted_by c x.driver m' actor action e before k is stood notes in
+    let made = instructed c x.driver m' actor action e k is carries cpus noted in
+    let both = acts c.machine m' actor action e is in
+    let other = ap is_reclaimer both.0 ∙ (lawful c actor action k).other in
+    record {
+      job = job;
+      turns = turns;
+      items = items;
+      tcs = k.keeps.tcs;
+      book = k.keeps.book;
+      made = subst (IsMade (machine_of c.job) c.job (past_of c) k.told c.driver c.machine e k.told x.driver) (sym machine) made;
+      stood = stood ∙ ap (mode_of c.machine) (sym both.0);
+      place = place;
+      stands = subst (λ (p : passes.Pass). StandsFor c.job.start_epoch (e ∷ past_of c) p.taken.items p.phase
+          (pass_after c.job (past_of c) e.actor e.event (pass c.job (past_of c)))) (sym same)
+          (passes_stay_next (machine_of c.job) c.job (past_of c) c.driver x.driver c.machine m' e c.pass.taken.items c.pass.phase
+          k.keeps.book.agrees made.next other k.keeps.stands);
+    }

@@ -1,0 +1,161 @@
+-- What holds behind an entry that was taken in.
+use Rattle.std.proofs.Common.{◌≡◌, ℕ, zero, suc, ◌+◌, ◌*◌, ◌≤◌, Bool, true, false, if◌then◌else◌, List, [], ◌∷◌, ◌++◌, All, Option, length, count_by, reverse, vec_len, vec_capacity, refl, sym, ap, subst, ◌∙◌, arith}
+use Rattle.std.proofs.lemmas.List.{length-append}
+use Rattle.std.proofs.lemmas.List.Sums.{count_by-le-length}
+use Rattle.sgx_types.specs.declared.entries.Actor.{Actor}
+use Rattle.sgx_types.specs.declared.entries.Entry.{Entry}
+use Rattle.sgx_types.specs.Making.{Making}
+use Rattle.job_grammar.specs.Jobs.{JobView}
+use Rattle.backing_store.specs.Calls.{Call}
+use Rattle.turn_rules.specs.Machines.{machine_of}
+use Rattle.driver_laws.specs.Three.{TcsAreApart}
+use Rattle.cached_translations.specs.declared.processor.Mode.{Mode}
+use Rattle.paging_machine.specs.Parts.{Parts}
+use Rattle.driver_tables.specs.declared.driver.Driver.{Driver}
+use Rattle.driver_rules.specs.Passes.{pass, pass_after}
+use Rattle.reclaim_worker.specs.Standing.{StandsFor, is_sealing}
+use Rattle.reclaim_worker.specs.Stored.{still_out}
+use Rattle.turn_tables.specs.declared.turns.Turns.{Turns}
+use Rattle.turn_tables.specs.Holding.{mode_of}
+use Rattle.turn_tables.specs.Ending.{EndsAreTold, NoneFails}
+use Rattle.table_notes.specs.Arrays.{KeepsArrays}
+use Rattle.run_book.specs.Books.{IsMade, KeepsBook}
+use Rattle.run_turns.specs.declared.course.Course.{Course}
+use Rattle.run_turns.specs.Courses.{Grows, IsSame, KeepsCourse, is_loading, open_starts, past_of}
+use Rattle.run_turns.specs.Recording.{CanTake, IsRecorded, IsTaken}
+use Rattle.run_turns.proofs.RecordLaws.{newest}
+
+-- no more than seventeen starts are open
+pub few_starts : (c : Course) → length c.turns.cpus ≤ 16 → open_starts c ≤ 17
+few_starts c few = by_pass (is_sealing c.pass.phase)
+  where
+    by_pass : (b : Bool) → count_by is_loading c.turns.cpus + (if b then 1 else 0) ≤ 17
+    by_pass true = let k = count_by-le-length is_loading c.turns.cpus in omega (arith, few, k)
+    by_pass false = let k = count_by-le-length is_loading c.turns.cpus in omega (arith, few, k)
+
+-- with room for the ends of so many there is room for those that are open
+pub room_behind : (c : Course) → length c.turns.cpus ≤ 16 → vec_len c.entries + 34 ≤ vec_capacity c.entries
+    → vec_len c.entries + 2 * open_starts c ≤ vec_capacity c.entries
+room_behind c few room = let k = few_starts c few in omega (arith, k, room)
+
+-- the job has few processors, and the tables each
+pub few_cpus : (made : Making) (j : JobView) (past : List Entry) (told : Option (List Call)) (d : Driver) (m : Parts) (t : Turns)
+    → KeepsBook made j past told d m t → length t.cpus ≤ 16
+few_cpus made j past told d m t k = let few = k.turns.valid.few_scripts in let each = k.turns.each in omega (arith, few, each)
+
+-- a course behind an entry that was taken in
+pub taken_keeps : (c c' : Course) (e : Entry) (told : Option (List Call)) (spare : ℕ) → TcsAreApart c.job → c'.job ≡ c.job
+    → c'.entries.items ≡ c.entries.items ++ e ∷ [] → IsRecorded c e told c' → IsTaken c e c'
+    → still_out c'.pass.taken.items c'.pass.phase ≤ spare → KeepsArrays c.job c'.driver.slots (e ∷ past_of c)
+    → EndsAreTold (e ∷ past_of c) → NoneFails (e ∷ past_of c)
+    → vec_len c'.entries + 2 * open_starts c' ≤ vec_capacity c'.entries → KeepsCourse c' told spare
+taken_keeps c c' e told spare tcs job kept book stands places arrays ends none room =
+    let past : past_of c' ≡ e ∷ past_of c = newest c.entries.items c'.entries.items e kept in
+    record {
+      tcs = subst TcsAreApart (sym job) tcs;
+      book = subst (λ (j : JobView). KeepsBook (machine_of j) j (past_of c') told c'.driver c'.machine c'.turns) (sym job)
+          (subst (λ h. KeepsBook (machine_of c.job) c.job h told c'.driver c'.machine c'.turns) (sym past) book);
+      stands = subst (λ (j : JobView). StandsFor j.start_epoch (past_of c') c'.pass.taken.items c'.pass.phase (pass j (past_of c'))) (sym job)
+          (subst (λ h. StandsFor c.job.start_epoch h c'.pass.taken.items c'.pass.phase (pass c.job h)) (sym past) stands);
+      places = places;
+      arrays = subst (λ (j : JobView). KeepsArrays j c'.driver.slots (past_of c')) (sym job)
+          (subst (KeepsArrays c.job c'.driver.slots) (sym past) arrays);
+      ends = subst EndsAreTold (sym past) ends;
+      none = subst NoneFails (sym past) none;
+      room = room;
+    }
+
+-- an entry enters a course in which nothing else but machine, tables and pass has gone on
+pub record Enters (c x : Course) (before : Mode) (e : Entry) (told longer : Option (List Call)) : Type 0 where
+  pub job : x.job ≡ c.job
+  pub turns : x.turns ≡ c.turns
+  pub items : x.entries.items ≡ c.entries.items
+  pub tcs : TcsAreApart c.job
+  pub book : KeepsBook (machine_of c.job) c.job (past_of c) told c.driver c.machine c.turns
+  pub made : IsMade (machine_of c.job) c.job (past_of c) told c.driver c.machine e longer x.driver x.machine
+  pub stood : before ≡ mode_of c.machine e.actor
+  pub place : vec_len x.entries + 1 ≤ vec_capacity x.entries
+  pub stands : StandsFor c.job.start_epoch (e ∷ past_of c) x.pass.taken.items x.pass.phase
+      (pass_after c.job (past_of c) e.actor e.event (pass c.job (past_of c)))
+
+-- so it can be taken in
+pub take_at : (c x : Course) (before : Mode) (e : Entry) (told longer : Option (List Call)) → Enters c x before e told longer
+    → CanTake x before e
+take_at c x before e told longer k = record {
+  can = record {
+    told = told;
+    longer = longer;
+    d = c.driver;
+    m = c.machine;
+    tcs = subst TcsAreApart (sym k.job) k.tcs;
+    book = by_job (λ j t h. KeepsBook (machine_of j) j h told c.driver c.machine t) k.book;
+    made = by_job (λ j t h. IsMade (machine_of j) j h told c.driver c.machine e longer x.driver x.machine) k.made;
+    stood = k.stood;
+    place = k.place;
+  };
+  stands = by_job (λ j t h. StandsFor j.start_epoch (e ∷ h) x.pass.taken.items x.pass.phase (pass_after j h e.actor e.event (pass j h)))
+      k.stands;
+}
+  where
+    by_job : (P : JobView → Turns → List Entry → Type 0) → P c.job c.turns (past_of c) → P x.job x.turns (past_of x)
+    by_job P h =
+        subst (λ j. P j x.turns (past_of x)) (sym k.job)
+        (subst (λ t. P c.job t (past_of x)) (sym k.turns) (subst (λ items. P c.job c.turns (reverse items)) (sym k.items) h))
+
+-- what the course was before it took the entry in, and what it is behind it
+pub record Took (c x : Course) (before : Mode) (e : Entry) (told longer : Option (List Call)) (c' : Course) : Type 0 where
+  pub enters : Enters c x before e told longer
+  pub book : (take : CanTake x before e) → IsRecorded x e take.can.longer c'
+  pub stands : CanTake x before e → IsTaken x e c'
+  pub job : c'.job ≡ x.job
+  pub kept : c'.entries.items ≡ x.entries.items ++ e ∷ []
+  pub room : vec_capacity c'.entries ≡ vec_capacity x.entries
+
+pub recorded : (c x : Course) (before : Mode) (e : Entry) (told longer : Option (List Call)) (c' : Course)
+    → Took c x before e told longer c' → IsRecorded x e longer c' × IsTaken x e c'
+unfolding take_at
+recorded c x before e told longer c' k =
+    (k.book (take_at c x before e told longer k.enters), k.stands (take_at c x before e told longer k.enters))
+
+all_one : {A : Type 0} (P : A → Type 0) (x : A) → P x → All P (x ∷ [])
+all_one P x h zero d low = h
+all_one P x h (suc k) d low = absurd (omega (arith, low))
+
+-- a turn that reserved its room, and took one entry in
+pub grown_by_one : (c x : Course) (before : Mode) (e : Entry) (told longer : Option (List Call)) (c' : Course) (by : Actor) (spare : ℕ)
+    → Took c x before e told longer c' → still_out c'.pass.taken.items c'.pass.phase ≤ spare
+    → KeepsArrays c.job c'.driver.slots (e ∷ past_of c) → EndsAreTold (e ∷ past_of c) → NoneFails (e ∷ past_of c)
+    → vec_len x.entries + 64 ≤ vec_capacity x.entries → e.actor ≡ by → Grows c by 1 c' longer spare
+grown_by_one c x before e told longer c' by spare k places arrays ends none room actor =
+    let past : past_of x ≡ past_of c = ap reverse k.enters.items in
+    let kept : length c'.entries.items ≡ length x.entries.items + 1 = ap length k.kept ∙ length-append x.entries.items (e ∷ []) in
+    let both = recorded c x before e told longer c' k in
+    let same = k.room in
+    let one = c'.entries.ok.0 in
+    let two = x.entries.ok.0 in
+    record {
+      entries = e ∷ [];
+      count = refl;
+      actors = all_one (λ (y : Entry). y.actor ≡ by) e actor;
+      past = newest x.entries.items c'.entries.items e k.kept ∙ ap (λ h. e ∷ h) past;
+      job = k.job ∙ k.enters.job;
+      keeps = taken_keeps x c' e longer spare (subst TcsAreApart (sym k.enters.job) k.enters.tcs) k.job k.kept both.0 both.1 places
+          (subst (λ (j : JobView). KeepsArrays j c'.driver.slots (e ∷ past_of x)) (sym k.enters.job)
+          (subst (λ h. KeepsArrays c.job c'.driver.slots (e ∷ h)) (sym past) arrays))
+          (subst (λ h. EndsAreTold (e ∷ h)) (sym past) ends) (subst (λ h. NoneFails (e ∷ h)) (sym past) none)
+          (room_behind c' (few_cpus (machine_of x.job) x.job (e ∷ past_of x) longer c'.driver c'.machine c'.turns both.0)
+          (omega (arith, room, same, kept, one, two)));
+    }
+
+-- a course is the same as itself
+pub same_self : (c : Course) → IsSame c c
+same_self c = record {
+  job = refl;
+  machine = refl;
+  driver = refl;
+  turns = refl;
+  taken = refl;
+  phase = refl;
+  entries = refl;
+  room = omega arith;
+}

@@ -1,0 +1,421 @@
+-- What stands behind the entries of a processor's turn.
+use Rattle.std.proofs.Common.{◌≡◌, ℕ, ◌+◌, ◌*◌, ◌≤◌, ◌<◌, Bool, true, false, if◌then◌else◌, List, [], ◌∷◌, ◌++◌, Option, Some, None, length, vec_len, vec_capacity, refl, sym, ap, subst, ◌∙◌, arith}
+use Rattle.std.proofs.lemmas.Bool.{eq-eqb}
+use Rattle.std.proofs.lemmas.List.Elements.{All-cons, All-nil}
+use Rattle.sgx_types.specs.declared.entries.Action.{Action}
+use Rattle.sgx_types.specs.declared.entries.Action.TheVariants as actions
+use Rattle.sgx_types.specs.declared.entries.Actor.TheVariants as actors
+use Rattle.sgx_types.specs.declared.entries.BusWhy.{BusWhy}
+use Rattle.sgx_types.specs.declared.entries.Entry.{Entry}
+use Rattle.sgx_types.specs.declared.entries.Event.{Event}
+use Rattle.sgx_types.specs.declared.entries.Event.TheVariants.{Did, Refused, Age, Kick, Bus}
+use Rattle.sgx_types.specs.declared.names.Cpu.{Cpu}
+use Rattle.sgx_types.specs.declared.names.Frame.{Frame}
+use Rattle.sgx_types.specs.declared.names.Page.{Page}
+use Rattle.sgx_types.specs.declared.refusals.Refusal.{Refusal}
+use Rattle.sgx_types.specs.declared.refusals.Refusal.TheVariants as why
+use Rattle.sgx_types.specs.Processors.{is_by}
+use Rattle.sgx_types.specs.Starts.{open_start}
+use Rattle.cached_translations.specs.declared.processor.Mode.{Mode}
+use Rattle.job_grammar.specs.Jobs.{JobView}
+use Rattle.turn_rules.specs.Machines.{machine_of}
+use Rattle.turn_rules.specs.Script.{action_of}
+use Rattle.sgx_types.specs.Making.{Making}
+use Rattle.backing_store.specs.Calls.{Call}
+use Rattle.active_list.specs.Places.{IsPlaced}
+use Rattle.active_list.specs.States.{state_of as page_state}
+use Rattle.paging_laws.specs.Shape.{FitsApart, ShapeWithRules}
+use Rattle.paging_machine.specs.Parts.{Parts, state_of}
+use Rattle.version_array.specs.Keeper.{Keeper}
+use Rattle.driver_rules.specs.Dues.{Reports, Stopped}
+use Rattle.driver_rules.specs.Places.{Absent, Away, Here, Leaving, Loading, Place, place}
+use Rattle.driver_rules.specs.Reclaims.{is_refused}
+use Rattle.driver_rules.specs.Stops.{is_spent, spends}
+use Rattle.driver_rules.specs.Turns.{Fails, Loads, cpu_due, due_after, fails_with, fetches, is_last, last_by, last_of, load_of, turn_due}
+use Rattle.driver_tables.specs.declared.driver.Driver.{Driver}
+use Rattle.driver_tables.specs.Tables.{ShowsTables}
+use Rattle.driver_laws.specs.Agrees.{loaded_by}
+use Rattle.driver_steps.specs.Agrees.{Agrees}
+use Rattle.driver_calls.specs.Comes.{bus_of}
+use Rattle.fault_handler.specs.declared.answers.FaultAnswer.{FaultAnswer}
+use Rattle.fault_handler.specs.declared.answers.FaultAnswer.TheVariants as answers
+use Rattle.fault_handler.specs.declared.answers.Loaded.{Loaded}
+use Rattle.fault_handler.specs.Due.{IsEnd, IsRight, IsRightEnd, ShowsEnd}
+use Rattle.fault_handler.specs.Finishing.{CanFinish, IsFinished}
+use Rattle.fault_handler.specs.Resolving.{IsResolved}
+use Rattle.fault_handler.proofs.EndLaws.{can_finish}
+use Rattle.reclaim_worker.specs.Standing.{is_sealing}
+use Rattle.reclaim_worker.specs.Stored.{still_out}
+use Rattle.table_notes.specs.Arrays.{KeepsArrays}
+use Rattle.table_notes.proofs.ArrayLaws.{arrays_late, arrays_moved, arrays_stay}
+use Rattle.turn_tables.specs.declared.turns.Turns.{Turns}
+use Rattle.turn_tables.specs.CpuTurns.{first_turn, turn_at}
+use Rattle.turn_tables.specs.Ending.{IsForRecord, NoneFails}
+use Rattle.turn_tables.specs.Noting.{IsNoted}
+use Rattle.turn_tables.specs.Shown.{ShowsTurns}
+use Rattle.run_book.specs.Books.{AreTold, IsMade, with_own}
+use Rattle.run_book.specs.Loads.{OfAnswer, entry_in}
+use Rattle.run_bytes.specs.Records.{StaysWith}
+use Rattle.run_records.specs.Silent.{OfBus}
+use Rattle.run_records.proofs.LoadRecords.{end_told}
+use Rattle.run_turns.specs.declared.course.Course.{Course}
+use Rattle.run_turns.specs.Courses.{Grows, KeepsCourse, is_loading, open_starts, past_of}
+use Rattle.run_turns.specs.Recording.{CanTake, IsRecorded, IsTaken}
+use Rattle.run_turns.proofs.KeepLaws.{few_cpus, room_behind}
+use Rattle.run_turns.proofs.LoadCourse.{Stands, is_open, kept_room, bus_starts, ended_starts, one_longer, stands_keeps, taken_stands}
+use Rattle.run_turns.proofs.LoadLaws.{IsOfAway, due_quiet, end_of_load, one, starts_set, end_quiet, loading_told, none_behind_bus, none_more}
+use Rattle.run_turns.proofs.RecordLaws.{newest}
+use Rattle.run_turns.proofs.LoadMade.{Leaves, NotesBus, bus_made, bus_told, end_acts, end_by, end_made, fault_made, resolved_leaves, shows_with}
+
+-- an entry was taken in, by all that is said of it
+pub record TookIn (c c' : Course) (before : Mode) (e : Entry) (longer : Option (List Call)) : Type 0 where
+  pub job : c'.job ≡ c.job
+  pub machine : c'.machine ≡ c.machine
+  pub driver : c'.driver ≡ with_own c.driver c'.driver.active.own
+  pub book : IsRecorded c e longer c'
+  pub stands : IsTaken c e c'
+  pub kept : c'.entries.items ≡ c.entries.items ++ e ∷ []
+  pub room : vec_capacity c'.entries ≡ vec_capacity c.entries
+  pub noted : IsNoted c.job c.turns before e c'.turns
+  pub places : still_out c'.pass.taken.items c'.pass.phase ≡ still_out c.pass.taken.items c.pass.phase
+  pub sealing : is_sealing c'.pass.phase ≡ is_sealing c.pass.phase
+
+-- all that is said of it for whatever made it
+pub record Takes (c c' : Course) (before : Mode) (e : Entry) : Type 0 where
+  pub others : c' ≡ record c { driver = c'.driver; turns = c'.turns; pass = c'.pass; entries = c'.entries }
+  pub driver : c'.driver ≡ with_own c.driver c'.driver.active.own
+  pub book : (take : CanTake c before e) → IsRecorded c e take.can.longer c'
+  pub stands : CanTake c before e → IsTaken c e c'
+  pub kept : c'.entries.items ≡ c.entries.items ++ e ∷ []
+  pub room : vec_capacity c'.entries ≡ vec_capacity c.entries
+  pub noted : IsNoted c.job c.turns before e c'.turns
+  pub places : still_out c'.pass.taken.items c'.pass.phase ≡ still_out c.pass.taken.items c.pass.phase
+  pub sealing : is_sealing c'.pass.phase ≡ is_sealing c.pass.phase
+
+-- .. where it could be taken in
+pub took_in : (c c' : Course) (before : Mode) (e : Entry) → Takes c c' before e → (take : CanTake c before e)
+    → TookIn c c' before e take.can.longer
+took_in c c' before e t take = record {
+  job = ap (λ (x : Course). x.job) t.others;
+  machine = ap (λ (x : Course). x.machine) t.others;
+  driver = t.driver;
+  book = t.book take;
+  stands = t.stands take;
+  kept = t.kept;
+  room = t.room;
+  noted = t.noted;
+  places = t.places;
+  sealing = t.sealing;
+}
+
+-- the newest entry stands first
+pub took_past : (c c' : Course) (past : List Entry) (longer : Option (List Call)) (before : Mode) (e : Entry) → past_of c ≡ past
+    → TookIn c c' before e longer → past_of c' ≡ e ∷ past
+took_past c c' past longer before e same took =
+    newest c.entries.items c'.entries.items e took.kept ∙ ap (λ h. e ∷ h) same
+
+-- ---- growth
+
+-- by one entry
+pub grows_one : (old new : Course) (cpu : Cpu) (e : Entry) (told : Option (List Call)) (spare : ℕ) → e.actor ≡ actors.Cpu cpu
+    → past_of new ≡ e ∷ past_of old → new.job ≡ old.job → KeepsCourse new told spare → Grows old (actors.Cpu cpu) 1 new told spare
+grows_one old new cpu e told spare by past job keeps = record {
+  entries = e ∷ [];
+  count = refl;
+  actors = All-cons (λ (x : Entry). x.actor ≡ actors.Cpu cpu) e [] by (All-nil (λ (x : Entry). x.actor ≡ actors.Cpu cpu));
+  past = past;
+  job = job;
+  keeps = keeps;
+}
+
+-- .. by two
+pub grows_two : (old new : Course) (cpu : Cpu) (e e' : Entry) (told : Option (List Call)) (spare : ℕ) → e.actor ≡ actors.Cpu cpu
+    → e'.actor ≡ actors.Cpu cpu → past_of new ≡ e' ∷ e ∷ past_of old → new.job ≡ old.job → KeepsCourse new told spare
+    → Grows old (actors.Cpu cpu) 2 new told spare
+grows_two old new cpu e e' told spare by by' past job keeps = record {
+  entries = e' ∷ e ∷ [];
+  count = refl;
+  actors = All-cons (λ (x : Entry). x.actor ≡ actors.Cpu cpu) e' (e ∷ []) by'
+      (All-cons (λ (x : Entry). x.actor ≡ actors.Cpu cpu) e [] by (All-nil (λ (x : Entry). x.actor ≡ actors.Cpu cpu)));
+  past = past;
+  job = job;
+  keeps = keeps;
+}
+
+-- ---- a fault step
+
+-- what stands behind an entry that was taken in
+pub took_stands : (c c' : Course) (past : List Entry) (told longer : Option (List Call)) (spare : ℕ) (d : Driver) (m : Parts)
+    (before : Mode) (e : Entry) → Stands c past told spare d m → TookIn c c' before e longer → IsForRecord past e.event
+    → Stands c' (e ∷ past) longer spare c'.driver c'.machine
+took_stands c c' past told longer spare d m before e s took =
+    taken_stands c c' past told longer spare d m e s took.job took.kept took.book took.stands took.places
+
+-- behind the entry of a fault step is a course between two turns
+pub fetched_keeps : (c c' : Course) (past : List Entry) (told longer : Option (List Call)) (spare : ℕ) (d : Driver) (m : Parts)
+    (before : Mode) (e : Entry) (page : Page) → Stands c past told spare d m → TookIn c c' before e longer
+    → IsOfAway past e.event (place past page) → NoneFails past → vec_len c.entries + 64 ≤ vec_capacity c.entries
+    → KeepsCourse c' longer spare
+fetched_keeps c c' past told longer spare d m before e page s took away none room =
+    let s' = took_stands c c' past told longer spare d m before e s took away.quiet.for_record in
+    let longer_by = one_longer c.entries c'.entries e took.kept in
+    let cap = took.room in
+    stands_keeps c' (e ∷ past) longer spare s' (arrays_late c'.job c'.driver.slots past e page s.book.agrees.sound away.there)
+    (none_more past e away.quiet.fails none)
+    (room_behind c' (few_cpus (machine_of c'.job) c'.job (e ∷ past) longer c'.driver c'.machine c'.turns s'.book)
+    (omega (arith, longer_by, cap, room)))
+
+-- ---- the end of a load
+
+-- a processor that loads a page has a start open
+pub loads_open : (j : JobView) (past : List Entry) (t : Turns) (p n : ℕ) (page : Page) → ShowsTurns j past t → p < length j.scripts
+    → last_of past p ≡ Loads n page → is_loading (turn_at t.cpus p) ≡ true
+loads_open j past t p n page shows mine last = loading_told (turn_at t.cpus p).last n page ((shows.cpus p mine).last ∙ last)
+
+-- the tables have its turn
+pub turns_room : (j : JobView) (past : List Entry) (t : Turns) (p : ℕ) → ShowsTurns j past t → p < length j.scripts → p < length t.cpus
+turns_room j past t p shows mine = let each = shows.each in omega (arith, each, mine)
+
+-- the arrays behind it
+end_arrays : (j : JobView) (keeper : Keeper) (past : List Entry) (told : Option (List Call)) (c c' : Course) (spare : ℕ) (d : Driver)
+    (m : Parts) (f : Frame) (e : Entry) → Stands c past told spare d m
+    → IsMade (machine_of c.job) c.job past told d m e told c.driver c.machine → action_of e.event ≡ Some (actions.Eld f)
+    → KeepsArrays j keeper (e ∷ past)
+end_arrays j keeper past told c c' spare d m f e s made acts =
+    arrays_moved j keeper past e s.book.agrees.sound made.next.can (end_of_load f e.event acts).moves
+
+-- a load that is back leaves a course between two turns
+pub back_keeps : (c c' : Course) (past : List Entry) (told : Option (List Call)) (spare : ℕ) (d : Driver) (m : Parts) (before : Mode)
+    (e : Entry) (cpu : Cpu) (f : Frame) → Stands c past told spare d m
+    → IsMade (machine_of c.job) c.job past told d m e told c.driver c.machine → TookIn c c' before e told → e.actor ≡ actors.Cpu cpu
+    → action_of e.event ≡ Some (actions.Eld f) → is_refused e.event ≡ false → cpu.0 < length c.turns.cpus
+    → is_loading (turn_at c.turns.cpus cpu.0) ≡ true → NoneFails past
+    → vec_len c.entries + 2 * open_starts c ≤ vec_capacity c.entries → KeepsCourse c' told spare
+back_keeps c c' past told spare d m before e cpu f s made took by acts done low loads none room =
+    let quiet = end_quiet past f e.event acts done in
+    let s' = took_stands c c' past told told spare d m before e s took quiet.for_record in
+    let longer_by = one_longer c.entries c'.entries e took.kept in
+    let cap = took.room in
+    let closed = ended_starts c.job c c' before cpu e low loads by (end_of_load f e.event acts) took.noted took.sealing in
+    stands_keeps c' (e ∷ past) told spare s' (end_arrays c'.job c'.driver.slots past told c c' spare d m f e s made acts)
+    (none_more past e quiet.fails none) (omega (arith, longer_by, cap, closed, room))
+
+-- ---- a refused load
+
+-- a processor's own entry says how it is left
+pub own_last : (past : List Entry) (cpu : Cpu) (e : Entry) → e.actor ≡ actors.Cpu cpu
+    → last_of (e ∷ past) cpu.0 ≡ last_by e.event (open_start past)
+own_last past cpu e by =
+    ap (λ b. if b then last_by e.event (open_start past) else last_of past cpu.0) (ap (is_by cpu.0) by ∙ eq-eqb cpu.0 cpu.0 refl)
+
+-- a load that is refused for its record stops no run
+fails_go_on : (o : Option Page) (refusal : Refusal) (page : Page) (reason : BusWhy) (action : Action)
+    → fails_with o refusal ≡ Fails page reason → spends (Refused action refusal) ≡ false
+fails_go_on (Some g) (why.MacFail given computed) page reason action is = refl
+fails_go_on (Some g) (why.BadHeader enclave address flags) page reason action is = refl
+fails_go_on (Some g) refusal page reason action is = cc
+fails_go_on None refusal page reason action is = cc
+
+-- .. whatever the entry
+pub fails_not_spent : (past : List Entry) (event : Event) (page : Page) (reason : BusWhy)
+    → last_by event (open_start past) ≡ Fails page reason → spends event ≡ false
+fails_not_spent past (Refused (actions.Eld f) refusal) page reason is =
+    fails_go_on (load_of (open_start past f.0)) refusal page reason (actions.Eld f) is
+fails_not_spent past (Refused action refusal) page reason is = cc
+fails_not_spent past (Did action answer) page reason is = refl
+fails_not_spent past (Age g look) page reason is = refl
+fails_not_spent past (Kick cpu) page reason is = refl
+fails_not_spent past (Bus g other) page reason is = refl
+
+-- who has a page to tell of tells it directly behind
+pub fails_reports : (j : JobView) (h : List Entry) (p : ℕ) (page : Page) (reason : BusWhy) → is_spent h ≡ false
+    → last_of h p ≡ Fails page reason → is_last h p ≡ true → cpu_due j h p ≡ Reports page reason
+fails_reports j h p page reason going last own = rw (going, last, own) refl
+
+-- by what it left the bus is made
+pub refused_bus : (c c' : Course) (past : List Entry) (told : Option (List Call)) (spare : ℕ) (before : Mode) (e : Entry) (cpu : Cpu)
+    (page : Page) (reason : BusWhy) → Stands c' (e ∷ past) told spare c'.driver c'.machine → TookIn c c' before e told
+    → e.actor ≡ actors.Cpu cpu → last_of (e ∷ past) cpu.0 ≡ Fails page reason → is_spent past ≡ false → cpu.0 < length c.job.scripts
+    → ShowsTables c.job c.driver (bus_of cpu page reason ∷ e ∷ past)
+    → AreTold c.job (e ∷ past) (bus_of cpu page reason) told told c.driver c.driver
+    → NotesBus c'.job (e ∷ past) c'.machine (bus_of cpu page reason)
+    → IsMade (machine_of c'.job) c'.job (e ∷ past) told c'.driver c'.machine (bus_of cpu page reason) told c'.driver c'.machine
+refused_bus c c' past told spare before e cpu page reason s took by last going mine shows store notes =
+    bus_made c'.job (e ∷ past) told c'.driver c'.machine c'.turns c'.pass.taken.items c'.pass.phase cpu page reason s.book s.stands still
+    (subst (λ (j : JobView). cpu.0 < length j.scripts) (sym took.job) mine)
+    (fails_reports c'.job (e ∷ past) cpu.0 page reason still last (ap (is_by cpu.0) by ∙ eq-eqb cpu.0 cpu.0 refl))
+    (subst (λ (j : JobView). ShowsTables j c'.driver (bus_of cpu page reason ∷ e ∷ past)) (sym took.job)
+    (subst (λ (x : Driver). ShowsTables c.job x (bus_of cpu page reason ∷ e ∷ past)) (sym took.driver)
+    (shows_with c.job c.driver (bus_of cpu page reason ∷ e ∷ past) c'.driver.active.own shows)))
+    (subst (λ (j : JobView). AreTold j (e ∷ past) (bus_of cpu page reason) told told c'.driver c'.driver) (sym took.job)
+    (bus_told c.job (e ∷ past) told cpu page reason c.driver c'.driver store)) notes
+  where
+    still : is_spent (e ∷ past) ≡ false
+    still =
+        ap (λ b. if b then true else is_spent past) (fails_not_spent past e.event page reason (sym (own_last past cpu e by) ∙ last)) ∙ going
+
+-- behind a refused load and its bus is a course between two turns
+pub refused_keeps : (c c' c'' : Course) (past : List Entry) (told : Option (List Call)) (spare : ℕ) (d : Driver) (m : Parts)
+    (before between : Mode) (e : Entry) (cpu : Cpu) (f : Frame) (page : Page) (reason : BusWhy) → Stands c past told spare d m
+    → IsMade (machine_of c.job) c.job past told d m e told c.driver c.machine
+    → Stands c' (e ∷ past) told spare c'.driver c'.machine → TookIn c c' before e told
+    → TookIn c' c'' between (bus_of cpu page reason) told → e.actor ≡ actors.Cpu cpu → action_of e.event ≡ Some (actions.Eld f)
+    → cpu.0 < length c.turns.cpus → is_loading (turn_at c.turns.cpus cpu.0) ≡ true → cpu.0 < length c'.turns.cpus → NoneFails past
+    → vec_len c.entries + 2 * open_starts c ≤ vec_capacity c.entries → KeepsCourse c'' told spare
+refused_keeps c c' c'' past told spare d m before between e cpu f page reason s made s' took took' by acts low loads low' none room =
+    let s'' = took_stands c' c'' (e ∷ past) told told spare c'.driver c'.machine between (bus_of cpu page reason) s' took' tt in
+    let longer_by = one_longer c.entries c'.entries e took.kept in
+    let longer_by' = one_longer c'.entries c''.entries (bus_of cpu page reason) took'.kept in
+    let cap = took.room in
+    let cap' = took'.room in
+    let closed = ended_starts c.job c c' before cpu e low loads by (end_of_load f e.event acts) took.noted took.sealing in
+    let opens = bus_starts c'.job c' c'' between cpu page reason low' took'.noted took'.sealing in
+    let slots : c''.driver.slots ≡ c'.driver.slots = ap (λ (x : Driver). x.slots) took'.driver in
+    stands_keeps c'' (bus_of cpu page reason ∷ e ∷ past) told spare s''
+    (arrays_stay c''.job c'.driver.slots c''.driver.slots (e ∷ past) (bus_of cpu page reason) refl (ap (λ (k : Keeper). k.frames) slots)
+    (ap (λ (k : Keeper). k.room) slots) (end_arrays c''.job c'.driver.slots past told c c' spare d m f e s made acts))
+    (none_behind_bus past cpu page reason e by none) (omega (arith, longer_by, longer_by', cap, cap', closed, opens, room))
+
+-- there is room for the bus
+pub room_for_bus : (c c' : Course) (before : Mode) (e : Entry) (cpu : Cpu) (f : Frame) (told : Option (List Call))
+    → TookIn c c' before e told → e.actor ≡ actors.Cpu cpu → action_of e.event ≡ Some (actions.Eld f) → cpu.0 < length c.turns.cpus
+    → is_loading (turn_at c.turns.cpus cpu.0) ≡ true → vec_len c.entries + 2 * open_starts c ≤ vec_capacity c.entries
+    → vec_len c'.entries + 1 ≤ vec_capacity c'.entries
+room_for_bus c c' before e cpu f told took by acts low loads room =
+    let longer_by = one_longer c.entries c'.entries e took.kept in
+    let cap = took.room in
+    let closed = ended_starts c.job c c' before cpu e low loads by (end_of_load f e.event acts) took.noted took.sealing in
+    omega (arith, longer_by, cap, closed, room)
+
+-- ---- what a processor's call gives
+
+-- the machine's own clauses on a note
+pub notes_of : (j : JobView) (past : List Entry) (d : Driver) (m : Parts) (e : Entry) → Agrees (machine_of j) j past d m
+    → ((making : Making) (h : List Entry) → ShapeWithRules making (state_of m) h → ShapeWithRules making (state_of m) (e ∷ h))
+    → ((frames : ℕ) (h : List Entry) → FitsApart frames h → FitsApart frames (e ∷ h)) → StaysWith (state_of m) e → NotesBus j past m e
+notes_of j past d m e r shape fits stays = record {
+  goes = record { shape = shape (machine_of j) past r.follows; fits = fits (machine_of j).frames past r.fits };
+  stays = stays;
+}
+
+-- of the end of a load
+pub record EndFacts (s : Course) (d' : Driver) (m' : Parts) (told : Option (List Call)) (cpu : Cpu) (page : Page) (loaded : Loaded) : Type 0
+  where
+    pub made : IsMade (machine_of s.job) s.job (past_of s) told s.driver s.machine (entry_in loaded) told d' m'
+    pub by : (entry_in loaded).actor ≡ actors.Cpu cpu
+    pub frame : Frame
+    pub acts : action_of (entry_in loaded).event ≡ Some (actions.Eld frame)
+    pub low : cpu.0 < length s.turns.cpus
+    pub opened : is_loading (turn_at s.turns.cpus cpu.0) ≡ true
+    pub place : vec_len s.entries + 1 ≤ vec_capacity s.entries
+    pub entry : Entry
+    pub ended : IsEnd (past_of s) cpu page frame entry loaded
+    pub shows : ShowsEnd s.job (past_of s) cpu page loaded d'
+    pub store : OfBus cpu page loaded (λ e bus. AreTold s.job (e ∷ past_of s) bus told told d' d')
+
+-- who loads a page can end that
+pub opened_can : (s : Course) (told : Option (List Call)) (spare : ℕ) (cpu : Cpu) (page : Page) → KeepsCourse s told spare
+    → cpu.0 < length s.job.scripts → loaded_by (last_of (past_of s) cpu.0) ≡ Some page → CanFinish cpu page s.driver s.machine
+opened_can s told spare cpu page k mine loads =
+    let loading = is_open (past_of s) cpu.0 page loads in
+    can_finish (machine_of s.job) s.job (past_of s) s.driver s.machine k.book.agrees cpu page loading.0 loading.1
+    (kept_room s.job s.driver (past_of s) cpu.0 k.book.agrees.shows mine)
+
+-- it gives all these
+pub end_facts : (s : Course) (d' : Driver) (m' : Parts) (told : Option (List Call)) (spare : ℕ) (cpu : Cpu) (page : Page) (loaded : Loaded)
+    → KeepsCourse s told spare → cpu.0 < length s.job.scripts → is_spent (past_of s) ≡ false
+    → loaded_by (last_of (past_of s) cpu.0) ≡ Some page
+    → ((can : CanFinish cpu page s.driver s.machine)
+    → IsFinished cpu page can.slot can.frame can.kept s.driver (state_of s.machine) loaded d' (state_of m'))
+    → ((can : CanFinish cpu page s.driver s.machine) (made : Making) (j : JobView) (past : List Entry) (n : ℕ)
+    → Agrees made j past s.driver s.machine → last_of past cpu.0 ≡ Loads n page → IsRightEnd j past cpu page can.frame loaded d')
+    → length m'.cpus ≡ length s.machine.cpus → EndFacts s d' m' told cpu page loaded
+end_facts s d' m' told spare cpu page loaded k mine going loads does rights cpus = record {
+  made = end_made s.job past told s.driver d' s.machine m' s.turns s.pass.taken.items s.pass.phase cpu page loading.0 loaded can k.book
+      k.stands going mine loading.1 (does can) right cpus;
+  by = end_by s.job past cpu page can.frame loaded d' right;
+  frame = can.frame;
+  acts = end_acts s.job past cpu page can.frame loaded d' right;
+  low = low;
+  opened = opened;
+  place =
+      let counts = starts_set s.turns.cpus cpu.0 first_turn low in
+      let was : one (is_loading (turn_at s.turns.cpus cpu.0)) ≡ 1 = ap one opened in
+      let room = k.room in omega (arith, counts, was, room);
+  entry = right.entry;
+  ended = right.end;
+  shows = right.shows;
+  store = (end_told (machine_of s.job) s.job past told s.driver d' s.machine m' s.turns cpu page loading.0 loaded can k.book refl loading.1
+      (does can)).1;
+}
+  where
+    past : List Entry
+    past = past_of s
+
+    loading : (n : ℕ) × (last_of (past_of s) cpu.0 ≡ Loads n page)
+    loading = is_open (past_of s) cpu.0 page loads
+
+    can : CanFinish cpu page s.driver s.machine
+    can = opened_can s told spare cpu page k mine loads
+
+    right : IsRightEnd s.job (past_of s) cpu page can.frame loaded d'
+    right = rights can (machine_of s.job) s.job (past_of s) loading.0 k.book.agrees loading.1
+
+    low : cpu.0 < length s.turns.cpus
+    low = turns_room s.job (past_of s) s.turns cpu.0 k.book.turns mine
+
+    opened : is_loading (turn_at s.turns.cpus cpu.0) ≡ true
+    opened = loads_open s.job (past_of s) s.turns cpu.0 loading.0 page k.book.turns mine loading.1
+
+-- of a fault step
+abbrev pub IsOwnAway : List Entry → Cpu → Page → Entry → Type 0
+IsOwnAway past cpu page e = (e.actor ≡ actors.Cpu cpu) × IsOfAway past e.event (place past page)
+
+-- its entry is its processor's, and of a page that is away
+pub right_away : (j : JobView) (past : List Entry) (cpu : Cpu) (page : Page) (answer : FaultAnswer) (d : Driver)
+    → IsRight j past cpu page answer d → OfAnswer cpu page answer (IsOwnAway past cpu page)
+right_away j past cpu page (answers.Started e work) d right =
+    (right.due.1, due_quiet past j.epc page (place past page) e.event right.due.2)
+right_away j past cpu page (answers.Bus reason) d right =
+    (refl, due_quiet past j.epc page (place past page) (Bus page reason) right.due.1)
+right_away j past cpu page answers.Here d right = tt
+right_away j past cpu page (answers.Again reason) d right = tt
+
+-- a processor that needs a page is not stopped
+pub fetch_going : (j : JobView) (past : List Entry) (p : ℕ) (page : Page) → cpu_due j past p ≡ fetches j.epc past page (place past page)
+    → is_spent past ≡ false
+fetch_going j past p page due = by_spent (is_spent past) refl
+  where
+    by_place : (at : Place) → Stopped ≡ fetches j.epc past page at → ⊥
+    by_place Absent k = cc
+    by_place (Here f) k = cc
+    by_place (Leaving f) k = cc
+    by_place (Loading f slot) k = cc
+    by_place (Away slot) k = cc
+
+    by_spent : (b : Bool) → is_spent past ≡ b → is_spent past ≡ false
+    by_spent false is = is
+    by_spent true is =
+        absurd (by_place (place past page)
+        (sym (ap (λ b. if b then Stopped else due_after (last_of past p) (is_last past p) (turn_due j past p)) is) ∙ due))
+
+-- its answer's entry was made
+pub fetch_made : (s : Course) (d' : Driver) (m' : Parts) (told told' : Option (List Call)) (spare : ℕ) (cpu : Cpu) (page : Page)
+    (answer : FaultAnswer) → KeepsCourse s told spare → cpu.0 < length s.job.scripts
+    → cpu_due s.job (past_of s) cpu.0 ≡ fetches s.job.epc (past_of s) page (place (past_of s) page)
+    → IsPlaced s.driver.states.counts page
+    → IsResolved cpu page (page_state s.driver.states page) s.driver s.machine told answer d' m' told'
+    → IsRight s.job (past_of s) cpu page answer d' → length m'.cpus ≡ length s.machine.cpus
+    → ((reason : BusWhy) → answer ≡ answers.Bus reason → Agrees (machine_of s.job) s.job (past_of s) s.driver m'
+    → NotesBus s.job (past_of s) m' (bus_of cpu page reason))
+    → OfAnswer cpu page answer (λ e. IsMade (machine_of s.job) s.job (past_of s) told s.driver s.machine e told' d' m')
+fetch_made s d' m' told told' spare cpu page answer k mine due placed is right cpus notes =
+    fault_made s.job (past_of s) told told' s.driver d' s.machine m' s.turns s.pass.taken.items s.pass.phase cpu page answer k.book k.stands
+    (fetch_going s.job (past_of s) cpu.0 page due) mine due (kept_room s.job s.driver (past_of s) cpu.0 k.book.agrees.shows mine) placed is
+    right cpus (λ reason same. notes reason same (there reason same))
+  where
+    there : (reason : BusWhy) → answer ≡ answers.Bus reason → Agrees (machine_of s.job) s.job (past_of s) s.driver m'
+    there reason same =
+        let left = subst (λ a. Leaves cpu page a s.driver d' s.machine m' told told') same
+        (resolved_leaves cpu page (page_state s.driver.states page) answer s.driver d' s.machine m' told told' is) in
+        subst (Agrees (machine_of s.job) s.job (past_of s) s.driver) (sym left.machine) k.book.agrees

@@ -1,0 +1,29 @@
+-- A processor's turn that makes an instruction.
+use Rattle.std.proofs.Common.{◌≡◌, refl, subst, sym}
+use Rattle.std.specs.Prelude.{IfOk, OnErr, Result, Ok, Err}
+use Rattle.sgx_types.specs.declared.entries.Action.{Action}
+use Rattle.sgx_types.specs.declared.entries.Actor.TheVariants as actors
+use Rattle.sgx_types.specs.declared.names.Cpu.{Cpu}
+use Rattle.sgx_types.specs.declared.names.Memory.{Memory}
+use Rattle.run_turns.specs.declared.course.Course.{Course}
+use Rattle.run_turns.specs.declared.turn.Turn.{Turn}
+use Rattle.run_turns.specs.declared.turn.Turn.TheVariants as turns
+use Rattle.run_turns.specs.Courses.{Grows, IsSame, KeepsCourse}
+use Rattle.run_turns.specs.Turns.{CanInstruct, IsCpuTurn}
+use Rattle.run_turns.proofs.SameLaws.{same_keeps}
+
+-- its answer is one entry
+pub made_turn : (c new : Course) (cpu : Cpu) (action : Action) (r : Result Turn Memory) (can : CanInstruct c (actors.Cpu cpu) action)
+    → IfOk r (λ turn. turn ≡ turns.Did 1)
+    → IfOk r (λ turn. (k : CanInstruct c (actors.Cpu cpu) action) → Grows c (actors.Cpu cpu) 1 new k.told k.spare)
+    → IfOk r (λ turn. IsCpuTurn c cpu turn new can.told can.spare)
+made_turn c new cpu action (Ok turn) can one grows =
+    subst (λ t. IsCpuTurn c cpu t new can.told can.spare) (sym one) (refl, grows can)
+made_turn c new cpu action (Err memory) can one grows = tt
+
+-- .. and what holds before it holds behind it
+pub made_keeps : (c new : Course) (cpu : Cpu) (action : Action) (r : Result Turn Memory) (can : CanInstruct c (actors.Cpu cpu) action)
+    → IfOk r (λ turn. (k : CanInstruct c (actors.Cpu cpu) action) → Grows c (actors.Cpu cpu) 1 new k.told k.spare)
+    → OnErr r (IsSame c new) → KeepsCourse new can.told can.spare
+made_keeps c new cpu action (Ok turn) can grows same = (grows can).keeps
+made_keeps c new cpu action (Err memory) can grows same = same_keeps c new can.told can.spare same can.keeps

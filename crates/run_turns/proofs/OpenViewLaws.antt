@@ -1,0 +1,142 @@
+-- The work of a started load, as the book shows it; and the turns of a processor.
+use Rattle.std.proofs.Common.{◌≡◌, ℕ, zero, suc, Bool, false, List, Option, Some, None, IfSome, is_some, Result, Ok, Err, IfOk, OnErr, reverse, refl, sym, ap, subst, ◌∙◌, inl, inr}
+use Rattle.std.specs.Option.{IsSomeAnd}
+use Rattle.sgx_types.specs.declared.entries.Actor.TheVariants as actors
+use Rattle.sgx_types.specs.declared.names.Cpu.{Cpu}
+use Rattle.sgx_types.specs.declared.names.Memory.{Memory}
+use Rattle.sgx_types.specs.declared.names.Page.{Page}
+use Rattle.sgx_types.specs.declared.names.SlotAt.{SlotAt}
+use Rattle.sgx_types.specs.Making.{Making}
+use Rattle.sgx_types.specs.Starts.{Start, open_start}
+use Rattle.io_edges.specs.declared.plans.PlanLine.{PlanLine}
+use Rattle.seal_record.specs.declared.unseal.UnsealWork.{UnsealWork}
+use Rattle.active_list.specs.Keeping.{Kept, kept_at, page_kept, record_kept}
+use Rattle.backing_store.specs.Calls.{Call}
+use Rattle.paging_laws.proofs.ColumnLaws.{start_is}
+use Rattle.driver_rules.specs.Places.{Loading}
+use Rattle.driver_rules.specs.Turns.{Loads, last_of}
+use Rattle.driver_laws.specs.Sound.{is_absent}
+use Rattle.driver_laws.proofs.LoadLaws.{loading_place}
+use Rattle.driver_tables.specs.Tables.{place_in}
+use Rattle.fault_handler.specs.Repeating.{IsWorkFor}
+use Rattle.run_history.specs.Given.{gift}
+use Rattle.book_laws.specs.Stores.{TellsStore}
+use Rattle.run_turns.specs.declared.course.Course.{Course}
+use Rattle.run_turns.specs.declared.turn.Turn.{Turn}
+use Rattle.run_turns.specs.declared.turn.Turn.TheVariants as turns
+use Rattle.run_turns.specs.Courses.{IsSame, KeepsCourse, past_of}
+use Rattle.run_turns.specs.Kept.{IsKept, view_of}
+use Rattle.run_turns.specs.Turns.{IsCpuTurn, IsOpened, OpensFor}
+use Rattle.run_turns.specs.Views.{IsLoadEnd, IsRun, OpensLoad}
+use Rattle.run_turns.proofs.LoadCourse.{is_open}
+use Rattle.run_turns.proofs.SameLaws.{same_keeps, same_view}
+use Rattle.run_turns.proofs.ReportLaws.{cpu_stopped}
+use Rattle.run_turns.proofs.ViewLaws.{grown_seen, kept_on, plans_told}
+
+-- ---- works
+
+module _ (c : Course) (told : Option (List Call)) (spare : ℕ) (cpu : Cpu) (work : UnsealWork) (k : KeepsCourse c told spare) where
+  into : (a b : ℕ) (x y : SlotAt) → Loading a x ≡ Loading b y → a ≡ b
+  into a b x y h = cc
+
+  given : (o : Option (List Call)) (n : ℕ) (page : Page) (kept : Kept) → IfSome o (λ calls. TellsStore c.job.key (past_of c) calls c.driver)
+      → last_of (past_of c) cpu.0 ≡ Loads n page → kept_at c.driver.kept cpu.0 ≡ Some kept → work.rec ≡ kept.sealed
+      → IfSome o (λ calls. gift (past_of c) calls n ≡ Some work.rec)
+  given None n page kept tells last at brought = tt
+  given (Some calls) n page kept tells last at brought =
+      sym (tells.gifts cpu.0 n page last) ∙ ap record_kept at ∙ ap Some (sym brought)
+
+  pub opens_seen : (plans : List PlanLine) (noted : Bool) → OpensFor c cpu work → OpensLoad (view_of c told plans noted) cpu work
+  opens_seen plans noted opens = by_kept (kept_at c.driver.kept cpu.0) refl opens
+    where
+      by_kept : (o : Option Kept) → kept_at c.driver.kept cpu.0 ≡ o → IsWorkFor c.driver c.machine o (Some work)
+          → OpensLoad (view_of c told plans noted) cpu work
+      by_kept None at w = absurd w
+      by_kept (Some kept) at w =
+          let r = k.book.agrees in
+          let past = past_of c in
+          let loads = is_open past cpu.0 kept.page (sym (r.shows.copies cpu.0) ∙ ap page_kept at) in
+          let there = loading_place past loads.0 kept.page r.sound (r.theirs.started cpu.0 loads.0 kept.page loads.1) in
+          let same : w.frame.0 ≡ loads.0 =
+          into w.frame.0 loads.0 w.slot there.0
+          (sym (ap place_in w.loading) ∙ r.shows.states kept.page (r.shows.placed kept.page (ap is_absent there.1)) ∙ there.1) in
+          record {
+            key = w.opens.key ∙ ap (λ (m : Making). m.key) r.follows.shape.making;
+            frame = loads.0;
+            page = kept.page;
+            loads = loads.1;
+            version = subst (λ o. IsSomeAnd o (λ (start : Start). work.version ≡ start.version))
+                (sym w.opens.opened ∙ start_is r.follows.shape.columns w.frame.0 ∙ ap (open_start past) same) w.opens.version;
+            given = given told loads.0 kept.page kept k.book.store loads.1 at w.opens.brought;
+          }
+
+-- ---- turns
+
+-- a turn of a book to which no want of memory was noted, behind which the store tells these calls
+module _ (c c' : Course) (told told' : Option (List Call)) (plans plans' : List PlanLine) (spare' : ℕ) (cpu : Cpu)
+    (k : KeepsCourse c' told' spare') (same_plans : plans' ≡ plans) where
+  -- where nothing has changed, the book is the one that it was
+  same_seen : IsSame c c' → told' ≡ told → view_of c' told' plans' false ≡ view_of c told plans false
+  same_seen s calm = same_view c c' told' plans' false s ∙ (λ i. view_of c (calm i) (same_plans i) false)
+
+  run_seen : (turn : Turn) → (past_of c' ≡ past_of c → told' ≡ told) → IsCpuTurn c cpu turn c' told' spare'
+      → IsRun (view_of c told plans false) cpu turn (view_of c' told' plans' false)
+  run_seen (turns.Did n) calm (one, g) = (one, grown_seen c c' (actors.Cpu cpu) 1 told told' told' plans plans' spare' false g)
+  run_seen (turns.Unseal work) calm (opens, inl g) = (
+    opens_seen c' told' spare' cpu work k plans' false opens,
+    inl (grown_seen c c' (actors.Cpu cpu) 1 told told' told' plans plans' spare' false g),
+  )
+  run_seen (turns.Unseal work) calm (opens, inr s) = (
+    opens_seen c' told' spare' cpu work k plans' false opens,
+    inr (same_seen s (calm (ap reverse s.entries))),
+  )
+  run_seen (turns.Again why) calm (due, s) = (due, same_seen s (calm (ap reverse s.entries)))
+  run_seen turns.Finished calm (due, s) = (due, same_seen s (calm (ap reverse s.entries)))
+  run_seen turns.Stopped calm (due, s) =
+      (cpu_stopped c.job (past_of c) cpu.0 due, same_seen s (calm (ap reverse s.entries)))
+  run_seen (turns.Seal work) calm is = absurd is
+
+  pub run_turn_seen : (r : Result Turn Memory) → IfOk r (λ turn. past_of c' ≡ past_of c → told' ≡ told)
+      → IfOk r (λ turn. IsCpuTurn c cpu turn c' told' spare')
+      → IfOk r (λ turn. IsRun (view_of c told plans false) cpu turn (view_of c' told' plans' false))
+  run_turn_seen (Ok turn) calm is = run_seen turn calm is
+  run_turn_seen (Err memory) calm is = tt
+
+  run_job : (turn : Turn) → IsCpuTurn c cpu turn c' told' spare' → c'.job ≡ c.job
+  run_job (turns.Did n) (one, g) = g.job
+  run_job (turns.Unseal work) (opens, inl g) = g.job
+  run_job (turns.Unseal work) (opens, inr s) = s.job
+  run_job (turns.Again why) (due, s) = s.job
+  run_job turns.Finished (due, s) = s.job
+  run_job turns.Stopped (due, s) = s.job
+  run_job (turns.Seal work) is = absurd is
+
+  pub run_turn_kept : (r : Result Turn Memory) (spare : ℕ) (X : Type 0) → IsKept c told plans spare → is_some told' ≡ is_some told
+      → IfOk r (λ turn. IsCpuTurn c cpu turn c' told' spare') → OnErr r (IsSame c c' × X) → IsKept c' told' plans' spare'
+  run_turn_kept r spare X kept tells is same =
+      record { keeps = k; plans_are = plans_told c c' told told' plans plans' same_plans (job r is same) tells kept.plans_are }
+    where
+      job : (x : Result Turn Memory) → IfOk x (λ turn. IsCpuTurn c cpu turn c' told' spare') → OnErr x (IsSame c c' × X) → c'.job ≡ c.job
+      job (Ok turn) one two = run_job turn one
+      job (Err memory) one two = two.0.job
+
+-- ---- the end of a load
+
+module _ (c c' : Course) (told : Option (List Call)) (plans : List PlanLine) (spare : ℕ) (cpu : Cpu) where
+  pub opened_seen : (turn : Turn) → IsOpened c cpu turn c' told spare → IsLoadEnd (view_of c told plans false) cpu turn (view_of c' told plans false)
+  opened_seen (turns.Did zero) (none, s) = (none, same_view c c' told plans false s)
+  opened_seen (turns.Did (suc n)) g = grown_seen c c' (actors.Cpu cpu) (suc n) told told told plans plans spare false g
+  opened_seen turns.Stopped (spent, s) = (spent, same_view c c' told plans false s)
+  opened_seen (turns.Seal work) is = absurd is
+  opened_seen (turns.Unseal work) is = absurd is
+  opened_seen (turns.Again why) is = absurd is
+  opened_seen turns.Finished is = absurd is
+
+  pub opened_kept : (turn : Turn) → IsKept c told plans spare → IsOpened c cpu turn c' told spare → IsKept c' told plans spare
+  opened_kept (turns.Did zero) k (none, s) = kept_on c c' told plans spare k (same_keeps c c' told spare s k.keeps, s.job)
+  opened_kept (turns.Did (suc n)) k g = kept_on c c' told plans spare k (g.keeps, g.job)
+  opened_kept turns.Stopped k (spent, s) = kept_on c c' told plans spare k (same_keeps c c' told spare s k.keeps, s.job)
+  opened_kept (turns.Seal work) k is = absurd is
+  opened_kept (turns.Unseal work) k is = absurd is
+  opened_kept (turns.Again why) k is = absurd is
+  opened_kept turns.Finished k is = absurd is

@@ -1,0 +1,150 @@
+-- The turns of the reclaimer, as the book shows them.
+use Rattle.std.proofs.Common.{◌≡◌, ℕ, zero, suc, Bool, false, List, [], Option, Some, None, is_some, Result, Ok, Err, IfOk, OnErr, reverse, slice_get, refl, sym, ap, ◌∙◌, inl, inr, arith}
+use Rattle.std.specs.Option.{IsSomeAnd}
+use Rattle.sgx_types.specs.declared.entries.Actor.TheVariants as actors
+use Rattle.sgx_types.specs.declared.names.Memory.{Memory}
+use Rattle.sgx_types.specs.Making.{Making}
+use Rattle.io_edges.specs.declared.plans.PlanLine.{PlanLine}
+use Rattle.seal_record.specs.declared.seal.SealWork.{SealWork}
+use Rattle.backing_store.specs.Calls.{Call}
+use Rattle.paging_laws.specs.Steps.{SealsPage}
+use Rattle.paging_laws.proofs.ColumnLaws.{start_is}
+use Rattle.paging_machine.specs.Parts.{state_of}
+use Rattle.reclaim_worker.specs.declared.turns.Phase.{Phase}
+use Rattle.reclaim_worker.specs.declared.turns.Phase.TheVariants as phases
+use Rattle.reclaim_worker.specs.declared.turns.Taken.{Taken}
+use Rattle.reclaim_worker.specs.Standing.{is_kicked}
+use Rattle.reclaim_worker.specs.Stored.{IsToSeal}
+use Rattle.run_turns.specs.declared.course.Course.{Course}
+use Rattle.run_turns.specs.declared.turn.Turn.{Turn}
+use Rattle.run_turns.specs.declared.turn.Turn.TheVariants as turns
+use Rattle.run_turns.specs.Courses.{IsSame, KeepsCourse, past_of}
+use Rattle.run_turns.specs.Kept.{IsKept, view_of}
+use Rattle.run_turns.specs.Passing.{EndsNone, IsWaiting}
+use Rattle.run_turns.specs.Turns.{IsReclaimerTurn, IsSealed, SealsFor}
+use Rattle.run_turns.specs.Views.{HasGrown, IsOutEnd, IsReclaim, SealsPageOut}
+use Rattle.run_turns.proofs.StartLaws.{none_started}
+use Rattle.run_turns.proofs.ViewLaws.{grown_seen, plans_told}
+
+-- ---- works
+
+-- the work is of a page that has started to go out
+seals_seen : (c : Course) (told : Option (List Call)) (spare : ℕ) (work : SealWork) (plans : List PlanLine) (noted : Bool)
+    → KeepsCourse c told spare → SealsFor c work → SealsPageOut (view_of c told plans noted) work
+seals_seen c told spare work plans noted k = by_phase c.pass.phase
+  where
+    by_one : (o : Option Taken)
+        → IsSomeAnd o (λ one. SealsPage (state_of c.machine) one.frame.0 work.key work.version work.header work.plain.items)
+        → SealsPageOut (view_of c told plans noted) work
+    by_one None s = absurd s
+    by_one (Some one) s =
+        let shape = k.book.agrees.follows.shape in
+        record {
+          key = s.key ∙ ap (λ (m : Making). m.key) shape.making;
+          frame = one.frame.0;
+          start = s.leaving.start;
+          opened = sym (start_is shape.columns one.frame.0) ∙ s.leaving.opened;
+          version = s.version;
+        }
+
+    by_phase : (phase : Phase)
+        → IsToSeal c.pass.taken.items phase (state_of c.machine) work.key work.version work.header work.plain.items
+        → SealsPageOut (view_of c told plans noted) work
+    by_phase (phases.Sealing next slot) s = by_one (slice_get c.pass.taken.items next) s
+    by_phase (phases.Idle works) s = absurd s
+    by_phase (phases.Scan left) s = absurd s
+    by_phase (phases.Block next) s = absurd s
+    by_phase (phases.Tries next form block) s = absurd s
+
+-- ---- turns
+
+module _ (c c' : Course) (told told' : Option (List Call)) (plans plans' : List PlanLine) (spare' : ℕ) (k : KeepsCourse c' told' spare')
+    (same_plans : plans' ≡ plans) where
+  -- where entries and job are as before, the book is the one that it was
+  rest_seen : c'.job ≡ c.job → c'.entries.items ≡ c.entries.items → told' ≡ told
+      → view_of c' told' plans' false ≡ view_of c told plans false
+  rest_seen job items calm = λ i. record {
+    job = job i;
+    past = reverse (items i);
+    told = calm i;
+    plans = same_plans i;
+    noted = false;
+  }
+
+  none_grown : IsSame c c' → HasGrown (view_of c told plans false) actors.Reclaimer 0 (view_of c' told' plans' false)
+  none_grown s = record {
+    entries = [];
+    count = refl;
+    actors = λ n d low. absurd (omega (arith, low));
+    past = ap reverse s.entries;
+    job = s.job;
+    noted = refl;
+  }
+
+  reclaim_seen : (turn : Turn) → (IsWaiting turn → told' ≡ told) → IsReclaimerTurn c turn c' told' spare'
+      → IsReclaim (view_of c told plans false) turn (view_of c' told' plans' false)
+  reclaim_seen (turns.Did n) calm g = grown_seen c c' actors.Reclaimer n told told' told' plans plans' spare' false g
+  reclaim_seen (turns.Seal work) calm (seals, inl g) = (
+    seals_seen c' told' spare' work plans' false k seals,
+    inl (grown_seen c c' actors.Reclaimer 1 told told' told' plans plans' spare' false g),
+  )
+  reclaim_seen (turns.Seal work) calm (seals, inr s) = (seals_seen c' told' spare' work plans' false k seals, inr (none_grown s))
+  reclaim_seen (turns.Again why) calm (due, s) = ((is_kicked c.pass.phase, due), rest_seen s.job s.entries (calm tt))
+  reclaim_seen turns.Finished calm (due, s) = ((is_kicked c.pass.phase, due), rest_seen s.job s.entries (calm tt))
+  reclaim_seen turns.Stopped calm (due, s) = (inr (is_kicked c.pass.phase, due), rest_seen s.job s.entries (calm tt))
+  reclaim_seen (turns.Unseal work) calm is = absurd is
+
+  pub reclaim_turn_seen : (r : Result Turn Memory) (X : Type 0) → (X → told' ≡ told) → IfOk r (λ turn. IsWaiting turn → X)
+      → IfOk r (λ turn. IsReclaimerTurn c turn c' told' spare')
+      → IfOk r (λ turn. IsReclaim (view_of c told plans false) turn (view_of c' told' plans' false))
+  reclaim_turn_seen (Ok turn) X calm rests is = reclaim_seen turn (λ w. calm (rests w)) is
+  reclaim_turn_seen (Err memory) X calm rests is = tt
+
+  reclaim_job : (turn : Turn) → IsReclaimerTurn c turn c' told' spare' → c'.job ≡ c.job
+  reclaim_job (turns.Did n) g = g.job
+  reclaim_job (turns.Seal work) (seals, inl g) = g.job
+  reclaim_job (turns.Seal work) (seals, inr s) = s.job
+  reclaim_job (turns.Again why) (due, s) = s.job
+  reclaim_job turns.Finished (due, s) = s.job
+  reclaim_job turns.Stopped (due, s) = s.job
+  reclaim_job (turns.Unseal work) is = absurd is
+
+  pub reclaim_turn_kept : (r : Result Turn Memory) (spare : ℕ) (X : Type 0) → IsKept c told plans spare → is_some told' ≡ is_some told
+      → IfOk r (λ turn. IsReclaimerTurn c turn c' told' spare') → OnErr r (IsSame c c' × X) → IsKept c' told' plans' spare'
+  reclaim_turn_kept r spare X kept tells is same =
+      record { keeps = k; plans_are = plans_told c c' told told' plans plans' same_plans (job r is same) tells kept.plans_are }
+    where
+      job : (x : Result Turn Memory) → IfOk x (λ turn. IsReclaimerTurn c turn c' told' spare') → OnErr x (IsSame c c' × X)
+          → c'.job ≡ c.job
+      job (Ok turn) one two = reclaim_job turn one
+      job (Err memory) one two = two.0.job
+
+  -- ---- the end of a write-out
+
+  pub sealed_seen : (turn : Turn) (spare : ℕ) → KeepsCourse c told spare → (EndsNone turn → told' ≡ told)
+      → IsSealed c turn c' told' spare' → IsOutEnd (view_of c told plans false) turn (view_of c' told' plans' false)
+  sealed_seen (turns.Did zero) spare before calm (idle, s) = (
+    none_started c.job.start_epoch c.job (past_of c) c.pass.taken.items c.pass.phase before.stands before.book.age idle,
+    rest_seen s.job s.entries (calm tt),
+  )
+  sealed_seen (turns.Did (suc n)) spare before calm g =
+      grown_seen c c' actors.Reclaimer (suc n) told told' told' plans plans' spare' false g
+  sealed_seen turns.Stopped spare before calm (spent, s) = (spent, rest_seen s.job s.entries (calm tt))
+  sealed_seen (turns.Seal work) spare before calm is = absurd is
+  sealed_seen (turns.Unseal work) spare before calm is = absurd is
+  sealed_seen (turns.Again why) spare before calm is = absurd is
+  sealed_seen turns.Finished spare before calm is = absurd is
+
+  pub sealed_kept : (turn : Turn) (spare : ℕ) → IsKept c told plans spare → is_some told' ≡ is_some told
+      → IsSealed c turn c' told' spare' → IsKept c' told' plans' spare'
+  sealed_kept turn spare kept tells is =
+      record { keeps = k; plans_are = plans_told c c' told told' plans plans' same_plans (job turn is) tells kept.plans_are }
+    where
+      job : (x : Turn) → IsSealed c x c' told' spare' → c'.job ≡ c.job
+      job (turns.Did zero) (idle, s) = s.job
+      job (turns.Did (suc n)) g = g.job
+      job turns.Stopped (spent, s) = s.job
+      job (turns.Seal work) y = absurd y
+      job (turns.Unseal work) y = absurd y
+      job (turns.Again why) y = absurd y
+      job turns.Finished y = absurd y

@@ -1,0 +1,20 @@
+use Rattle.std.proofs.Common.{ap}
+use Rattle.run_turns.proofs.ReclaimViewLaws.{sealed_kept, sealed_seen}
+use Rattle.run_turns.proofs.book.Book.commit_sealed.Goals as goal
+
+pub invariant_of-self : goal.invariant_of-self
+invariant_of-self g c =
+    sealed_kept c.self.inside.course.value c.commit_sealed.new.self (g.B.Backing.told c.self.inside.store)
+    (g.B.Backing.told c.commit_sealed.new.store) (g.B.Backing.plans c.self.inside.store) (g.B.Backing.plans c.commit_sealed.new.store)
+    (g.B.Backing.spare c.commit_sealed.new.store) c.commit_sealed.ensures.keeps c.commit_sealed.ensures.plans c.commit_sealed.result
+    (g.B.Backing.spare c.self.inside.store) c.self.invariant c.commit_sealed.ensures.tells
+    (rw c.deref_mut.ensures.value at c.commit_sealed.ensures.turn)
+
+pub returns : goal.returns
+returns g c =
+    rw (← c.self.view_is, c.if-self.false)
+    (sealed_seen c.self.inside.course.value c.commit_sealed.new.self (g.B.Backing.told c.self.inside.store)
+    (g.B.Backing.told c.commit_sealed.new.store) (g.B.Backing.plans c.self.inside.store) (g.B.Backing.plans c.commit_sealed.new.store)
+    (g.B.Backing.spare c.commit_sealed.new.store) c.commit_sealed.ensures.keeps c.commit_sealed.ensures.plans c.commit_sealed.result
+    (g.B.Backing.spare c.self.inside.store) c.self.invariant.keeps (λ none. ap g.B.Backing.told (c.commit_sealed.ensures.none none))
+    (rw c.deref_mut.ensures.value at c.commit_sealed.ensures.turn))

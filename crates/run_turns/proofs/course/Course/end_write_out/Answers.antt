@@ -1,0 +1,61 @@
+use Rattle.turn_rules.specs.Machines.{machine_of}
+use Rattle.run_turns.specs.Courses.{past_of}
+use Rattle.paging_machine.specs.Parts.{state_of}
+use Rattle.run_turns.proofs.CallLaws.{stored_tells}
+use Rattle.run_turns.proofs.EndTurnLaws.{course_open, end_is_own, one_out}
+use Rattle.run_turns.proofs.FollowLaws.{course_ready}
+use Rattle.run_turns.proofs.course.Course.end_write_out.Goals as goal
+
+pub stored-entry-requires-clause-started : goal.stored-entry-requires-clause-started
+stored-entry-requires-clause-started g c =
+    (course_open c.args.self.now (g.S.Backing.told c.args.store.now) (g.S.Backing.spare c.args.store.now) c.requires.keeps c.requires.sealing).1
+
+pub stored-entry-requires-clause-place : goal.stored-entry-requires-clause-place
+stored-entry-requires-clause-place g c =
+    one_out c.args.self.now (g.S.Backing.told c.args.store.now) (g.S.Backing.spare c.args.store.now) c.requires.keeps c.requires.sealing
+
+pub take_own-requires : goal.take_own-requires
+take_own-requires g c =
+    let k = c.requires.keeps in
+    let e = c.stored-entry.ensures in
+    let made = machine_of c.args.self.now.job in
+    let past = past_of c.args.self.now in
+    record {
+      longer = g.S.Backing.told c.stored-entry.new.store;
+      spare = g.S.Backing.spare c.stored-entry.new.store;
+      is = end_is_own c.args.self.now (g.S.Backing.told c.args.store.now) (g.S.Backing.told c.stored-entry.new.store)
+          (g.S.Backing.spare c.args.store.now) (g.S.Backing.spare c.stored-entry.new.store) (g.S.Backing.faults c.args.store.now)
+          (g.S.Backing.faults c.stored-entry.new.store) c.stored-entry.result c.stored-entry.new.self c.stored-entry.new.driver
+          c.stored-entry.new.machine k c.requires.going c.requires.sealing
+          (e.ended made c.args.self.now.job past
+          (course_ready c.args.self.now (g.S.Backing.told c.args.store.now) (g.S.Backing.spare c.args.store.now) k))
+          e.says e.phase (e.spare k.places) (e.shape made past k.book.agrees.follows)
+          (e.fits made past k.book.agrees.follows k.book.agrees.fits) e.cpus;
+    }
+
+pub returns-clause-grows : goal.returns-clause-grows
+returns-clause-grows g c =
+    let k = c.requires.keeps in
+    let e = c.stored-entry.ensures in
+    let made = machine_of c.args.self.now.job in
+    let past = past_of c.args.self.now in
+    let grows = c.take_own.ensures.grows (record {
+      longer = g.S.Backing.told c.stored-entry.new.store;
+      spare = g.S.Backing.spare c.stored-entry.new.store;
+      is = end_is_own c.args.self.now (g.S.Backing.told c.args.store.now) (g.S.Backing.told c.stored-entry.new.store)
+          (g.S.Backing.spare c.args.store.now) (g.S.Backing.spare c.stored-entry.new.store) (g.S.Backing.faults c.args.store.now)
+          (g.S.Backing.faults c.stored-entry.new.store) c.stored-entry.result c.stored-entry.new.self c.stored-entry.new.driver
+          c.stored-entry.new.machine k c.requires.going c.requires.sealing
+          (e.ended made c.args.self.now.job past
+          (course_ready c.args.self.now (g.S.Backing.told c.args.store.now) (g.S.Backing.spare c.args.store.now) k))
+          e.says e.phase (e.spare k.places) (e.shape made past k.book.agrees.follows)
+          (e.fits made past k.book.agrees.follows k.book.agrees.fits) e.cpus;
+    }) in
+    record { entries = grows.entries; count = grows.count; actors = grows.actors; past = grows.past; job = grows.job; keeps = grows.keeps }
+
+pub returns-clause-tells : goal.returns-clause-tells
+returns-clause-tells g c =
+    stored_tells c.args.self.now.pass.taken.items c.args.self.now.pass.phase (state_of c.args.self.now.machine)
+    (state_of c.stored-entry.new.machine) c.args.self.now.driver c.stored-entry.new.driver (g.S.Backing.told c.args.store.now)
+    (g.S.Backing.told c.stored-entry.new.store) (g.S.Backing.faults c.args.store.now) (g.S.Backing.faults c.stored-entry.new.store)
+    c.stored-entry.result c.stored-entry.ensures.says

@@ -1,0 +1,203 @@
+use Rattle.std.proofs.Common.{◌∷◌, ◌++◌, [], inl, refl, ap, sym, subst, ◌∙◌, arith}
+use Rattle.fault_handler.specs.declared.answers.FaultAnswer.TheVariants as answers
+use Rattle.run_turns.specs.Courses.{KeepsCourse}
+use Rattle.run_turns.proofs.LoadFetch.{again_keeps, again_same, again_waits_by, fetched_of, here_keeps, here_same, here_waits_by, mid, start_can, start_turns, told_takes, told_turns}
+use Rattle.run_turns.proofs.RecordLaws.{longer_apart}
+use Rattle.run_turns.proofs.SameLaws.{same_keeps}
+use Rattle.run_turns.proofs.course.Course.fetch.Goals as goal
+
+pub returns-in_err-reserve-clause-keeps : goal.returns-in_err-reserve-clause-keeps
+returns-in_err-reserve-clause-keeps g c =
+    same_keeps c.args.self.now (record c.args.self.now { entries = c.reserve.new.self }) (g.S.Backing.told c.args.store.now)
+    (g.S.Backing.spare c.args.store.now)
+    (record {
+      job = refl;
+      machine = refl;
+      driver = refl;
+      turns = refl;
+      taken = refl;
+      phase = refl;
+      entries = c.reserve.ensures.items;
+      room = c.reserve.ensures.capacity;
+    }) c.requires.keeps
+
+pub returns-in_err-resolve-clause-keeps : goal.returns-in_err-resolve-clause-keeps
+returns-in_err-resolve-clause-keeps g c =
+    let s = c.args.self.now in
+    same_keeps s (mid s c.reserve.new.self c.resolve.new.driver c.resolve.new.machine) (g.S.Backing.told c.resolve.new.store)
+    (g.S.Backing.spare c.resolve.new.store)
+    (record {
+      job = refl;
+      machine = c.in_err-resolve.ensures.machine;
+      driver = c.in_err-resolve.ensures.driver;
+      turns = refl;
+      taken = refl;
+      phase = refl;
+      entries = c.reserve.ensures.items;
+      room = c.reserve.ensures.capacity;
+    })
+    (subst (λ b. KeepsCourse s (g.S.Backing.told b) (g.S.Backing.spare b)) (sym c.in_err-resolve.ensures.store) c.requires.keeps)
+
+pub take_in-requires : goal.take_in-requires
+take_in-requires g c =
+    let s = c.args.self.now in
+    let room = c.in_ok-reserve.ensures.ok in
+    let f = fetched_of s c.reserve.new.self c.resolve.new.driver c.resolve.new.machine (g.S.Backing.told c.args.store.now)
+    (g.S.Backing.told c.resolve.new.store) (g.S.Backing.spare c.args.store.now) c.args.cpu c.args.page c.mode-before.result
+    c.in_ok-resolve.field-0 (answers.Bus c.in-Bus.why) c.requires.keeps c.requires.cpu c.requires.due
+    (sym c.has_place.ensures ∙ c.if-not-has_place.false) c.mode-before.ensures c.reserve.ensures.items (omega (arith, room))
+    c.in_ok-resolve.ensures.does c.in_ok-resolve.ensures.right c.resolve.ensures.cpus c.in-Bus.is in
+    told_takes c.in-Bus.why f c.bus-entry.result c.bus-entry.ensures c.note.ensures.shape c.note.ensures.fits c.note.ensures.history
+
+pub take_in-requires-in-Started : goal.take_in-requires-in-Started
+take_in-requires-in-Started g c =
+    let s = c.args.self.now in
+    let room = c.in_ok-reserve.ensures.ok in
+    let f = fetched_of s c.reserve.new.self c.resolve.new.driver c.resolve.new.machine (g.S.Backing.told c.args.store.now)
+    (g.S.Backing.told c.resolve.new.store) (g.S.Backing.spare c.args.store.now) c.args.cpu c.args.page c.mode-before.result
+    c.in_ok-resolve.field-0 (answers.Started c.in-Started.entry c.in-Started.work) c.requires.keeps c.requires.cpu c.requires.due
+    (sym c.has_place.ensures ∙ c.if-not-has_place.false) c.mode-before.ensures c.reserve.ensures.items (omega (arith, room))
+    c.in_ok-resolve.ensures.does c.in_ok-resolve.ensures.right c.resolve.ensures.cpus c.in-Started.is in
+    start_can c.in-Started.entry c.in-Started.work f
+
+pub returns-in-Here-clause-turn : goal.returns-in-Here-clause-turn
+returns-in-Here-clause-turn g c =
+    let s = c.args.self.now in
+    let room = c.in_ok-reserve.ensures.ok in
+    let f = fetched_of s c.reserve.new.self c.resolve.new.driver c.resolve.new.machine (g.S.Backing.told c.args.store.now)
+    (g.S.Backing.told c.resolve.new.store) (g.S.Backing.spare c.args.store.now) c.args.cpu c.args.page c.mode-before.result
+    c.in_ok-resolve.field-0 answers.Here c.requires.keeps c.requires.cpu c.requires.due
+    (sym c.has_place.ensures ∙ c.if-not-has_place.false) c.mode-before.ensures c.reserve.ensures.items (omega (arith, room))
+    c.in_ok-resolve.ensures.does c.in_ok-resolve.ensures.right c.resolve.ensures.cpus c.in-Here.is in
+    (here_waits_by f, here_same f c.reserve.ensures.capacity)
+
+pub returns-in-Here-clause-keeps : goal.returns-in-Here-clause-keeps
+returns-in-Here-clause-keeps g c =
+    let s = c.args.self.now in
+    let room = c.in_ok-reserve.ensures.ok in
+    let f = fetched_of s c.reserve.new.self c.resolve.new.driver c.resolve.new.machine (g.S.Backing.told c.args.store.now)
+    (g.S.Backing.told c.resolve.new.store) (g.S.Backing.spare c.args.store.now) c.args.cpu c.args.page c.mode-before.result
+    c.in_ok-resolve.field-0 answers.Here c.requires.keeps c.requires.cpu c.requires.due
+    (sym c.has_place.ensures ∙ c.if-not-has_place.false) c.mode-before.ensures c.reserve.ensures.items (omega (arith, room))
+    c.in_ok-resolve.ensures.does c.in_ok-resolve.ensures.right c.resolve.ensures.cpus c.in-Here.is in
+    here_keeps (g.S.Backing.spare c.resolve.new.store) f c.reserve.ensures.capacity c.resolve.ensures.spare
+
+pub returns-in-Again-clause-turn : goal.returns-in-Again-clause-turn
+returns-in-Again-clause-turn g c =
+    let s = c.args.self.now in
+    let room = c.in_ok-reserve.ensures.ok in
+    let f = fetched_of s c.reserve.new.self c.resolve.new.driver c.resolve.new.machine (g.S.Backing.told c.args.store.now)
+    (g.S.Backing.told c.resolve.new.store) (g.S.Backing.spare c.args.store.now) c.args.cpu c.args.page c.mode-before.result
+    c.in_ok-resolve.field-0 (answers.Again c.in-Again.why) c.requires.keeps c.requires.cpu c.requires.due
+    (sym c.has_place.ensures ∙ c.if-not-has_place.false) c.mode-before.ensures c.reserve.ensures.items (omega (arith, room))
+    c.in_ok-resolve.ensures.does c.in_ok-resolve.ensures.right c.resolve.ensures.cpus c.in-Again.is in
+    (again_waits_by c.in-Again.why f, again_same c.in-Again.why f c.reserve.ensures.capacity)
+
+pub returns-in-Again-clause-keeps : goal.returns-in-Again-clause-keeps
+returns-in-Again-clause-keeps g c =
+    let s = c.args.self.now in
+    let room = c.in_ok-reserve.ensures.ok in
+    let f = fetched_of s c.reserve.new.self c.resolve.new.driver c.resolve.new.machine (g.S.Backing.told c.args.store.now)
+    (g.S.Backing.told c.resolve.new.store) (g.S.Backing.spare c.args.store.now) c.args.cpu c.args.page c.mode-before.result
+    c.in_ok-resolve.field-0 (answers.Again c.in-Again.why) c.requires.keeps c.requires.cpu c.requires.due
+    (sym c.has_place.ensures ∙ c.if-not-has_place.false) c.mode-before.ensures c.reserve.ensures.items (omega (arith, room))
+    c.in_ok-resolve.ensures.does c.in_ok-resolve.ensures.right c.resolve.ensures.cpus c.in-Again.is in
+    again_keeps c.in-Again.why (g.S.Backing.spare c.resolve.new.store) f c.reserve.ensures.capacity c.resolve.ensures.spare
+
+pub returns-in-Bus-clause-turn : goal.returns-in-Bus-clause-turn
+returns-in-Bus-clause-turn g c =
+    let s = c.args.self.now in
+    let room = c.in_ok-reserve.ensures.ok in
+    let f = fetched_of s c.reserve.new.self c.resolve.new.driver c.resolve.new.machine (g.S.Backing.told c.args.store.now)
+    (g.S.Backing.told c.resolve.new.store) (g.S.Backing.spare c.args.store.now) c.args.cpu c.args.page c.mode-before.result
+    c.in_ok-resolve.field-0 (answers.Bus c.in-Bus.why) c.requires.keeps c.requires.cpu c.requires.due
+    (sym c.has_place.ensures ∙ c.if-not-has_place.false) c.mode-before.ensures c.reserve.ensures.items (omega (arith, room))
+    c.in_ok-resolve.ensures.does c.in_ok-resolve.ensures.right c.resolve.ensures.cpus c.in-Bus.is in (
+      refl,
+      told_turns c.in-Bus.why c.take_in.new.self (g.S.Backing.spare c.resolve.new.store) f c.bus-entry.result c.bus-entry.ensures
+          c.note.ensures.shape c.note.ensures.fits c.note.ensures.history
+          (record {
+            others = c.take_in.ensures.others;
+            driver = c.take_in.ensures.driver;
+            book = c.take_in.ensures.book;
+            stands = c.take_in.ensures.stands;
+            kept = c.take_in.ensures.kept;
+            room = c.take_in.ensures.room;
+            noted = c.take_in.ensures.noted;
+            places = c.take_in.ensures.places;
+            sealing = c.take_in.ensures.sealing;
+          }) c.resolve.ensures.spare,
+    )
+
+pub returns-in-Bus-clause-keeps : goal.returns-in-Bus-clause-keeps
+returns-in-Bus-clause-keeps g c =
+    let s = c.args.self.now in
+    let room = c.in_ok-reserve.ensures.ok in
+    let f = fetched_of s c.reserve.new.self c.resolve.new.driver c.resolve.new.machine (g.S.Backing.told c.args.store.now)
+    (g.S.Backing.told c.resolve.new.store) (g.S.Backing.spare c.args.store.now) c.args.cpu c.args.page c.mode-before.result
+    c.in_ok-resolve.field-0 (answers.Bus c.in-Bus.why) c.requires.keeps c.requires.cpu c.requires.due
+    (sym c.has_place.ensures ∙ c.if-not-has_place.false) c.mode-before.ensures c.reserve.ensures.items (omega (arith, room))
+    c.in_ok-resolve.ensures.does c.in_ok-resolve.ensures.right c.resolve.ensures.cpus c.in-Bus.is in
+    (told_turns c.in-Bus.why c.take_in.new.self (g.S.Backing.spare c.resolve.new.store) f c.bus-entry.result c.bus-entry.ensures
+    c.note.ensures.shape c.note.ensures.fits c.note.ensures.history
+    (record {
+      others = c.take_in.ensures.others;
+      driver = c.take_in.ensures.driver;
+      book = c.take_in.ensures.book;
+      stands = c.take_in.ensures.stands;
+      kept = c.take_in.ensures.kept;
+      room = c.take_in.ensures.room;
+      noted = c.take_in.ensures.noted;
+      places = c.take_in.ensures.places;
+      sealing = c.take_in.ensures.sealing;
+    }) c.resolve.ensures.spare).keeps
+
+pub returns-in-Started-clause-turn : goal.returns-in-Started-clause-turn
+returns-in-Started-clause-turn g c =
+    let s = c.args.self.now in
+    let room = c.in_ok-reserve.ensures.ok in
+    let f = fetched_of s c.reserve.new.self c.resolve.new.driver c.resolve.new.machine (g.S.Backing.told c.args.store.now)
+    (g.S.Backing.told c.resolve.new.store) (g.S.Backing.spare c.args.store.now) c.args.cpu c.args.page c.mode-before.result
+    c.in_ok-resolve.field-0 (answers.Started c.in-Started.entry c.in-Started.work) c.requires.keeps c.requires.cpu c.requires.due
+    (sym c.has_place.ensures ∙ c.if-not-has_place.false) c.mode-before.ensures c.reserve.ensures.items (omega (arith, room))
+    c.in_ok-resolve.ensures.does c.in_ok-resolve.ensures.right c.resolve.ensures.cpus c.in-Started.is in
+    let both = start_turns c.in-Started.entry c.in-Started.work c.take_in-in-Started.new.self (g.S.Backing.spare c.resolve.new.store) f
+    (record {
+      others = c.take_in-in-Started.ensures.others;
+      driver = c.take_in-in-Started.ensures.driver;
+      book = c.take_in-in-Started.ensures.book;
+      stands = c.take_in-in-Started.ensures.stands;
+      kept = c.take_in-in-Started.ensures.kept;
+      room = c.take_in-in-Started.ensures.room;
+      noted = c.take_in-in-Started.ensures.noted;
+      places = c.take_in-in-Started.ensures.places;
+      sealing = c.take_in-in-Started.ensures.sealing;
+    }) c.resolve.ensures.spare in
+    (both.0, inl both.1)
+
+pub returns-in-Started-clause-keeps : goal.returns-in-Started-clause-keeps
+returns-in-Started-clause-keeps g c =
+    let s = c.args.self.now in
+    let room = c.in_ok-reserve.ensures.ok in
+    let f = fetched_of s c.reserve.new.self c.resolve.new.driver c.resolve.new.machine (g.S.Backing.told c.args.store.now)
+    (g.S.Backing.told c.resolve.new.store) (g.S.Backing.spare c.args.store.now) c.args.cpu c.args.page c.mode-before.result
+    c.in_ok-resolve.field-0 (answers.Started c.in-Started.entry c.in-Started.work) c.requires.keeps c.requires.cpu c.requires.due
+    (sym c.has_place.ensures ∙ c.if-not-has_place.false) c.mode-before.ensures c.reserve.ensures.items (omega (arith, room))
+    c.in_ok-resolve.ensures.does c.in_ok-resolve.ensures.right c.resolve.ensures.cpus c.in-Started.is in
+    (start_turns c.in-Started.entry c.in-Started.work c.take_in-in-Started.new.self (g.S.Backing.spare c.resolve.new.store) f
+    (record {
+      others = c.take_in-in-Started.ensures.others;
+      driver = c.take_in-in-Started.ensures.driver;
+      book = c.take_in-in-Started.ensures.book;
+      stands = c.take_in-in-Started.ensures.stands;
+      kept = c.take_in-in-Started.ensures.kept;
+      room = c.take_in-in-Started.ensures.room;
+      noted = c.take_in-in-Started.ensures.noted;
+      places = c.take_in-in-Started.ensures.places;
+      sealing = c.take_in-in-Started.ensures.sealing;
+    }) c.resolve.ensures.spare).1.keeps
+
+pub returns-in-Started-clause-calm : goal.returns-in-Started-clause-calm
+returns-in-Started-clause-calm g c = λ same.
+    absurd (longer_apart c.args.self.now.entries.items c.take_in-in-Started.new.self.entries.items c.in-Started.entry
+    (c.take_in-in-Started.ensures.kept ∙ ap (λ items. items ++ c.in-Started.entry ∷ []) c.reserve.ensures.items) same)

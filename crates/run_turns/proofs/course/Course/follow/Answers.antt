@@ -1,0 +1,43 @@
+use Rattle.std.proofs.Common.{subst, sym}
+use Rattle.run_turns.specs.Passing.{FollowsBy, IsFollowed}
+use Rattle.run_turns.specs.declared.turn.Turn.TheVariants as turns
+use Rattle.run_turns.proofs.AnswerLaws.{did_by, own_by, sealed_by}
+use Rattle.run_turns.proofs.KickTurnLaws.{kicks_grow}
+use Rattle.run_turns.proofs.course.Course.follow.Goals as goal
+
+pub seal-requires-clause-can : goal.seal-requires-clause-can
+seal-requires-clause-can c =
+    let by = subst (λ turn. FollowsBy c.args.self.now turn c.requires.longer c.requires.spare) c.in-Seal.is c.requires.by in
+    let grows = c.take_own.ensures.grows (record { longer = c.requires.longer; spare = c.requires.spare; is = by.0 }) in
+    record { told = c.requires.longer; spare = c.requires.spare; keeps = grows.keeps }
+
+pub take_own-requires-in-One : goal.take_own-requires-in-One
+take_own-requires-in-One c = record {
+  longer = c.requires.longer;
+  spare = c.requires.spare;
+  is = own_by c.args.self.now c.args.turn c.in-One.entry c.requires.longer c.requires.spare c.in-One.is c.requires.by;
+}
+
+pub returns-in-One : goal.returns-in-One
+returns-in-One c can =
+    did_by c.args.self.now c.args.turn c.in-One.entry (turns.Did 1) c.take_own-in-One.new.self can.longer can.spare c.in-One.is
+    (c.take_own-in-One.ensures.grows (record {
+      longer = can.longer;
+      spare = can.spare;
+      is = own_by c.args.self.now c.args.turn c.in-One.entry can.longer can.spare c.in-One.is can.by;
+    }))
+
+pub returns-in-Kicks : goal.returns-in-Kicks
+returns-in-Kicks c can =
+    let own = subst (λ turn. FollowsBy c.args.self.now turn can.longer can.spare) c.in-Kicks.is can.by in
+    subst (λ turn. IsFollowed c.args.self.now turn (turns.Did c.kick.result) c.kick.new.self can.longer can.spare) (sym c.in-Kicks.is)
+    (kicks_grow c.args.self.now c.kick.new.self c.in-Kicks.bits can.longer can.spare c.kick.result own (c.kick.ensures.kicked own.kick)
+    (c.kick.ensures.count own.kick))
+
+pub returns-in-Seal : goal.returns-in-Seal
+returns-in-Seal c can =
+    let own = subst (λ turn. FollowsBy c.args.self.now turn can.longer can.spare) c.in-Seal.is can.by in
+    let grows = c.take_own.ensures.grows (record { longer = can.longer; spare = can.spare; is = own.0 }) in
+    subst (λ turn. IsFollowed c.args.self.now turn c.seal.result c.seal.new.self can.longer can.spare) (sym c.in-Seal.is)
+    (sealed_by c.args.self.now c.take_own.new.self c.seal.new.self c.seal.result can.longer can.spare c.seal.ensures.seals
+    c.seal.ensures.others grows)

@@ -1,0 +1,53 @@
+use Rattle.std.proofs.Common.{◌≤◌, ◌∷◌, sym, subst, ap, refl, arith}
+use Rattle.driver_tables.specs.declared.driver.Driver.{Driver}
+use Rattle.table_notes.specs.Arrays.{KeepsArrays}
+use Rattle.run_turns.specs.declared.course.Course.{Course}
+use Rattle.run_turns.specs.Courses.{past_of}
+use Rattle.run_turns.proofs.EndedLaws.{ends_told, none_fail}
+use Rattle.run_turns.proofs.InstructLaws.{acts, entered, lawful, notable, noted_by, plain_event}
+use Rattle.run_turns.proofs.KeepLaws.{grown_by_one, take_at}
+use Rattle.run_turns.proofs.course.Course.instruct.Goals as goal
+
+pub apply-requires : goal.apply-requires
+apply-requires c = (lawful c.args.self.now c.args.actor c.args.action c.requires).can
+
+pub note_tables-requires : goal.note_tables-requires
+note_tables-requires c =
+    notable c.args.self.now c.apply.new.machine c.args.actor c.args.action c.in_ok-entry.entry c.mode_of-before.result c.requires
+    c.in_ok-entry.ensures.step c.mode_of-before.ensures
+
+pub take_in-requires : goal.take_in-requires
+take_in-requires c =
+    let s = c.args.self.now in
+    let k = c.requires in
+    let x : Course = record s { machine = c.apply.new.machine; driver = c.note_tables.new.driver; entries = c.reserve.new.self } in
+    let room = c.in_ok-reserve.ensures.ok in
+    take_at s x c.mode_of-before.result c.in_ok-entry.entry k.told k.told
+    (entered s x c.apply.new.machine c.args.actor c.args.action c.in_ok-entry.entry c.mode_of-before.result k c.in_ok-entry.ensures.step
+    c.in_ok-entry.ensures.carries c.apply.ensures.cpus c.mode_of-before.ensures c.note_tables.ensures refl refl refl refl
+    c.reserve.ensures.items (omega (arith, room)))
+
+pub returns-clause-more : goal.returns-clause-more
+returns-clause-more c = λ can.
+    (let s = c.args.self.now in
+    let e = c.in_ok-entry.entry in
+    let noted = noted_by s c.note_tables.new.driver c.apply.new.machine c.args.actor c.args.action e c.mode_of-before.result can
+    c.in_ok-entry.ensures.step c.mode_of-before.ensures c.note_tables.ensures in
+    let both = acts s.machine c.apply.new.machine c.args.actor c.args.action e c.in_ok-entry.ensures.step in
+    let quiet = plain_event e.event c.args.action both.1 (lawful s c.args.actor c.args.action can).plain in
+    let room = c.in_ok-reserve.ensures.ok in
+    let x : Course = record s { machine = c.apply.new.machine; driver = c.note_tables.new.driver; entries = c.reserve.new.self } in
+    grown_by_one s x c.mode_of-before.result e can.told can.told c.take_in.new.self c.args.actor can.spare
+    (record {
+      enters = entered s x c.apply.new.machine c.args.actor c.args.action e c.mode_of-before.result can c.in_ok-entry.ensures.step
+          c.in_ok-entry.ensures.carries c.apply.ensures.cpus c.mode_of-before.ensures c.note_tables.ensures refl refl refl refl
+          c.reserve.ensures.items (omega (arith, room));
+      book = c.take_in.ensures.book;
+      stands = c.take_in.ensures.stands;
+      job = ap (λ (x : Course). x.job) c.take_in.ensures.others;
+      kept = c.take_in.ensures.kept;
+      room = c.take_in.ensures.room;
+    })
+    (subst (λ n. n ≤ can.spare) (sym c.take_in.ensures.places) can.keeps.places)
+    (subst (λ k. KeepsArrays s.job k (e ∷ past_of s)) (sym (ap (λ (d : Driver). d.slots) c.take_in.ensures.driver)) noted.arrays)
+    (ends_told (past_of s) e quiet can.keeps.ends) (none_fail (past_of s) e quiet can.keeps.none) (omega (arith, room)) both.0)

@@ -1,0 +1,25 @@
+use Rattle.std.proofs.Common.{length, sym, ap, ◌∙◌}
+use Rattle.std.proofs.lemmas.List.{length-map}
+use Rattle.run_turns.proofs.FirstLaws.{course_first, made_same}
+use Rattle.run_turns.proofs.course.Course.new.Goals as goal
+
+-- machine, driver, tables and pass are new
+pub returns-clause-keeps : goal.returns-clause-keeps
+returns-clause-keeps c told spare none =
+    course_first _ told spare
+    (record {
+      machine = record {
+        value = made_same c.args.job c.in_ok-machine.machine c.epc.result (length c.scripts.result.now) c.key.result.now
+            c.start_epoch.result c.start_version.result c.in_ok-machine.ensures.value c.epc.ensures.value
+            (sym (length-map c.scripts.result.now (λ script. script.items)) ∙ ap length c.scripts.ensures) c.key.ensures
+            c.start_epoch.ensures.value c.start_version.ensures.value;
+        shape = c.in_ok-machine.ensures.shape;
+        history = c.in_ok-machine.ensures.history;
+      };
+      driver = c.in_ok-driver.ensures;
+      turns = c.in_ok-turns.ensures;
+      taken = c.in_ok-pass.ensures.taken;
+      phase = c.in_ok-pass.ensures.phase;
+      entries = c.new-5.ensures.items;
+    })
+    none

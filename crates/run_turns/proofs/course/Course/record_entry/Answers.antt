@@ -1,0 +1,38 @@
+use Rattle.std.proofs.Common.{◌∷◌, sym, subst, arith}
+use Rattle.std.proofs.lemmas.List.{length-reverse}
+use Rattle.turn_rules.specs.Machines.{machine_of}
+use Rattle.active_list.specs.Active.{ActiveList}
+use Rattle.turn_tables.specs.Holding.{KeepsHolds}
+use Rattle.turn_tables.proofs.FirstLaws.{counts_few}
+use Rattle.run_book.specs.Books.{KeepsBook}
+use Rattle.run_book.proofs.BookLaws.{book_more}
+use Rattle.run_steps.proofs.EntryLaws.{can_hold, can_note}
+use Rattle.run_turns.specs.Courses.{past_of}
+use Rattle.run_turns.proofs.course.Course.record_entry.Goals as goal
+
+pub hold-requires : goal.hold-requires
+hold-requires c =
+    let s = c.args.self.now in
+    let r = c.requires in
+    (can_hold (machine_of s.job) s.job (past_of s) r.told r.longer r.d s.driver r.m s.machine s.turns c.args.entry c.args.before r.book
+    r.made r.stood r.tcs).can
+
+pub note-requires-clause-few : goal.note-requires-clause-few
+note-requires-clause-few c =
+    let s = c.args.self.now in
+    let same = length-reverse s.entries.items in
+    let small = s.entries.ok.0 in
+    counts_few s.job (past_of s) s.turns c.requires.book.turns (omega (arith, same, small))
+
+pub returns-clause-book : goal.returns-clause-book
+returns-clause-book c = λ can.
+    (let s = c.args.self.now in
+    let hold = can_hold (machine_of s.job) s.job (past_of s) can.told can.longer can.d s.driver can.m s.machine s.turns c.args.entry
+    c.args.before can.book can.made can.stood can.tcs in
+    let note = can_note (machine_of s.job) s.job (past_of s) can.told can.longer can.d s.driver can.m s.machine s.turns c.args.entry
+    c.args.before can.book can.made can.stood in
+    subst (λ (list : ActiveList). KeepsBook (machine_of s.job) s.job (c.args.entry ∷ past_of s) can.longer
+    (record s.driver { active = list }) s.machine c.note.new.self) (sym c.hold.ensures.others)
+    (book_more (machine_of s.job) s.job (past_of s) can.told can.longer can.d s.driver can.m s.machine s.turns c.note.new.self
+    c.args.entry c.hold.new.active.own can.tcs can.book can.made (c.note.ensures.right (past_of s) can.book.turns note)
+    (subst (λ past. KeepsHolds s.job c.hold.new.active.own (c.args.entry ∷ past)) hold.same (c.hold.ensures.holds hold.can))))

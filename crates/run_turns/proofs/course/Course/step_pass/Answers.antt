@@ -1,0 +1,157 @@
+use Rattle.std.proofs.Common.{subst, sym}
+use Rattle.turn_rules.specs.Machines.{machine_of}
+use Rattle.run_turns.specs.Courses.{KeepsCourse, past_of}
+use Rattle.run_turns.proofs.CallLaws.{followed_waits, turn_tells}
+use Rattle.run_turns.proofs.AnswerLaws.{turn_answers, turn_keeps}
+use Rattle.run_turns.proofs.FollowLaws.{course_ready, follows_by}
+use Rattle.run_turns.proofs.course.Course.step_pass.Goals as goal
+
+pub follow-requires : goal.follow-requires
+follow-requires g c =
+    let k = c.requires.keeps in
+    let e = c.in_ok-turn.ensures in
+    let self = c.args.self.now in
+    let made = machine_of self.job in
+    let j = self.job in
+    let past = past_of self in
+    let told = g.S.Backing.told c.args.store.now in
+    let before = g.S.Backing.spare c.args.store.now in
+    let ready = course_ready self told before k in
+    record {
+      longer = g.S.Backing.told c.step.new.store;
+      spare = g.S.Backing.spare c.step.new.store;
+      by = follows_by self told (g.S.Backing.told c.step.new.store) before (g.S.Backing.spare c.step.new.store) c.step.new.self
+          c.step.new.driver c.step.new.machine k c.requires.going c.requires.entries c.requires.room c.in_ok-turn.turn (record {
+            says = e.says;
+            driver = e.driver;
+            due = e.due made j past ready;
+            kept = e.kept made j past ready;
+            stands = e.stands made j past ready;
+            shows = e.shows made j past ready;
+            calls = e.told;
+            waits = λ w. (e.waits w).0;
+            places = e.spare k.places;
+            goes = e.goes;
+          });
+    }
+
+pub returns-clause-turn : goal.returns-clause-turn
+returns-clause-turn g c =
+    let k = c.requires.keeps in
+    let e = c.in_ok-turn.ensures in
+    let self = c.args.self.now in
+    let made = machine_of self.job in
+    let j = self.job in
+    let past = past_of self in
+    let told = g.S.Backing.told c.args.store.now in
+    let before = g.S.Backing.spare c.args.store.now in
+    let ready = course_ready self told before k in
+    turn_answers self told (g.S.Backing.told c.step.new.store) before (g.S.Backing.spare c.step.new.store) c.step.new.self
+    c.step.new.driver c.step.new.machine c.follow.new.self k c.requires.going c.requires.entries c.requires.idle c.requires.some
+    c.in_ok-turn.turn c.follow.result (record {
+      says = e.says;
+      driver = e.driver;
+      due = e.due made j past ready;
+      kept = e.kept made j past ready;
+      stands = e.stands made j past ready;
+      shows = e.shows made j past ready;
+      calls = e.told;
+      waits = λ w. (e.waits w).0;
+      places = e.spare k.places;
+      goes = e.goes;
+    }) e.waits (c.follow.ensures (record {
+      longer = g.S.Backing.told c.step.new.store;
+      spare = g.S.Backing.spare c.step.new.store;
+      by = follows_by self told (g.S.Backing.told c.step.new.store) before (g.S.Backing.spare c.step.new.store) c.step.new.self
+          c.step.new.driver c.step.new.machine k c.requires.going c.requires.entries c.requires.room c.in_ok-turn.turn (record {
+            says = e.says;
+            driver = e.driver;
+            due = e.due made j past ready;
+            kept = e.kept made j past ready;
+            stands = e.stands made j past ready;
+            shows = e.shows made j past ready;
+            calls = e.told;
+            waits = λ w. (e.waits w).0;
+            places = e.spare k.places;
+            goes = e.goes;
+          });
+    }))
+
+pub returns-clause-keeps : goal.returns-clause-keeps
+returns-clause-keeps g c =
+    let k = c.requires.keeps in
+    let e = c.in_ok-turn.ensures in
+    let self = c.args.self.now in
+    let made = machine_of self.job in
+    let j = self.job in
+    let past = past_of self in
+    let told = g.S.Backing.told c.args.store.now in
+    let before = g.S.Backing.spare c.args.store.now in
+    let ready = course_ready self told before k in
+    turn_keeps self told (g.S.Backing.told c.step.new.store) before (g.S.Backing.spare c.step.new.store) c.step.new.self
+    c.step.new.driver c.step.new.machine c.follow.new.self k c.requires.going c.requires.entries c.requires.idle c.requires.some
+    c.in_ok-turn.turn c.follow.result (record {
+      says = e.says;
+      driver = e.driver;
+      due = e.due made j past ready;
+      kept = e.kept made j past ready;
+      stands = e.stands made j past ready;
+      shows = e.shows made j past ready;
+      calls = e.told;
+      waits = λ w. (e.waits w).0;
+      places = e.spare k.places;
+      goes = e.goes;
+    }) e.waits
+    (λ w. subst (λ store. KeepsCourse self (g.S.Backing.told store) (g.S.Backing.spare store)) (sym (e.rests w)) k)
+    (c.follow.ensures (record {
+      longer = g.S.Backing.told c.step.new.store;
+      spare = g.S.Backing.spare c.step.new.store;
+      by = follows_by self told (g.S.Backing.told c.step.new.store) before (g.S.Backing.spare c.step.new.store) c.step.new.self
+          c.step.new.driver c.step.new.machine k c.requires.going c.requires.entries c.requires.room c.in_ok-turn.turn (record {
+            says = e.says;
+            driver = e.driver;
+            due = e.due made j past ready;
+            kept = e.kept made j past ready;
+            stands = e.stands made j past ready;
+            shows = e.shows made j past ready;
+            calls = e.told;
+            waits = λ w. (e.waits w).0;
+            places = e.spare k.places;
+            goes = e.goes;
+          });
+    }))
+
+pub returns-clause-tells : goal.returns-clause-tells
+returns-clause-tells g c =
+    turn_tells c.args.self.now.pass.phase c.in_ok-turn.turn (g.S.Backing.told c.args.store.now) (g.S.Backing.told c.step.new.store)
+    c.in_ok-turn.ensures.told
+
+pub returns-clause-rests : goal.returns-clause-rests
+returns-clause-rests g c = λ waits.
+    (let k = c.requires.keeps in
+    let e = c.in_ok-turn.ensures in
+    let self = c.args.self.now in
+    let made = machine_of self.job in
+    let j = self.job in
+    let past = past_of self in
+    let told = g.S.Backing.told c.args.store.now in
+    let before = g.S.Backing.spare c.args.store.now in
+    let ready = course_ready self told before k in
+    e.rests (followed_waits _ c.follow.new.self c.in_ok-turn.turn c.follow.result (g.S.Backing.told c.step.new.store)
+    (g.S.Backing.spare c.step.new.store) (c.follow.ensures (record {
+      longer = g.S.Backing.told c.step.new.store;
+      spare = g.S.Backing.spare c.step.new.store;
+      by = follows_by self told (g.S.Backing.told c.step.new.store) before (g.S.Backing.spare c.step.new.store) c.step.new.self
+          c.step.new.driver c.step.new.machine k c.requires.going c.requires.entries c.requires.room c.in_ok-turn.turn (record {
+            says = e.says;
+            driver = e.driver;
+            due = e.due made j past ready;
+            kept = e.kept made j past ready;
+            stands = e.stands made j past ready;
+            shows = e.shows made j past ready;
+            calls = e.told;
+            waits = λ w. (e.waits w).0;
+            places = e.spare k.places;
+            goes = e.goes;
+          });
+    })) waits))

@@ -1,0 +1,103 @@
+use Rattle.std.proofs.Common.{refl, sym, ap, subst, ◌∙◌}
+use Rattle.turn_rules.specs.Machines.{machine_of}
+use Rattle.turn_tables.specs.Due.{due_in}
+use Rattle.run_turns.specs.Courses.{past_of}
+use Rattle.run_turns.specs.Turns.{IsWaitBy}
+use Rattle.run_turns.proofs.ReportLaws.{none_reports}
+use Rattle.run_turns.proofs.KeepLaws.{same_self}
+use Rattle.run_turns.proofs.LoadCourse.{ends_loads}
+use Rattle.run_turns.proofs.LoadTurn.{made_keeps, made_turn}
+use Rattle.run_turns.proofs.course.Course.turn.Goals as goal
+
+pub open_again-requires-clause-loads : goal.open_again-requires-clause-loads
+open_again-requires-clause-loads g c =
+    let s = c.args.self.now in
+    let k = c.requires.keeps.book in
+    ends_loads s.job (past_of s) c.args.cpu c.in-Ends.field-0 c.requires.cpu
+    (sym (c.cpu_due.ensures (machine_of s.job) (past_of s) k.agrees k.orderly k.turns) ∙ ap (due_in s.job (past_of s)) c.in-Ends.is)
+
+pub instruct-requires : goal.instruct-requires
+instruct-requires g c =
+    let s = c.args.self.now in
+    let k = c.requires.keeps.book in
+    record {
+      told = g.S.Backing.told c.args.store.now;
+      spare = g.S.Backing.spare c.args.store.now;
+      keeps = c.requires.keeps;
+      due = (
+        c.requires.cpu,
+        sym (c.cpu_due.ensures (machine_of s.job) (past_of s) k.agrees k.orderly k.turns)
+            ∙ ap (due_in s.job (past_of s)) c.in-Makes.is,
+      );
+    }
+
+pub unreachable-requires : goal.unreachable-requires
+unreachable-requires g c =
+    let s = c.args.self.now in
+    let k = c.requires.keeps.book in
+    none_reports s.job (past_of s) c.args.cpu.0 c.in-Reports.page c.in-Reports.why c.requires.keeps.none
+    (sym (c.cpu_due.ensures (machine_of s.job) (past_of s) k.agrees k.orderly k.turns) ∙ ap (due_in s.job (past_of s)) c.in-Reports.is)
+
+pub fetch-requires-clause-due : goal.fetch-requires-clause-due
+fetch-requires-clause-due g c =
+    let s = c.args.self.now in
+    let k = c.requires.keeps.book in
+    sym (c.cpu_due.ensures (machine_of s.job) (past_of s) k.agrees k.orderly k.turns) ∙ ap (due_in s.job (past_of s)) c.in-Needs.is
+
+pub returns-in-Stopped-clause-turn : goal.returns-in-Stopped-clause-turn
+returns-in-Stopped-clause-turn g c =
+    let s = c.args.self.now in
+    let k = c.requires.keeps.book in (
+      sym (c.cpu_due.ensures (machine_of s.job) (past_of s) k.agrees k.orderly k.turns) ∙ ap (due_in s.job (past_of s)) c.in-Stopped.is,
+      same_self s,
+    )
+
+pub returns-in-Finished-clause-turn : goal.returns-in-Finished-clause-turn
+returns-in-Finished-clause-turn g c =
+    let s = c.args.self.now in
+    let k = c.requires.keeps.book in (
+      sym (c.cpu_due.ensures (machine_of s.job) (past_of s) k.agrees k.orderly k.turns) ∙ ap (due_in s.job (past_of s)) c.in-Finished.is,
+      same_self s,
+    )
+
+pub returns-in-Waits-clause-turn : goal.returns-in-Waits-clause-turn
+returns-in-Waits-clause-turn g c =
+    let s = c.args.self.now in
+    let k = c.requires.keeps.book in (
+      subst (λ due. IsWaitBy due c.in-Waits.why)
+          (sym (ap (due_in s.job (past_of s)) c.in-Waits.is)
+          ∙ c.cpu_due.ensures (machine_of s.job) (past_of s) k.agrees k.orderly k.turns) refl,
+      same_self s,
+    )
+
+pub returns-in-Makes-clause-turn : goal.returns-in-Makes-clause-turn
+returns-in-Makes-clause-turn g c =
+    let s = c.args.self.now in
+    let k = c.requires.keeps.book in
+    made_turn s c.instruct.new.self c.args.cpu c.in-Makes.action c.instruct.result
+    (record {
+      told = g.S.Backing.told c.args.store.now;
+      spare = g.S.Backing.spare c.args.store.now;
+      keeps = c.requires.keeps;
+      due = (
+        c.requires.cpu,
+        sym (c.cpu_due.ensures (machine_of s.job) (past_of s) k.agrees k.orderly k.turns)
+            ∙ ap (due_in s.job (past_of s)) c.in-Makes.is,
+      );
+    }) c.instruct.ensures.turn c.instruct.ensures.more
+
+pub returns-in-Makes-clause-keeps : goal.returns-in-Makes-clause-keeps
+returns-in-Makes-clause-keeps g c =
+    let s = c.args.self.now in
+    let k = c.requires.keeps.book in
+    made_keeps s c.instruct.new.self c.args.cpu c.in-Makes.action c.instruct.result
+    (record {
+      told = g.S.Backing.told c.args.store.now;
+      spare = g.S.Backing.spare c.args.store.now;
+      keeps = c.requires.keeps;
+      due = (
+        c.requires.cpu,
+        sym (c.cpu_due.ensures (machine_of s.job) (past_of s) k.agrees k.orderly k.turns)
+            ∙ ap (due_in s.job (past_of s)) c.in-Makes.is,
+      );
+    }) c.instruct.ensures.more c.instruct.ensures.memory

@@ -1,0 +1,118 @@
+-- What is done with what a turn of the reclaimer made.
+use Rattle.std.specs.Prelude.{ℕ, ◌≡◌, zero, ◌+◌, ◌*◌, ◌≤◌, Bool, true, false, if◌then◌else◌, List, ◌∷◌, Option, count_by, is_some, vec_len, vec_capacity}
+use Rattle.sgx_types.specs.declared.entries.Actor.TheVariants as actors
+use Rattle.sgx_types.specs.declared.entries.Entry.{Entry}
+use Rattle.backing_store.specs.Calls.{Call}
+use Rattle.cached_translations.specs.declared.processor.Mode.TheVariants.{Outside}
+use Rattle.driver_rules.specs.Passes.{pass}
+use Rattle.reclaim_worker.specs.After.{kicked_past}
+use Rattle.reclaim_worker.specs.Standing.{StandsFor, is_sealing}
+use Rattle.reclaim_worker.specs.Stored.{still_out}
+use Rattle.reclaim_worker.specs.declared.turns.PassTurn.{PassTurn}
+use Rattle.reclaim_worker.specs.declared.turns.PassTurn.TheVariants as passed
+use Rattle.turn_tables.specs.declared.dues.TurnDue.{TurnDue}
+use Rattle.turn_tables.specs.declared.dues.TurnDue.TheVariants as dues
+use Rattle.turn_tables.specs.Ending.{EndsAreTold, NoneFails}
+use Rattle.turn_tables.specs.Noting.{with_kick}
+use Rattle.table_notes.specs.Arrays.{KeepsArrays}
+use Rattle.run_turns.specs.declared.course.Course.{Course}
+use Rattle.run_turns.specs.declared.turn.Turn.{Turn}
+use Rattle.run_turns.specs.declared.turn.Turn.TheVariants as turns
+use Rattle.run_turns.specs.Courses.{Grows, is_loading, past_of}
+use Rattle.run_turns.specs.Kicking.{CanKick}
+use Rattle.run_turns.specs.Recording.{CanTake}
+use Rattle.run_turns.specs.Turns.{SealsFor}
+
+-- ---- one entry of the reclaimer
+
+-- it can be taken in, over a store that tells these calls behind it and has so many places, and all that a course keeps is so behind it
+pub record IsOwnEntry (c : Course) (e : Entry) (longer : Option (List Call)) (spare : ℕ) : Type 0 where
+  pub take : CanTake c Outside e
+  pub same : take.can.longer ≡ longer
+  pub actor : e.actor ≡ actors.Reclaimer
+  pub places : still_out c.pass.taken.items c.pass.phase ≤ spare
+  pub arrays : KeepsArrays c.job c.driver.slots (e ∷ past_of c)
+  pub ends : EndsAreTold (e ∷ past_of c)
+  pub none : NoneFails (e ∷ past_of c)
+  -- the entry, and the ends of the starts that are open behind it
+  pub room : vec_len c.entries + 1 + 2 * (count_by is_loading (with_kick e.event c.turns.cpus) + (if is_sealing c.pass.phase then 1 else 0))
+      ≤ vec_capacity c.entries
+
+pub record CanTakeOwn (c : Course) (e : Entry) : Type 0 where
+  pub longer : Option (List Call)
+  pub spare : ℕ
+  pub is : IsOwnEntry c e longer spare
+
+-- ---- kicks
+
+pub record IsOwnKicks (c : Course) (bits : ℕ) (longer : Option (List Call)) (spare : ℕ) : Type 0 where
+  pub kick : CanKick c bits
+  pub same : kick.told ≡ longer
+  pub stands : StandsFor c.job.start_epoch (kicked_past kick.cpus (past_of c)) c.pass.taken.items c.pass.phase
+      (pass c.job (kicked_past kick.cpus (past_of c)))
+  pub places : still_out c.pass.taken.items c.pass.phase ≤ spare
+  pub arrays : KeepsArrays c.job c.driver.slots (past_of c)
+  pub ends : EndsAreTold (past_of c)
+  pub none : NoneFails (past_of c)
+  pub room : vec_len c.entries + 64 ≤ vec_capacity c.entries
+
+-- ---- what a turn made
+
+-- by its kind. A write-out has started only where there is room for its work
+abbrev pub FollowsBy : Course → PassTurn → Option (List Call) → ℕ → Type 0
+FollowsBy c (passed.One e) longer spare = IsOwnEntry c e longer spare
+FollowsBy c (passed.Spent e) longer spare = IsOwnEntry c e longer spare
+FollowsBy c (passed.Seal e) longer spare = IsOwnEntry c e longer spare × ((is_sealing c.pass.phase ≡ true) × (is_some c.room ≡ true))
+FollowsBy c (passed.Kicks bits) longer spare = IsOwnKicks c bits longer spare
+FollowsBy c (passed.Again why) longer spare = Unit {0}
+FollowsBy c passed.NoSlot longer spare = ⊥
+
+pub record CanFollow (c : Course) (turn : PassTurn) : Type 0 where
+  pub longer : Option (List Call)
+  pub spare : ℕ
+  pub by : FollowsBy c turn longer spare
+
+-- so many entries more of the reclaimer
+abbrev pub HasDone : Course → Turn → Course → Option (List Call) → ℕ → Type 0
+HasDone old (turns.Did n) new told spare = Grows old actors.Reclaimer n new told spare
+HasDone old _ new told spare = ⊥
+
+-- one entry more, and the work of the started write-out
+abbrev pub HasSealed : Course → Turn → Course → Option (List Call) → ℕ → Type 0
+HasSealed old (turns.Seal work) new told spare = SealsFor new work × Grows old actors.Reclaimer 1 new told spare
+HasSealed old _ new told spare = ⊥
+
+-- what is answered behind it
+abbrev pub IsFollowed : Course → PassTurn → Turn → Course → Option (List Call) → ℕ → Type 0
+IsFollowed old (passed.One e) result new told spare = HasDone old result new told spare
+IsFollowed old (passed.Spent e) result new told spare = HasDone old result new told spare
+IsFollowed old (passed.Kicks bits) result new told spare = HasDone old result new told spare
+IsFollowed old (passed.Seal e) result new told spare = HasSealed old result new told spare
+IsFollowed old (passed.Again why) result new told spare = (result ≡ turns.Again why) × (new ≡ old)
+IsFollowed old passed.NoSlot result new told spare = ⊥
+
+-- ---- the work of the started write-out
+
+abbrev pub IsSealOf : Course → Turn → Type 0
+IsSealOf c (turns.Seal work) = SealsFor c work
+IsSealOf c _ = ⊥
+
+-- a turn that ended no write-out
+abbrev pub EndsNone : Turn → Type 0
+EndsNone (turns.Did zero) = Unit {0}
+EndsNone turns.Stopped = Unit {0}
+EndsNone _ = ⊥
+
+-- a turn that only answers
+abbrev pub IsWaiting : Turn → Type 0
+IsWaiting (turns.Again why) = Unit {0}
+IsWaiting turns.Finished = Unit {0}
+IsWaiting turns.Stopped = Unit {0}
+IsWaiting _ = ⊥
+
+-- ---- what is left
+
+-- by an answer of the tables something is left
+abbrev pub is_left : TurnDue → Bool
+is_left dues.Finished = false
+is_left due = true

@@ -1,0 +1,133 @@
+-- The book as its callers see it, and what is so of every book.
+use Rattle.std.specs.Prelude.{ℕ, zero, suc, ◌≡◌, ◌<◌, ◌++◌, ◌⊎◌, All, Bool, true, if◌then◌else◌, List, Option, None, Some, IfSome, length}
+use Rattle.std.specs.Option.{IsSomeAnd}
+use Rattle.sgx_types.specs.declared.entries.Actor.{Actor}
+use Rattle.sgx_types.specs.declared.entries.Actor.TheVariants as actors
+use Rattle.sgx_types.specs.declared.entries.Entry.{Entry}
+use Rattle.sgx_types.specs.declared.names.Cpu.{Cpu}
+use Rattle.sgx_types.specs.declared.names.Page.{Page}
+use Rattle.sgx_types.specs.Rules.{Along, EvictRule, Fits, RisingRule, Stale}
+use Rattle.sgx_types.specs.Starts.{Start, open_start}
+use Rattle.io_edges.specs.declared.plans.PlanLine.{PlanLine}
+use Rattle.job_grammar.specs.Jobs.{JobView}
+use Rattle.backing_store.specs.Calls.{Call}
+use Rattle.seal_record.specs.declared.seal.SealWork.{SealWork}
+use Rattle.seal_record.specs.declared.unseal.UnsealWork.{UnsealWork}
+use Rattle.driver_rules.specs.Ages.{AgeRule, KickRule}
+use Rattle.driver_rules.specs.Dues.{Finished, Stopped}
+use Rattle.driver_rules.specs.Reclaims.{reclaimer_due}
+use Rattle.driver_rules.specs.Scripts.{IsEnded, ScriptRule}
+use Rattle.driver_rules.specs.Stops.{frame_started, is_spent, last_event}
+use Rattle.driver_rules.specs.Turns.{Loads, builder_due, cpu_due, last_of}
+use Rattle.driver_laws.specs.Agrees.{loaded_by}
+use Rattle.run_history.specs.Given.{UnforgedRun, gift}
+use Rattle.run_history.specs.Histories.{GoesOn}
+use Rattle.run_history.specs.Stored.{PutsAreFlat, StoreTrue}
+use Rattle.run_turns.specs.declared.turn.Turn.{Turn}
+use Rattle.run_turns.specs.declared.turn.Turn.TheVariants as turns
+use Rattle.run_turns.specs.Turns.{IsWaitBy}
+
+-- the job, the entries so far, the newest first, what the store tells, and whether memory was refused to a worker
+pub record BookView : Type 0 where
+  pub job : JobView
+  pub past : List Entry
+  pub told : Option (List Call)
+  pub plans : List PlanLine
+  pub noted : Bool
+
+-- nothing more is done
+abbrev pub is_stopped : BookView → Bool
+is_stopped b = if b.noted then true else is_spent b.past
+
+-- whatever the store gave: who makes which entry, the reclaimer's looks and kicks, no frame twice, no stale translation, only drained
+-- pages go out, versions rise, and the store's calls are those of the entries
+pub record HoldsAnyhow (b : BookView) : Type 0 where
+  pub script : Along (ScriptRule b.job) b.past
+  pub age : Along (AgeRule b.job) b.past
+  pub kick : Along (KickRule b.job) b.past
+  pub fits : Fits b.job.epc b.past
+  pub stale : Stale b.past
+  pub evict : Along EvictRule b.past
+  pub rising : Along (RisingRule b.job.start_version) b.past
+  pub store : StoreTrue b.job b.past b.plans b.told
+  -- where the builder and each processor have nothing more to do, the run is at its end
+  pub ended : builder_due b.job b.past ≡ Finished → ((p : ℕ) → p < length b.job.scripts → cpu_due b.job b.past p ≡ Finished)
+      → IsEnded b.job b.past
+
+-- where no record of the run was forged: all eleven rules, and each record that was put has the flat bytes of its page there
+abbrev pub HoldsUnforged : BookView → List Call → Type 0
+HoldsUnforged b calls = UnforgedRun b.job.key b.past calls → GoesOn b.job b.past × PutsAreFlat b.job.key b.past calls
+
+pub record Holds (b : BookView) : Type 0 where
+  pub anyhow : HoldsAnyhow b
+  pub unforged : IfSome b.told (HoldsUnforged b)
+
+-- so many entries more, all of this actor, of one job; no want of memory was noted
+pub record HasGrown (old : BookView) (by : Actor) (n : ℕ) (new : BookView) : Type 0 where
+  pub entries : List Entry
+  pub count : length entries ≡ n
+  pub actors : All (λ (e : Entry). e.actor ≡ by) entries
+  pub past : new.past ≡ entries ++ old.past
+  pub job : new.job ≡ old.job
+  pub noted : new.noted ≡ old.noted
+
+-- ---- turns
+
+-- a turn of the builder
+abbrev pub IsBuild : BookView → Turn → BookView → Type 0
+IsBuild old (turns.Did n) new = (n ≡ 1) × HasGrown old actors.Builder 1 new
+IsBuild old (turns.Again why) new = IsWaitBy (builder_due old.job old.past) why × (new ≡ old)
+IsBuild old turns.Finished new = (builder_due old.job old.past ≡ Finished) × (new ≡ old)
+IsBuild old turns.Stopped new = (is_stopped old ≡ true) × (new ≡ old)
+IsBuild old _ new = ⊥
+
+-- the record that the store gave for a processor's started load, under the job's key and the version that the start found
+pub record OpensLoad (b : BookView) (cpu : Cpu) (work : UnsealWork) : Type 0 where
+  pub key : work.key ≡ b.job.key
+  pub frame : ℕ
+  pub page : Page
+  pub loads : last_of b.past cpu.0 ≡ Loads frame page
+  pub version : IsSomeAnd (open_start b.past frame) (λ start. work.version ≡ start.version)
+  pub given : IfSome b.told (λ calls. gift b.past calls frame ≡ Some work.rec)
+
+-- a turn of a processor. A load has started in it, or was open before
+abbrev pub IsRun : BookView → Cpu → Turn → BookView → Type 0
+IsRun old cpu (turns.Did n) new = (n ≡ 1) × HasGrown old (actors.Cpu cpu) 1 new
+IsRun old cpu (turns.Unseal work) new = OpensLoad new cpu work × (HasGrown old (actors.Cpu cpu) 1 new ⊎ (new ≡ old))
+IsRun old cpu (turns.Again why) new = IsWaitBy (cpu_due old.job old.past cpu.0) why × (new ≡ old)
+IsRun old cpu turns.Finished new = (cpu_due old.job old.past cpu.0 ≡ Finished) × (new ≡ old)
+IsRun old cpu turns.Stopped new = (is_stopped old ≡ true) × (new ≡ old)
+IsRun old cpu _ new = ⊥
+
+-- the end of a processor's started load
+abbrev pub IsLoadEnd : BookView → Cpu → Turn → BookView → Type 0
+IsLoadEnd old cpu (turns.Did zero) new = (loaded_by (last_of old.past cpu.0) ≡ None) × (new ≡ old)
+IsLoadEnd old cpu (turns.Did (suc n)) new = HasGrown old (actors.Cpu cpu) (suc n) new
+IsLoadEnd old cpu turns.Stopped new = (is_stopped old ≡ true) × (new ≡ old)
+IsLoadEnd old cpu _ new = ⊥
+
+-- the page that has started to go out, under the job's key and the version that its start drew
+pub record SealsPageOut (b : BookView) (work : SealWork) : Type 0 where
+  pub key : work.key ≡ b.job.key
+  pub frame : ℕ
+  pub start : Start
+  pub opened : open_start b.past frame ≡ Some start
+  pub version : work.version ≡ start.version
+
+-- a turn of the reclaimer. Whether it kicked nobody is no entry's to tell. A write-out has started in it, or was open before
+abbrev pub IsReclaim : BookView → Turn → BookView → Type 0
+IsReclaim old (turns.Did n) new = HasGrown old actors.Reclaimer n new
+IsReclaim old (turns.Seal work) new =
+    SealsPageOut new work × (HasGrown old actors.Reclaimer 1 new ⊎ HasGrown old actors.Reclaimer 0 new)
+IsReclaim old (turns.Again why) new = ((kicked : Bool) × IsWaitBy (reclaimer_due old.job old.past kicked) why) × (new ≡ old)
+IsReclaim old turns.Finished new = ((kicked : Bool) × (reclaimer_due old.job old.past kicked ≡ Finished)) × (new ≡ old)
+IsReclaim old turns.Stopped new =
+    ((old.noted ≡ true) ⊎ ((kicked : Bool) × (reclaimer_due old.job old.past kicked ≡ Stopped))) × (new ≡ old)
+IsReclaim old _ new = ⊥
+
+-- the end of the started write-out
+abbrev pub IsOutEnd : BookView → Turn → BookView → Type 0
+IsOutEnd old (turns.Did zero) new = (frame_started (last_event old.past actors.Reclaimer) ≡ None) × (new ≡ old)
+IsOutEnd old (turns.Did (suc n)) new = HasGrown old actors.Reclaimer (suc n) new
+IsOutEnd old turns.Stopped new = (is_stopped old ≡ true) × (new ≡ old)
+IsOutEnd old _ new = ⊥

@@ -1,0 +1,81 @@
+//! Instructions that move no page out or back, and the turns of the builder.
+
+ghost use Rattle.std.specs.Prelude.{◌≡◌, IfOk, OnErr, length};
+ghost use Rattle.driver_steps.specs.Carried.{Carries};
+ghost use Rattle.paging_laws.specs.Steps.{CanApply, IsStep};
+ghost use Rattle.paging_machine.specs.Parts.{state_of};
+ghost use Rattle.run_turns.specs.declared.turn.Turn.TheVariants as turns;
+ghost use Rattle.run_turns.specs.Courses.{Grows, IsSame};
+ghost use Rattle.run_turns.specs.Turns.{CanInstruct, CanTurn, IsBuilderTurn};
+
+use crate::course::Course;
+use crate::turn::Turn;
+use paging_machine::machine::Machine;
+use sgx_types::entries::{Action, Actor, Entry};
+use sgx_types::names::Memory;
+use std::alloc::Global;
+use table_notes::notes::note_tables;
+use turn_tables::dues::TurnDue;
+use turn_tables::holding::mode_of;
+
+// A turn makes an entry for each processor at most, and each open start has room for two.
+pub(crate) const ROOM: usize = 64;
+
+impl Course {
+    /// A turn of the builder.
+    pub fn build_turn(&mut self, alloc: Global) -> Result<Turn, Memory>
+        requires { CanTurn self.old }
+        ensures turn { IfOk result (λ turn. (can : CanTurn self.old) → IsBuilderTurn self.old turn self.new can.told can.spare) }
+        ensures memory { OnErr result (IsSame self.old self.new) }
+    {
+        match self
+            .turns
+            .builder_due(&self.job, &self.driver, &self.machine)
+        {
+            TurnDue::Stopped => Ok(Turn::Stopped),
+            TurnDue::Finished => Ok(Turn::Finished),
+            TurnDue::Waits(why) => Ok(Turn::Again(why)),
+            TurnDue::Makes(action) => self.instruct(alloc, Actor::Builder, action),
+            TurnDue::Ends(_) => unreachable!(),
+            TurnDue::Reports { .. } => unreachable!(),
+            TurnDue::Needs(_) => unreachable!(),
+        }
+    }
+
+    /// An instruction that is due to the builder or to a processor.
+    pub(crate) fn instruct(
+        &mut self,
+        alloc: Global,
+        actor: Actor,
+        action: Action,
+    ) -> Result<Turn, Memory>
+        requires { CanInstruct self.old actor action }
+        ensures turn { IfOk result (λ turn. turn ≡ turns.Did 1) }
+        ensures more { IfOk result (λ turn. (can : CanInstruct self.old actor action)
+            → Grows self.old actor 1 self.new can.told can.spare) }
+        ensures memory { OnErr result (IsSame self.old self.new) }
+    {
+        self.entries.reserve(ROOM)?;
+        let before = mode_of(&self.machine, actor);
+        let entry = apply(alloc, &mut self.machine, actor, action)?;
+        note_tables(&self.turns, &mut self.driver, before, &entry);
+        self.take_in(before, entry);
+        Ok(Turn::Did { entries: 1 })
+    }
+}
+
+// One instruction, and what its entry carries on.
+fn apply(
+    alloc: Global,
+    machine: &mut Machine,
+    actor: Actor,
+    action: Action,
+) -> Result<Entry, Memory>
+    requires { CanApply (length machine.old.cpus) actor action }
+    ensures step { IfOk result (λ e. IsStep (state_of machine.old) actor action e (state_of machine.new)) }
+    ensures carries { IfOk result (λ e. Carries (state_of machine.old) e (state_of machine.new)) }
+    ensures cpus { length machine.new.cpus ≡ length machine.old.cpus }
+    ensures memory { OnErr result (machine.new ≡ machine.old) }
+{
+    machine.apply(alloc, actor, &action)
+}

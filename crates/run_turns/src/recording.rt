@@ -1,0 +1,55 @@
+//! What is done with each entry.
+
+ghost use Rattle.std.specs.Prelude.{◌≡◌, ◌++◌, ◌∷◌, [], vec_capacity};
+ghost use Rattle.reclaim_worker.specs.Standing.{is_sealing};
+ghost use Rattle.reclaim_worker.specs.Stored.{still_out};
+ghost use Rattle.run_book.specs.Books.{with_own};
+ghost use Rattle.run_turns.specs.Recording.{CanRecord, CanTake, IsRecorded, IsTaken};
+ghost use Rattle.turn_tables.specs.Noting.{IsNoted};
+
+use crate::course::Course;
+use cached_translations::processor::Mode;
+use sgx_types::entries::Entry;
+
+impl Course {
+    /// Takes an entry in, before which its processor stood so: the holds and the tables of what is due follow it, it is kept, and it is
+    /// decided whether the reclaimer works.
+    pub(crate) fn take_in(&mut self, before: Mode, entry: Entry)
+        requires { CanTake self.old before entry }
+        ensures book { (take : CanTake self.old before entry) → IsRecorded self.old entry take.can.longer self.new }
+        ensures stands { CanTake self.old before entry → IsTaken self.old entry self.new }
+        ensures kept { self.new.entries.items ≡ self.old.entries.items ++ entry ∷ [] }
+        ensures room { vec_capacity self.new.entries ≡ vec_capacity self.old.entries }
+        ensures noted { IsNoted self.old.job self.old.turns before entry self.new.turns }
+        ensures driver { self.new.driver ≡ with_own self.old.driver self.new.driver.active.own }
+        ensures taken { self.new.pass.taken ≡ self.old.pass.taken }
+        ensures places { still_out self.new.pass.taken.items self.new.pass.phase ≡ still_out self.old.pass.taken.items self.old.pass.phase }
+        ensures sealing { is_sealing self.new.pass.phase ≡ is_sealing self.old.pass.phase }
+        ensures others { self.new ≡ record self.old {
+          driver = self.new.driver;
+          turns = self.new.turns;
+          pass = self.new.pass;
+          entries = self.new.entries;
+        } }
+    {
+        self.record_entry(before, entry);
+        let free = self.machine.free_count();
+        self.pass.note(&self.driver, free);
+    }
+
+    /// .. within a pass, where nothing is decided.
+    pub(crate) fn record_entry(&mut self, before: Mode, entry: Entry)
+        requires { CanRecord self.old before entry }
+        ensures book { (can : CanRecord self.old before entry) → IsRecorded self.old entry can.longer self.new }
+        ensures kept { self.new.entries.items ≡ self.old.entries.items ++ entry ∷ [] }
+        ensures room { vec_capacity self.new.entries ≡ vec_capacity self.old.entries }
+        ensures noted { IsNoted self.old.job self.old.turns before entry self.new.turns }
+        ensures driver { self.new.driver ≡ with_own self.old.driver self.new.driver.active.own }
+        ensures others { self.new ≡ record self.old { driver = self.new.driver; turns = self.new.turns; entries = self.new.entries } }
+    {
+        self.turns
+            .hold(&self.job, &mut self.driver.active, before, &entry);
+        self.turns.note(&self.job, before, &entry);
+        self.entries.push_reserved(entry);
+    }
+}
