@@ -13,6 +13,8 @@ use Rattle.sgx_types.specs.declared.refusals.Refusal.TheVariants as why
 use Rattle.sgx_types.specs.Frames.{added}
 use Rattle.sgx_types.specs.Layouts.{bytes_of}
 use Rattle.sgx_types.specs.Making.{Making}
+use Rattle.sgx_types.specs.declared.record.Header.{Header}
+use Rattle.sgx_types.specs.Flat.{header_at}
 use Rattle.sgx_types.specs.Sealed.{Sealed}
 use Rattle.job_grammar.specs.Jobs.{JobView}
 use Rattle.seal_record.specs.Cipher.{cipher, sealed, tag}
@@ -245,6 +247,17 @@ few_added made j past told d m t k g = subst (λ n. n ≤ 1) (sym (k.agrees.coun
     by_added true = omega arith
     by_added false = omega arith
 
+-- the header of a page in its frame is the one that flat memory gives it
+pub header_held : (made : Making) (j : JobView) (past : List Entry) (told : Option (List Call)) (d : Driver) (m : Parts) (t : Turns)
+    (n : ℕ) (header : Header) → KeepsBook made j past told d m t → (page : IsHeaderIn (state_of m) n header)
+    → header_at past page.page ≡ Some header
+header_held made j past told d m t n header k page =
+    header_told past page.page page.enclave page.kind page.perm
+    (sym (enclave_seen (state_of m) past k.agrees.follows.shape.columns k.flat page.page.enclave) ∙ page.made)
+    (sym (k.flat.pages page.page)
+    ∙ held_kind past n page.page page.kind page.perm (few_added made j past told d m t k page.page)
+    (sym (content_is k.agrees.follows.shape.columns n) ∙ page.held)) ∙ ap Some (sym page.headed)
+
 -- the record is sealed of its page
 module _ (made : Making) (j : JobView) (past : List Entry) (told : Option (List Call)) (d : Driver) (m m' : Parts) (t : Turns) (e : Entry)
     (f : Frame) (rec : Sealed) (k : KeepsBook made j past told d m t) (keys : made.key ≡ j.key)
@@ -261,12 +274,6 @@ module _ (made : Making) (j : JobView) (past : List Entry) (told : Option (List 
   abbrev bytes : List ℕ
   bytes = bytes_of (s.words f.0)
 
-  -- it was added as what it is in its frame
-  added_so : added past page.page ≡ Some (page.kind, page.perm)
-  added_so =
-      held_kind past f.0 page.page page.kind page.perm (few_added made j past told d m t k page.page)
-      (sym (content_is k.agrees.follows.shape.columns f.0) ∙ page.held)
-
   tagged : (sealed s.key version out.leaving.header bytes).tag ≡ tag j.key version out.leaving.header (cipher s.key version bytes)
   tagged =
       ap (λ key. tag key version out.leaving.header (cipher s.key version bytes))
@@ -274,9 +281,7 @@ module _ (made : Making) (j : JobView) (past : List Entry) (told : Option (List 
 
   put_sealed : IsSealedRecord j.key past page.page version rec
   put_sealed = record {
-    header = header_told past page.page page.enclave page.kind page.perm
-        (sym (enclave_seen s past k.agrees.follows.shape.columns k.flat page.page.enclave) ∙ page.made)
-        (sym (k.flat.pages page.page) ∙ added_so) ∙ ap Some (sym page.headed ∙ sym (ap (λ (x : Sealed). x.header) out.sealed));
+    header = header_held made j past told d m t f.0 out.leaving.header k page ∙ ap Some (sym (ap (λ (x : Sealed). x.header) out.sealed));
     tagged = subst (λ (x : Sealed). x.tag ≡ tag j.key version x.header x.cipher) (sym out.sealed) tagged;
   }
 

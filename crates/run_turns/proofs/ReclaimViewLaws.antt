@@ -1,15 +1,26 @@
 -- The turns of the reclaimer, as the book shows them.
-use Rattle.std.proofs.Common.{◌≡◌, ℕ, zero, suc, Bool, false, List, [], Option, Some, None, is_some, Result, Ok, Err, IfOk, OnErr, reverse, slice_get, refl, sym, ap, ◌∙◌, inl, inr, arith}
+use Rattle.std.proofs.Common.{◌≡◌, ℕ, zero, suc, Bool, false, List, [], Option, Some, None, is_some, Result, Ok, Err, IfOk, OnErr, IfSome, reverse, slice_get, refl, sym, ap, ◌∙◌, inl, inr, arith}
 use Rattle.std.specs.Option.{IsSomeAnd}
 use Rattle.sgx_types.specs.declared.entries.Actor.TheVariants as actors
 use Rattle.sgx_types.specs.declared.names.Memory.{Memory}
+use Rattle.sgx_types.specs.declared.names.Kind.{Kind}
+use Rattle.sgx_types.specs.declared.names.Page.{Page}
+use Rattle.sgx_types.specs.declared.names.Perm.{Perm}
+use Rattle.sgx_types.specs.Flat.{bytes_at, page_words}
+use Rattle.sgx_types.specs.Frames.{Holds, is_page}
+use Rattle.sgx_types.specs.Layouts.{bytes_of}
 use Rattle.sgx_types.specs.Making.{Making}
+use Rattle.sgx_types.proofs.Pages.{same_page-refl}
 use Rattle.io_edges.specs.declared.plans.PlanLine.{PlanLine}
 use Rattle.seal_record.specs.declared.seal.SealWork.{SealWork}
 use Rattle.backing_store.specs.Calls.{Call}
 use Rattle.paging_laws.specs.Steps.{SealsPage}
-use Rattle.paging_laws.proofs.ColumnLaws.{start_is}
+use Rattle.paging_laws.proofs.ColumnLaws.{content_is, start_is}
 use Rattle.paging_machine.specs.Parts.{state_of}
+use Rattle.turn_rules.specs.Machines.{machine_of}
+use Rattle.run_history.specs.Given.{UnforgedRun}
+use Rattle.run_book.specs.Books.{KeepsBytes}
+use Rattle.run_records.proofs.PassRecords.{header_held}
 use Rattle.reclaim_worker.specs.declared.turns.Phase.{Phase}
 use Rattle.reclaim_worker.specs.declared.turns.Phase.TheVariants as phases
 use Rattle.reclaim_worker.specs.declared.turns.Taken.{Taken}
@@ -33,18 +44,32 @@ seals_seen : (c : Course) (told : Option (List Call)) (spare : ℕ) (work : Seal
     → KeepsCourse c told spare → SealsFor c work → SealsPageOut (view_of c told plans noted) work
 seals_seen c told spare work plans noted k = by_phase c.pass.phase
   where
+    bytes_seen : (o : Option (List Call)) (n : ℕ) (g : Page) (kind : Kind) (perm : Perm) (w : SealWork)
+        → (state_of c.machine).content n ≡ Holds g kind perm → w.plain.items ≡ bytes_of ((state_of c.machine).words n)
+        → IfSome o (KeepsBytes (machine_of c.job) c.job (past_of c) c.machine)
+        → IfSome o (λ calls. UnforgedRun c.job.key (past_of c) calls → w.plain.items ≡ bytes_at (past_of c) g)
+    bytes_seen None n g kind perm w held plain keeps = tt
+    bytes_seen (Some calls) n g kind perm w held plain keeps = λ unforged.
+        plain ∙ ap bytes_of (sym (ap page_words ((keeps unforged).standing.stands.memory.words n g kind perm held)))
+
     by_one : (o : Option Taken)
         → IsSomeAnd o (λ one. SealsPage (state_of c.machine) one.frame.0 work.key work.version work.header work.plain.items)
         → SealsPageOut (view_of c told plans noted) work
     by_one None s = absurd s
     by_one (Some one) s =
         let shape = k.book.agrees.follows.shape in
+        let page = s.leaving.page in
         record {
           key = s.key ∙ ap (λ (m : Making). m.key) shape.making;
           frame = one.frame.0;
           start = s.leaving.start;
           opened = sym (start_is shape.columns one.frame.0) ∙ s.leaving.opened;
           version = s.version;
+          page = page.page;
+          held = ap (λ o. is_page o page.page) (sym (content_is shape.columns one.frame.0) ∙ page.held) ∙ same_page-refl page.page;
+          header = header_held (machine_of c.job) c.job (past_of c) told c.driver c.machine c.turns one.frame.0 s.leaving.header k.book page
+              ∙ ap Some (sym s.header);
+          bytes = bytes_seen told one.frame.0 page.page page.kind page.perm work page.held s.plain k.book.bytes;
         }
 
     by_phase : (phase : Phase)

@@ -6,6 +6,8 @@ use Rattle.sgx_types.specs.declared.entries.Actor.TheVariants as actors
 use Rattle.sgx_types.specs.declared.entries.Entry.{Entry}
 use Rattle.sgx_types.specs.declared.names.Cpu.{Cpu}
 use Rattle.sgx_types.specs.declared.names.Page.{Page}
+use Rattle.sgx_types.specs.Flat.{bytes_at, header_at}
+use Rattle.sgx_types.specs.Frames.{content, is_page}
 use Rattle.sgx_types.specs.Rules.{Along, EvictRule, Fits, RisingRule, Stale}
 use Rattle.sgx_types.specs.Starts.{Start, open_start}
 use Rattle.io_edges.specs.declared.plans.PlanLine.{PlanLine}
@@ -106,13 +108,18 @@ IsLoadEnd old cpu (turns.Did (suc n)) new = HasGrown old (actors.Cpu cpu) (suc n
 IsLoadEnd old cpu turns.Stopped new = (is_stopped old ≡ true) × (new ≡ old)
 IsLoadEnd old cpu _ new = ⊥
 
--- the page that has started to go out, under the job's key and the version that its start drew
+-- the page that has started to go out: its bytes and its header, under the job's key and the version that its start drew. Where no record was
+-- forged, the bytes are those of flat memory
 pub record SealsPageOut (b : BookView) (work : SealWork) : Type 0 where
   pub key : work.key ≡ b.job.key
   pub frame : ℕ
   pub start : Start
   pub opened : open_start b.past frame ≡ Some start
   pub version : work.version ≡ start.version
+  pub page : Page
+  pub held : is_page (content b.past frame) page ≡ true
+  pub header : header_at b.past page ≡ Some work.header
+  pub bytes : IfSome b.told (λ calls. UnforgedRun b.job.key b.past calls → work.plain.items ≡ bytes_at b.past page)
 
 -- a turn of the reclaimer. Whether it kicked nobody is no entry's to tell. A write-out has started in it, or was open before
 abbrev pub IsReclaim : BookView → Turn → BookView → Type 0

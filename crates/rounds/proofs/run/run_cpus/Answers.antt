@@ -1,0 +1,17 @@
+use Rattle.std.proofs.Common.{sym, ◌∙◌}
+use Rattle.std.proofs.lemmas.Bool.{false≢true}
+use Rattle.rounds.proofs.RestLaws.{rested_more}
+use Rattle.rounds.proofs.run.run_cpus.Goals as goal
+use Rattle.rounds.proofs.run.run_cpus.Goals.{then-not-branch, else-not-branch}
+
+-- a processor with something to do makes the round one of many; one without leaves the book as it was
+pub loop-number-preserved : goal.loop-number-preserved
+loop-number-preserved g c = (
+  record { job = c.in_ok-run_cpu.ensures.run.job ∙ c.loop-number.invariant.0.job; noted = c.in_ok-run_cpu.ensures.run.noted },
+  elim c.if-not-branch.branch [
+    | then-not-branch w ↦ λ done. absurd (false≢true (sym w.is_done-is ∙ done))
+    | else-not-branch w ↦ λ done.
+        rested_more c.args.book.now c.loop-number.book c.run_cpu.new.book c.loop-number.number
+        (c.loop-number.invariant.1 (sym w.is_done-is ∙ done)) (c.in_ok-run_cpu.ensures.rests w.if-not-branch.false)
+  ],
+)

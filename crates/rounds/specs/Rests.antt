@@ -1,0 +1,23 @@
+-- What a turn leaves to its actor, and what it keeps.
+use Rattle.std.specs.Prelude.{ℕ, ◌≡◌, ◌<◌, false}
+use Rattle.driver_rules.specs.Dues.{Finished}
+use Rattle.driver_rules.specs.Stops.{is_spent}
+use Rattle.driver_rules.specs.Turns.{builder_due, cpu_due}
+use Rattle.run_turns.specs.Views.{BookView}
+
+-- a book of the same job, to which no want of memory was noted
+pub record IsSameRun (old new : BookView) : Type 0 where
+  pub job : new.job ≡ old.job
+  pub noted : new.noted ≡ false
+
+-- the builder has nothing more to do, unless the run was stopped
+abbrev pub BuilderRests : BookView → Type 0
+BuilderRests b = is_spent b.past ≡ false → builder_due b.job b.past ≡ Finished
+
+-- .. or a processor has not
+abbrev pub CpuRests : BookView → ℕ → Type 0
+CpuRests b p = is_spent b.past ≡ false → cpu_due b.job b.past p ≡ Finished
+
+-- .. or so many from number 0 on
+abbrev pub CpusRest : BookView → ℕ → Type 0
+CpusRest b n = (p : ℕ) → p < n → CpuRests b p

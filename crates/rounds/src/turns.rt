@@ -1,0 +1,70 @@
+//! A turn of each actor, with its work done and committed at once.
+
+ghost use Rattle.rounds.specs.Rests.{BuilderRests, CpuRests, IsSameRun};
+ghost use Rattle.std.specs.Prelude.{◌≡◌, ◌<◌, IfOk, false, length, true};
+
+use backing_store::backing::Backing;
+use job_grammar::jobs::Job;
+use run_turns::book::Book;
+use run_turns::turn::Turn;
+use seal_record::seal::seal;
+use seal_record::unseal::unseal;
+use sgx_types::names::{Cpu, Memory};
+use std::alloc::Global;
+
+/// A turn of the builder. Whether it has nothing more to do.
+pub(crate) fn build<B: Backing>(alloc: Global, book: &mut Book<B>) -> Result<bool, Memory>
+    requires { book.old.noted ≡ false }
+    ensures run { IsSameRun book.old book.new }
+    ensures rests { IfOk result (λ is_built. is_built ≡ true → (book.new ≡ book.old) × BuilderRests book.new) }
+{
+    match book.build_turn(alloc)? {
+        Turn::Finished | Turn::Stopped => Ok(true),
+        Turn::Did { .. } | Turn::Seal(_) | Turn::Unseal(_) | Turn::Again(_) => Ok(false),
+    }
+}
+
+/// A turn of the reclaimer. Whether it has nothing more to do.
+pub(crate) fn reclaim<B: Backing>(alloc: Global, book: &mut Book<B>) -> Result<bool, Memory>
+    requires { book.old.noted ≡ false }
+    ensures run { IsSameRun book.old book.new }
+    ensures rests { IfOk result (λ is_calm. is_calm ≡ true → book.new ≡ book.old) }
+{
+    match book.reclaim_turn(alloc)? {
+        Turn::Seal(work) => {
+            let _ = book.commit_sealed(seal(work));
+            Ok(false)
+        }
+        Turn::Finished | Turn::Stopped => Ok(true),
+        Turn::Did { .. } | Turn::Unseal(_) | Turn::Again(_) => Ok(false),
+    }
+}
+
+/// A turn of a processor of the job. Whether it has nothing more to do.
+pub(crate) fn run_cpu<B: Backing>(
+    alloc: Global,
+    book: &mut Book<B>,
+    cpu: Cpu,
+) -> Result<bool, Memory>
+    requires noted { book.old.noted ≡ false }
+    requires low { cpu.0 < length book.old.job.scripts }
+    ensures run { IsSameRun book.old book.new }
+    ensures rests { IfOk result (λ is_done. is_done ≡ true → (book.new ≡ book.old) × CpuRests book.new cpu.0) }
+{
+    match book.turn(alloc, cpu)? {
+        Turn::Unseal(work) => {
+            let _ = book.commit_opened(cpu, unseal(work));
+            Ok(false)
+        }
+        Turn::Finished | Turn::Stopped => Ok(true),
+        Turn::Did { .. } | Turn::Seal(_) | Turn::Again(_) => Ok(false),
+    }
+}
+
+/// How many processors a job has. At most 16, since a job is valid.
+pub(crate) fn cpus_of(job: &Job) -> u8
+    ensures { result ≡ length job.now.scripts }
+{
+    let _ = job.epc();
+    job.scripts().len() as u8
+}
