@@ -22,7 +22,10 @@ use Rattle.run_history.specs.Given.{UnforgedRun, made_in}
 use Rattle.run_history.proofs.RunLaws.{unforged_before}
 use Rattle.book_laws.specs.Stores.{TellsStore}
 use Rattle.book_laws.proofs.StoreLaws.{tells_more}
-use Rattle.run_book.specs.Books.{IsMade, KeepsBook, KeepsBytes, with_own}
+use Rattle.run_book.specs.Books.{IsMade, KeepsBook, KeepsBytes, KeepsHonest, with_own}
+use Rattle.run_history.specs.Calls.{CallsAre}
+use Rattle.run_history.specs.Honest.{GiftsAreLast, IsHonest}
+use Rattle.run_history.proofs.HonestLaws.{gifts_more, honest_before}
 
 -- ---- holds change nothing else of the tables
 
@@ -88,6 +91,17 @@ module _ (made : Making) (j : JobView) (past : List Entry) (d d' : Driver) (m m'
       (subst (λ c. StandsWithAllRules made (state_of m) past (made_in past c)) (sym n.store.comes.earlier)
       (k.bytes (subst (UnforgedRun j.key past) n.store.comes.earlier (unforged_before j.key e past longer unforged))))
 
+  honest_more : (told told' : Option (List Call)) → KeepsBook made j past told d m t → IsMade made j past told d m e told' d' m'
+      → IfSome told' (KeepsHonest (e ∷ past))
+  honest_more None None k n = tt
+  honest_more None (Some longer) k n = absurd n.store
+  honest_more (Some calls) None k n = absurd n.store
+  honest_more (Some calls) (Some longer) k n = λ honest.
+      let before = k.honest (subst IsHonest n.store.comes.earlier (honest_before e.event longer honest)) in
+      ((n.honest honest, before.0), gifts_more past e longer k.agrees.sound n.next.can
+      (n.store.comes.comes, subst (CallsAre past) (sym n.store.comes.earlier) k.store.store.calls_are) honest
+      (subst (GiftsAreLast past) (sym n.store.comes.earlier) before.1))
+
 pub book_more : (made : Making) (j : JobView) (past : List Entry) (told told' : Option (List Call)) (d d' : Driver) (m m' : Parts)
     (t t' : Turns) (e : Entry) (own : List (List Page)) → TcsAreApart j → KeepsBook made j past told d m t
     → IsMade made j past told d m e told' d' m' → ShowsTurns j (e ∷ past) t' → KeepsHolds j own (e ∷ past)
@@ -104,4 +118,5 @@ book_more made j past told told' d d' m m' t t' e own tcs k n turns holds = reco
   kick = (n.next.kick, k.kick);
   store = store_more made j past d d' m m' t e own told told' k n;
   bytes = bytes_more made j past d d' m m' t e own told told' k n;
+  honest = honest_more made j past d d' m m' t e own told told' k n;
 }

@@ -1,5 +1,5 @@
 -- What the book of a run keeps, and what an entry has to be, so that it goes on to.
-use Rattle.std.specs.Prelude.{ℕ, ◌≡◌, List, ◌∷◌, Option, None, Some, IfSome}
+use Rattle.std.specs.Prelude.{ℕ, ◌≡◌, false, List, ◌∷◌, Option, None, Some, IfSome}
 use Rattle.sgx_types.specs.declared.entries.Entry.{Entry}
 use Rattle.sgx_types.specs.declared.names.Page.{Page}
 use Rattle.sgx_types.specs.Making.{Making}
@@ -21,14 +21,19 @@ use Rattle.turn_tables.specs.Holding.{KeepsHolds}
 use Rattle.turn_tables.specs.Shown.{ShowsTurns}
 use Rattle.run_history.specs.Calls.{before}
 use Rattle.run_history.specs.Given.{UnforgedRun, gift, made_in}
-use Rattle.run_history.specs.Honest.{EnclavesAreFlat}
+use Rattle.run_history.specs.Honest.{EnclavesAreFlat, GiftsAreLast, IsHonest}
 use Rattle.run_history.specs.Stored.{Tells}
 use Rattle.book_laws.specs.Stores.{TellsStore}
 use Rattle.driver_calls.specs.Comes.{Comes}
+use Rattle.run_book.specs.Lost.{AllCameBack, is_bus}
 
 -- where no record of the run was forged, the machine stands for the entries with all the rules that bytes decide
 abbrev pub KeepsBytes : Making → JobView → List Entry → Parts → List Call → Type 0
 KeepsBytes made j past m calls = UnforgedRun j.key past calls → StandsWithAllRules made (state_of m) past (made_in past calls)
+
+-- where the store failed nothing and gave each page's last record put, each page came back, and each started load has that record
+abbrev pub KeepsHonest : List Entry → List Call → Type 0
+KeepsHonest past calls = IsHonest calls → AllCameBack past × GiftsAreLast past calls
 
 -- driver, machine and the tables of what is due stand for the entries, which keep the rules
 pub record KeepsBook (made : Making) (j : JobView) (past : List Entry) (told : Option (List Call)) (d : Driver) (m : Parts)
@@ -50,6 +55,7 @@ pub record KeepsBook (made : Making) (j : JobView) (past : List Entry) (told : O
   -- a store that tells its calls tells those of the entries
   pub store : IfSome told (λ calls. TellsStore j.key past calls d)
   pub bytes : IfSome told (KeepsBytes made j past m)
+  pub honest : IfSome told (KeepsHonest past)
 
 -- ---- one entry more
 
@@ -83,6 +89,8 @@ pub record IsMade (made : Making) (j : JobView) (past : List Entry) (told : Opti
   -- so do the store's calls, and where no record was forged the machine with all the rules
   pub store : AreTold j past e told told' d d'
   pub bytes : IfSome told' (CarriesBytes made j past m e m')
+  -- over an honest store it is none that tells why a page did not come back
+  pub honest : IfSome told' (λ calls. IsHonest calls → is_bus e.event ≡ false)
 
 -- the tables with these holds
 abbrev pub with_own : Driver → List (List Page) → Driver

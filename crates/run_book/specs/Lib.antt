@@ -1,3 +1,4 @@
 pub mod Books
 pub mod Turns
 pub mod Loads
+pub mod Lost

@@ -3,3 +3,4 @@ pub mod KindLaws
 pub mod ToldLaws
 pub mod LoadRecords
 pub mod PassRecords
+pub mod HonestRecords

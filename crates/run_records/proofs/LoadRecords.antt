@@ -289,7 +289,7 @@ module _ (made : Making) (j : JobView) (past : List Entry) (calls : List Call) (
       frames a b x y e = cc
 
   -- the kept record is the one that was given for this load
-  given : gift past calls can.frame.0 ≡ Some can.kept
+  pub given : gift past calls can.frame.0 ≡ Some can.kept
   given =
       ap (gift past calls) (sym frame_is) ∙ sym (k.store.gifts cpu.0 n page last) ∙ ap record_kept can.copy
 

@@ -43,6 +43,8 @@ use Rattle.run_turns.specs.Courses.{KeepsCourse, is_loading, past_of}
 use Rattle.run_turns.specs.Passing.{IsOwnEntry}
 use Rattle.run_turns.proofs.FollowLaws.{course_ready}
 use Rattle.run_turns.proofs.OwnLaws.{own_ends, own_none}
+use Rattle.run_records.proofs.HonestRecords.{not_lost}
+use Rattle.run_book.specs.Lost.{is_bus}
 
 -- ---- before it
 
@@ -134,6 +136,7 @@ end_is_own c told longer before spare faults faults' e p d m k going waits ended
             faults faults' e k.book refl ready says;
         bytes = stored_bytes (machine_of c.job) c.job (past_of c) c.driver d c.machine m c.pass.taken.items c.pass.phase told longer
             faults faults' e says;
+        honest = not_lost longer e.event (subst (λ (x : Entry). is_bus x.event ≡ false) (sym is.is) refl);
       };
       stood = subst (λ (a : Actor). Outside ≡ mode_of c.machine a) (sym mine) refl;
       place = omega (arith, room);

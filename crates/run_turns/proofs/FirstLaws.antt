@@ -47,11 +47,12 @@ use Rattle.table_notes.specs.Arrays.{KeepsArrays}
 use Rattle.table_notes.proofs.ArrayLaws.{arrays_begin}
 use Rattle.book_laws.specs.Stores.{TellsStore}
 use Rattle.book_laws.proofs.StoreLaws.{tells_first}
-use Rattle.run_book.specs.Books.{KeepsBook, KeepsBytes}
+use Rattle.run_book.specs.Books.{KeepsBook, KeepsBytes, KeepsHonest}
 use Rattle.run_records.proofs.FlatSteps.{flat_first}
 use Rattle.run_turns.specs.declared.course.Course.{Course}
 use Rattle.run_turns.specs.Courses.{KeepsCourse, is_load, is_loading, open_starts, past_of}
 use Rattle.run_turns.proofs.TcsLaws.{tcs_apart}
+use Rattle.run_history.specs.Honest.{GiftsAreLast}
 
 -- ---- the machine
 
@@ -120,6 +121,11 @@ bytes_first j m None fresh = tt
 bytes_first j m (Some calls) fresh =
     λ unforged. subst (λ (x : Making). StandsWithAllRules x (state_of m) [] []) (fresh_making j m fresh) fresh.history
 
+-- no page was put yet
+honest_first : (told : Option (List Call)) → IfSome told (λ calls. calls ≡ []) → IfSome told (KeepsHonest [])
+honest_first None none = tt
+honest_first (Some calls) none = λ honest. (tt, subst (GiftsAreLast []) (sym none) (λ g f slot at. cc))
+
 -- all that the book keeps
 book_first : (j : JobView) (d : Driver) (m : Parts) (t : Turns) (told : Option (List Call)) → IsNew j d → IsFresh j m
     → ShowsTurns j [] t → IfSome told (λ calls. calls ≡ []) → KeepsBook (machine_of j) j [] told d m t
@@ -135,6 +141,7 @@ book_first j d m t told new fresh shows none = record {
   kick = tt;
   store = store_first j d told new none;
   bytes = bytes_first j m told fresh;
+  honest = honest_first told none;
 }
 
 -- ---- the pass

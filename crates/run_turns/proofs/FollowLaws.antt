@@ -59,6 +59,7 @@ use Rattle.run_turns.proofs.OwnLaws.{own_ends, own_none}
 use Rattle.run_turns.proofs.PassTurnLaws.{AtTries, IsTrackSpent, IsTrySpent, IsTurnEntry, Leaves, StaysAtTries, TellsDue}
 use Rattle.run_turns.proofs.PassTurnLaws.{spent_pass, spent_stands, turn_leaves, turn_tells}
 use Rattle.run_turns.proofs.RestLaws.{book_of_state}
+use Rattle.run_records.proofs.HonestRecords.{not_lost}
 
 -- ---- before a turn
 
@@ -147,6 +148,7 @@ module _ (c : Course) (told longer : Option (List Call)) (before spare : ℕ) (p
           flat = flat;
           store = store;
           bytes = every (CarriesBytes (machine_of c.job) c.job (past_of c) c.machine e m) longer bytes;
+          honest = not_lost longer e.event mine.back;
         };
         stood = subst (λ (a : Actor). Outside ≡ mode_of c.machine a) (sym mine.actor) refl;
         place = omega (arith, room);

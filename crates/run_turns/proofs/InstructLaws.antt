@@ -43,6 +43,7 @@ use Rattle.run_turns.proofs.EndedLaws.{is_failed}
 use Rattle.run_turns.proofs.KeepLaws.{Enters}
 use Rattle.run_turns.specs.Courses.{past_of}
 use Rattle.run_turns.specs.Turns.{CanInstruct, IsDueTo}
+use Rattle.run_records.proofs.HonestRecords.{acts_back, not_lost}
 
 -- ---- what is due
 
@@ -166,6 +167,7 @@ instructed c d' m' actor action e k is carries cpus noted =
       flat = flat_step (state_of c.machine) (state_of m') past actor action e b.agrees.follows.shape.columns is b.flat;
       store = plain_told c.job past e action k.told c.driver d' (acts c.machine m' actor action e is).1 w.plain (moves k.told);
       bytes = bytes k.told;
+      honest = not_lost k.told e.event (acts_back e.event action (acts c.machine m' actor action e is).1);
     }
   where
     moves : (o : Option (List Call)) → IfSome o (λ calls. StoreMoves e calls c.driver d')

@@ -42,6 +42,7 @@ use Rattle.run_turns.specs.Recording.{CanRecord, IsRecorded}
 use Rattle.run_turns.proofs.KeepLaws.{few_cpus, room_behind}
 use Rattle.run_turns.proofs.OwnLaws.{own_ends, own_none}
 use Rattle.run_turns.proofs.RecordLaws.{newest}
+use Rattle.run_records.proofs.HonestRecords.{not_lost}
 
 abbrev kick : ℕ → Entry
 kick p = by_reclaimer (Kick (cpu_of p))
@@ -80,6 +81,7 @@ kick_records c p can goes stays = record {
     flat = flat_other (past_of c) (kick p) refl can.book.flat;
     store = kick_told c.job (past_of c) (kick p) (cpu_of p) can.told c.driver refl;
     bytes = every _ can.told (λ calls. note_bytes (machine_of c.job) c.job (past_of c) c.machine (kick p) calls tt stays);
+    honest = not_lost can.told (kick p).event refl;
   };
   stood = refl;
   place = can.place;

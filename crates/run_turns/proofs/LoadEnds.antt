@@ -1,5 +1,5 @@
 -- What stands behind the entries of a processor's turn.
-use Rattle.std.proofs.Common.{◌≡◌, ℕ, ◌+◌, ◌*◌, ◌≤◌, ◌<◌, Bool, true, false, if◌then◌else◌, List, [], ◌∷◌, ◌++◌, Option, Some, None, length, vec_len, vec_capacity, refl, sym, ap, subst, ◌∙◌, arith}
+use Rattle.std.proofs.Common.{◌≡◌, ℕ, ◌+◌, ◌*◌, ◌≤◌, ◌<◌, Bool, true, false, if◌then◌else◌, List, [], ◌∷◌, ◌++◌, Option, Some, None, length, vec_len, vec_capacity, refl, sym, ap, subst, ◌∙◌, arith, IfSome}
 use Rattle.std.proofs.lemmas.Bool.{eq-eqb}
 use Rattle.std.proofs.lemmas.List.Elements.{All-cons, All-nil}
 use Rattle.sgx_types.specs.declared.entries.Action.{Action}
@@ -66,6 +66,9 @@ use Rattle.run_turns.proofs.LoadCourse.{Stands, is_open, kept_room, bus_starts, 
 use Rattle.run_turns.proofs.LoadLaws.{IsOfAway, due_quiet, end_of_load, one, starts_set, end_quiet, loading_told, none_behind_bus, none_more}
 use Rattle.run_turns.proofs.RecordLaws.{newest}
 use Rattle.run_turns.proofs.LoadMade.{Leaves, NotesBus, bus_made, bus_told, end_acts, end_by, end_made, fault_made, resolved_leaves, shows_with}
+use Rattle.run_history.specs.Honest.{IsHonest}
+use Rattle.fault_handler.specs.Finishing.{IsBack}
+use Rattle.run_records.proofs.HonestRecords.{ended_back}
 
 -- an entry was taken in, by all that is said of it
 pub record TookIn (c c' : Course) (before : Mode) (e : Entry) (longer : Option (List Call)) : Type 0 where
@@ -239,8 +242,9 @@ pub refused_bus : (c c' : Course) (past : List Entry) (told : Option (List Call)
     → ShowsTables c.job c.driver (bus_of cpu page reason ∷ e ∷ past)
     → AreTold c.job (e ∷ past) (bus_of cpu page reason) told told c.driver c.driver
     → NotesBus c'.job (e ∷ past) c'.machine (bus_of cpu page reason)
+    → IfSome told (λ calls. IsHonest calls → ⊥)
     → IsMade (machine_of c'.job) c'.job (e ∷ past) told c'.driver c'.machine (bus_of cpu page reason) told c'.driver c'.machine
-refused_bus c c' past told spare before e cpu page reason s took by last going mine shows store notes =
+refused_bus c c' past told spare before e cpu page reason s took by last going mine shows store notes never =
     bus_made c'.job (e ∷ past) told c'.driver c'.machine c'.turns c'.pass.taken.items c'.pass.phase cpu page reason s.book s.stands still
     (subst (λ (j : JobView). cpu.0 < length j.scripts) (sym took.job) mine)
     (fails_reports c'.job (e ∷ past) cpu.0 page reason still last (ap (is_by cpu.0) by ∙ eq-eqb cpu.0 cpu.0 refl))
@@ -248,7 +252,7 @@ refused_bus c c' past told spare before e cpu page reason s took by last going m
     (subst (λ (x : Driver). ShowsTables c.job x (bus_of cpu page reason ∷ e ∷ past)) (sym took.driver)
     (shows_with c.job c.driver (bus_of cpu page reason ∷ e ∷ past) c'.driver.active.own shows)))
     (subst (λ (j : JobView). AreTold j (e ∷ past) (bus_of cpu page reason) told told c'.driver c'.driver) (sym took.job)
-    (bus_told c.job (e ∷ past) told cpu page reason c.driver c'.driver store)) notes
+    (bus_told c.job (e ∷ past) told cpu page reason c.driver c'.driver store)) notes never
   where
     still : is_spent (e ∷ past) ≡ false
     still =
@@ -312,6 +316,7 @@ pub record EndFacts (s : Course) (d' : Driver) (m' : Parts) (told : Option (List
     pub ended : IsEnd (past_of s) cpu page frame entry loaded
     pub shows : ShowsEnd s.job (past_of s) cpu page loaded d'
     pub store : OfBus cpu page loaded (λ e bus. AreTold s.job (e ∷ past_of s) bus told told d' d')
+    pub back : IfSome told (λ calls. IsHonest calls → IsBack loaded)
 
 -- who loads a page can end that
 pub opened_can : (s : Course) (told : Option (List Call)) (spare : ℕ) (cpu : Cpu) (page : Page) → KeepsCourse s told spare
@@ -347,6 +352,8 @@ end_facts s d' m' told spare cpu page loaded k mine going loads does rights cpus
   shows = right.shows;
   store = (end_told (machine_of s.job) s.job past told s.driver d' s.machine m' s.turns cpu page loading.0 loaded can k.book refl loading.1
       (does can)).1;
+  back = ended_back (machine_of s.job) s.job past told s.driver d' s.machine m' s.turns cpu page loading.0 loaded can k.book refl loading.1
+      (does can);
 }
   where
     past : List Entry

@@ -1,7 +1,7 @@
 -- The entry of a fault step, the end of a load, and the bus behind a refused one are entries with which the book goes on.
-use Rattle.std.proofs.Common.{◌≡◌, ℕ, ◌<◌, Bool, true, false, if◌then◌else◌, cond, List, ◌∷◌, Option, Some, None, IfSome, Result, Ok, Err, length, slice_set, refl, sym, ap, subst, ◌∙◌}
+use Rattle.std.proofs.Common.{◌≡◌, ℕ, ◌<◌, Bool, true, false, if◌then◌else◌, cond, List, ◌∷◌, Option, Some, None, IfSome, Result, Ok, Err, length, slice_set, refl, sym, ap, subst, ◌∙◌, inl, inr}
 use Rattle.std.proofs.lemmas.List.{get_or-set_same}
-use Rattle.sgx_types.specs.declared.entries.Action.TheVariants.{Eld}
+use Rattle.sgx_types.specs.declared.entries.Action.TheVariants.{Eld, EldStart}
 use Rattle.sgx_types.specs.declared.entries.Actor.TheVariants as actors
 use Rattle.sgx_types.specs.declared.entries.BusWhy.{BusWhy}
 use Rattle.sgx_types.specs.declared.entries.Entry.{Entry}
@@ -65,6 +65,15 @@ use Rattle.run_bytes.proofs.StepBytes.{note_bytes}
 use Rattle.run_records.proofs.FlatSteps.{flat_other}
 use Rattle.run_records.proofs.LoadRecords.{end_flat, end_told, fault_flat, fault_told}
 use Rattle.run_turns.proofs.LoadLaws.{due_quiet, end_of_load}
+use Rattle.run_records.proofs.HonestRecords.{acts_back, fetched_back, not_lost}
+use Rattle.run_book.specs.Lost.{is_bus}
+use Rattle.run_history.specs.Honest.{IsHonest}
+use Rattle.run_history.specs.Stored.{StoreCalls}
+use Rattle.table_notes.proofs.EntryLaws.{IsEntryOf, entry_by}
+use Rattle.sgx_types.specs.declared.entries.Action.{Action}
+use Rattle.sgx_types.specs.declared.entries.Actor.{Actor}
+use Rattle.paging_laws.specs.State.{State}
+use Rattle.paging_laws.specs.Steps.{IsStep}
 
 -- ---- what a fault step leaves
 
@@ -75,6 +84,7 @@ pub record IsBegun (cpu : Cpu) (page : Page) (d d' : Driver) (m' : Parts) (e : E
   pub rec : Sealed
   pub driver : is_refused e.event ≡ false → d' ≡ with_load d cpu page slot frame rec
   pub opens : is_refused e.event ≡ false → IsToOpen (state_of m') frame.0 rec work
+  pub back : is_bus e.event ≡ false
 
 -- tables and machine are as before
 pub record IsAsBefore (d d' : Driver) (m m' : Parts) : Type 0 where
@@ -92,6 +102,14 @@ Leaves cpu page (answers.Started e work) d d' m m' told told' = IsBegun cpu page
 Leaves cpu page (answers.Bus why) d d' m m' told told' = IsAsBefore d d' m m'
 Leaves cpu page answer d d' m m' told told' = IsStill d d' m m' told told'
 
+-- an instruction tells of no page that was lost
+step_back : (s t : State) (a : Actor) (action : Action) (e : Entry) → IsStep s a action e t → is_bus e.event ≡ false
+step_back s t a action e is = by_entry (entry_by s t a action e is)
+  where
+    by_entry : IsEntryOf s a action e → is_bus e.event ≡ false
+    by_entry (inl k) = rw k.is refl
+    by_entry (inr k) = rw k.is refl
+
 -- by a load's start
 begun : (cpu : Cpu) (page : Page) (slot : SlotAt) (f : Frame) (rec : Sealed) (answer : FaultAnswer) (d d' : Driver) (m m' : Parts)
     (told told' : Option (List Call)) → IsStarted cpu page slot f rec d m answer d' m' → Leaves cpu page answer d d' m m' told told'
@@ -101,6 +119,7 @@ begun cpu page slot f rec answer d d' m m' told told' is = rw is.says record {
   rec = rec;
   driver = λ done. is.driver ∙ ap (λ b. if b then d else with_load d cpu page slot f rec) done;
   opens = is.work_is;
+  back = step_back (state_of m) (state_of m') (actors.Cpu cpu) (EldStart f page slot) is.entry is.step;
 }
 
 -- by what the store gave
@@ -169,6 +188,16 @@ fault_made j past told told' d d' m m' t taken phase cpu page answer k stands go
         (resolved_leaves cpu page (page_state d.states page) answer d d' m m' told told' is) in
         subst (λ x. NotesBus j past x (bus_of cpu page why)) left.machine (bus why same)
 
+    back : (why : BusWhy) (o o' : Option (List Call)) → IfSome o (λ calls. TellsStore j.key past calls d)
+        → AreTold j past (bus_of cpu page why) o o' d d' → IsNext (fetches j.epc past page (place past page)) (Bus page why)
+        → IfSome o' (λ calls. IsHonest calls → is_bus (Bus page why) ≡ false)
+    back why None None store told due = tt
+    back why None (Some longer) store told due = absurd told
+    back why (Some calls) None store told due = absurd told
+    back why (Some calls) (Some longer) store told due = λ honest.
+        absurd (fetched_back j.key past longer j.epc page (place past page) why k.agrees.sound
+        (subst (StoreCalls j.key past) (sym told.comes.earlier) store.store) refl due told.comes.comes honest)
+
     by_answer : (a : FaultAnswer) → IsRight j past cpu page a d' → Leaves cpu page a d d' m m' told told'
         → OfAnswer cpu page a (λ e. IsNextOf (machine_of j) j past d m e d' m') → OfAnswer cpu page a (λ e. EnclavesAreFlat (e ∷ past))
         → OfAnswer cpu page a (λ e. AreTold j past e told told' d d')
@@ -181,6 +210,7 @@ fault_made j past told told' d d' m m' t taken phase cpu page answer k stands go
       flat = flat;
       store = store;
       bytes = bytes;
+      honest = not_lost told' e.event left.back;
     }
     by_answer (answers.Bus why) r left next flat store bytes = record {
       next = next;
@@ -189,6 +219,7 @@ fault_made j past told told' d d' m m' t taken phase cpu page answer k stands go
       flat = flat;
       store = store;
       bytes = bytes;
+      honest = back why told told' k.store store r.due.1;
     }
     by_answer answers.Here r left next flat store bytes = tt
     by_answer (answers.Again why) r left next flat store bytes = tt
@@ -252,6 +283,8 @@ end_made j past told d d' m m' t taken phase cpu page n loaded can k stands goin
   flat = (end_flat past d d' (state_of m) (state_of m') cpu page can.slot can.frame can.kept loaded is k.flat).0;
   store = (end_told (machine_of j) j past told d d' m m' t cpu page n loaded can k refl last is).0;
   bytes = by_told told k.store;
+  honest = not_lost told (entry_in loaded).event
+      (acts_back (entry_in loaded).event (Eld can.frame) (end_acts j past cpu page can.frame loaded d' right));
 }
   where
     by_refused : (b : Bool) → is_refused is.entry.event ≡ b → d'.active.own ≡ d.active.own
@@ -289,8 +322,9 @@ pub bus_made : (j : JobView) (past : List Entry) (told : Option (List Call)) (d 
     → StandsFor j.start_epoch past taken phase (pass j past) → is_spent past ≡ false → cpu.0 < length j.scripts
     → cpu_due j past cpu.0 ≡ Reports page why → ShowsTables j d (bus_of cpu page why ∷ past)
     → AreTold j past (bus_of cpu page why) told told d d → NotesBus j past m (bus_of cpu page why)
+    → IfSome told (λ calls. IsHonest calls → ⊥)
     → IsMade (machine_of j) j past told d m (bus_of cpu page why) told d m
-bus_made j past told d m t taken phase cpu page why k stands going mine due shows store notes = record {
+bus_made j past told d m t taken phase cpu page why k stands going mine due shows store notes never = record {
   next = record {
     script = record { not_spent = going; next = (mine, subst (λ x. IsNext x (Bus page why)) (sym due) refl) };
     age = ages j past (actors.Cpu cpu) (Bus page why) refl;
@@ -309,11 +343,17 @@ bus_made j past told d m t taken phase cpu page why k stands going mine due show
   flat = flat_other past (bus_of cpu page why) refl k.flat;
   store = store;
   bytes = by_told told;
+  honest = by_honest told never;
 }
   where
     by_told : (o : Option (List Call)) → IfSome o (CarriesBytes (machine_of j) j past m (bus_of cpu page why) m)
     by_told None = tt
     by_told (Some calls) = note_bytes (machine_of j) j past m (bus_of cpu page why) calls tt notes.stays
+
+    by_honest : (o : Option (List Call)) → IfSome o (λ calls. IsHonest calls → ⊥)
+        → IfSome o (λ calls. IsHonest calls → is_bus (Bus page why) ≡ false)
+    by_honest None is = tt
+    by_honest (Some calls) is = λ honest. absurd (is honest)
 
 -- holds change nothing else of what the tables show
 pub shows_with : (j : JobView) (d : Driver) (past : List Entry) (own : List (List Page)) → ShowsTables j d past

@@ -73,7 +73,7 @@ second_can s new told spare cpu page d' m' before between e reason k mine going 
     (refused_bus (record s { driver = d'; machine = m' }) new (past_of s) told spare before e cpu page reason stands took f.by
     (end_last s told cpu page d' m' e reason f) going mine f.shows.1 f.store
     (subst (NotesBus new.job (e ∷ past_of s) new.machine) is
-    (notes_of new.job (e ∷ past_of s) new.driver new.machine b stands.book.agrees shape fits history))) stood
+    (notes_of new.job (e ∷ past_of s) new.driver new.machine b stands.book.agrees shape fits history)) f.back) stood
     (room_for_bus (record s { driver = d'; machine = m' }) new before e cpu f.frame told took f.by f.acts f.low f.opened k.room) refl
 
 -- both were taken in

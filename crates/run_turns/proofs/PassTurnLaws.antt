@@ -49,6 +49,7 @@ use Rattle.reclaim_worker.specs.Tried.{count_from, is_kept_by}
 use Rattle.reclaim_worker.specs.Turning.{IsFormTurn, TurnSays, WithPage}
 use Rattle.table_notes.proofs.EntryLaws.{IsEntryOf, entry_by}
 use Rattle.turn_tables.specs.Entries.{EntersApart}
+use Rattle.run_book.specs.Lost.{is_bus}
 
 -- ---- what a turn leaves, by its phase
 
@@ -208,10 +209,11 @@ module _ (taken taken' : List Taken) (d d' : Driver) (turn : PassTurn) (phase' :
 
 -- ---- what a turn says of what is due
 
--- an entry of the reclaimer, which enters nothing
+-- an entry of the reclaimer, which enters nothing and loses no page
 pub record IsTurnEntry (e : Entry) : Type 0 where
   pub actor : e.actor ≡ actors.Reclaimer
   pub enters : EntersApart e.event
+  pub back : is_bus e.event ≡ false
 
 -- an entry that found no epoch left, or no version
 pub record IsTrackSpent (e : Entry) : Type 0 where
@@ -246,8 +248,8 @@ module _ (made : Making) (past : List Entry) (slots : Keeper) (turn : PassTurn) 
     where
       by_last : (b : Bool) → TellsDue slots due (if b then turns.Spent (by_reclaimer (Refused (Track enclave) why.EpochSpent))
           else turns.One (by_reclaimer (Did (Track enclave) answers.Plain)))
-      by_last true = (record { actor = refl; enters = tt }, inl (record { enclave = enclave; is = refl }))
-      by_last false = record { actor = refl; enters = tt }
+      by_last true = (record { actor = refl; enters = tt; back = refl }, inl (record { enclave = enclave; is = refl }))
+      by_last false = record { actor = refl; enters = tt; back = refl }
 
   try_own : (due : Due) (f : ℕ) (slot : SlotAt) → TellsDue slots due (try_turn made past f slot)
   try_own due f slot = by_drain (is_drained past f) (next_version made.first_version past == 2 ^ 64)
@@ -257,14 +259,14 @@ module _ (made : Making) (past : List Entry) (slots : Keeper) (turn : PassTurn) 
           (by_reclaimer (Did (EwbStart (frame_at f) slot) (answers.Version (next_version made.first_version past)))))
           else turns.One (by_reclaimer (Refused (EwbStart (frame_at f) slot)
           (why.NotTracked (epoch_in made.first_epoch past f) (kept_back past f)))))
-      by_drain true true = (record { actor = refl; enters = tt }, inr (record { frame = frame_at f; slot = slot; is = refl }))
-      by_drain true false = record { actor = refl; enters = tt }
-      by_drain false v = record { actor = refl; enters = tt }
+      by_drain true true = (record { actor = refl; enters = tt; back = refl }, inr (record { frame = frame_at f; slot = slot; is = refl }))
+      by_drain true false = record { actor = refl; enters = tt; back = refl }
+      by_drain false v = record { actor = refl; enters = tt; back = refl }
 
   pub turn_tells : (due : Due) → IsTurn made past slots due turn → TellsDue slots due turn
   turn_tells (Waits reason) k = said (Waits reason) _ k refl
-  turn_tells (LooksAt page held young) k = said (LooksAt page held young) _ k.told (record { actor = refl; enters = tt })
-  turn_tells (Makes (Block f)) k = said (Makes (Block f)) _ k (record { actor = refl; enters = tt })
+  turn_tells (LooksAt page held young) k = said (LooksAt page held young) _ k.told (record { actor = refl; enters = tt; back = refl })
+  turn_tells (Makes (Block f)) k = said (Makes (Block f)) _ k (record { actor = refl; enters = tt; back = refl })
   turn_tells (Makes (Track enclave)) k = said (Makes (Track enclave)) _ k (track_own (Makes (Track enclave)) enclave)
   turn_tells (TriesOut f) (inl k) = said (TriesOut f) _ k.told (try_own (TriesOut f) f k.slot)
   turn_tells (TriesOut f) (inr k) = said (TriesOut f) _ k.1 k.0

@@ -26,6 +26,9 @@ use Rattle.run_turns.specs.Courses.{past_of}
 use Rattle.run_turns.specs.Kept.{IsKept, view_of}
 use Rattle.run_turns.proofs.PutLaws.{puts_are_flat}
 use Rattle.run_turns.specs.Views.{HoldsUnforged, Holds, HoldsAnyhow}
+use Rattle.run_history.specs.Honest.{IsHonest}
+use Rattle.run_book.specs.Lost.{AllCameBack}
+use Rattle.run_book.specs.Books.{KeepsHonest}
 
 -- ---- from a rule along the entries to what is said before each of them
 
@@ -87,6 +90,12 @@ store_true : (j : JobView) (past : List Entry) (plans : List PlanLine) (told : O
 store_true j past plans None d tells plans_are = tt
 store_true j past plans (Some calls) d tells plans_are = (plans_are, tells.store)
 
+-- over an honest store all pages came back
+all_back : (past : List Entry) (told : Option (List Call)) → IfSome told (KeepsHonest past)
+    → IfSome told (λ calls. IsHonest calls → AllCameBack past)
+all_back past None keeps = tt
+all_back past (Some calls) keeps = λ honest. (keeps honest).0
+
 -- the rules that no page's bytes decide, the driver's, and the store's calls
 holds_anyhow : (c : Course) (told : Option (List Call)) (plans : List PlanLine) (spare : ℕ) (noted : Bool) → IsKept c told plans spare
     → HoldsAnyhow (view_of c told plans noted)
@@ -102,6 +111,7 @@ holds_anyhow c told plans spare noted kept =
       rising = book.agrees.follows.rising;
       store = store_true c.job (past_of c) plans told c.driver book.store kept.plans_are;
       ended = run_ended c.job (past_of c) book.script kept.keeps.ends kept.keeps.none;
+      honest = all_back (past_of c) told book.honest;
     }
 
 -- ---- together

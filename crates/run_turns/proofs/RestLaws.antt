@@ -54,6 +54,7 @@ book_of_state made j past told d m m' t same k = record {
   store = k.store;
   bytes = subst (λ s. IfSome told (λ calls. UnforgedRun j.key past calls → StandsWithAllRules made s past (made_in past calls))) (sym same)
       k.bytes;
+  honest = k.honest;
 }
 
 -- the entries are the same, so their list from the newest on

@@ -24,7 +24,9 @@ use Rattle.driver_rules.specs.Turns.{Loads, builder_due, cpu_due, last_of}
 use Rattle.driver_laws.specs.Agrees.{loaded_by}
 use Rattle.run_history.specs.Given.{UnforgedRun, gift}
 use Rattle.run_history.specs.Histories.{GoesOn}
+use Rattle.run_history.specs.Honest.{IsHonest}
 use Rattle.run_history.specs.Stored.{PutsAreFlat, StoreTrue}
+use Rattle.run_book.specs.Lost.{AllCameBack}
 use Rattle.run_turns.specs.declared.turn.Turn.{Turn}
 use Rattle.run_turns.specs.declared.turn.Turn.TheVariants as turns
 use Rattle.run_turns.specs.Turns.{IsWaitBy}
@@ -55,6 +57,8 @@ pub record HoldsAnyhow (b : BookView) : Type 0 where
   -- where the builder and each processor have nothing more to do, the run is at its end
   pub ended : builder_due b.job b.past ≡ Finished → ((p : ℕ) → p < length b.job.scripts → cpu_due b.job b.past p ≡ Finished)
       → IsEnded b.job b.past
+  -- where the store failed nothing and gave each page's last record put, each page came back
+  pub honest : IfSome b.told (λ calls. IsHonest calls → AllCameBack b.past)
 
 -- where no record of the run was forged: all eleven rules, and each record that was put has the flat bytes of its page there
 abbrev pub HoldsUnforged : BookView → List Call → Type 0
