@@ -1,1 +1,2 @@
 pub mod PlannedLaws
+pub mod DoneLaws

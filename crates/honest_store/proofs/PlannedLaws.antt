@@ -101,9 +101,11 @@ calls_are_honest (Room page failed ∷ calls) puts rule each = (rule.0, calls_ar
 calls_are_honest (Put page failed ∷ calls) [] rule each = absurd (omega (arith, each, one_put_more page failed calls))
 calls_are_honest (Put page failed ∷ calls) (rec ∷ puts) rule each =
     (rule.0, calls_are_honest calls puts rule.1 (omega (arith, each, one_put_more page failed calls)))
-calls_are_honest (Got page answer ∷ calls) puts rule each =
-    (ap (λ a. told.gift_of a puts) rule.0 ∙ given_as_is (newest (records_of page calls)) puts
-    ∙ ap honest.gift_of (newest_is_last page calls puts rule.1 each), calls_are_honest calls puts rule.1 each)
+calls_are_honest (Got page answer ∷ calls) puts rule each = (
+  ap (λ a. told.gift_of a puts) rule.0 ∙ given_as_is (newest (records_of page calls)) puts
+      ∙ ap honest.gift_of (newest_is_last page calls puts rule.1 each),
+  calls_are_honest calls puts rule.1 each,
+)
 
 pub honest_without_lines : (store : StoreState) → IsStore store → length store.puts ≡ count_by is_put store.calls → store.plans ≡ []
     → IsHonest (told_of store.calls store.puts)

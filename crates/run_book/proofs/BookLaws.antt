@@ -97,10 +97,12 @@ module _ (made : Making) (j : JobView) (past : List Entry) (d d' : Driver) (m m'
   honest_more None (Some longer) k n = absurd n.store
   honest_more (Some calls) None k n = absurd n.store
   honest_more (Some calls) (Some longer) k n = λ honest.
-      let before = k.honest (subst IsHonest n.store.comes.earlier (honest_before e.event longer honest)) in
-      ((n.honest honest, before.0), gifts_more past e longer k.agrees.sound n.next.can
-      (n.store.comes.comes, subst (CallsAre past) (sym n.store.comes.earlier) k.store.store.calls_are) honest
-      (subst (GiftsAreLast past) (sym n.store.comes.earlier) before.1))
+      let before = k.honest (subst IsHonest n.store.comes.earlier (honest_before e.event longer honest)) in (
+        (n.honest honest, before.0),
+        gifts_more past e longer k.agrees.sound n.next.can
+            (n.store.comes.comes, subst (CallsAre past) (sym n.store.comes.earlier) k.store.store.calls_are) honest
+            (subst (GiftsAreLast past) (sym n.store.comes.earlier) before.1),
+      )
 
 pub book_more : (made : Making) (j : JobView) (past : List Entry) (told told' : Option (List Call)) (d d' : Driver) (m m' : Parts)
     (t t' : Turns) (e : Entry) (own : List (List Page)) → TcsAreApart j → KeepsBook made j past told d m t

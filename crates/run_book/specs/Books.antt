@@ -25,7 +25,8 @@ use Rattle.run_history.specs.Honest.{EnclavesAreFlat, GiftsAreLast, IsHonest}
 use Rattle.run_history.specs.Stored.{Tells}
 use Rattle.book_laws.specs.Stores.{TellsStore}
 use Rattle.driver_calls.specs.Comes.{Comes}
-use Rattle.run_book.specs.Lost.{AllCameBack, is_bus}
+use Rattle.driver_rules.specs.Stops.{is_bus}
+use Rattle.run_book.specs.Lost.{AllCameBack}
 
 -- where no record of the run was forged, the machine stands for the entries with all the rules that bytes decide
 abbrev pub KeepsBytes : Making → JobView → List Entry → Parts → List Call → Type 0

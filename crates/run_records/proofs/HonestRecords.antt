@@ -33,7 +33,7 @@ use Rattle.fault_handler.specs.declared.answers.Loaded.{Loaded}
 use Rattle.fault_handler.specs.Finishing.{CanFinish, IsBack, IsFinished}
 use Rattle.fault_handler.proofs.HonestLaws.{honest_back}
 use Rattle.run_book.specs.Books.{KeepsBook}
-use Rattle.run_book.specs.Lost.{is_bus}
+use Rattle.driver_rules.specs.Stops.{is_bus}
 use Rattle.run_records.proofs.LoadRecords.{given}
 
 -- ---- entries of no loss

@@ -44,7 +44,7 @@ use Rattle.run_turns.specs.Passing.{IsOwnEntry}
 use Rattle.run_turns.proofs.FollowLaws.{course_ready}
 use Rattle.run_turns.proofs.OwnLaws.{own_ends, own_none}
 use Rattle.run_records.proofs.HonestRecords.{not_lost}
-use Rattle.run_book.specs.Lost.{is_bus}
+use Rattle.driver_rules.specs.Stops.{is_bus}
 
 -- ---- before it
 

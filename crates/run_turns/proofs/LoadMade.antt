@@ -66,7 +66,7 @@ use Rattle.run_records.proofs.FlatSteps.{flat_other}
 use Rattle.run_records.proofs.LoadRecords.{end_flat, end_told, fault_flat, fault_told}
 use Rattle.run_turns.proofs.LoadLaws.{due_quiet, end_of_load}
 use Rattle.run_records.proofs.HonestRecords.{acts_back, fetched_back, not_lost}
-use Rattle.run_book.specs.Lost.{is_bus}
+use Rattle.driver_rules.specs.Stops.{is_bus}
 use Rattle.run_history.specs.Honest.{IsHonest}
 use Rattle.run_history.specs.Stored.{StoreCalls}
 use Rattle.table_notes.proofs.EntryLaws.{IsEntryOf, entry_by}

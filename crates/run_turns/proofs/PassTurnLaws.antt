@@ -49,7 +49,7 @@ use Rattle.reclaim_worker.specs.Tried.{count_from, is_kept_by}
 use Rattle.reclaim_worker.specs.Turning.{IsFormTurn, TurnSays, WithPage}
 use Rattle.table_notes.proofs.EntryLaws.{IsEntryOf, entry_by}
 use Rattle.turn_tables.specs.Entries.{EntersApart}
-use Rattle.run_book.specs.Lost.{is_bus}
+use Rattle.driver_rules.specs.Stops.{is_bus}
 
 -- ---- what a turn leaves, by its phase
 
