@@ -1,6 +1,6 @@
 // Runs jobs by rounds of turns on one book each, over a store that does what the job plans, and prints their traces. A version may stand in
 // another slot than another program would take: the rules leave that open. So the names of slots are not printed. Behind `zeros` the work
-// between starts and their ends is done over zeros, and the trace is the same.
+// between starts and their ends is done over zeros, and the trace is the same. Behind `ends` is only told how the run ended.
 #![tactic(auto)]
 
 mod rounds;
@@ -9,23 +9,35 @@ mod texts;
 use backing_store::planned_store::PlannedStore;
 use job_text::reader::read_job;
 use rounds::{Work, run};
+use run_jobs::ends::End;
+use run_jobs::run::run_job;
 use run_turns::book::Book;
 use sgx_types::names::Memory;
 use std::alloc::Global;
+use std::sync::Wait;
 use std::{env, fs, io};
 use texts::without_slots;
 use trace_text::trace::print_trace;
 
 fn main(rt: HostRuntime) -> io::Result<()> {
     let mut how = Work::Given;
+    let mut tells_ends = false;
     for name in env::args(&rt)?.skip(1) {
         if name.as_str() == "zeros" {
             how = Work::Zeros;
             continue;
         }
+        if name.as_str() == "ends" {
+            tells_ends = true;
+            continue;
+        }
         println!(rt; "{name}")?;
         let path = format!(in rt.alloc(); "{name}.job")?;
         let job = fs::read(&rt, path.as_str())?;
+        if tells_ends {
+            println!(rt; "{}", how_it_ended(&rt, rt.alloc(), &job))?;
+            continue;
+        }
         match trace_of(rt.alloc(), &job, how) {
             Ok(Some(trace)) => print_lines(&rt, &trace)?,
             Ok(None) => println!(rt; "no job")?,
@@ -43,6 +55,25 @@ fn trace_of(alloc: Global, text: &[u8], how: Work) -> Result<Option<Vec<u8>>, Me
     let mut book = Book::start(alloc, job, PlannedStore::new())?;
     run(alloc, &mut book, how)?;
     Ok(Some(print_trace(alloc, book.entries())?))
+}
+
+// How a job's run ends that is made as a whole.
+fn how_it_ended<R: Wait>(rt: &R, alloc: Global, text: &[u8]) -> &'static str {
+    let Ok(job) = read_job(alloc, text) else {
+        return "no job";
+    };
+    match run_job(rt, alloc, job, PlannedStore::new()) {
+        Ok(run) => name_of(run.end),
+        Err(Memory) => "no memory",
+    }
+}
+
+fn name_of(end: End) -> &'static str {
+    match end {
+        End::Done => "done",
+        End::Bus => "bus",
+        End::Spent => "spent",
+    }
 }
 
 fn print_lines(rt: &HostRuntime, trace: &[u8]) -> io::Result<()> {
