@@ -3,12 +3,11 @@
 // between starts and their ends is done over zeros, and the trace is the same. Behind `ends` is only told how the run ended.
 #![tactic(auto)]
 
-mod rounds;
 mod texts;
+mod turning;
 
 use backing_store::planned_store::PlannedStore;
 use job_text::reader::read_job;
-use rounds::{Work, run};
 use run_jobs::ends::End;
 use run_jobs::run::run_job;
 use run_turns::book::Book;
@@ -18,6 +17,7 @@ use std::sync::Wait;
 use std::{env, fs, io};
 use texts::without_slots;
 use trace_text::trace::print_trace;
+use turning::{Work, run};
 
 fn main(rt: HostRuntime) -> io::Result<()> {
     let mut how = Work::Given;
