@@ -1,17 +1,21 @@
 -- What a turn of the reclaimer answers.
-use Rattle.std.proofs.Common.{◌≡◌, ℕ, ◌≤◌, ◌+◌, ◌⊎◌, inl, inr, true, false, if◌then◌else◌, List, Option, vec_len, vec_capacity, refl, sym, ap, subst, ◌∙◌, arith}
+use Rattle.std.proofs.Common.{◌≡◌, ℕ, ◌≤◌, ◌+◌, ◌⊎◌, inl, inr, false, List, Option, vec_len, vec_capacity, refl, sym, ap, subst, ◌∙◌, arith}
 use Rattle.sgx_types.specs.declared.entries.Actor.{Actor}
 use Rattle.sgx_types.specs.declared.entries.Actor.TheVariants as actors
 use Rattle.sgx_types.specs.declared.entries.Entry.{Entry}
+use Rattle.sgx_types.specs.Making.{Making}
+use Rattle.version_array.specs.Keeper.{Keeper}
+use Rattle.reclaim_worker.specs.Answers.{IsTurn}
 use Rattle.seal_record.specs.declared.seal.SealWork.{SealWork}
 use Rattle.job_grammar.specs.Jobs.{JobView}
 use Rattle.backing_store.specs.Calls.{Call}
 use Rattle.turn_rules.specs.Machines.{machine_of}
 use Rattle.paging_machine.specs.Parts.{Parts}
-use Rattle.driver_rules.specs.Dues.{Stopped}
+use Rattle.driver_rules.specs.Dues.{Due, Ends, Fetches, Finished, KicksAll, LooksAt, Makes, Reports, Stopped, TriesOut}
+use Rattle.driver_rules.specs.Dues as dues
 use Rattle.driver_rules.specs.Passes.{pass}
-use Rattle.driver_rules.specs.Reclaims.{all_finished, due_with, pass_due, reclaimer_due}
-use Rattle.driver_rules.specs.Stops.{frame_started, is_spent, last_event}
+use Rattle.driver_rules.specs.Reclaims.{all_finished, pass_due, reclaimer_due}
+use Rattle.driver_rules.specs.Stops.{is_spent}
 use Rattle.driver_tables.specs.declared.driver.Driver.{Driver}
 use Rattle.reclaim_worker.specs.declared.passes.Pass as worker
 use Rattle.reclaim_worker.specs.declared.turns.Phase.{Phase}
@@ -24,9 +28,9 @@ use Rattle.run_turns.specs.declared.course.Course.{Course}
 use Rattle.run_turns.specs.declared.turn.Turn.{Turn}
 use Rattle.run_turns.specs.declared.turn.Turn.TheVariants as turns
 use Rattle.run_turns.specs.Courses.{Grows, IsSame, KeepsCourse, past_of}
-use Rattle.run_turns.specs.Passing.{FollowsBy, HasDone, HasSealed, IsFollowed, IsOwnEntry, IsSealOf}
-use Rattle.run_turns.specs.Turns.{IsAtRest, IsReclaimerTurn, IsWaitBy, due_of}
-use Rattle.run_turns.proofs.FollowLaws.{IsStepped, course_ready, tells_of}
+use Rattle.run_turns.specs.Passing.{FollowsBy, HasKicks, HasOne, HasSealed, IsFollowed, IsOwnEntry, IsSealOf}
+use Rattle.run_turns.specs.Turns.{IsAtRest, IsReclaimerTurn, IsWaitBy, MakesMany, due_of}
+use Rattle.run_turns.proofs.FollowLaws.{IsStepped, course_ready, kicks_due, tells_of}
 use Rattle.run_turns.proofs.KeepLaws.{same_self}
 use Rattle.run_turns.proofs.RestLaws.{rest_behind, rest_keeps, same_grows, same_past, same_twice}
 
@@ -39,7 +43,7 @@ own_by c turn e longer spare (inl is) by = subst (λ t. FollowsBy c t longer spa
 own_by c turn e longer spare (inr is) by = subst (λ t. FollowsBy c t longer spare) is by
 
 pub did_by : (old : Course) (turn : PassTurn) (e : Entry) (result : Turn) (new : Course) (told : Option (List Call)) (spare : ℕ)
-    → (turn ≡ passed.One e) ⊎ (turn ≡ passed.Spent e) → HasDone old result new told spare → IsFollowed old turn result new told spare
+    → (turn ≡ passed.One e) ⊎ (turn ≡ passed.Spent e) → HasOne old result new told spare → IsFollowed old turn result new told spare
 did_by old turn e result new told spare (inl is) h = subst (λ t. IsFollowed old t result new told spare) (sym is) h
 did_by old turn e result new told spare (inr is) h = subst (λ t. IsFollowed old t result new told spare) (sym is) h
 
@@ -88,6 +92,22 @@ seal_again c turns.Stopped told spare seals = absurd seals
 
 -- ---- a turn of the pass
 
+-- a turn of one entry
+makes_one : (made : Making) (past : List Entry) (slots : Keeper) (due : Due) (turn : PassTurn) (e : Entry)
+    → (turn ≡ passed.One e) ⊎ (turn ≡ passed.Spent e) → IsTurn made past slots due turn → MakesMany due 1
+makes_one made past slots (LooksAt page held young) turn e is s = refl
+makes_one made past slots (Makes action) turn e is s = refl
+makes_one made past slots (TriesOut f) turn e is s = refl
+makes_one made past slots (dues.Waits reason) turn e (inl is) s = absurd (let both = sym is ∙ s in cc)
+makes_one made past slots (dues.Waits reason) turn e (inr is) s = absurd (let both = sym is ∙ s in cc)
+makes_one made past slots (KicksAll cpus) turn e (inl is) s = absurd (let both = sym is ∙ s in cc)
+makes_one made past slots (KicksAll cpus) turn e (inr is) s = absurd (let both = sym is ∙ s in cc)
+makes_one made past slots Stopped turn e is s = absurd s
+makes_one made past slots Finished turn e is s = absurd s
+makes_one made past slots (Ends action) turn e is s = absurd s
+makes_one made past slots (Reports page reason) turn e is s = absurd s
+makes_one made past slots (Fetches page slot free) turn e is s = absurd s
+
 module _ (c : Course) (told longer : Option (List Call)) (before spare : ℕ) (p : worker.Pass) (d : Driver) (m : Parts) (c' : Course)
     (k : KeepsCourse c told before) (going : is_spent (past_of c) ≡ false) (room : vec_len c.entries + 64 ≤ vec_capacity c.entries)
     (idle : is_sealing c.pass.phase ≡ false) (some : all_finished c.job (past_of c) ≡ false) where
@@ -114,13 +134,33 @@ module _ (c : Course) (told longer : Option (List Call)) (before spare : ℕ) (p
   due_is = next_is_pass (machine_of c.job) c.job (past_of c) c.pass.taken.items c.pass.phase c.driver c.machine (is_kicked c.pass.phase)
       (course_ready c told before k) k.book.age idle going some
 
-  did : (result : Turn) → HasDone after result c' longer spare → IsReclaimerTurn c result c' longer spare
-  did (turns.Did n) g = same_grows c after c' actors.Reclaimer n longer spare refl refl g
-  did (turns.Seal work) g = absurd g
-  did (turns.Unseal work) g = absurd g
-  did (turns.Again reason) g = absurd g
-  did turns.Finished g = absurd g
-  did turns.Stopped g = absurd g
+  one : (turn : PassTurn) (e : Entry) (result : Turn) → (turn ≡ passed.One e) ⊎ (turn ≡ passed.Spent e)
+      → IsStepped c told turn p d m longer spare → HasOne after result c' longer spare → IsReclaimerTurn c result c' longer spare
+  one turn e (turns.Did n) is s g =
+      subst (λ k. MakesMany (due_of c) k × Grows c actors.Reclaimer k c' longer spare) (sym g.0) (
+        subst (λ due. MakesMany due 1) (sym due_is)
+            (makes_one (machine_of c.job) (past_of c) c.driver.slots
+            (pass_due c.job (past_of c) (is_kicked c.pass.phase) (pass c.job (past_of c))) turn e is s.due),
+        same_grows c after c' actors.Reclaimer 1 longer spare refl refl g.1,
+      )
+  one turn e (turns.Seal work) is s g = absurd g
+  one turn e (turns.Unseal work) is s g = absurd g
+  one turn e (turns.Again reason) is s g = absurd g
+  one turn e turns.Finished is s g = absurd g
+  one turn e turns.Stopped is s g = absurd g
+
+  kicks : (bits : ℕ) (result : Turn) → IsStepped c told (passed.Kicks bits) p d m longer spare → HasKicks after result c' longer spare
+      → IsReclaimerTurn c result c' longer spare
+  kicks bits (turns.Did n) s g =
+      let are = kicks_due c told longer before spare p d m k going room bits s in (
+        subst (λ due. MakesMany due n) (sym (due_is ∙ are.1.0)) (g.0 are.0 are.1.1),
+        same_grows c after c' actors.Reclaimer n longer spare refl refl g.1,
+      )
+  kicks bits (turns.Seal work) s g = absurd g
+  kicks bits (turns.Unseal work) s g = absurd g
+  kicks bits (turns.Again reason) s g = absurd g
+  kicks bits turns.Finished s g = absurd g
+  kicks bits turns.Stopped s g = absurd g
 
   sealed : (result : Turn) → HasSealed after result c' longer spare → IsReclaimerTurn c result c' longer spare
   sealed (turns.Seal work) g = (g.0, inl (same_grows c after c' actors.Reclaimer 1 longer spare refl refl g.1))
@@ -133,9 +173,9 @@ module _ (c : Course) (told longer : Option (List Call)) (before spare : ℕ) (p
   -- what it answers
   pub turn_answers : (turn : PassTurn) (result : Turn) → IsStepped c told turn p d m longer spare → Waits turn
       → IsFollowed after turn result c' longer spare → IsReclaimerTurn c result c' longer spare
-  turn_answers (passed.One e) result s waits h = did result h
-  turn_answers (passed.Spent e) result s waits h = did result h
-  turn_answers (passed.Kicks bits) result s waits h = did result h
+  turn_answers (passed.One e) result s waits h = one (passed.One e) e result (inl refl) s h
+  turn_answers (passed.Spent e) result s waits h = one (passed.Spent e) e result (inr refl) s h
+  turn_answers (passed.Kicks bits) result s waits h = kicks bits result s h
   turn_answers (passed.Seal e) result s waits h = sealed result h
   turn_answers (passed.Again reason) result s waits h =
       let told_due = tells_of c told longer before spare p d m k going room (passed.Again reason) s in
@@ -143,13 +183,21 @@ module _ (c : Course) (told longer : Option (List Call)) (before spare : ℕ) (p
       (subst (λ due. IsWaitBy due reason) (sym (due_is ∙ told_due)) refl, subst (IsAtRest c) (sym h.1) (rests reason s waits))
   turn_answers passed.NoSlot result s waits h = absurd h
 
-  did_keeps : (result : Turn) → HasDone after result c' longer spare → KeepsCourse c' longer spare
-  did_keeps (turns.Did n) g = g.keeps
-  did_keeps (turns.Seal work) g = absurd g
-  did_keeps (turns.Unseal work) g = absurd g
-  did_keeps (turns.Again reason) g = absurd g
-  did_keeps turns.Finished g = absurd g
-  did_keeps turns.Stopped g = absurd g
+  one_keeps : (result : Turn) → HasOne after result c' longer spare → KeepsCourse c' longer spare
+  one_keeps (turns.Did n) g = g.1.keeps
+  one_keeps (turns.Seal work) g = absurd g
+  one_keeps (turns.Unseal work) g = absurd g
+  one_keeps (turns.Again reason) g = absurd g
+  one_keeps turns.Finished g = absurd g
+  one_keeps turns.Stopped g = absurd g
+
+  kicks_keep : (result : Turn) → HasKicks after result c' longer spare → KeepsCourse c' longer spare
+  kicks_keep (turns.Did n) g = g.1.keeps
+  kicks_keep (turns.Seal work) g = absurd g
+  kicks_keep (turns.Unseal work) g = absurd g
+  kicks_keep (turns.Again reason) g = absurd g
+  kicks_keep turns.Finished g = absurd g
+  kicks_keep turns.Stopped g = absurd g
 
   sealed_keeps : (result : Turn) → HasSealed after result c' longer spare → KeepsCourse c' longer spare
   sealed_keeps (turns.Seal work) g = g.1.keeps
@@ -162,9 +210,9 @@ module _ (c : Course) (told longer : Option (List Call)) (before spare : ℕ) (p
   -- .. and what stands behind it
   pub turn_keeps : (turn : PassTurn) (result : Turn) → IsStepped c told turn p d m longer spare → Waits turn
       → (IsWait turn → KeepsCourse c longer spare) → IsFollowed after turn result c' longer spare → KeepsCourse c' longer spare
-  turn_keeps (passed.One e) result s waits still h = did_keeps result h
-  turn_keeps (passed.Spent e) result s waits still h = did_keeps result h
-  turn_keeps (passed.Kicks bits) result s waits still h = did_keeps result h
+  turn_keeps (passed.One e) result s waits still h = one_keeps result h
+  turn_keeps (passed.Spent e) result s waits still h = one_keeps result h
+  turn_keeps (passed.Kicks bits) result s waits still h = kicks_keep result h
   turn_keeps (passed.Seal e) result s waits still h = sealed_keeps result h
   turn_keeps (passed.Again reason) result s waits still h =
       subst (λ x. KeepsCourse x longer spare) (sym h.1) (rest_keeps c after longer spare (rests reason s waits) (still tt))
@@ -181,21 +229,16 @@ same_due a b same =
 -- a course that is the same answers the same
 pub same_answers : (a b c : Course) (result : Turn) (told : Option (List Call)) (spare : ℕ) → IsSame a b
     → IsReclaimerTurn b result c told spare → IsReclaimerTurn a result c told spare
-same_answers a b c (turns.Did n) told spare same g =
-    same_grows a b c actors.Reclaimer n told spare same.job (same_past a b same.entries) g
+same_answers a b c (turns.Did n) told spare same g = (
+  subst (λ due. MakesMany due n) (same_due a b same) g.0,
+  same_grows a b c actors.Reclaimer n told spare same.job (same_past a b same.entries) g.1,
+)
 same_answers a b c (turns.Seal work) told spare same (seals, inl g) =
     (seals, inl (same_grows a b c actors.Reclaimer 1 told spare same.job (same_past a b same.entries) g))
 same_answers a b c (turns.Seal work) told spare same (seals, inr h) = (seals, inr (same_twice a b c same h))
 same_answers a b c (turns.Again reason) told spare same h =
     (subst (λ due. IsWaitBy due reason) (same_due a b same) h.0, rest_behind a b c same h.1)
 same_answers a b c turns.Finished told spare same h = (sym (same_due a b same) ∙ h.0, same_twice a b c same h.1)
-same_answers a b c turns.Stopped told spare same h = (sym (same_due a b same) ∙ h.0, same_twice a b c same h.1)
+same_answers a b c turns.Stopped told spare same h =
+    (ap is_spent (sym (same_past a b same.entries)) ∙ h.0, same_twice a b c same h.1)
 same_answers a b c (turns.Unseal work) told spare same h = absurd h
-
--- ---- nothing to do
-
--- a run that was stopped
-pub stopped_due : (c : Course) → is_spent (past_of c) ≡ true → due_of c ≡ Stopped
-stopped_due c spent =
-    ap (λ b. if b then Stopped else due_with c.job (past_of c) (is_kicked c.pass.phase) (frame_started (last_event (past_of c) actors.Reclaimer)))
-    spent

@@ -227,6 +227,21 @@ module _ (c : Course) (told longer : Option (List Call)) (before spare : ℕ) (p
         room = room;
       }
 
+  -- they are due whether or not a turn of kicks was made before: none was
+  pub kicks_due : (bits : ℕ) → IsStepped c told (turns.Kicks bits) p d m longer spare
+      → (cpus : List ℕ) × ((pass_due c.job (past_of c) (is_kicked c.pass.phase) (pass c.job (past_of c)) ≡ KicksAll cpus)
+      × (pass_due c.job (past_of c) false (pass c.job (past_of c)) ≡ KicksAll cpus))
+  kicks_due bits s =
+      let at = turn_leaves c.pass.taken.items p.taken.items c.driver d (turns.Kicks bits) p.phase c.pass.phase c.machine m s.says s.driver in
+      let are = turn_tells (machine_of c.job) (past_of c) c.driver.slots (turns.Kicks bits)
+      (pass_due c.job (past_of c) (is_kicked c.pass.phase) (pass c.job (past_of c))) s.due in (
+        are.cpus,
+        (
+          are.due_is,
+          subst (λ phase. pass_due c.job (past_of c) (is_kicked phase) (pass c.job (past_of c)) ≡ KicksAll are.cpus) at.same are.due_is,
+        ),
+      )
+
   next_of : (turn : PassTurn) → IsStepped c told turn p d m longer spare
       → OfEntry turn (λ e. IsNextOf (machine_of c.job) c.job (past_of c) c.driver c.machine e d m)
   next_of turn s =

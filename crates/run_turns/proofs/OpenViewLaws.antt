@@ -125,7 +125,8 @@ module _ (c c' : Course) (told told' : Option (List Call)) (plans plans' : List 
 module _ (c c' : Course) (told : Option (List Call)) (plans : List PlanLine) (spare : ℕ) (cpu : Cpu) where
   pub opened_seen : (turn : Turn) → IsOpened c cpu turn c' told spare → IsLoadEnd (view_of c told plans false) cpu turn (view_of c' told plans false)
   opened_seen (turns.Did zero) (none, s) = (none, same_view c c' told plans false s)
-  opened_seen (turns.Did (suc n)) g = grown_seen c c' (actors.Cpu cpu) (suc n) told told told plans plans spare false g
+  opened_seen (turns.Did (suc n)) (ends, g) =
+      (ends, grown_seen c c' (actors.Cpu cpu) (suc n) told told told plans plans spare false g)
   opened_seen turns.Stopped (spent, s) = (spent, same_view c c' told plans false s)
   opened_seen (turns.Seal work) is = absurd is
   opened_seen (turns.Unseal work) is = absurd is
@@ -134,7 +135,7 @@ module _ (c c' : Course) (told : Option (List Call)) (plans : List PlanLine) (sp
 
   pub opened_kept : (turn : Turn) → IsKept c told plans spare → IsOpened c cpu turn c' told spare → IsKept c' told plans spare
   opened_kept (turns.Did zero) k (none, s) = kept_on c c' told plans spare k (same_keeps c c' told spare s k.keeps, s.job)
-  opened_kept (turns.Did (suc n)) k g = kept_on c c' told plans spare k (g.keeps, g.job)
+  opened_kept (turns.Did (suc n)) k (ends, g) = kept_on c c' told plans spare k (g.keeps, g.job)
   opened_kept turns.Stopped k (spent, s) = kept_on c c' told plans spare k (same_keeps c c' told spare s k.keeps, s.job)
   opened_kept (turns.Seal work) k is = absurd is
   opened_kept (turns.Unseal work) k is = absurd is

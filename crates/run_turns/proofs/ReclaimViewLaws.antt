@@ -1,7 +1,8 @@
 -- The turns of the reclaimer, as the book shows them.
-use Rattle.std.proofs.Common.{◌≡◌, ℕ, zero, suc, Bool, false, List, [], Option, Some, None, is_some, Result, Ok, Err, IfOk, OnErr, IfSome, reverse, slice_get, refl, sym, ap, ◌∙◌, inl, inr, arith}
+use Rattle.std.proofs.Common.{◌≡◌, ℕ, zero, suc, ◌⊎◌, Bool, true, false, List, [], Option, Some, None, is_some, Result, Ok, Err, IfOk, OnErr, IfSome, reverse, slice_get, refl, sym, ap, subst, ◌∙◌, inl, inr}
 use Rattle.std.specs.Option.{IsSomeAnd}
 use Rattle.sgx_types.specs.declared.entries.Actor.TheVariants as actors
+use Rattle.sgx_types.specs.declared.entries.Entry.{Entry}
 use Rattle.sgx_types.specs.declared.names.Memory.{Memory}
 use Rattle.sgx_types.specs.declared.names.Kind.{Kind}
 use Rattle.sgx_types.specs.declared.names.Page.{Page}
@@ -18,13 +19,19 @@ use Rattle.paging_laws.specs.Steps.{SealsPage}
 use Rattle.paging_laws.proofs.ColumnLaws.{content_is, start_is}
 use Rattle.paging_machine.specs.Parts.{state_of}
 use Rattle.turn_rules.specs.Machines.{machine_of}
+use Rattle.job_grammar.specs.Jobs.{JobView}
+use Rattle.driver_rules.specs.Dues.{KicksAll}
+use Rattle.driver_rules.specs.Passes.{Form, Third, ToKick, Tries, keepers, pass}
+use Rattle.driver_rules.specs.Reclaims.{all_finished, pass_due, reclaimer_due}
+use Rattle.driver_rules.specs.Stops.{frame_started, is_spent, last_event}
 use Rattle.run_history.specs.Given.{UnforgedRun}
 use Rattle.run_book.specs.Books.{KeepsBytes}
 use Rattle.run_records.proofs.PassRecords.{header_held}
 use Rattle.reclaim_worker.specs.declared.turns.Phase.{Phase}
 use Rattle.reclaim_worker.specs.declared.turns.Phase.TheVariants as phases
 use Rattle.reclaim_worker.specs.declared.turns.Taken.{Taken}
-use Rattle.reclaim_worker.specs.Standing.{is_kicked}
+use Rattle.reclaim_worker.specs.Standing.{StandsFor, is_kicked, is_sealing, pages_in}
+use Rattle.reclaim_worker.specs.declared.turns.Form.TheVariants as code
 use Rattle.reclaim_worker.specs.Stored.{IsToSeal}
 use Rattle.run_turns.specs.declared.course.Course.{Course}
 use Rattle.run_turns.specs.declared.turn.Turn.{Turn}
@@ -32,8 +39,8 @@ use Rattle.run_turns.specs.declared.turn.Turn.TheVariants as turns
 use Rattle.run_turns.specs.Courses.{IsSame, KeepsCourse, past_of}
 use Rattle.run_turns.specs.Kept.{IsKept, view_of}
 use Rattle.run_turns.specs.Passing.{EndsNone, IsWaiting}
-use Rattle.run_turns.specs.Turns.{IsReclaimerTurn, IsSealed, SealsFor}
-use Rattle.run_turns.specs.Views.{HasGrown, IsOutEnd, IsReclaim, SealsPageOut}
+use Rattle.run_turns.specs.Turns.{IsReclaimerTurn, IsSealed, SealsFor, due_of}
+use Rattle.run_turns.specs.Views.{IsDueNow, IsOutEnd, IsReclaim, SealsPageOut}
 use Rattle.run_turns.proofs.StartLaws.{none_started}
 use Rattle.run_turns.proofs.ViewLaws.{grown_seen, plans_told}
 
@@ -83,6 +90,59 @@ seals_seen c told spare work plans noted k = by_phase c.pass.phase
 
 -- ---- turns
 
+-- what is due with a turn of kicks made is due without, or that turn is due and has nobody to kick
+either_due : (j : JobView) (past : List Entry)
+    → (pass_due j past true (pass j past) ≡ pass_due j past false (pass j past)) ⊎ (pass_due j past false (pass j past) ≡ KicksAll [])
+    → (reclaimer_due j past true ≡ reclaimer_due j past false) ⊎ (reclaimer_due j past false ≡ KicksAll [])
+either_due j past either = by (is_spent past) refl (frame_started (last_event past actors.Reclaimer)) refl (all_finished j past) refl
+  where
+    by : (spent : Bool) → is_spent past ≡ spent → (o : Option ℕ) → frame_started (last_event past actors.Reclaimer) ≡ o
+        → (all : Bool) → all_finished j past ≡ all
+        → (reclaimer_due j past true ≡ reclaimer_due j past false) ⊎ (reclaimer_due j past false ≡ KicksAll [])
+    by true s o started all finished = inl (rw s refl)
+    by false s (Some f) started all finished = inl (rw (s, started) refl)
+    by false s None started true finished = inl (rw (s, started, finished) refl)
+    by false s None started false finished = rw (s, started, finished) either
+
+-- the reclaimer knows what is due
+due_now : (c : Course) (told : Option (List Call)) (spare : ℕ) (plans : List PlanLine) → KeepsCourse c told spare
+    → IsDueNow (view_of c told plans false) (due_of c)
+due_now c told spare plans k = by_phase c.pass.phase k.stands
+  where
+    past : List Entry
+    past = past_of c
+
+    j : JobView
+    j = c.job
+
+    none : IsDueNow (view_of c told plans false) (reclaimer_due j past false)
+    none = inl refl
+
+    behind : (reclaimer_due j past true ≡ reclaimer_due j past false) ⊎ (reclaimer_due j past false ≡ KicksAll [])
+        → IsDueNow (view_of c told plans false) (reclaimer_due j past true)
+    behind (inl same) = inl same
+    behind (inr nobody) = inr (nobody, refl)
+
+    with_page : (g : Page) (rest : List Page) (to : Form) → pass j past ≡ Tries g rest to
+        → (to ≡ Third) ⊎ ((to ≡ ToKick) × (keepers past g ≡ []))
+        → (pass_due j past true (pass j past) ≡ pass_due j past false (pass j past)) ⊎ (pass_due j past false (pass j past) ≡ KicksAll [])
+    with_page g rest to at (inl third) = inl (rw (at, third) refl)
+    with_page g rest to at (inr (kick, nobody)) = inr (rw (at, kick) (ap KicksAll nobody))
+
+    by_phase : (phase : Phase) → StandsFor j.start_epoch past c.pass.taken.items phase (pass j past)
+        → IsDueNow (view_of c told plans false) (reclaimer_due j past (is_kicked phase))
+    by_phase (phases.Idle works) stands = none
+    by_phase (phases.Scan left) stands = none
+    by_phase (phases.Block next) stands = none
+    by_phase (phases.Sealing next slot) stands = none
+    by_phase (phases.Tries next code.First block) stands = none
+    by_phase (phases.Tries next code.Track block) stands = none
+    by_phase (phases.Tries next code.Second block) stands = none
+    by_phase (phases.Tries next code.Kick block) stands = none
+    by_phase (phases.Tries next code.Third block) stands =
+        let w = stands.0 in
+        behind (either_due j past (with_page w.one.page (pages_in w.rest) w.to w.same w.fits.0))
+
 module _ (c c' : Course) (told told' : Option (List Call)) (plans plans' : List PlanLine) (spare' : ℕ) (k : KeepsCourse c' told' spare')
     (same_plans : plans' ≡ plans) where
   -- where entries and job are as before, the book is the one that it was
@@ -96,37 +156,51 @@ module _ (c c' : Course) (told told' : Option (List Call)) (plans plans' : List 
     noted = false;
   }
 
-  none_grown : IsSame c c' → HasGrown (view_of c told plans false) actors.Reclaimer 0 (view_of c' told' plans' false)
-  none_grown s = record {
-    entries = [];
-    count = refl;
-    actors = λ n d low. absurd (omega (arith, low));
-    past = ap reverse s.entries;
-    job = s.job;
-    noted = refl;
-  }
+  -- a work for it is of a write-out that is open
+  open_work : (work : SealWork) → SealsFor c' work → is_sealing c'.pass.phase ≡ true
+  open_work work = by_phase c'.pass.phase
+    where
+      by_phase : (phase : Phase)
+          → IsToSeal c'.pass.taken.items phase (state_of c'.machine) work.key work.version work.header work.plain.items
+          → is_sealing phase ≡ true
+      by_phase (phases.Sealing next slot) s = refl
+      by_phase (phases.Idle works) s = absurd s
+      by_phase (phases.Scan left) s = absurd s
+      by_phase (phases.Block next) s = absurd s
+      by_phase (phases.Tries next form block) s = absurd s
 
-  reclaim_seen : (turn : Turn) → (IsWaiting turn → told' ≡ told) → IsReclaimerTurn c turn c' told' spare'
+  reclaim_seen : (turn : Turn) (spare : ℕ) → KeepsCourse c told spare → (IsWaiting turn → told' ≡ told)
+      → (is_sealing c.pass.phase ≡ true → told' ≡ told) → IsReclaimerTurn c turn c' told' spare'
       → IsReclaim (view_of c told plans false) turn (view_of c' told' plans' false)
-  reclaim_seen (turns.Did n) calm g = grown_seen c c' actors.Reclaimer n told told' told' plans plans' spare' false g
-  reclaim_seen (turns.Seal work) calm (seals, inl g) = (
+  reclaim_seen (turns.Did n) spare before calm again (many, g) = (
+    (due_of c, due_now c told spare plans before, many),
+    grown_seen c c' actors.Reclaimer n told told' told' plans plans' spare' false g,
+  )
+  reclaim_seen (turns.Seal work) spare before calm again (seals, inl g) = (
     seals_seen c' told' spare' work plans' false k seals,
     inl (grown_seen c c' actors.Reclaimer 1 told told' told' plans plans' spare' false g),
   )
-  reclaim_seen (turns.Seal work) calm (seals, inr s) = (seals_seen c' told' spare' work plans' false k seals, inr (none_grown s))
-  reclaim_seen (turns.Again why) calm (due, s) = ((is_kicked c.pass.phase, due), rest_seen s.job s.entries (calm tt))
-  reclaim_seen turns.Finished calm (due, s) = ((is_kicked c.pass.phase, due), rest_seen s.job s.entries (calm tt))
-  reclaim_seen turns.Stopped calm (due, s) = (inr (is_kicked c.pass.phase, due), rest_seen s.job s.entries (calm tt))
-  reclaim_seen (turns.Unseal work) calm is = absurd is
+  reclaim_seen (turns.Seal work) spare before calm again (seals, inr s) = (
+    seals_seen c' told' spare' work plans' false k seals,
+    inr (rest_seen s.job s.entries (again (ap is_sealing (sym s.phase) ∙ open_work work seals))),
+  )
+  reclaim_seen (turns.Again why) spare before calm again (due, s) =
+      ((due_of c, due_now c told spare plans before, due), rest_seen s.job s.entries (calm tt))
+  reclaim_seen turns.Finished spare before calm again (due, s) =
+      (subst (IsDueNow (view_of c told plans false)) due (due_now c told spare plans before), rest_seen s.job s.entries (calm tt))
+  reclaim_seen turns.Stopped spare before calm again (spent, s) = (spent, rest_seen s.job s.entries (calm tt))
+  reclaim_seen (turns.Unseal work) spare before calm again is = absurd is
 
-  pub reclaim_turn_seen : (r : Result Turn Memory) (X : Type 0) → (X → told' ≡ told) → IfOk r (λ turn. IsWaiting turn → X)
+  pub reclaim_turn_seen : (r : Result Turn Memory) (spare : ℕ) (X : Type 0) → KeepsCourse c told spare → (X → told' ≡ told)
+      → IfOk r (λ turn. IsWaiting turn → X) → (is_sealing c.pass.phase ≡ true → X)
       → IfOk r (λ turn. IsReclaimerTurn c turn c' told' spare')
       → IfOk r (λ turn. IsReclaim (view_of c told plans false) turn (view_of c' told' plans' false))
-  reclaim_turn_seen (Ok turn) X calm rests is = reclaim_seen turn (λ w. calm (rests w)) is
-  reclaim_turn_seen (Err memory) X calm rests is = tt
+  reclaim_turn_seen (Ok turn) spare X before calm rests again is =
+      reclaim_seen turn spare before (λ w. calm (rests w)) (λ sealing. calm (again sealing)) is
+  reclaim_turn_seen (Err memory) spare X before calm rests again is = tt
 
   reclaim_job : (turn : Turn) → IsReclaimerTurn c turn c' told' spare' → c'.job ≡ c.job
-  reclaim_job (turns.Did n) g = g.job
+  reclaim_job (turns.Did n) (many, g) = g.job
   reclaim_job (turns.Seal work) (seals, inl g) = g.job
   reclaim_job (turns.Seal work) (seals, inr s) = s.job
   reclaim_job (turns.Again why) (due, s) = s.job
@@ -152,8 +226,8 @@ module _ (c c' : Course) (told told' : Option (List Call)) (plans plans' : List 
     none_started c.job.start_epoch c.job (past_of c) c.pass.taken.items c.pass.phase before.stands before.book.age idle,
     rest_seen s.job s.entries (calm tt),
   )
-  sealed_seen (turns.Did (suc n)) spare before calm g =
-      grown_seen c c' actors.Reclaimer (suc n) told told' told' plans plans' spare' false g
+  sealed_seen (turns.Did (suc n)) spare before calm (one, g) =
+      (one, grown_seen c c' actors.Reclaimer 1 told told' told' plans plans' spare' false g)
   sealed_seen turns.Stopped spare before calm (spent, s) = (spent, rest_seen s.job s.entries (calm tt))
   sealed_seen (turns.Seal work) spare before calm is = absurd is
   sealed_seen (turns.Unseal work) spare before calm is = absurd is
@@ -167,7 +241,7 @@ module _ (c c' : Course) (told told' : Option (List Call)) (plans plans' : List 
     where
       job : (x : Turn) → IsSealed c x c' told' spare' → c'.job ≡ c.job
       job (turns.Did zero) (idle, s) = s.job
-      job (turns.Did (suc n)) g = g.job
+      job (turns.Did (suc n)) (one, g) = g.job
       job turns.Stopped (spent, s) = s.job
       job (turns.Seal work) y = absurd y
       job (turns.Unseal work) y = absurd y

@@ -1,10 +1,12 @@
 -- What is done with what a turn of the reclaimer made.
-use Rattle.std.specs.Prelude.{ℕ, ◌≡◌, zero, ◌+◌, ◌*◌, ◌≤◌, Bool, true, false, if◌then◌else◌, List, ◌∷◌, Option, count_by, is_some, vec_len, vec_capacity}
+use Rattle.std.specs.Prelude.{ℕ, ◌≡◌, zero, ◌+◌, ◌*◌, ◌≤◌, Bool, true, false, if◌then◌else◌, List, ◌∷◌, Option, count_by, is_some, length, vec_len, vec_capacity}
 use Rattle.sgx_types.specs.declared.entries.Actor.TheVariants as actors
 use Rattle.sgx_types.specs.declared.entries.Entry.{Entry}
 use Rattle.backing_store.specs.Calls.{Call}
 use Rattle.cached_translations.specs.declared.processor.Mode.TheVariants.{Outside}
+use Rattle.driver_rules.specs.Dues.{KicksAll}
 use Rattle.driver_rules.specs.Passes.{pass}
+use Rattle.driver_rules.specs.Reclaims.{pass_due}
 use Rattle.reclaim_worker.specs.After.{kicked_past}
 use Rattle.reclaim_worker.specs.Standing.{StandsFor, is_sealing}
 use Rattle.reclaim_worker.specs.Stored.{still_out}
@@ -72,10 +74,17 @@ pub record CanFollow (c : Course) (turn : PassTurn) : Type 0 where
   pub spare : ℕ
   pub by : FollowsBy c turn longer spare
 
--- so many entries more of the reclaimer
-abbrev pub HasDone : Course → Turn → Course → Option (List Call) → ℕ → Type 0
-HasDone old (turns.Did n) new told spare = Grows old actors.Reclaimer n new told spare
-HasDone old _ new told spare = ⊥
+-- one entry more of the reclaimer
+abbrev pub HasOne : Course → Turn → Course → Option (List Call) → ℕ → Type 0
+HasOne old (turns.Did n) new told spare = (n ≡ 1) × Grows old actors.Reclaimer 1 new told spare
+HasOne old _ new told spare = ⊥
+
+-- one for each processor that was due to be kicked
+abbrev pub HasKicks : Course → Turn → Course → Option (List Call) → ℕ → Type 0
+HasKicks old (turns.Did n) new told spare =
+    ((cpus : List ℕ) → pass_due old.job (past_of old) false (pass old.job (past_of old)) ≡ KicksAll cpus → n ≡ length cpus)
+    × Grows old actors.Reclaimer n new told spare
+HasKicks old _ new told spare = ⊥
 
 -- one entry more, and the work of the started write-out
 abbrev pub HasSealed : Course → Turn → Course → Option (List Call) → ℕ → Type 0
@@ -84,9 +93,9 @@ HasSealed old _ new told spare = ⊥
 
 -- what is answered behind it
 abbrev pub IsFollowed : Course → PassTurn → Turn → Course → Option (List Call) → ℕ → Type 0
-IsFollowed old (passed.One e) result new told spare = HasDone old result new told spare
-IsFollowed old (passed.Spent e) result new told spare = HasDone old result new told spare
-IsFollowed old (passed.Kicks bits) result new told spare = HasDone old result new told spare
+IsFollowed old (passed.One e) result new told spare = HasOne old result new told spare
+IsFollowed old (passed.Spent e) result new told spare = HasOne old result new told spare
+IsFollowed old (passed.Kicks bits) result new told spare = HasKicks old result new told spare
 IsFollowed old (passed.Seal e) result new told spare = HasSealed old result new told spare
 IsFollowed old (passed.Again why) result new told spare = (result ≡ turns.Again why) × (new ≡ old)
 IsFollowed old passed.NoSlot result new told spare = ⊥

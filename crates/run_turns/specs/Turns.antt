@@ -1,8 +1,12 @@
 -- What each turn asks, and what it answers.
-use Rattle.std.specs.Prelude.{ℕ, zero, suc, ◌≡◌, ◌⊎◌, ◌<◌, ◌≤◌, true, false, List, Option, None, Some, length, vec_capacity}
+use Rattle.std.specs.Prelude.{ℕ, zero, suc, ◌≡◌, ◌⊎◌, ◌<◌, ◌≤◌, true, false, List, [], ◌∷◌, Option, None, Some, length, vec_capacity}
 use Rattle.sgx_types.specs.declared.entries.Action.{Action}
+use Rattle.sgx_types.specs.declared.entries.Action.TheVariants.{Eld}
 use Rattle.sgx_types.specs.declared.entries.Actor.{Actor}
 use Rattle.sgx_types.specs.declared.entries.Actor.TheVariants as actors
+use Rattle.sgx_types.specs.declared.entries.Entry.{Entry}
+use Rattle.sgx_types.specs.declared.entries.Event.{Event}
+use Rattle.sgx_types.specs.declared.entries.Event.TheVariants.{Bus, Did}
 use Rattle.sgx_types.specs.declared.names.Cpu.{Cpu}
 use Rattle.seal_record.specs.declared.seal.SealWork.{SealWork}
 use Rattle.seal_record.specs.declared.unseal.UnsealWork.{UnsealWork}
@@ -10,7 +14,7 @@ use Rattle.backing_store.specs.Calls.{Call}
 use Rattle.paging_machine.specs.Parts.{state_of}
 use Rattle.driver_rules.specs.declared.waits.Why.{Why}
 use Rattle.driver_rules.specs.declared.waits.Why.TheVariants as waits
-use Rattle.driver_rules.specs.Dues.{Due, Fetches, Finished, Makes, Stopped, Waits}
+use Rattle.driver_rules.specs.Dues.{Due, Fetches, Finished, KicksAll, LooksAt, Makes, Stopped, TriesOut, Waits}
 use Rattle.driver_rules.specs.Reclaims.{reclaimer_due}
 use Rattle.driver_rules.specs.Stops.{is_spent}
 use Rattle.driver_rules.specs.Turns.{builder_due, cpu_due, last_of}
@@ -73,10 +77,21 @@ IsCpuTurn old cpu turns.Finished new told spare = (cpu_due old.job (past_of old)
 IsCpuTurn old cpu turns.Stopped new told spare = (cpu_due old.job (past_of old) cpu.0 ≡ Stopped) × IsSame old new
 IsCpuTurn old cpu _ new told spare = ⊥
 
--- the end of a processor's started load: one entry, or two where its record was refused
+-- the newest of so many entries ends a load: its page came back by the only one, or by the second it is told why not
+abbrev pub EndsBy : ℕ → Event → Type 0
+EndsBy n (Did (Eld f) answer) = n ≡ 1
+EndsBy n (Bus page why) = n ≡ 2
+EndsBy n event = ⊥
+
+abbrev pub EndsLoad : ℕ → List Entry → Type 0
+EndsLoad n [] = ⊥
+EndsLoad n (e ∷ past) = EndsBy n e.event
+
+-- the end of a processor's started load
 abbrev pub IsOpened : Course → Cpu → Turn → Course → Option (List Call) → ℕ → Type 0
 IsOpened old cpu (turns.Did zero) new told spare = (loaded_by (last_of (past_of old) cpu.0) ≡ None) × IsSame old new
-IsOpened old cpu (turns.Did (suc n)) new told spare = Grows old (actors.Cpu cpu) (suc n) new told spare
+IsOpened old cpu (turns.Did (suc n)) new told spare =
+    EndsLoad (suc n) (past_of new) × Grows old (actors.Cpu cpu) (suc n) new told spare
 IsOpened old cpu turns.Stopped new told spare = (is_spent (past_of old) ≡ true) × IsSame old new
 IsOpened old cpu _ new told spare = ⊥
 
@@ -99,18 +114,26 @@ pub record IsAtRest (old new : Course) : Type 0 where
   pub entries : new.entries.items ≡ old.entries.items
   pub room : vec_capacity old.entries ≤ vec_capacity new.entries
 
+-- so many entries a turn of the reclaimer makes: one for each processor that is due to be kicked, and else one
+abbrev pub MakesMany : Due → ℕ → Type 0
+MakesMany (Makes action) n = n ≡ 1
+MakesMany (LooksAt page held young) n = n ≡ 1
+MakesMany (TriesOut f) n = n ≡ 1
+MakesMany (KicksAll cpus) n = n ≡ length cpus
+MakesMany due n = ⊥
+
 -- a turn of the reclaimer. A write-out has started in it, or was open before
 abbrev pub IsReclaimerTurn : Course → Turn → Course → Option (List Call) → ℕ → Type 0
-IsReclaimerTurn old (turns.Did n) new told spare = Grows old actors.Reclaimer n new told spare
+IsReclaimerTurn old (turns.Did n) new told spare = MakesMany (due_of old) n × Grows old actors.Reclaimer n new told spare
 IsReclaimerTurn old (turns.Seal work) new told spare = SealsFor new work × (Grows old actors.Reclaimer 1 new told spare ⊎ IsSame old new)
 IsReclaimerTurn old (turns.Again why) new told spare = IsWaitBy (due_of old) why × IsAtRest old new
 IsReclaimerTurn old turns.Finished new told spare = (due_of old ≡ Finished) × IsSame old new
-IsReclaimerTurn old turns.Stopped new told spare = (due_of old ≡ Stopped) × IsSame old new
+IsReclaimerTurn old turns.Stopped new told spare = (is_spent (past_of old) ≡ true) × IsSame old new
 IsReclaimerTurn old _ new told spare = ⊥
 
 -- the end of the started write-out
 abbrev pub IsSealed : Course → Turn → Course → Option (List Call) → ℕ → Type 0
 IsSealed old (turns.Did zero) new told spare = (is_sealing old.pass.phase ≡ false) × IsSame old new
-IsSealed old (turns.Did (suc n)) new told spare = Grows old actors.Reclaimer (suc n) new told spare
+IsSealed old (turns.Did (suc n)) new told spare = (n ≡ 0) × Grows old actors.Reclaimer 1 new told spare
 IsSealed old turns.Stopped new told spare = (is_spent (past_of old) ≡ true) × IsSame old new
 IsSealed old _ new told spare = ⊥

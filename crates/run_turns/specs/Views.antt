@@ -1,5 +1,5 @@
 -- The book as its callers see it, and what is so of every book.
-use Rattle.std.specs.Prelude.{ℕ, zero, suc, ◌≡◌, ◌<◌, ◌++◌, ◌⊎◌, All, Bool, true, if◌then◌else◌, List, Option, None, Some, IfSome, length}
+use Rattle.std.specs.Prelude.{ℕ, zero, suc, ◌≡◌, ◌<◌, ◌++◌, ◌⊎◌, All, Bool, true, false, if◌then◌else◌, List, [], Option, None, Some, IfSome, length}
 use Rattle.std.specs.Option.{IsSomeAnd}
 use Rattle.sgx_types.specs.declared.entries.Actor.{Actor}
 use Rattle.sgx_types.specs.declared.entries.Actor.TheVariants as actors
@@ -16,7 +16,7 @@ use Rattle.backing_store.specs.Calls.{Call}
 use Rattle.seal_record.specs.declared.seal.SealWork.{SealWork}
 use Rattle.seal_record.specs.declared.unseal.UnsealWork.{UnsealWork}
 use Rattle.driver_rules.specs.Ages.{AgeRule, KickRule}
-use Rattle.driver_rules.specs.Dues.{Finished, Stopped}
+use Rattle.driver_rules.specs.Dues.{Due, Finished, KicksAll}
 use Rattle.driver_rules.specs.Reclaims.{reclaimer_due}
 use Rattle.driver_rules.specs.Scripts.{IsEnded, ScriptRule}
 use Rattle.driver_rules.specs.Stops.{frame_started, is_spent, last_event}
@@ -29,7 +29,7 @@ use Rattle.run_history.specs.Stored.{PutsAreFlat, StoreTrue}
 use Rattle.run_book.specs.Lost.{AllCameBack}
 use Rattle.run_turns.specs.declared.turn.Turn.{Turn}
 use Rattle.run_turns.specs.declared.turn.Turn.TheVariants as turns
-use Rattle.run_turns.specs.Turns.{IsWaitBy}
+use Rattle.run_turns.specs.Turns.{EndsLoad, IsWaitBy, MakesMany}
 
 -- the job, the entries so far, the newest first, what the store tells, and whether memory was refused to a worker
 pub record BookView : Type 0 where
@@ -108,7 +108,7 @@ IsRun old cpu _ new = ⊥
 -- the end of a processor's started load
 abbrev pub IsLoadEnd : BookView → Cpu → Turn → BookView → Type 0
 IsLoadEnd old cpu (turns.Did zero) new = (loaded_by (last_of old.past cpu.0) ≡ None) × (new ≡ old)
-IsLoadEnd old cpu (turns.Did (suc n)) new = HasGrown old (actors.Cpu cpu) (suc n) new
+IsLoadEnd old cpu (turns.Did (suc n)) new = EndsLoad (suc n) new.past × HasGrown old (actors.Cpu cpu) (suc n) new
 IsLoadEnd old cpu turns.Stopped new = (is_stopped old ≡ true) × (new ≡ old)
 IsLoadEnd old cpu _ new = ⊥
 
@@ -125,20 +125,23 @@ pub record SealsPageOut (b : BookView) (work : SealWork) : Type 0 where
   pub header : header_at b.past page ≡ Some work.header
   pub bytes : IfSome b.told (λ calls. UnforgedRun b.job.key b.past calls → work.plain.items ≡ bytes_at b.past page)
 
--- a turn of the reclaimer. Whether it kicked nobody is no entry's to tell. A write-out has started in it, or was open before
+-- what is due to the reclaimer. Where a turn of kicks has nobody to kick, no entry tells whether it was made: what comes behind it may be due
+abbrev pub IsDueNow : BookView → Due → Type 0
+IsDueNow b due = (due ≡ reclaimer_due b.job b.past false)
+    ⊎ ((reclaimer_due b.job b.past false ≡ KicksAll []) × (due ≡ reclaimer_due b.job b.past true))
+
+-- a turn of the reclaimer. A write-out has started in it, or was open before
 abbrev pub IsReclaim : BookView → Turn → BookView → Type 0
-IsReclaim old (turns.Did n) new = HasGrown old actors.Reclaimer n new
-IsReclaim old (turns.Seal work) new =
-    SealsPageOut new work × (HasGrown old actors.Reclaimer 1 new ⊎ HasGrown old actors.Reclaimer 0 new)
-IsReclaim old (turns.Again why) new = ((kicked : Bool) × IsWaitBy (reclaimer_due old.job old.past kicked) why) × (new ≡ old)
-IsReclaim old turns.Finished new = ((kicked : Bool) × (reclaimer_due old.job old.past kicked ≡ Finished)) × (new ≡ old)
-IsReclaim old turns.Stopped new =
-    ((old.noted ≡ true) ⊎ ((kicked : Bool) × (reclaimer_due old.job old.past kicked ≡ Stopped))) × (new ≡ old)
+IsReclaim old (turns.Did n) new = ((due : Due) × IsDueNow old due × MakesMany due n) × HasGrown old actors.Reclaimer n new
+IsReclaim old (turns.Seal work) new = SealsPageOut new work × (HasGrown old actors.Reclaimer 1 new ⊎ (new ≡ old))
+IsReclaim old (turns.Again why) new = ((due : Due) × IsDueNow old due × IsWaitBy due why) × (new ≡ old)
+IsReclaim old turns.Finished new = IsDueNow old Finished × (new ≡ old)
+IsReclaim old turns.Stopped new = (is_stopped old ≡ true) × (new ≡ old)
 IsReclaim old _ new = ⊥
 
 -- the end of the started write-out
 abbrev pub IsOutEnd : BookView → Turn → BookView → Type 0
 IsOutEnd old (turns.Did zero) new = (frame_started (last_event old.past actors.Reclaimer) ≡ None) × (new ≡ old)
-IsOutEnd old (turns.Did (suc n)) new = HasGrown old actors.Reclaimer (suc n) new
+IsOutEnd old (turns.Did (suc n)) new = (n ≡ 0) × HasGrown old actors.Reclaimer 1 new
 IsOutEnd old turns.Stopped new = (is_stopped old ≡ true) × (new ≡ old)
 IsOutEnd old _ new = ⊥

@@ -16,5 +16,6 @@ returns-clause-turn g c =
     (reclaim_turn_seen c.self.inside.course.value c.reclaim_turn.new.self (g.B.Backing.told c.self.inside.store)
     (g.B.Backing.told c.reclaim_turn.new.store) (g.B.Backing.plans c.self.inside.store) (g.B.Backing.plans c.reclaim_turn.new.store)
     (g.B.Backing.spare c.reclaim_turn.new.store) c.reclaim_turn.ensures.keeps c.reclaim_turn.ensures.plans c.reclaim_turn.result
-    (c.reclaim_turn.new.store ≡ c.self.inside.store) (ap g.B.Backing.told) c.reclaim_turn.ensures.rests
+    (g.B.Backing.spare c.self.inside.store) (c.reclaim_turn.new.store ≡ c.self.inside.store) c.self.invariant.keeps (ap g.B.Backing.told)
+    c.reclaim_turn.ensures.rests (rw c.deref_mut.ensures.value at c.reclaim_turn.ensures.again)
     (rw c.deref_mut.ensures.value at c.reclaim_turn.ensures.turn))

@@ -1,4 +1,4 @@
-use Rattle.std.proofs.Common.{◌≡◌, length, refl, sym, ap, subst, ◌∙◌, arith}
+use Rattle.std.proofs.Common.{◌≡◌, ◌∷◌, length, refl, sym, ap, subst, ◌∙◌, arith}
 use Rattle.driver_calls.specs.Comes.{bus_of}
 use Rattle.fault_handler.specs.declared.answers.Loaded.TheVariants as ends
 use Rattle.table_notes.specs.Plain.{is_reclaimer}
@@ -8,7 +8,7 @@ use Rattle.run_turns.specs.Courses.{past_of}
 use Rattle.run_turns.specs.Recording.{CanTake}
 use Rattle.run_turns.proofs.InstructLaws.{cpus_of}
 use Rattle.run_turns.proofs.LoadCourse.{can_take, course_stands}
-use Rattle.run_turns.proofs.LoadEnds.{Takes, back_keeps, end_facts, grows_one, opened_can, took_in, took_past}
+use Rattle.run_turns.proofs.LoadEnds.{Takes, back_keeps, end_facts, grows_one, load_ends_here, load_ends_so, opened_can, took_in, took_past}
 use Rattle.run_turns.proofs.LoadPair.{back_done, first_stands, pair_grows, second_can, took_first}
 use Rattle.run_turns.proofs.course.Course.end_load.Goals as goal
 
@@ -64,8 +64,10 @@ returns-in-Here c = λ can.
     (c.mode-before.ensures ∙ sym (ap (mode_of s.machine) f.by)) f.place (ap is_reclaimer f.by)) in
     let keeps = back_keeps x new (past_of s) can.told can.spare s.driver s.machine c.mode-before.result e c.args.cpu f.frame stands f.made
     took f.by f.acts (back_done s can.told c.args.cpu c.args.page x.driver x.machine e f) f.low f.opened can.keeps.none can.keeps.room in
-    grows_one s new c.args.cpu e can.told can.spare f.by
-    (took_past x new (past_of s) can.told c.mode-before.result e refl took) took.job keeps)
+    let past = took_past x new (past_of s) can.told c.mode-before.result e refl took in (
+      load_ends_here new (past_of s) e f.frame past f.acts (back_done s can.told c.args.cpu c.args.page x.driver x.machine e f),
+      grows_one s new c.args.cpu e can.told can.spare f.by past took.job keeps,
+    ))
 
 pub mode-between-requires : goal.mode-between-requires
 mode-between-requires c =
@@ -141,6 +143,9 @@ returns-in-Bus c = λ can.
     let second = took_in new last c.mode-between.result (bus_of c.args.cpu c.args.page c.in-Bus.why) takes
     (second_can s new can.told can.spare c.args.cpu c.args.page c.finish.new.driver c.finish.new.machine c.mode-before.result
     c.mode-between.result e c.in-Bus.why can.keeps c.requires.cpu c.requires.going f took c.mode-between.ensures stands c.bus-told.result
-    c.bus-told.ensures c.note.ensures.shape c.note.ensures.fits c.note.ensures.history) in
-    pair_grows s new last can.told can.spare c.args.cpu c.args.page c.finish.new.driver c.finish.new.machine c.mode-before.result
-    c.mode-between.result e c.in-Bus.why can.keeps c.requires.cpu f took stands second)
+    c.bus-told.ensures c.note.ensures.shape c.note.ensures.fits c.note.ensures.history) in (
+      load_ends_so last (past_of s) e c.args.cpu c.args.page c.in-Bus.why
+          (took_past new last (e ∷ past_of s) can.told c.mode-between.result (bus_of c.args.cpu c.args.page c.in-Bus.why) stands.same second),
+      pair_grows s new last can.told can.spare c.args.cpu c.args.page c.finish.new.driver c.finish.new.machine c.mode-before.result
+          c.mode-between.result e c.in-Bus.why can.keeps c.requires.cpu f took stands second,
+    ))
