@@ -7,6 +7,7 @@ mod texts;
 mod turning;
 
 use backing_store::planned_store::PlannedStore;
+use crew::gate::OpenGate;
 use job_text::reader::read_job;
 use run_jobs::ends::End;
 use run_jobs::run::run_job;
@@ -14,6 +15,7 @@ use run_turns::book::Book;
 use sgx_types::names::Memory;
 use std::alloc::Global;
 use std::sync::Wait;
+use std::thread::Threads;
 use std::{env, fs, io};
 use texts::without_slots;
 use trace_text::trace::print_trace;
@@ -58,11 +60,11 @@ fn trace_of(alloc: Global, text: &[u8], how: Work) -> Result<Option<Vec<u8>>, Me
 }
 
 // How a job's run ends that is made as a whole.
-fn how_it_ended<R: Wait>(rt: &R, alloc: Global, text: &[u8]) -> &'static str {
+fn how_it_ended<R: Threads + Wait + Sync>(rt: &R, alloc: Global, text: &[u8]) -> &'static str {
     let Ok(job) = read_job(alloc, text) else {
         return "no job";
     };
-    match run_job(rt, alloc, job, PlannedStore::new()) {
+    match run_job(rt, alloc, job, PlannedStore::new(), &OpenGate) {
         Ok(run) => name_of(run.end),
         Err(Memory) => "no memory",
     }

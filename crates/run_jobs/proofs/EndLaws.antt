@@ -53,11 +53,3 @@ back_told xs is = all_back (reverse xs) (any_reversed tells_loss xs ∙ is)
 
 pub loss_told : (xs : List Entry) → list_any tells_loss xs ≡ true → AllCameBack (reverse xs) → ⊥
 loss_told xs is = not_back (reverse xs) (any_reversed tells_loss xs ∙ is)
-
--- ---- a run that is done
-
-pub done_at : (j j' : JobView) (past past' : List Entry) (end : End) → j' ≡ j → past' ≡ past → IsEnded j past → IsEndOf past' end
-    → end ≡ ends.Done → (p : ℕ) → p < length j'.scripts → IsDone j' past' p
-done_at j j' past past' end job same ended is done p low =
-    let how = subst (IsEndOf past') done is in
-    all_done j' past' (subst (IsEnded j') (sym same) (subst (λ (x : JobView). IsEnded x past) (sym job) ended)) how.1 how.0 p low

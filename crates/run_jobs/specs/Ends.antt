@@ -1,12 +1,8 @@
 -- How a run ended, by its entries, the newest first.
-use Rattle.std.specs.Prelude.{◌≡◌, Bool, true, false, List, Option, reverse}
+use Rattle.std.specs.Prelude.{◌≡◌, Bool, true, false, List}
 use Rattle.sgx_types.specs.declared.entries.Entry.{Entry}
-use Rattle.io_edges.specs.declared.plans.PlanLine.{PlanLine}
-use Rattle.job_grammar.specs.Jobs.{JobView}
-use Rattle.backing_store.specs.Calls.{Call}
 use Rattle.driver_rules.specs.Stops.{is_bus, is_spent, spends}
 use Rattle.run_book.specs.Lost.{AllCameBack}
-use Rattle.run_turns.specs.Views.{BookView}
 use Rattle.run_jobs.specs.declared.ends.End.{End}
 use Rattle.run_jobs.specs.declared.ends.End.TheVariants as ends
 
@@ -23,7 +19,3 @@ abbrev pub IsEndOf : List Entry → End → Type 0
 IsEndOf past ends.Done = (is_spent past ≡ false) × AllCameBack past
 IsEndOf past ends.Bus = (is_spent past ≡ false) × (AllCameBack past → ⊥)
 IsEndOf past ends.Spent = is_spent past ≡ true
-
--- the book of a run that has ended, with its entries oldest first
-abbrev pub seen : JobView → List Entry → Option (List Call) → List PlanLine → BookView
-seen j entries told plans = record { job = j; past = reverse entries; told = told; plans = plans; noted = false }

@@ -1,5 +1,6 @@
-// A whole run of a job on one thread, and how it ended.
+// A whole run of a job by threads, and how it ended.
 #![tactic(auto)]
 
 pub mod ends;
+pub mod laws;
 pub mod run;

@@ -1,22 +1,20 @@
--- Laws of what a command says of the bytes that it read.
-use Rattle.std.proofs.Common.{◌≡◌, ◌≢◌, ◌≤◌, ◌<◌, ◌+◌, ◌^◌, ℕ, List, length, Option, Some, None, Result, Ok, Err, refl, ap, sym, ◌∙◌, arith, ◌⊎◌, inl, inr}
-use Rattle.std.specs.Prelude.{IfSome, IsSomeAnd, replicate}
+-- Laws of what a command says of the bytes that it read, and of the run that it made.
+use Rattle.std.proofs.Common.{◌≡◌, ◌≤◌, ◌<◌, ◌+◌, ◌^◌, ℕ, List, length, Option, Some, None, Ok, refl, ap, sym, ◌∙◌, arith}
+use Rattle.std.specs.Prelude.{IfSome, replicate}
 use Rattle.std.proofs.Math.Seq.{drop-length}
 use Rattle.std.proofs.lemmas.List.{length-replicate}
+use Rattle.sgx_types.specs.declared.entries.Entry.{Entry}
 use Rattle.io_edges.specs.Sources.{emptied, TakesAtMost}
-use Rattle.job_lines.specs.declared.kinds.JobKind.{JobKind}
+use Rattle.io_edges.specs.declared.plans.PlanLine.{PlanLine}
 use Rattle.job_lines.specs.declared.kinds.JobKind.TheVariants.{TooLong}
-use Rattle.job_text.specs.declared.refusals.Fault.{Fault}
 use Rattle.job_text.specs.Reading.{at, read}
 use Rattle.job_text.proofs.ReadLaws.{read_long}
 use Rattle.job_grammar.specs.Jobs.{JobView}
-use Rattle.sgxpage.specs.declared.job_faults.BadJob.{BadJob}
-use Rattle.sgxpage.specs.declared.job_faults.BadJob.TheVariants as bad_jobs
-use Rattle.sgxpage.specs.declared.command.Status.{Status}
-use Rattle.sgxpage.specs.declared.command.Status.TheVariants as statuses
-use Rattle.sgxpage.specs.declared.command.Unread.{Unread}
-use Rattle.sgxpage.specs.declared.command.Unread.TheVariants as unread
-use Rattle.sgxpage.specs.Runs.{HasJob, IsFaultAnd, IsFaultOf, IsJobText, IsNoJob, OfRead, why_not}
+use Rattle.backing_store.specs.Calls.{Call}
+use Rattle.run_jobs.specs.declared.ends.End.{End}
+use Rattle.run_jobs.specs.Runs.{WholeRun}
+use Rattle.sgxpage.specs.declared.jobs.Unread.TheVariants as unread
+use Rattle.sgxpage.specs.Runs.{IsFaultOf, OfRead, RanBy}
 
 -- ---- the bytes read
 
@@ -34,51 +32,18 @@ some_longer n =
     let zero : ℕ = 0 in
     (replicate (n + 1) zero, omega (arith, length-replicate (n + 1) zero))
 
-refused : (bytes : List ℕ) (fault : Fault) → read bytes ≡ Err fault → IsNoJob bytes
-    × (bad_jobs.Fault fault.line fault.kind ≡ why_not (read bytes))
-refused bytes fault e = (λ job is. absurd (let two = sym e ∙ is.0 in cc), rw e refl)
-
 -- more bytes than a job may have
-pub fault-too_long : (left : Option (List ℕ)) → IfSome left (λ all. 2 ^ 24 < length all)
-    → IsFaultOf left (unread.Bad (bad_jobs.Fault 0 TooLong))
+pub fault-too_long : (left : Option (List ℕ)) → IfSome left (λ all. 2 ^ 24 < length all) → IsFaultOf left (unread.Bad (at 0 TooLong))
 fault-too_long None long =
     let some = some_longer (2 ^ 24) in
-    (some.0, tt, refused some.0 (at 0 TooLong) (read_long some.0 some.1))
-fault-too_long (Some all) long = (all, refl, refused all (at 0 TooLong) (read_long all long))
+    (some.0, tt, read_long some.0 some.1)
+fault-too_long (Some all) long = (all, refl, read_long all long)
 
--- no more bytes, and a line is faulty
-pub fault-read : (left : Option (List ℕ)) (bytes : List ℕ) (line : ℕ) (kind : JobKind) → IfSome left (λ all. bytes ≡ all)
-    → read bytes ≡ Err (at line kind)
-    → IsFaultOf left (unread.Bad (bad_jobs.Fault line kind))
-fault-read left bytes line kind same e = (bytes, same, refused bytes (at line kind) e)
+-- ---- a run that was made
 
--- ---- a job that was read, or was not
-
--- bytes that no job has are not the text of one
-pub no_job-read : (left : Option (List ℕ)) (job : JobView) → OfRead left (λ bytes. IsJobText bytes job) → IsSomeAnd left IsNoJob → ⊥
-no_job-read None job text none = none
-no_job-read (Some all) job text none = none job (rw text.1 at text.2)
-
--- a fault was found in bytes that no job has
-job-no_fault : (left : Option (List ℕ)) (bad : BadJob) → IsSomeAnd left HasJob → IsFaultOf left (unread.Bad bad) → ⊥
-job-no_fault None bad some fault = some
-job-no_fault (Some all) bad some fault = fault.2.0 some.0 (rw (sym fault.1) at some.1)
-
-module _ (left : Option (List ℕ)) (given : BadJob → Type 0) (ReadRisen WriteRisen : Type 0) (some : IsSomeAnd left HasJob)
-    (read : ReadRisen → ⊥) (write : WriteRisen → ⊥) where
-  untold : (end : Unread) → IsFaultOf left end → IsFaultAnd end given → ⊥
-  untold (unread.Bad bad) fault told = job-no_fault left bad some fault
-  untold unread.Failed fault told = told
-  untold unread.Memory fault told = told
-
-  -- where some job has the bytes and no fault was counted, what kept the job from being read is want of memory
-  pub unread-memory : (end : Unread) (status : Status) → IsFaultOf left end → (end ≡ unread.Failed → ReadRisen)
-      → status ≢ statuses.BadWords → (status ≡ statuses.BadJob → IsFaultAnd end given) → (status ≡ statuses.ReadFault → end ≡ unread.Failed)
-      → (status ≡ statuses.WriteFault → WriteRisen)
-      → (status ≡ statuses.Done) ⊎ (status ≡ statuses.Memory)
-  unread-memory end statuses.Done fault failed words told at_read at_write = inl refl
-  unread-memory end statuses.BadJob fault failed words told at_read at_write = absurd (untold end fault (told refl))
-  unread-memory end statuses.BadWords fault failed words told at_read at_write = absurd (words refl)
-  unread-memory end statuses.ReadFault fault failed words told at_read at_write = absurd (read (failed (at_read refl)))
-  unread-memory end statuses.WriteFault fault failed words told at_read at_write = absurd (write (at_write refl))
-  unread-memory end statuses.Memory fault failed words told at_read at_write = inr refl
+-- of the job that was read
+pub ran-by : (left : Option (List ℕ)) (read_job job : JobView) (past : List Entry) (end : End) (told : Option (List Call))
+    (plans : List PlanLine) (Given : JobView → List Entry → Type 0) → OfRead left (λ bytes. read bytes ≡ Ok read_job) → job ≡ read_job
+    → WholeRun job past end told plans → Given job past → OfRead left (λ bytes. RanBy bytes end told plans Given)
+ran-by left read_job job past end told plans Given text is run given =
+    (text.0, text.1, record { job = job; text = text.2 ∙ ap Ok (sym is); past = past; run = run; given = given })

@@ -2,20 +2,18 @@
 use Rattle.std.specs.Prelude.{ℕ, ◌≡◌, ◌⊎◌, List, ◌++◌, Option, Ok, Err, IfSome, codes}
 use Rattle.std.specs.Fmt.{decimal}
 use Rattle.io_edges.specs.Sinks.{followed_by, GivesPart}
+use Rattle.io_edges.specs.declared.plans.PlanLine.{PlanLine}
 use Rattle.sgx_types.specs.declared.entries.Entry.{Entry}
-use Rattle.sgx_types.specs.Rules.{Along, KeepsRules}
-use Rattle.measure_log.specs.Rule.{MeasureRule}
 use Rattle.job_lines.specs.declared.kinds.JobKind.{JobKind}
 use Rattle.job_lines.specs.declared.kinds.JobKind.TheVariants as kinds
-use Rattle.job_text.specs.Reading.{Read, read}
+use Rattle.job_text.specs.declared.refusals.Fault.{Fault}
+use Rattle.job_text.specs.Reading.{read}
 use Rattle.job_grammar.specs.Jobs.{JobView}
-use Rattle.turn_rules.specs.Machines.{machine_of}
-use Rattle.turn_rules.specs.Script.{Script}
-use Rattle.turn_rules.specs.SmallJobs.{IsSmallJob}
-use Rattle.sgxpage.specs.declared.job_faults.BadJob.{BadJob}
-use Rattle.sgxpage.specs.declared.job_faults.BadJob.TheVariants as bad_jobs
-use Rattle.sgxpage.specs.declared.command.Unread.{Unread}
-use Rattle.sgxpage.specs.declared.command.Unread.TheVariants.{Bad}
+use Rattle.backing_store.specs.Calls.{Call}
+use Rattle.run_jobs.specs.declared.ends.End.{End}
+use Rattle.run_jobs.specs.Runs.{WholeRun}
+use Rattle.sgxpage.specs.declared.jobs.Unread.{Unread}
+use Rattle.sgxpage.specs.declared.jobs.Unread.TheVariants.{Bad}
 use Rattle.sgxpage.specs.OutText.{out_of}
 use Rattle.trace_text.specs.TraceText.{trace_of}
 
@@ -25,51 +23,36 @@ use Rattle.trace_text.specs.TraceText.{trace_of}
 abbrev pub OfRead : Option (List ℕ) → (List ℕ → Type 0) → Type 0
 OfRead left P = (bytes : List ℕ) × IfSome left (λ all. bytes ≡ all) × P bytes
 
--- the bytes are a text of this job, which is of a form that the program runs
-abbrev pub IsJobText : List ℕ → JobView → Type 0
-IsJobText bytes j = (read bytes ≡ Ok j) × IsSmallJob j
-
--- some job that the program runs has this text
+-- some job has this text
 abbrev pub HasJob : List ℕ → Type 0
-HasJob bytes = (j : JobView) × IsJobText bytes j
+HasJob bytes = (j : JobView) × (read bytes ≡ Ok j)
 
--- none has it
-abbrev pub IsNoJob : List ℕ → Type 0
-IsNoJob bytes = (j : JobView) → IsJobText bytes j → ⊥
+-- some line of it is faulty, or it is too long
+abbrev pub HasFault : List ℕ → Type 0
+HasFault bytes = (fault : Fault) × (read bytes ≡ Err fault)
 
 -- ---- what a run gives
 
--- what each sink had and has: some trace is the job's script to its end, keeps the rules of the machine that the job is
--- run on, and measures its enclaves; and the sinks got its text and its replies
-pub record Gave (job : JobView) (out out' trace trace' : Option (List ℕ)) : Type 0 where
-  pub past : List Entry
-  pub script : Script job past
-  pub rules : KeepsRules (machine_of job) past
-  pub measure : Along MeasureRule past
-  pub trace_given : trace' ≡ followed_by trace (trace_of past)
-  pub out_given : out' ≡ followed_by out (out_of job past)
+-- each sink, by what it had and has, got its text: the trace, and the replies
+abbrev pub BothGiven : JobView → List Entry → Option (List ℕ) → Option (List ℕ) → Option (List ℕ) → Option (List ℕ) → Type 0
+BothGiven j past out out' trace trace' = (trace' ≡ followed_by trace (trace_of past)) × (out' ≡ followed_by out (out_of j past))
 
--- .. or a sink failed: the trace got a proper front of its text, and the output nothing, or the trace got all and the
+-- .. or one failed: the trace got a proper front of its text, and the output nothing, or the trace got all and the
 -- output a proper front
-pub record Broke (job : JobView) (out out' trace trace' : Option (List ℕ)) : Type 0 where
+abbrev pub HalfGiven : JobView → List Entry → Option (List ℕ) → Option (List ℕ) → Option (List ℕ) → Option (List ℕ) → Type 0
+HalfGiven j past out out' trace trace' =
+    (GivesPart trace trace' (trace_of past) × (out' ≡ out))
+    ⊎ ((trace' ≡ followed_by trace (trace_of past)) × GivesPart out out' (out_of j past))
+
+-- the job that these bytes spell was run to this end, over a store that tells these calls and plan lines, and the texts of that run were
+-- given
+pub record RanBy (bytes : List ℕ) (end : End) (told : Option (List Call)) (plans : List PlanLine)
+    (Given : JobView → List Entry → Type 0) : Type 0 where
+  pub job : JobView
+  pub text : read bytes ≡ Ok job
   pub past : List Entry
-  pub script : Script job past
-  pub rules : KeepsRules (machine_of job) past
-  pub measure : Along MeasureRule past
-  pub given : (GivesPart trace trace' (trace_of past) × (out' ≡ out))
-      ⊎ ((trace' ≡ followed_by trace (trace_of past)) × GivesPart out out' (out_of job past))
-
--- what was given, and the job is the one that these bytes spell
-pub record Ran (bytes : List ℕ) (out out' trace trace' : Option (List ℕ)) : Type 0 where
-  pub job : JobView
-  pub text : IsJobText bytes job
-  pub gave : Gave job out out' trace trace'
-
--- a job's bytes, and what the sinks got where one of them failed
-pub record BrokeOn (bytes : List ℕ) (out out' trace trace' : Option (List ℕ)) : Type 0 where
-  pub job : JobView
-  pub text : IsJobText bytes job
-  pub broke : Broke job out out' trace trace'
+  pub run : WholeRun job past end told plans
+  pub given : Given job past
 
 -- ---- what is wrong with a job
 
@@ -86,41 +69,24 @@ kind_text kinds.TcsShared = codes "TcsShared"
 kind_text (kinds.EpcTooSmall needed) = codes "EpcTooSmall " ++ decimal needed
 kind_text kinds.TooLong = codes "TooLong"
 
--- what is wrong with a line
-abbrev pub fault_text : ℕ → JobKind → List ℕ
-fault_text line kind = decimal line ++ codes ": " ++ kind_text kind
-
-abbrev pub why_text : BadJob → List ℕ
-why_text (bad_jobs.Fault line kind) = fault_text line kind
-why_text bad_jobs.NotYetBuilt = codes "0: NotYetBuilt"
-
--- the line on why a job is not run
-abbrev pub bad_job_text : BadJob → List ℕ
-bad_job_text bad = codes "job line " ++ why_text bad ++ codes "\n"
-
--- why it is not, by what reading its text gives: its first faulty line, or, where it is a job, its form
-abbrev pub why_not : Read → BadJob
-why_not (Err fault) = bad_jobs.Fault fault.line fault.kind
-why_not (Ok job) = bad_jobs.NotYetBuilt
-
--- the line on bytes that are no text of a job that the program runs
-abbrev pub refusal_text : List ℕ → List ℕ
-refusal_text bytes = bad_job_text (why_not (read bytes))
+-- the line on the first fault of a job
+abbrev pub fault_line : Fault → List ℕ
+fault_line fault = codes "job line " ++ decimal fault.line ++ codes ": " ++ kind_text fault.kind ++ codes "\n"
 
 -- a sink got this line
 abbrev pub Told : List ℕ → Option (List ℕ) → Option (List ℕ) → Type 0
-Told bytes out out' = out' ≡ followed_by out (refusal_text bytes)
+Told bytes out out' = (fault : Fault) × (read bytes ≡ Err fault) × (out' ≡ followed_by out (fault_line fault))
 
 -- .. or a proper front of it
 abbrev pub HalfTold : List ℕ → Option (List ℕ) → Option (List ℕ) → Type 0
-HalfTold bytes out out' = GivesPart out out' (refusal_text bytes)
+HalfTold bytes out out' = (fault : Fault) × (read bytes ≡ Err fault) × GivesPart out out' (fault_line fault)
 
--- why a job is not run, if that is why there is none, is what reading its bytes gives
+-- if there is no job for a fault of its text, it is what reading the bytes gives
 abbrev pub IsFaultOf : Option (List ℕ) → Unread → Type 0
-IsFaultOf left (Bad bad) = OfRead left (λ bytes. IsNoJob bytes × (bad ≡ why_not (read bytes)))
+IsFaultOf left (Bad fault) = OfRead left (λ bytes. read bytes ≡ Err fault)
 IsFaultOf left _ = Unit {0}
 
--- a job is not run, and this of why
-abbrev pub IsFaultAnd : Unread → (BadJob → Type 0) → Type 0
-IsFaultAnd (Bad bad) P = P bad
+-- there is no job for a fault of its text, and this of it
+abbrev pub IsFaultAnd : Unread → (Fault → Type 0) → Type 0
+IsFaultAnd (Bad fault) P = P fault
 IsFaultAnd _ P = ⊥

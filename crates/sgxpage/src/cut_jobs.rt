@@ -1,6 +1,6 @@
 //! The first job cut to its first bytes, with how a run of it ends. What is given is that of another program.
 
-use crate::command::Status;
+use crate::status::Status;
 use crate::tests::{OUT, TRACE};
 
 /// How many bytes are left, the status, the output and the trace.

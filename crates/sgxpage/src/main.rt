@@ -3,8 +3,12 @@
 mod command;
 #[cfg(test)]
 mod cut_jobs;
-mod job_faults;
+mod fault_lines;
+mod jobs;
+#[cfg(test)]
+mod paged_jobs;
 mod replies;
+mod status;
 #[cfg(test)]
 mod tests;
 #[cfg(test)]
@@ -12,16 +16,21 @@ mod two_enclaves;
 #[cfg(test)]
 mod worked_runs;
 
-use crate::command::{Status, path_of, sgxpage};
+use crate::command::{path_of, sgxpage};
+use crate::status::Status;
+use backing_store::planned_store::PlannedStore;
+use crew::gate::OpenGate;
 use io_edges::failed_edges::FailedSink;
 use io_edges::late_file::LateFile;
 use io_edges::std_edges::{StdSink, StdSource};
 use std::env;
 use std::io::{self, Eprint, ErrorKind};
 use std::process::ExitCode;
+use std::sync::Wait;
+use std::thread::Threads;
 
 fn main(rt: HostRuntime) -> ExitCode {
-    let status = status(&rt);
+    let status = carry_out(&rt, &rt);
     if status == Status::BadWords {
         // Where the usage can't be printed, the status alone tells.
         let _ = print_usage(&rt);
@@ -34,7 +43,8 @@ fn print_usage(rt: &impl Eprint) -> io::Result<()> {
     eprintln!(rt; "usage: sgxpage run PATH")
 }
 
-fn status(rt: &HostRuntime) -> Status {
+// Does what the words of the command line say. A run makes threads, and may wait.
+fn carry_out<R: Threads + Wait + Sync>(rt: &HostRuntime, waits: &R) -> Status {
     let words = match given_words(rt) {
         Ok(words) => words,
         Err(error) if error.kind() == ErrorKind::OutOfMemory => return Status::Memory,
@@ -43,22 +53,29 @@ fn status(rt: &HostRuntime) -> Status {
     };
     let mut job = StdSource::new(rt.stdin().reader());
     let mut out = StdSink::new(io::writer(rt));
-    match path_of(&words) {
+    let ended = match path_of(&words) {
         Some(path) => sgxpage(
+            waits,
             rt.alloc(),
             &words,
             &mut job,
             &mut out,
             &mut StdSink::new(LateFile::new(rt, path)),
+            PlannedStore::new(),
+            &OpenGate,
         ),
         None => sgxpage(
+            waits,
             rt.alloc(),
             &words,
             &mut job,
             &mut out,
             &mut FailedSink::new(),
+            PlannedStore::new(),
+            &OpenGate,
         ),
-    }
+    };
+    ended.status
 }
 
 // The words of the command line, without the program's name.

@@ -1,12 +1,14 @@
 use Rattle.std.proofs.Common.{subst, reverse}
 use Rattle.std.specs.Prelude.{List}
-use Rattle.run_jobs.proofs.EndLaws.{done_at}
+use Rattle.run_jobs.proofs.RunLaws.{whole_of}
 use Rattle.run_jobs.specs.Ends.{IsEndOf}
 use Rattle.sgx_types.specs.declared.entries.Entry.{Entry}
 use Rattle.run_jobs.proofs.run.run_job.Goals as goal
 
-pub returns-clause-done : goal.returns-clause-done
-returns-clause-done g c =
-    done_at c.run.new.book.job c.into_parts-job.result.job c.run.new.book.past (reverse c.into_parts-job.result.entries.items)
-    c.end_of-end.result c.into_parts-job.ensures.job c.into_parts-job.ensures.entries c.in_ok-run.ensures.ended
+pub returns-clause-run : goal.returns-clause-run
+returns-clause-run g c =
+    whole_of c.in_ok-book-2.book c.end_of-end.result c.into_parts-job.result.job (reverse c.into_parts-job.result.entries.items)
+    (g.B.Backing.told c.into_parts-job.result.store) (g.B.Backing.plans c.into_parts-job.result.store) c.into_parts-job.ensures.holds
+    c.in_ok-book-2.ensures.ended
     (subst (λ (xs : List Entry). IsEndOf (reverse xs) c.end_of-end.result) c.deref.ensures.value c.end_of-end.ensures)
+    c.into_parts-job.ensures.job c.into_parts-job.ensures.entries c.into_parts-job.ensures.told c.into_parts-job.ensures.plans

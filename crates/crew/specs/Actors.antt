@@ -1,0 +1,24 @@
+-- The actors of a job.
+use Rattle.std.specs.Prelude.{◌<◌, [], length}
+use Rattle.sgx_types.specs.declared.entries.Actor.{Actor}
+use Rattle.sgx_types.specs.declared.entries.Actor.TheVariants as actors
+use Rattle.job_grammar.specs.Jobs.{JobView}
+
+-- an actor of the job
+abbrev pub IsOf : JobView → Actor → Type 0
+IsOf j actors.Builder = Unit {0}
+IsOf j (actors.Cpu cpu) = cpu.0 < length j.scripts
+IsOf j actors.Reclaimer = Unit {0}
+
+-- a job that nobody runs
+abbrev pub no_job : JobView
+no_job = record {
+  epc = 0;
+  marks = record { low = 0; high = 0; scan = 0 };
+  key = [];
+  start_epoch = 0;
+  start_version = 0;
+  enclaves = [];
+  plans = [];
+  scripts = [];
+}

@@ -1,0 +1,7 @@
+// Runs of jobs by threads.
+#![tactic(auto)]
+
+#[cfg(test)]
+mod meeting;
+#[cfg(test)]
+mod tests;

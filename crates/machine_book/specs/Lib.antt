@@ -1,9 +1,0 @@
-pub mod Homes
-pub mod Places
-pub mod Saves
-pub mod Asking
-pub mod Books
-pub mod Kept
-pub mod Building
-pub mod Playing
-pub mod Turns

@@ -1,0 +1,81 @@
+-- A book that has ended is a whole run.
+use Rattle.std.proofs.Common.{◌≡◌, ◌≢◌, ℕ, ◌<◌, List, [], ◌∷◌, Option, Some, None, length, refl, subst}
+use Rattle.std.specs.Prelude.{IfSome}
+use Rattle.sgx_types.specs.declared.entries.Entry.{Entry}
+use Rattle.sgx_types.specs.Rules.{Along}
+use Rattle.io_edges.specs.declared.plans.PlanLine.{PlanLine}
+use Rattle.job_grammar.specs.Jobs.{JobView}
+use Rattle.backing_store.specs.Calls.{Call}
+use Rattle.driver_rules.specs.Scripts.{IsDone, IsEnded, ScriptRule}
+use Rattle.honest_store.proofs.DoneLaws.{all_done}
+use Rattle.run_book.specs.Lost.{AllCameBack}
+use Rattle.run_history.specs.Given.{UnforgedRun}
+use Rattle.run_history.specs.Histories.{GoesOn, History}
+use Rattle.run_history.specs.Honest.{IsHonest}
+use Rattle.run_history.specs.Stored.{PutsAreFlat}
+use Rattle.run_turns.specs.Views.{BookView, Holds}
+use Rattle.run_jobs.specs.Ends.{IsEndOf}
+use Rattle.run_jobs.specs.Runs.{WholeRun}
+use Rattle.run_jobs.specs.declared.ends.End.{End}
+use Rattle.run_jobs.specs.declared.ends.End.TheVariants as ends
+
+-- a history that goes on is a history where the run is at its end
+at_end : (j : JobView) (past : List Entry) → GoesOn j past → IsEnded j past → History j past
+at_end j past on ended = record {
+  script = (ended, on.script);
+  refusal = on.refusal;
+  flat = on.flat;
+  fits = on.fits;
+  stale = on.stale;
+  evict = on.evict;
+  fresh = on.fresh;
+  sealed = on.sealed;
+  measure = on.measure;
+  age = on.age;
+  kick = on.kick;
+}
+
+histories : (j : JobView) (past : List Entry) (told : Option (List Call)) → IsEnded j past
+    → IfSome told (λ calls. UnforgedRun j.key past calls → GoesOn j past × PutsAreFlat j.key past calls)
+    → IfSome told (λ calls. UnforgedRun j.key past calls → History j past × PutsAreFlat j.key past calls)
+histories j past None ended holds = tt
+histories j past (Some calls) ended holds = λ unforged. let both = holds unforged in (at_end j past both.0 ended, both.1)
+
+no_bus : (past : List Entry) (end : End) → IsEndOf past end → AllCameBack past → end ≢ ends.Bus
+no_bus past ends.Done is back = λ same. cc
+no_bus past ends.Bus is back = λ same. is.1 back
+no_bus past ends.Spent is back = λ same. cc
+
+honestly : (past : List Entry) (told : Option (List Call)) (end : End) → IsEndOf past end
+    → IfSome told (λ calls. IsHonest calls → AllCameBack past) → IfSome told (λ calls. IsHonest calls → end ≢ ends.Bus)
+honestly past None end is back = tt
+honestly past (Some calls) end is back = λ honest. no_bus past end is (back honest)
+
+done_of : (j : JobView) (past : List Entry) (end : End) → IsEnded j past → IsEndOf past end → end ≡ ends.Done
+    → (p : ℕ) → p < length j.scripts → IsDone j past p
+done_of j past end ended is done p low =
+    let how = subst (IsEndOf past) done is in
+    all_done j past ended how.1 how.0 p low
+
+whole : (b : BookView) (end : End) → Holds b → IsEnded b.job b.past → IsEndOf b.past end → WholeRun b.job b.past end b.told b.plans
+whole b end holds ended is = record {
+  script = record { entries = holds.anyhow.script; ended = ended };
+  age = holds.anyhow.age;
+  kick = holds.anyhow.kick;
+  fits = holds.anyhow.fits;
+  stale = holds.anyhow.stale;
+  evict = holds.anyhow.evict;
+  rising = holds.anyhow.rising;
+  store = holds.anyhow.store;
+  history = histories b.job b.past b.told ended holds.unforged;
+  end_is = is;
+  done = done_of b.job b.past end ended is;
+  honest = honestly b.past b.told end is holds.anyhow.honest;
+}
+
+-- .. and what was taken apart of it is that run
+pub whole_of : (b : BookView) (end : End) (j : JobView) (past : List Entry) (told : Option (List Call)) (plans : List PlanLine)
+    → Holds b → IsEnded b.job b.past → IsEndOf past end → j ≡ b.job → past ≡ b.past → told ≡ b.told → plans ≡ b.plans
+    → WholeRun j past end told plans
+whole_of b end j past told plans holds ended is job same calls lines =
+    rw (job, same, calls, lines) (whole b end holds ended (subst (λ h. IsEndOf h end) same is))

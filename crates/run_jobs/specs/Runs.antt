@@ -1,0 +1,38 @@
+-- A whole run of a job: what is so of each, whatever it was that the store gave, and for every order of turns.
+use Rattle.std.specs.Prelude.{ℕ, ◌≡◌, ◌≢◌, ◌<◌, List, Option, IfSome, length}
+use Rattle.sgx_types.specs.declared.entries.Entry.{Entry}
+use Rattle.sgx_types.specs.Rules.{Along, EvictRule, Fits, RisingRule, Stale}
+use Rattle.io_edges.specs.declared.plans.PlanLine.{PlanLine}
+use Rattle.job_grammar.specs.Jobs.{JobView}
+use Rattle.backing_store.specs.Calls.{Call}
+use Rattle.driver_rules.specs.Ages.{AgeRule, KickRule}
+use Rattle.driver_rules.specs.Scripts.{IsDone, Script}
+use Rattle.run_history.specs.Given.{UnforgedRun}
+use Rattle.run_history.specs.Histories.{History}
+use Rattle.run_history.specs.Honest.{IsHonest}
+use Rattle.run_history.specs.Stored.{PutsAreFlat, StoreTrue}
+use Rattle.run_jobs.specs.Ends.{IsEndOf}
+use Rattle.run_jobs.specs.declared.ends.End.{End}
+use Rattle.run_jobs.specs.declared.ends.End.TheVariants as ends
+
+-- a run that came to its end has these entries, the newest first, and its store tells these calls and was handed these plan lines
+pub record WholeRun (j : JobView) (past : List Entry) (end : End) (told : Option (List Call)) (plans : List PlanLine) : Type 0 where
+  -- who makes which entry, and that all is done at the end; the reclaimer's looks and kicks
+  pub script : Script j past
+  pub age : Along (AgeRule j) past
+  pub kick : Along (KickRule j) past
+  -- no frame twice, no stale translation, only drained pages go out, under rising versions
+  pub fits : Fits j.epc past
+  pub stale : Stale past
+  pub evict : Along EvictRule past
+  pub rising : Along (RisingRule j.start_version) past
+  -- the store's calls are those of which the entries tell
+  pub store : StoreTrue j past plans told
+  -- where no record was forged, all rules hold, and each record that was put has the flat bytes of its page there
+  pub history : IfSome told (λ calls. UnforgedRun j.key past calls → History j past × PutsAreFlat j.key past calls)
+  -- how it ended
+  pub end_is : IsEndOf past end
+  -- at Done each operation of each script has its reply, and each processor is outside
+  pub done : end ≡ ends.Done → (p : ℕ) → p < length j.scripts → IsDone j past p
+  -- a store that failed nothing and gave each page's last record put ends no processor. This supposes nothing of forged records
+  pub honest : IfSome told (λ calls. IsHonest calls → end ≢ ends.Bus)

@@ -1,0 +1,18 @@
+//! Laws of whole runs. A law is the contract of a function without arguments.
+
+ghost use Rattle.backing_store.specs.Store.{IsStore, StoreState, is_put};
+ghost use Rattle.backing_store.specs.Told.{told_of};
+ghost use Rattle.job_grammar.specs.Jobs.{JobView};
+ghost use Rattle.run_jobs.specs.Runs.{WholeRun};
+ghost use Rattle.run_jobs.specs.declared.ends.End.{End};
+ghost use Rattle.run_jobs.specs.declared.ends.End.TheVariants as ends;
+ghost use Rattle.sgx_types.specs.declared.entries.Entry.{Entry};
+ghost use Rattle.std.specs.Prelude.{◌≡◌, ◌≢◌, Some, List, [], count_by, length};
+
+/// A run of a job without plan lines over a planned store, which answers its calls by its rules and has one record for each put, ends no
+/// processor.
+pub fn planned_runs_without_lines_lose_nothing()
+    ensures { (j : JobView) (past : List Entry) (end : End) (store : StoreState) → IsStore store
+        → length store.puts ≡ count_by is_put store.calls → j.plans ≡ []
+        → WholeRun j past end (Some (told_of store.calls store.puts)) store.plans → end ≢ ends.Bus }
+{}
