@@ -7,15 +7,11 @@ mod texts;
 mod turning;
 
 use backing_store::planned_store::PlannedStore;
-use crew::gate::OpenGate;
 use job_text::reader::read_job;
-use run_jobs::ends::End;
-use run_jobs::run::run_job;
+use run_jobs::ends::{End, end_of};
 use run_turns::book::Book;
 use sgx_types::names::Memory;
 use std::alloc::Global;
-use std::sync::Wait;
-use std::thread::Threads;
 use std::{env, fs, io};
 use texts::without_slots;
 use trace_text::trace::print_trace;
@@ -37,7 +33,10 @@ fn main(rt: HostRuntime) -> io::Result<()> {
         let path = format!(in rt.alloc(); "{name}.job")?;
         let job = fs::read(&rt, path.as_str())?;
         if tells_ends {
-            println!(rt; "{}", how_it_ended(&rt, rt.alloc(), &job))?;
+            match how_it_ended(rt.alloc(), &job) {
+                Ok(end) => println!(rt; "{end}")?,
+                Err(Memory) => println!(rt; "no memory")?,
+            }
             continue;
         }
         match trace_of(rt.alloc(), &job, how) {
@@ -59,15 +58,14 @@ fn trace_of(alloc: Global, text: &[u8], how: Work) -> Result<Option<Vec<u8>>, Me
     Ok(Some(print_trace(alloc, book.entries())?))
 }
 
-// How a job's run ends that is made as a whole.
-fn how_it_ended<R: Threads + Wait + Sync>(rt: &R, alloc: Global, text: &[u8]) -> &'static str {
+// How a job's run by rounds ends.
+fn how_it_ended(alloc: Global, text: &[u8]) -> Result<&'static str, Memory> {
     let Ok(job) = read_job(alloc, text) else {
-        return "no job";
+        return Ok("no job");
     };
-    match run_job(rt, alloc, job, PlannedStore::new(), &OpenGate) {
-        Ok(run) => name_of(run.end),
-        Err(Memory) => "no memory",
-    }
+    let mut book = Book::start(alloc, job, PlannedStore::new())?;
+    run(alloc, &mut book, Work::Given)?;
+    Ok(name_of(end_of(book.entries())))
 }
 
 fn name_of(end: End) -> &'static str {
