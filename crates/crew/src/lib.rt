@@ -5,4 +5,5 @@ pub mod gate;
 mod locked;
 pub mod run;
 pub mod tally;
+mod waiting;
 mod workers;

@@ -7,6 +7,7 @@ ghost use Rattle.driver_rules.specs.Scripts.{IsEnded};
 use crate::gate::Gate;
 use crate::locked::{Locked, Run};
 use crate::tally::{Tally, count};
+use crate::waiting::Made;
 use crate::workers::work;
 use backing_store::backing::Backing;
 use rounds::run::run;
@@ -55,7 +56,8 @@ fn run_named<N: Run + Send + Sync, R: Threads + Wait + Sync, B: Backing + Send, 
 {
     let cpus = book.job().scripts().len() as u8;
     let shared: Mutex<Locked<B, N>> = Mutex::new(Locked::new(book));
-    in_threads(rt, alloc, &shared, gate, cpus);
+    let made = Made::new();
+    in_threads(rt, alloc, &shared, &made, gate, cpus);
     shared.into_inner().into_book()
 }
 
@@ -66,7 +68,7 @@ fn in_threads<
     R: Threads + Wait + Sync,
     B: Backing + Send,
     G: Gate + Sync,
->(rt: &'x R, alloc: Global, shared: &'x Mutex<Locked<B, N>>, gate: &'x G, cpus: u8)
+>(rt: &'x R, alloc: Global, shared: &'x Mutex<Locked<B, N>>, made: &'x Made, gate: &'x G, cpus: u8)
     requires { cpus ≤ length N.job.scripts }
 {
     thread::scope(
@@ -76,24 +78,24 @@ fn in_threads<
             requires { cpus ≤ length N.job.scripts }
         {
             if scope
-                .spawn(move || work(rt, alloc, shared, gate, Actor::Builder))
+                .spawn(move || work(rt, alloc, shared, made, gate, Actor::Builder))
                 .is_err()
             {
-                work(rt, alloc, shared, gate, Actor::Builder);
+                work(rt, alloc, shared, made, gate, Actor::Builder);
             }
             for number in 0..cpus {
                 if scope
-                    .spawn(move || work(rt, alloc, shared, gate, Actor::Cpu(Cpu(number))))
+                    .spawn(move || work(rt, alloc, shared, made, gate, Actor::Cpu(Cpu(number))))
                     .is_err()
                 {
-                    work(rt, alloc, shared, gate, Actor::Cpu(Cpu(number)));
+                    work(rt, alloc, shared, made, gate, Actor::Cpu(Cpu(number)));
                 }
             }
             if scope
-                .spawn(move || work(rt, alloc, shared, gate, Actor::Reclaimer))
+                .spawn(move || work(rt, alloc, shared, made, gate, Actor::Reclaimer))
                 .is_err()
             {
-                work(rt, alloc, shared, gate, Actor::Reclaimer);
+                work(rt, alloc, shared, made, gate, Actor::Reclaimer);
             }
         },
     );

@@ -5,6 +5,7 @@ ghost use Rattle.crew.specs.Actors.{IsOf};
 
 use crate::gate::Gate;
 use crate::locked::{Locked, Run};
+use crate::waiting::Made;
 use backing_store::backing::Backing;
 use run_turns::turn::Turn;
 use seal_record::seal::seal;
@@ -13,23 +14,30 @@ use sgx_types::entries::Actor;
 use sgx_types::names::Memory;
 use std::alloc::Global;
 use std::sync::{Mutex, Wait};
-use std::thread;
 
 /// Takes the turns of an actor of the job until nothing is left to it, or the run was stopped.
 pub(crate) fn work<R: Wait, B: Backing, G: Gate, N: Run>(
     rt: &R,
     alloc: Global,
     shared: &Mutex<Locked<B, N>>,
+    made: &Made,
     gate: &G,
     who: Actor,
 )
     requires { IsOf N.job who }
 {
+    let mut vain: u32 = 0;
     for _ in rt.forever() {
         match gated_turn(rt, alloc, shared, gate, who) {
             Turn::Finished | Turn::Stopped => return,
-            Turn::Again(_) => thread::yield_now(),
-            Turn::Did { .. } | Turn::Seal(_) | Turn::Unseal(_) => {}
+            Turn::Again(_) => {
+                vain = vain.saturating_add(1);
+                made.wait(vain);
+            }
+            Turn::Did { .. } | Turn::Seal(_) | Turn::Unseal(_) => {
+                vain = 0;
+                made.note();
+            }
         }
     }
 }

@@ -4,4 +4,6 @@
 #[cfg(test)]
 mod meeting;
 #[cfg(test)]
+mod seen_store;
+#[cfg(test)]
 mod tests;

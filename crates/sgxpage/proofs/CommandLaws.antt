@@ -1,5 +1,5 @@
 -- Laws of what a command says of the bytes that it read, and of the run that it made.
-use Rattle.std.proofs.Common.{◌≡◌, ◌≤◌, ◌<◌, ◌+◌, ◌^◌, ℕ, List, length, Option, Some, None, Ok, refl, ap, sym, ◌∙◌, arith}
+use Rattle.std.proofs.Common.{◌≡◌, ◌≤◌, ◌<◌, ◌+◌, ◌^◌, ℕ, List, length, Option, Some, None, Ok, reverse, refl, ap, sym, subst, ◌∙◌, arith}
 use Rattle.std.specs.Prelude.{IfSome, replicate}
 use Rattle.std.proofs.Math.Seq.{drop-length}
 use Rattle.std.proofs.lemmas.List.{length-replicate}
@@ -14,7 +14,8 @@ use Rattle.backing_store.specs.Calls.{Call}
 use Rattle.run_jobs.specs.declared.ends.End.{End}
 use Rattle.run_jobs.specs.Runs.{WholeRun}
 use Rattle.sgxpage.specs.declared.jobs.Unread.TheVariants as unread
-use Rattle.sgxpage.specs.Runs.{IsFaultOf, OfRead, RanBy}
+use Rattle.job_make.specs.MadeJob.{made_job}
+use Rattle.sgxpage.specs.Runs.{DemoBy, IsFaultOf, OfRead, RanBy}
 
 -- ---- the bytes read
 
@@ -47,3 +48,13 @@ pub ran-by : (left : Option (List ℕ)) (read_job job : JobView) (past : List En
     → WholeRun job past end told plans → Given job past → OfRead left (λ bytes. RanBy bytes end told plans Given)
 ran-by left read_job job past end told plans Given text is run given =
     (text.0, text.1, record { job = job; text = text.2 ∙ ap Ok (sym is); past = past; run = run; given = given })
+
+-- .. or of the job that was made
+pub demo-by : (number size : ℕ) (made job : JobView) (entries : List Entry) (end : End) (told : Option (List Call)) (plans : List PlanLine)
+    (Given : List Entry → Type 0) → made ≡ made_job number size → job ≡ made → WholeRun job (reverse entries) end told plans
+    → Given entries → DemoBy number size end told plans Given
+demo-by number size made job entries end told plans Given is same run given = record {
+  entries = entries;
+  run = subst (λ (j : JobView). WholeRun j (reverse entries) end told plans) (same ∙ is) run;
+  given = given;
+}

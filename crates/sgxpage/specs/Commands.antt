@@ -7,7 +7,7 @@ use Rattle.sgxpage.specs.declared.status.Status.{Status}
 use Rattle.sgxpage.specs.declared.status.Status.TheVariants as statuses
 
 -- `run PATH`, without the program's name: the path is any word that is not empty
-pub record IsCommand (words : List (List ℕ)) : Type 0 where
+pub record HasPath (words : List (List ℕ)) : Type 0 where
   pub path : List ℕ
   pub some : 0 < length path
   pub spelt : words ≡ codes "run" ∷ path ∷ []
@@ -54,3 +54,14 @@ abbrev pub IsGiven : End → Status → Type 0 → Type 0
 IsGiven end statuses.WriteFault Given = Unit {0}
 IsGiven end statuses.Memory Given = Unit {0}
 IsGiven end status Given = (status ≡ status_of end) × Given
+
+-- how `run` may end, and how `demo`
+abbrev pub IsRunEnd : Status → Type 0
+IsRunEnd statuses.BadWords = ⊥
+IsRunEnd status = Unit {0}
+
+abbrev pub IsDemoEnd : Status → Type 0
+IsDemoEnd statuses.BadWords = ⊥
+IsDemoEnd statuses.BadJob = ⊥
+IsDemoEnd statuses.ReadFault = ⊥
+IsDemoEnd status = Unit {0}

@@ -1,5 +1,5 @@
 -- What a run gives: the texts of one trace that keeps the rules, or a line on what is wrong with the job.
-use Rattle.std.specs.Prelude.{ℕ, ◌≡◌, ◌⊎◌, List, ◌++◌, Option, Ok, Err, IfSome, codes}
+use Rattle.std.specs.Prelude.{ℕ, ◌≡◌, ◌⊎◌, List, ◌++◌, Option, Ok, Err, IfSome, codes, reverse}
 use Rattle.std.specs.Fmt.{decimal}
 use Rattle.io_edges.specs.Sinks.{followed_by, GivesPart}
 use Rattle.io_edges.specs.declared.plans.PlanLine.{PlanLine}
@@ -9,12 +9,16 @@ use Rattle.job_lines.specs.declared.kinds.JobKind.TheVariants as kinds
 use Rattle.job_text.specs.declared.refusals.Fault.{Fault}
 use Rattle.job_text.specs.Reading.{read}
 use Rattle.job_grammar.specs.Jobs.{JobView}
+use Rattle.job_make.specs.MadeJob.{made_job}
+use Rattle.job_print.specs.JobText.{job_text}
 use Rattle.backing_store.specs.Calls.{Call}
 use Rattle.run_jobs.specs.declared.ends.End.{End}
 use Rattle.run_jobs.specs.Runs.{WholeRun}
 use Rattle.sgxpage.specs.declared.jobs.Unread.{Unread}
 use Rattle.sgxpage.specs.declared.jobs.Unread.TheVariants.{Bad}
 use Rattle.sgxpage.specs.OutText.{out_of}
+use Rattle.sgxpage.specs.declared.status.Status.{Status}
+use Rattle.sgxpage.specs.declared.status.Status.TheVariants as statuses
 use Rattle.trace_text.specs.TraceText.{trace_of}
 
 -- ---- the job's bytes
@@ -53,6 +57,23 @@ pub record RanBy (bytes : List ℕ) (end : End) (told : Option (List Call)) (pla
   pub past : List Entry
   pub run : WholeRun job past end told plans
   pub given : Given job past
+
+-- ---- what is made of a number and a size
+
+-- a sink got the text of the job, or a proper front of it, or nothing
+abbrev pub IsMade : ℕ → ℕ → Status → Option (List ℕ) → Option (List ℕ) → Type 0
+IsMade number size statuses.Done out out' = out' ≡ followed_by out (job_text (made_job number size))
+IsMade number size statuses.WriteFault out out' = GivesPart out out' (job_text (made_job number size))
+IsMade number size statuses.Memory out out' = out' ≡ out
+IsMade number size status out out' = ⊥
+
+-- the job was run to this end, over a store that tells these calls and plan lines, and something of that run was given. Its entries stand
+-- oldest first
+pub record DemoBy (number size : ℕ) (end : End) (told : Option (List Call)) (plans : List PlanLine)
+    (Given : List Entry → Type 0) : Type 0 where
+  pub entries : List Entry
+  pub run : WholeRun (made_job number size) (reverse entries) end told plans
+  pub given : Given entries
 
 -- ---- what is wrong with a job
 

@@ -1,43 +1,35 @@
-//! The command: its words, its run, and how it ends.
+//! The top call: the words of the command line, what each command does, and how it ends.
 
-ghost use Rattle.std.specs.Prelude.{◌≡◌, ◌≢◌, ◌<◌, ◌+◌, ◌^◌, ◌⊎◌, ◌↔◌, [], ◌∷◌, codes, length, map, reverse, string_bytes, IfNone, IfSome};
-ghost use Rattle.std.specs.Prelude.{IsErrOf, IsSomeAnd, None, OnOk, Some};
+ghost use Rattle.std.specs.Prelude.{◌≡◌, ◌≢◌, ◌<◌, ◌+◌, ◌^◌, ◌⊎◌, ◌↔◌, ℕ, [], ◌∷◌, codes, length, map, string_bytes, IfNone, IfSome};
+ghost use Rattle.std.specs.Prelude.{IsSomeAnd, None, Some};
+ghost use Rattle.command_words.specs.Commands.{command_in};
+ghost use Rattle.command_words.specs.declared.command.Command.TheVariants as commands;
 ghost use Rattle.io_edges.specs.Faults.{HasRisen};
+ghost use Rattle.io_edges.specs.Sinks.{GivesPart, followed_by};
 ghost use Rattle.io_edges.specs.Sources.{TakesAtMost};
-ghost use Rattle.sgxpage.specs.Commands.{HasEnded, IsCommand, IsGiven, MayStandIn, NoFault, status_of};
-ghost use Rattle.sgxpage.specs.Runs.{BothGiven, HalfGiven, HalfTold, HasFault, HasJob, OfRead, RanBy, Told};
+ghost use Rattle.run_summary.specs.Summary.{summary_of};
+ghost use Rattle.sgxpage.specs.Commands.{HasEnded, HasPath, IsDemoEnd, MayStandIn, NoFault, status_of};
+ghost use Rattle.sgxpage.specs.Runs.{BothGiven, DemoBy, HalfGiven, HalfTold, HasFault, HasJob, IsMade, OfRead, RanBy, Told};
 ghost use Rattle.run_jobs.specs.declared.ends.End.{End};
 
-use crate::jobs::{read, tell};
-use crate::replies::print_out;
+use crate::ended::{Ended, unrun};
+use crate::making::{demo_command, make_command};
+use crate::running::run_command;
 use crate::status::Status;
 use backing_store::backing::Backing;
+use command_words::command::{Command, command_of};
 use crew::gate::Gate;
-use io_edges::giving::give_all;
 use io_edges::sinks::Sink;
 use io_edges::sources::Source;
-use job_grammar::jobs::Job;
-use run_jobs::run::{Run, run_job};
-use sgx_types::entries::Entry;
-use sgx_types::names::Memory;
 use std::alloc::Global;
 use std::sync::Wait;
 use std::thread::Threads;
-use trace_pieces::pieces::give_trace;
-use trace_pieces::ungiven::Ungiven;
 
-/// How a command ended, with the store, where a run was made and came to its end.
-#[derive(Drop)]
-pub struct Ended<B: Backing> {
-    pub status: Status,
-    pub store: Option<B>,
-}
-
-/// The path of the words `run PATH`, which are the only command yet.
+/// The path of the words `run PATH`.
 pub fn path_of(words: &[String]) -> Option<&str>
     ensures path { IfSome result (λ path.
         (map string_bytes words.now ≡ codes "run" ∷ path.now ∷ []) × (0 < length path.now)) }
-    ensures none { IfNone result (¬ IsCommand (map string_bytes words.now)) }
+    ensures none { IfNone result (¬ HasPath (map string_bytes words.now)) }
 {
     match words {
         [command, path] if command.as_str() == "run" && !path.is_empty() => Some(path.as_str()),
@@ -45,11 +37,15 @@ pub fn path_of(words: &[String]) -> Option<&str>
     }
 }
 
-/// Does what the words of the command line say, which stand without the program's name. `run PATH` runs the job that
-/// `job` gives, over this store, which has told no calls yet. The text of its trace goes to `trace`, which is the file at that path, and
-/// then its replies go to `out`. Where the text is no job's, `out` gets its first faulty line and what is wrong there. A job of more than
-/// 2^24 bytes is refused as line 0, and is read no further than one byte past them. Other words are no command, and then nothing is read
-/// or written. The gate is told of each turn. A run whose store fails for ever may not return.
+/// Does what the words of the command line say, which stand without the program's name.
+///
+/// `run PATH` runs the job that `job` gives, over this store, which has told no calls yet. The text of its trace goes to `trace`, which is the
+/// file at that path, and then its replies go to `out`. Where the text is no job's, `out` gets its first faulty line and what is wrong there. A
+/// job of more than 2^24 bytes is refused as line 0, and is read no further than one byte past them. `make NUMBER SIZE` gives the text of the
+/// job that is made of these to `out`. `demo NUMBER SIZE` runs that job, and gives the summary of the run to `out`.
+///
+/// Other words are no command, and then nothing is read or written. The gate is told of each turn. A run whose store fails for ever may not
+/// return.
 pub fn sgxpage<
     R: Threads + Wait + Sync,
     J: Source,
@@ -68,8 +64,7 @@ pub fn sgxpage<
     gate: &G,
 ) -> Ended<B>
     requires { IfSome (B.told store) (λ calls. calls ≡ []) }
-    ensures bad_words { (result.status ≡ Status.BadWords) ↔ (¬ IsCommand (map string_bytes words.now)) }
-    ensures is_command { result.status ≢ Status.BadWords → IsCommand (map string_bytes words.now) }
+    ensures bad_words { (result.status ≡ Status.BadWords) ↔ (command_in (map string_bytes words.now) ≡ None) }
     ensures no_command { result.status ≡ Status.BadWords →
         (job.new ≡ job.old) × (out.new ≡ out.old) × (trace.new ≡ trace.old) × (result.store ≡ None) }
 
@@ -80,15 +75,15 @@ pub fn sgxpage<
     ensures bad_job { result.status ≡ Status.BadJob →
         OfRead (J.left job.old) (λ bytes. Told bytes (K.given out.old) (K.given out.new))
         × (trace.new ≡ trace.old) × (result.store ≡ None) }
-    ensures no_job { IsCommand (map string_bytes words.now) → IsSomeAnd (J.left job.old) HasFault →
+    ensures no_job { command_in (map string_bytes words.now) ≡ Some commands.Run → IsSomeAnd (J.left job.old) HasFault →
         (result.status ≡ Status.BadJob) ⊎ MayStandIn result.status }
 
     // Whatever the store gave: a whole run of the job, with its texts, that ended as the status says.
-    ensures ran { (end : End) → result.status ≡ status_of end →
+    ensures ran { command_in (map string_bytes words.now) ≡ Some commands.Run → (end : End) → result.status ≡ status_of end →
         OfRead (J.left job.old) (λ bytes. IsSomeAnd result.store (λ store. RanBy bytes end (B.told store) (B.plans store)
         (λ j past. BothGiven j past (K.given out.old) (K.given out.new) (L.given trace.old) (L.given trace.new)))) }
     // A run that meets no fault is complete.
-    ensures complete { IsCommand (map string_bytes words.now) → IsSomeAnd (J.left job.old) HasJob →
+    ensures complete { command_in (map string_bytes words.now) ≡ Some commands.Run → IsSomeAnd (J.left job.old) HasJob →
         NoFault (J.faults job.old) (J.faults job.new) →
         NoFault (K.faults out.old) (K.faults out.new) →
         NoFault (L.faults trace.old) (L.faults trace.new) →
@@ -96,87 +91,33 @@ pub fn sgxpage<
 
     ensures write_fault { result.status ≡ Status.WriteFault →
         HasRisen (K.faults out.old) (K.faults out.new) ⊎ HasRisen (L.faults trace.old) (L.faults trace.new) }
-    ensures broke { result.status ≡ Status.WriteFault → OfRead (J.left job.old) (λ bytes.
+    ensures broke { command_in (map string_bytes words.now) ≡ Some commands.Run → result.status ≡ Status.WriteFault → OfRead (J.left job.old) (λ bytes.
         (HalfTold bytes (K.given out.old) (K.given out.new) × (trace.new ≡ trace.old) × (result.store ≡ None))
         ⊎ ((end : End) × IsSomeAnd result.store (λ store. RanBy bytes end (B.told store) (B.plans store)
         (λ j past. HalfGiven j past (K.given out.old) (K.given out.new) (L.given trace.old) (L.given trace.new))))) }
     ensures memory { result.status ≡ Status.Memory → (out.new ≡ out.old) × (trace.new ≡ trace.old) }
-{
-    if path_of(words).is_none() {
-        return unrun(Status::BadWords);
-    }
-    let job = match read(alloc, job) {
-        Ok(job) => job,
-        Err(unread) => return unrun(tell(alloc, out, unread)),
-    };
-    match run_job(rt, alloc, job, store, gate) {
-        Ok(run) => give_run(alloc, run, out, trace),
-        Err(Memory) => unrun(Status::Memory),
-    }
-}
 
-// The end of a command that made no run.
-fn unrun<B: Backing>(status: Status) -> Ended<B>
-    ensures status { result.status ≡ status }
-    ensures store { result.store ≡ None }
-{
-    Ended {
-        status,
-        store: None,
-    }
-}
+    ensures make { (number size : ℕ) → command_in (map string_bytes words.now) ≡ Some (commands.Make number size) →
+        IsMade number size result.status (K.given out.old) (K.given out.new)
+        × (job.new ≡ job.old) × (trace.new ≡ trace.old) × (result.store ≡ None) }
 
-// Gives the texts of a run.
-fn give_run<K: Sink, L: Sink, B: Backing>(
-    alloc: Global,
-    run: Run<B>,
-    out: &mut K,
-    trace: &mut L,
-) -> Ended<B>
-    ensures store { result.store ≡ Some run.store }
-    ensures gave { IsGiven run.end result.status
-        (BothGiven run.job (reverse run.entries.items) (K.given out.old) (K.given out.new) (L.given trace.old) (L.given trace.new)) }
-    ensures broke { result.status ≡ Status.WriteFault →
-        HalfGiven run.job (reverse run.entries.items) (K.given out.old) (K.given out.new) (L.given trace.old) (L.given trace.new) }
-    ensures memory { result.status ≡ Status.Memory → (out.new ≡ out.old) × (trace.new ≡ trace.old) }
-    ensures failed { result.status ≡ Status.WriteFault
-        → HasRisen (K.faults out.old) (K.faults out.new) ⊎ HasRisen (L.faults trace.old) (L.faults trace.new) }
+    ensures demo { (number size : ℕ) → command_in (map string_bytes words.now) ≡ Some (commands.Demo number size) →
+        (end : End) → result.status ≡ status_of end → IsSomeAnd result.store (λ store.
+        DemoBy number size end (B.told store) (B.plans store) (λ entries.
+        K.given out.new ≡ followed_by (K.given out.old) (summary_of size entries))) }
+    ensures demo_broke { (number size : ℕ) → command_in (map string_bytes words.now) ≡ Some (commands.Demo number size) →
+        result.status ≡ Status.WriteFault → (end : End) × IsSomeAnd result.store (λ store.
+        DemoBy number size end (B.told store) (B.plans store) (λ entries.
+        GivesPart (K.given out.old) (K.given out.new) (summary_of size entries))) }
+    ensures demo_else { (number size : ℕ) → command_in (map string_bytes words.now) ≡ Some (commands.Demo number size) →
+        IsDemoEnd result.status × (job.new ≡ job.old) × (trace.new ≡ trace.old) }
 {
-    let Run {
-        job,
-        entries,
-        store,
-        end,
-    } = run;
-    let status = match give_texts(alloc, &job, &entries, out, trace) {
-        Ok(()) => Status::of_run(end),
-        Err(Ungiven::Failed) => Status::WriteFault,
-        Err(Ungiven::Memory) => Status::Memory,
-    };
-    Ended {
-        status,
-        store: Some(store),
+    match command_of(words) {
+        None => unrun(Status::BadWords),
+        Some(Command::Run) => run_command(rt, alloc, job, out, trace, store, gate),
+        Some(Command::Make { number, size }) => unrun(make_command(alloc, number, size, out)),
+        Some(Command::Demo { number, size }) => demo_command(
+            rt, alloc, number, size, out, store, gate,
+        ),
     }
-}
-
-// The trace of these entries, which stand oldest first, and then the replies.
-fn give_texts<K: Sink, L: Sink>(
-    alloc: Global,
-    job: &Job,
-    entries: &[Entry],
-    out: &mut K,
-    trace: &mut L,
-) -> Result<(), Ungiven>
-    ensures gave { OnOk result
-        (BothGiven job.now (reverse entries.now) (K.given out.old) (K.given out.new) (L.given trace.old) (L.given trace.new)) }
-    ensures broke { IsErrOf result Ungiven.Failed
-        → HalfGiven job.now (reverse entries.now) (K.given out.old) (K.given out.new) (L.given trace.old) (L.given trace.new) }
-    ensures memory { IsErrOf result Ungiven.Memory → (out.new ≡ out.old) × (trace.new ≡ trace.old) }
-    ensures failed { IsErrOf result Ungiven.Failed
-        → HasRisen (K.faults out.old) (K.faults out.new) ⊎ HasRisen (L.faults trace.old) (L.faults trace.new) }
-{
-    let out_text = print_out(alloc, job, entries)?;
-    give_trace(alloc, trace, entries)?;
-    give_all(out, &out_text)?;
-    Ok(())
 }

@@ -3,11 +3,14 @@
 mod command;
 #[cfg(test)]
 mod cut_jobs;
+mod ended;
 mod fault_lines;
 mod jobs;
+mod making;
 #[cfg(test)]
 mod paged_jobs;
 mod replies;
+mod running;
 mod status;
 #[cfg(test)]
 mod tests;
@@ -40,7 +43,7 @@ fn main(rt: HostRuntime) -> ExitCode {
 
 // The commands that there are.
 fn print_usage(rt: &impl Eprint) -> io::Result<()> {
-    eprintln!(rt; "usage: sgxpage run PATH")
+    eprintln!(rt; "usage: sgxpage run PATH | make NUMBER SIZE | demo NUMBER SIZE")
 }
 
 // Does what the words of the command line say. A run makes threads, and may wait.

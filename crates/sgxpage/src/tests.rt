@@ -452,6 +452,55 @@ fn no_more_than_one_byte_past_the_limit_is_read(rt: HostRuntime) -> Result<(), F
     Ok(())
 }
 
+// Does a command that reads nothing and gives no trace: the source and the trace's sink would fail at their first calls.
+fn gives_text(
+    rt: &(impl Abort + Alloc<A = Global> + Threads + Wait + Sync),
+    texts: &[&str],
+    text: &str,
+) -> Result<(), Fail> {
+    let alloc = rt.alloc();
+    let mut source = MemSource::new(alloc, b"", 7, &[1])?;
+    let mut out = MemSink::new(alloc, 1000, &[])?;
+    let mut trace = MemSink::new(alloc, 7, &[1])?;
+    let ended = sgxpage(
+        rt,
+        alloc,
+        &words(alloc, texts)?,
+        &mut source,
+        &mut out,
+        &mut trace,
+        PlannedStore::new(),
+        &OpenGate,
+    );
+    assert_eq!(rt; ended.status, Status::Done);
+    assert_eq!(rt; source.faults(), 0);
+    assert_eq!(rt; trace.faults(), 0);
+    let begins = str::from_utf8(out.bytes()).is_ok_and(|given| given.starts_with(text));
+    assert_eq!(rt; begins, true);
+    Ok(())
+}
+
+// The sums are those of another program.
+#[test]
+fn a_job_is_made_and_a_made_job_runs(rt: HostRuntime) -> Result<(), Fail> {
+    gives_text(&rt, &["make", "1", "200"], "epc 128\nmarks 32 64 16\n")?;
+    gives_text(
+        &rt,
+        &["demo", "1", "200"],
+        "pages 209\noperations 808\nloads 1955\nxadds 217\n",
+    )?;
+    gives_text(
+        &rt,
+        &["demo", "1", "200"],
+        "pages 209\noperations 808\nloads 1955\nxadds 217\n",
+    )?;
+    gives_text(
+        &rt,
+        &["demo", "00000000000000000007", "4"],
+        "pages 13\noperations 24\nloads 50\nxadds 2\n",
+    )
+}
+
 // No edge is called: each fails at its first call, and would count it.
 fn is_no_command(
     rt: &(impl Abort + Alloc<A = Global> + Threads + Wait + Sync),
@@ -493,6 +542,12 @@ fn other_words_are_no_command(rt: HostRuntime) -> Result<(), Fail> {
     is_no_command(&rt, &["ru", "t"])?;
     is_no_command(&rt, &["run t"])?;
     is_no_command(&rt, &["make", "1", "3"])?;
+    is_no_command(&rt, &["make", "1", "2001"])?;
+    is_no_command(&rt, &["demo", "000000000000000000001", "200"])?;
+    is_no_command(&rt, &["demo", "0x1", "200"])?;
+    is_no_command(&rt, &["demo", "18446744073709551616", "200"])?;
+    is_no_command(&rt, &["make", "", "200"])?;
+    is_no_command(&rt, &["make", "1", "200", "1"])?;
     is_no_command(&rt, &["audit", "t", "x"])
 }
 
@@ -523,7 +578,7 @@ fn the_usage_names_the_command(rt: HostRuntime) -> Result<(), Fail> {
     print_usage(&terminal)?;
     assert_eq!(rt;
         terminal.line.take().as_deref(),
-        Some("usage: sgxpage run PATH")
+        Some("usage: sgxpage run PATH | make NUMBER SIZE | demo NUMBER SIZE")
     );
     Ok(())
 }

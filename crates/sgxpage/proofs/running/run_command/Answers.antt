@@ -3,7 +3,7 @@ use Rattle.job_grammar.specs.Jobs.{JobView}
 use Rattle.sgx_types.specs.declared.entries.Entry.{Entry}
 use Rattle.sgxpage.specs.Runs.{HalfGiven}
 use Rattle.sgxpage.proofs.CommandLaws.{ran-by}
-use Rattle.sgxpage.proofs.command.sgxpage.Goals as goal
+use Rattle.sgxpage.proofs.running.run_command.Goals as goal
 
 pub returns-in-Ok-run_job-clause-broke : goal.returns-in-Ok-run_job-clause-broke
 returns-in-Ok-run_job-clause-broke g c = λ failed.

@@ -1,0 +1,47 @@
+-- The command that the words of the command line name, which stand without the program's name.
+use Rattle.std.specs.Prelude.{ℕ, ◌≤◌, ◌&&◌, Bool, if◌then◌else◌, List, [], ◌∷◌, Option, Some, None, bytes_eq, codes, length, nat_le, nat_lt}
+use Rattle.std.specs.List.{list_all}
+use Rattle.text_words.specs.Reading.{◌>>=◌, number_of}
+use Rattle.command_words.specs.declared.command.Command.{Command}
+use Rattle.command_words.specs.declared.command.Command.TheVariants as commands
+
+abbrev pub is_digit : ℕ → Bool
+is_digit c = nat_le 48 c && nat_le c 57
+
+-- NUMBER is one to twenty decimal digits, with a value below 2 ^ 64
+abbrev pub count_of : List ℕ → Option ℕ
+count_of word = if nat_le (length word) 20 && list_all is_digit word then number_of word else None
+
+-- SIZE is such a number from 4 to 2000
+abbrev pub size_of : List ℕ → Option ℕ
+size_of word = do
+  n ← count_of word
+  if nat_le 4 n && nat_le n 2000 then Some n else None
+
+-- `run PATH`, where PATH is any word that is not empty
+abbrev pub with_path : List ℕ → List ℕ → Option Command
+with_path name path = if bytes_eq name (codes "run") && nat_lt 0 (length path) then Some commands.Run else None
+
+abbrev pub sized_by : List ℕ → ℕ → ℕ → Option Command
+sized_by name number size =
+    if bytes_eq name (codes "make") then Some (commands.Make number size)
+    else if bytes_eq name (codes "demo") then Some (commands.Demo number size)
+    else None
+
+-- `make NUMBER SIZE` and `demo NUMBER SIZE`
+abbrev pub with_size : List ℕ → List ℕ → List ℕ → Option Command
+with_size name first second = do
+  number ← count_of first
+  size ← size_of second
+  sized_by name number size
+
+abbrev pub command_in : List (List ℕ) → Option Command
+command_in (name ∷ path ∷ []) = with_path name path
+command_in (name ∷ first ∷ second ∷ []) = with_size name first second
+command_in words = None
+
+-- its size is one of those
+abbrev pub IsSized : Command → Type 0
+IsSized commands.Run = Unit {0}
+IsSized (commands.Make number size) = (4 ≤ size) × (size ≤ 2000)
+IsSized (commands.Demo number size) = (4 ≤ size) × (size ≤ 2000)

@@ -1,0 +1,99 @@
+//! The command that the words of the command line name.
+
+ghost use Rattle.command_words.specs.Commands.{IsSized, command_in, count_of, is_digit, size_of, sized_by, with_path, with_size};
+ghost use Rattle.std.specs.List.{list_all};
+ghost use Rattle.std.specs.Prelude.{◌≡◌, ◌≤◌, IfSome, map, string_bytes};
+
+use text_words::readers::number;
+
+/// A command (this project's own).
+#[derive(Clone, Copy, Debug, PartialEq, Eq)]
+pub enum Command {
+    /// `run PATH`: runs a job, and gives its trace to the file at the path, which is not empty.
+    Run,
+
+    /// `make NUMBER SIZE`: the text of the job that is made of a number and a size from 4 to 2000.
+    Make { number: u64, size: u32 },
+
+    /// `demo NUMBER SIZE`: runs that job, and gives a summary.
+    Demo { number: u64, size: u32 },
+}
+
+/// The command that these words name, which stand without the program's name. NUMBER and SIZE are one to twenty decimal digits, with a value
+/// below 2^64.
+pub fn command_of(words: &[String]) -> Option<Command>
+    ensures value { result ≡ command_in (map string_bytes words.now) }
+    ensures sized { IfSome result IsSized }
+{
+    match words {
+        [name, path] => path_command(name, path),
+        [name, first, second] => sized_command(name, first, second),
+        _ => None,
+    }
+}
+
+fn path_command(name: &str, path: &str) -> Option<Command>
+    ensures value { result ≡ with_path name.now path.now }
+    ensures sized { IfSome result IsSized }
+{
+    if name == "run" && !path.is_empty() {
+        Some(Command::Run)
+    } else {
+        None
+    }
+}
+
+fn sized_command(name: &str, first: &str, second: &str) -> Option<Command>
+    ensures value { result ≡ with_size name.now first.now second.now }
+    ensures sized { IfSome result IsSized }
+{
+    let number = count(first.as_bytes())?;
+    let size = size(second.as_bytes())?;
+    command_by(name, number, size)
+}
+
+fn command_by(name: &str, number: u64, size: u32) -> Option<Command>
+    requires least { 4 ≤ size }
+    requires most { size ≤ 2000 }
+    ensures value { result ≡ sized_by name.now number size }
+    ensures sized { IfSome result IsSized }
+{
+    if name == "make" {
+        Some(Command::Make { number, size })
+    } else if name == "demo" {
+        Some(Command::Demo { number, size })
+    } else {
+        None
+    }
+}
+
+// One to twenty decimal digits, with a value below 2^64.
+fn count(word: &[u8]) -> Option<u64>
+    ensures { result ≡ count_of word.now }
+{
+    if word.len() <= 20 && are_digits(word) {
+        number(word)
+    } else {
+        None
+    }
+}
+
+fn are_digits(word: &[u8]) -> bool
+    ensures { result ≡ list_all is_digit word.now }
+{
+    word.iter().all(|byte| matches!(byte, b'0'..=b'9'))
+}
+
+// .. from 4 to 2000.
+fn size(word: &[u8]) -> Option<u32>
+    ensures value { result ≡ size_of word.now }
+    ensures least { IfSome result (λ size. 4 ≤ size) }
+    ensures most { IfSome result (λ size. size ≤ 2000) }
+{
+    let size = count(word)?;
+    if (4..=2000).contains(&size) {
+        Some(size as u32)
+    } else {
+        None
+    }
+}

@@ -1,0 +1,4 @@
+// The words of the command line: which command they name.
+#![tactic(auto)]
+
+pub mod command;

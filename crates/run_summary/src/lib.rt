@@ -1,0 +1,4 @@
+// The summary of a run of a made job.
+#![tactic(auto)]
+
+pub mod summary;
