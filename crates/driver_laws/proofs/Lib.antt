@@ -17,7 +17,6 @@ pub mod MarkLaws
 pub mod StillLaws
 pub mod StageLaws
 pub mod SpentLaws
-pub mod SmallLaws
 pub mod StartedLaws
 pub mod AloneLaws
 pub mod UsedLaws

@@ -19,7 +19,6 @@ ghost use Rattle.sgx_types.specs.Table.{DrainSight, EnclaveSight, eldstart_row, 
 ghost use Rattle.version_array.specs.Keeper.{AllOut, Keeper, count_all, count_out, is_ours, is_out, new_keeper};
 ghost use Rattle.job_grammar.specs.Jobs.{JobView};
 ghost use Rattle.sgx_types.specs.Rules.{Along, EvictRule, FitsRule, FlatRule, RefusalRule, RisingRule};
-ghost use Rattle.turn_rules.specs.Script.{IsEnded as SmallEnded, ScriptRule as SmallRule};
 ghost use Rattle.driver_rules.specs.Ages.{AgeRule, KickRule};
 ghost use Rattle.driver_laws.specs.Agrees.{ShowsSlots, is_va};
 ghost use Rattle.driver_laws.specs.Driven.{IsDriven};
@@ -197,16 +196,4 @@ pub fn loads_are_theirs()
         → (slot : SlotAt) × (place past g ≡ Loading n slot) }
     ensures ended { (past : List Entry) (actor : Actor) (event : Event) (n : ℕ) → TheirRule past actor event → load_ended event ≡ Some n
         → IsEndedBy past actor n }
-{}
-
-/// For a job whose pages all fit, the rule Script of `turn_rules` is what the whole rule says: a trace that keeps it, Refusal and Flat
-/// keeps the whole rule, and Age and Kick. At its end the whole rule's end is there.
-pub fn small_scripts_are_scripts()
-    ensures script { (k : Making) (j : JobView) (past : List Entry) → Along (SmallRule j) past → Along (RefusalRule k) past
-        → Along FlatRule past → Along (ScriptRule j) past }
-    ensures age { (k : Making) (j : JobView) (past : List Entry) → Along (SmallRule j) past → Along (RefusalRule k) past
-        → Along FlatRule past → Along (AgeRule j) past }
-    ensures kick { (k : Making) (j : JobView) (past : List Entry) → Along (SmallRule j) past → Along (RefusalRule k) past
-        → Along FlatRule past → Along (KickRule j) past }
-    ensures ended { (j : JobView) (past : List Entry) → SmallEnded j past → IsEnded j past }
 {}

@@ -1,5 +1,4 @@
 pub mod HistoryLaws
 pub mod RunLaws
 pub mod NoteLaws
-pub mod SmallRunLaws
 pub mod HonestLaws

@@ -11,7 +11,6 @@ ghost use Rattle.io_edges.specs.declared.plans.PlanLine.{PlanLine};
 ghost use Rattle.measure_log.specs.Rule.{MeasureRule};
 ghost use Rattle.job_grammar.specs.Jobs.{JobView};
 ghost use Rattle.turn_rules.specs.Machines.{machine_of};
-ghost use Rattle.turn_rules.specs.Script.{Script as SmallScript};
 ghost use Rattle.driver_laws.specs.Driven.{IsDriven};
 ghost use Rattle.driver_rules.specs.Ages.{AgeRule, KickRule};
 ghost use Rattle.driver_rules.specs.Passes.{pass};
@@ -81,10 +80,4 @@ pub fn entries_of_no_instruction()
     ensures goes_on { (j : JobView) (past : List Entry) (a : Actor) (ev : Event) → is_note ev ≡ true
         → ScriptRule j past (record { actor = a; event = ev }) → AgeRule j past (record { actor = a; event = ev })
         → KickRule j past (record { actor = a; event = ev }) → GoesOn j past → GoesOn j (record { actor = a; event = ev } ∷ past) }
-{}
-
-/// What the program promises of the trace of a job whose pages all fit (Script of `turn_rules`, the rules of the machine, and Measure)
-/// makes it a history.
-pub fn small_runs_are_histories()
-    ensures { (j : JobView) (past : List Entry) → SmallScript j past → KeepsRules (machine_of j) past → Along MeasureRule past → History j past }
 {}

@@ -1,15 +1,13 @@
 -- The steps that are left, and the first of them.
-use Rattle.std.proofs.Common.{◌≡◌, ℕ, zero, suc, ◌+◌, ◌-◌, ◌/◌, ◌==◌, ◌<◌, ◌≤◌, Bool, true, false, cond, refl, arith, sym, ap, ◌∙◌, Option, Some, None, List, [], ◌∷◌, ◌++◌, length, get_or, slice_get, map, drop, replicate}
+use Rattle.std.proofs.Common.{◌≡◌, ℕ, zero, suc, ◌+◌, ◌-◌, ◌/◌, ◌<◌, ◌≤◌, Bool, true, false, cond, refl, arith, sym, ◌∙◌, Some, List, [], ◌∷◌, ◌++◌, length, get_or, slice_get, map, drop, replicate}
 use Rattle.std.specs.List.{All, flat_map}
-use Rattle.std.proofs.lemmas.List.{append-nil, append_assoc, drop_more, length-map}
+use Rattle.std.proofs.lemmas.List.{append-nil, append_assoc, drop_more}
 use Rattle.std.proofs.lemmas.List.Concat.{flat_map-cons}
 use Rattle.std.proofs.lemmas.Option.{get_or_from_slice_get, slice_get-map, slice_get_read, slice_get_within}
 use Rattle.std.proofs.Math.ListN.{drop_of_length-le}
 use Rattle.sgx_types.specs.declared.entries.PageInit.{PageInit}
-use Rattle.sgx_types.specs.declared.entries.PageInit.TheVariants as inits
 use Rattle.sgx_types.specs.declared.names.Kind.{Kind}
 use Rattle.sgx_types.specs.declared.names.Perm.{Perm}
-use Rattle.sgx_types.specs.Frames.{no_perm}
 use Rattle.job_grammar.specs.declared.jobs.EnclaveJob.{EnclaveJob}
 use Rattle.job_grammar.specs.declared.jobs.PageLine.{PageLine}
 use Rattle.job_grammar.specs.declared.jobs.PageLine.TheVariants as lines
@@ -21,7 +19,7 @@ use Rattle.turn_rules.specs.declared.steps.BuildStep.TheVariants as builds
 use Rattle.turn_rules.specs.Script.{chunk_steps, enclaves_steps, line_steps, numbers_from, page_steps}
 use Rattle.turn_rules.specs.declared.cursor.BuildCursor.{BuildCursor}
 use Rattle.turn_rules.specs.declared.cursor.PageRun.{PageRun}
-use Rattle.turn_rules.specs.Cursor.{left, open_left, run_left}
+use Rattle.turn_rules.specs.Cursor.{left, run_left}
 
 -- ---- the pages of a line
 

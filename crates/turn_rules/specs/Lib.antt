@@ -1,4 +1,3 @@
 pub mod Script
 pub mod Cursor
-pub mod SmallJobs
 pub mod Machines

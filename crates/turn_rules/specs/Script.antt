@@ -1,5 +1,5 @@
 -- What each actor has to do next under a job, by the entries before it, and what a whole run has done at its end.
-use Rattle.std.specs.Prelude.{ℕ, zero, suc, ◌≡◌, ◌==◌, ◌+◌, ◌-◌, ◌/◌, ◌<◌, ◌&&◌, ◌||◌, not, Bool, true, false, if◌then◌else◌, List, [], ◌∷◌, ◌++◌, Option, Some, None, length, map, flat_map, replicate, slice_get, nat_le, is_some, unwrap_or}
+use Rattle.std.specs.Prelude.{ℕ, zero, suc, ◌==◌, ◌+◌, ◌-◌, ◌&&◌, ◌||◌, not, Bool, true, false, if◌then◌else◌, List, [], ◌∷◌, ◌++◌, Option, Some, None, map, flat_map, replicate, slice_get, is_some, unwrap_or}
 use Rattle.sgx_types.specs.declared.entries.Entry.{Entry}
 use Rattle.sgx_types.specs.declared.entries.Event.{Event}
 use Rattle.sgx_types.specs.declared.entries.Event.TheVariants.{Did, Refused, Bus}
@@ -9,8 +9,6 @@ use Rattle.sgx_types.specs.declared.entries.Action.{Action}
 use Rattle.sgx_types.specs.declared.entries.Action.TheVariants as actions
 use Rattle.sgx_types.specs.declared.entries.Cause.{Cause}
 use Rattle.sgx_types.specs.declared.entries.Cause.TheVariants as causes
-use Rattle.sgx_types.specs.declared.entries.AccessOp.{AccessOp}
-use Rattle.sgx_types.specs.declared.entries.AccessOp.TheVariants as accesses
 use Rattle.sgx_types.specs.declared.entries.PageInit.{PageInit}
 use Rattle.sgx_types.specs.declared.entries.PageInit.TheVariants as inits
 use Rattle.sgx_types.specs.declared.names.Frame.{Frame}
@@ -19,15 +17,11 @@ use Rattle.sgx_types.specs.declared.names.Kind.{Kind}
 use Rattle.sgx_types.specs.declared.names.Kind.TheVariants as kinds
 use Rattle.sgx_types.specs.declared.names.Perm.{Perm}
 use Rattle.sgx_types.specs.Frames.{content, same_page, page_at, least_free, frame_of, no_perm}
-use Rattle.sgx_types.specs.Processors.{Stay, stay, is_by, holds_number, translations}
-use Rattle.sgx_types.specs.Table.{is_lawful_access}
-use Rattle.sgx_types.specs.Flat.{added_as, flat}
-use Rattle.sgx_types.specs.Rules.{Along}
+use Rattle.sgx_types.specs.Processors.{Stay, stay, is_by}
 use Rattle.job_grammar.specs.declared.jobs.PageLine.{PageLine}
 use Rattle.job_grammar.specs.declared.jobs.PageLine.TheVariants as lines
 use Rattle.job_grammar.specs.declared.jobs.Op.{Op}
-use Rattle.job_grammar.specs.declared.jobs.Op.TheVariants as ops
-use Rattle.job_grammar.specs.Jobs.{EnclaveView, JobView, va_pages, lines_at, tcs_line}
+use Rattle.job_grammar.specs.Jobs.{EnclaveView, JobView, va_pages}
 use Rattle.turn_rules.specs.declared.steps.BuildStep.{BuildStep}
 use Rattle.turn_rules.specs.declared.steps.BuildStep.TheVariants as builds
 
@@ -189,107 +183,13 @@ abbrev pub enter_with : ℕ → ℕ → Option ℕ → Option ℕ → Option Act
 enter_with enclave tcs (Some tf) (Some sf) = Some (actions.Enter enclave tcs (frame_at tf) (frame_at sf))
 enter_with enclave tcs _ _ = None
 
--- enters with the frames of the TCS page and of its next state save page; with the TCS page's own where none is left
-abbrev pub enter_by : List Entry → ℕ → ℕ → Option PageLine → Option Action
-enter_by past enclave tcs (Some (lines.Tcs page ossa nssa plain)) =
-    let g = page_at enclave tcs in
-    let n = saved past g in
-    enter_with enclave tcs (frame_of past g) (if n == nssa then frame_of past g else frame_of past (page_at enclave (ossa + n)))
-enter_by past enclave tcs _ = None
-
 abbrev pub resume_with : ℕ → ℕ → Option ℕ → Option ℕ → Option Action
 resume_with enclave tcs (Some tf) (Some sf) = Some (actions.Resume enclave tcs (frame_at tf) (frame_at sf))
 resume_with enclave tcs _ _ = None
-
--- resumes with the frames of the TCS page and of the state save page that was used last; with the TCS page's own where none
--- was
-abbrev pub resume_by : List Entry → ℕ → ℕ → Option PageLine → Option Action
-resume_by past enclave tcs (Some (lines.Tcs page ossa nssa plain)) =
-    let g = page_at enclave tcs in
-    let n = saved past g in
-    resume_with enclave tcs (frame_of past g) (if n == 0 then frame_of past g else frame_of past (page_at enclave (ossa + n - 1)))
-resume_by past enclave tcs _ = None
 
 -- who is inside, or enters an enclave that is not initialised, is refused whatever the frames are
 abbrev pub is_turned_away : List Entry → ℕ → ℕ → Bool
 is_turned_away past p enclave = is_some (stay past p) || not (is_initialised past enclave)
 
-abbrev pub fill_with : ℕ → Option ℕ → Option Action
-fill_with number None = None
-fill_with number (Some f) = Some (actions.Fill number (frame_at f))
-
--- an access inside that cannot succeed faults; another goes by a translation, which is filled first where none is held
-abbrev pub inner_access : List Entry → ℕ → ℕ → AccessOp → ℕ → Action → Option Action
-inner_access past p enclave op off access =
-    let g = page_at enclave (off / 4096) in
-    if not (is_lawful_access (added_as ((flat past).pages g)) op) then Some (actions.Pf op off)
-    else if holds_number (translations past p) (off / 4096) then Some access
-    else fill_with (off / 4096) (frame_of past g)
-
--- an access outside is made, and refused
-abbrev pub access_due : List Entry → ℕ → Option Stay → AccessOp → ℕ → Action → Option Action
-access_due past p None op off access = Some access
-access_due past p (Some s) op off access = inner_access past p s.seat.enclave op off access
-
--- the instruction that an operation of the script asks for next
-abbrev pub op_due : JobView → List Entry → ℕ → Op → Option Action
-op_due j past p (ops.Enter enclave tcs) =
-    if is_turned_away past p enclave then Some (actions.Enter enclave tcs (frame_at 0) (frame_at 0))
-    else enter_by past enclave tcs (tcs_line (lines_at j.enclaves enclave) tcs)
-op_due j past p (ops.Resume enclave tcs) =
-    if is_turned_away past p enclave then Some (actions.Resume enclave tcs (frame_at 0) (frame_at 0))
-    else resume_by past enclave tcs (tcs_line (lines_at j.enclaves enclave) tcs)
-op_due j past p ops.Exit = Some actions.Exit
-op_due j past p ops.Timer = Some (actions.Aex causes.Timer)
-op_due j past p (ops.Load off) = access_due past p (stay past p) accesses.Load off (actions.Load off)
-op_due j past p (ops.Store off value) = access_due past p (stay past p) accesses.Store off (actions.Store off value)
-op_due j past p (ops.Xadd off value) = access_due past p (stay past p) accesses.Xadd off (actions.Xadd off value)
-op_due j past p (ops.Set value) = Some (actions.Set value)
-op_due j past p (ops.Plus value) = Some (actions.Plus value)
-op_due j past p (ops.OutLoad enclave off) = Some (actions.OutLoad enclave off)
-op_due j past p (ops.OutStore enclave off value) = Some (actions.OutStore enclave off value)
-
--- who is inside at the end of its script leaves
-abbrev pub end_due : Option Stay → Option Action
-end_due None = None
-end_due (Some s) = Some (actions.Aex causes.End)
-
-abbrev pub next_due : JobView → List Entry → ℕ → Option Op → Option Action
-next_due j past p None = end_due (stay past p)
-next_due j past p (Some op) = op_due j past p op
-
 abbrev pub script_of : JobView → ℕ → List Op
 script_of j p = unwrap_or (slice_get j.scripts p) []
-
--- nothing before the build is done, then the script's operations in order, and at its end out of the enclave
-abbrev pub cpu_due : JobView → List Entry → ℕ → Option Action
-cpu_due j past p =
-    if nat_le (length (build_of j)) (built past) then next_due j past p (slice_get (script_of j p) (replied past p))
-    else None
-
-abbrev pub builder_due : JobView → List Entry → Option BuildStep → Option Action
-builder_due j past None = None
-builder_due j past (Some step) = step_due j.epc past step
-
--- ---- the rule Script
-
--- the instruction that is an actor's next entry, None where it has none
-abbrev pub due : JobView → List Entry → Actor → Option Action
-due j past actors.Builder = builder_due j past (slice_get (build_of j) (built past))
-due j past (actors.Cpu p) = cpu_due j past p.0
-due j past actors.Reclaimer = None
-
--- an entry is of the instruction that is due
-pub record ScriptRule (j : JobView) (past : List Entry) (e : Entry) : Type 0 where
-  pub is_instruction : is_some (action_of e.event) ≡ true
-  pub is_due : action_of e.event ≡ due j past e.actor
-
--- the build is whole, and each processor has replied to its whole script and is outside
-pub record IsEnded (j : JobView) (past : List Entry) : Type 0 where
-  pub built : built past ≡ length (build_of j)
-  pub replied : (p : ℕ) → p < length j.scripts → replied past p ≡ length (script_of j p)
-  pub outside : (p : ℕ) → p < length j.scripts → stay past p ≡ None
-
-pub record Script (j : JobView) (past : List Entry) : Type 0 where
-  pub entries : Along (ScriptRule j) past
-  pub ended : IsEnded j past

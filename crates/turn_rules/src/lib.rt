@@ -3,6 +3,4 @@
 #![tactic(auto)]
 
 pub mod cursor;
-pub mod laws;
-pub mod small_jobs;
 pub mod steps;

@@ -1,5 +1,5 @@
 -- The page of the small job goes out and comes back, and traces that are wrong in one place of it. Entries stand newest first.
-use Rattle.std.specs.Prelude.{ℕ, List, [], ◌∷◌, replicate}
+use Rattle.std.specs.Prelude.{ℕ, List, ◌∷◌, replicate}
 use Rattle.sgx_types.specs.declared.entries.Action.TheVariants as actions
 use Rattle.sgx_types.specs.declared.entries.Actor.TheVariants.{Reclaimer}
 use Rattle.sgx_types.specs.declared.entries.Answer.TheVariants as answers

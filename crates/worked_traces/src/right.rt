@@ -2,7 +2,7 @@
 
 ghost use Rattle.sgx_types.specs.Rules.{Along, Fits, FlatRule, KeepsRules, RefusalRule, Stale};
 ghost use Rattle.turn_rules.specs.Machines.{machine_of};
-ghost use Rattle.turn_rules.specs.Script.{Script};
+ghost use Rattle.driver_rules.specs.Scripts.{Script};
 ghost use Rattle.worked_traces.specs.Traces.{first_job, first_trace};
 
 pub fn the_first_trace_keeps_the_script()

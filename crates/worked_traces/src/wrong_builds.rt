@@ -2,7 +2,7 @@
 
 ghost use Rattle.sgx_types.specs.Rules.{Along, AtEachPlace, FitsRule, FlatRule, KeepsRules, NoPageTwice, RefusalRule};
 ghost use Rattle.turn_rules.specs.Machines.{machine_of};
-ghost use Rattle.turn_rules.specs.Script.{ScriptRule};
+ghost use Rattle.driver_rules.specs.Scripts.{ScriptRule};
 ghost use Rattle.worked_traces.specs.Traces.{adds_exchanged, epa_by_reclaimer, first_job, frame_beyond, frame_twice, page_twice};
 
 pub fn a_frame_beyond_the_epc_does_not_fit()
