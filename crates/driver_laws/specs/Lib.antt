@@ -10,3 +10,4 @@ pub mod Used
 pub mod Counted
 pub mod Loads
 pub mod Keeps
+pub mod Tracking

@@ -10,6 +10,7 @@ use Rattle.driver_rules.specs.Ages.{AgeRule, KickRule}
 use Rattle.driver_rules.specs.Scripts.{ScriptRule}
 use Rattle.driver_laws.specs.Counted.{CountMoves}
 use Rattle.driver_laws.specs.Kinds.{CanMove}
+use Rattle.driver_laws.specs.Tracking.{TrackingRule}
 use Rattle.driver_laws.specs.Tracks.{TryTells}
 use Rattle.driver_laws.specs.Used.{StartTells}
 use Rattle.driver_tables.specs.declared.driver.Driver.{Driver}
@@ -21,10 +22,11 @@ pub record IsNextOf (made : Making) (j : JobView) (past : List Entry) (d : Drive
   pub script : ScriptRule j past e
   pub age : AgeRule j past e
   pub kick : KickRule j past e
-  -- it can move its page, and what it tells of a try and of a start is so
+  -- it can move its page, and what it tells of a try, of a start, and of who is inside is so
   pub can : CanMove past e.event
   pub tries : TryTells past e.event
   pub starts : StartTells past e.event
+  pub tracking : TrackingRule made.first_epoch past e
   -- the machine goes on with it, by its own clauses
   pub follows : ShapeWithRules made (state_of m') (e ∷ past)
   pub fits : FitsApart made.frames (e ∷ past)

@@ -118,6 +118,7 @@ book_more made j past told told' d d' m m' t t' e own tcs k n turns holds = reco
   script = (n.next.script, k.script);
   age = (n.next.age, k.age);
   kick = (n.next.kick, k.kick);
+  tracking = (n.next.tracking, k.tracking);
   store = store_more made j past d d' m m' t e own told told' k n;
   bytes = bytes_more made j past d d' m m' t e own told told' k n;
   honest = honest_more made j past d d' m m' t e own told told' k n;

@@ -34,6 +34,7 @@ use Rattle.driver_rules.specs.Turns.{Loads, cpu_due, last_of}
 use Rattle.driver_laws.specs.Counted.{CountMoves}
 use Rattle.driver_laws.specs.Sound.{is_write_start}
 use Rattle.driver_laws.specs.Stages.{HasPages}
+use Rattle.driver_laws.specs.Tracking.{TrackingRule}
 use Rattle.driver_laws.specs.Tracks.{TryTells}
 use Rattle.driver_laws.specs.Used.{StartTells}
 use Rattle.driver_laws.proofs.LoadLaws.{loading_place}
@@ -60,23 +61,24 @@ use Rattle.run_book.proofs.PlainLaws.{beside, kicks}
 -- ---- the end of a load
 
 -- what the entry tells, where so many slots were out and are
-record EndsSo (past : List Entry) (e : Entry) : Type 0 where
+record EndsSo (first : ℕ) (past : List Entry) (e : Entry) : Type 0 where
   tries : TryTells past e.event
   starts : StartTells past e.event
+  tracking : TrackingRule first past e
   refused : (old new : ℕ) → is_refused e.event ≡ true → new ≡ old → CountMoves e.event old new
   done : (old new : ℕ) → is_refused e.event ≡ false → new + 1 ≡ old → CountMoves e.event old new
 
-end_so : (s t : State) (past : List Entry) (cpu : Cpu) (f : Frame) (rec : Sealed) (e : Entry)
-    → IsReloaded s (actors.Cpu cpu) f rec e t → EndsSo past e
-end_so s t past cpu f rec e is = by_row _ _ (first_of_row (commit_row s f.0 is.coming rec)) is.row
+end_so : (first : ℕ) (s t : State) (past : List Entry) (cpu : Cpu) (f : Frame) (rec : Sealed) (e : Entry)
+    → IsReloaded s (actors.Cpu cpu) f rec e t → EndsSo first past e
+end_so first s t past cpu f rec e is = by_row _ _ (first_of_row (commit_row s f.0 is.coming rec)) is.row
   where
     by_row : (X : Type 0) (Y : Refusal → Type 0) (o : Option Refusal) → MatchOption o
         ((e ≡ did_by (actors.Cpu cpu) (Eld f) (Moved is.coming.page is.coming.start.version rec.tag)) × X)
-        (λ refusal. (e ≡ refused_by (actors.Cpu cpu) (Eld f) refusal) × Y refusal) → EndsSo past e
+        (λ refusal. (e ≡ refused_by (actors.Cpu cpu) (Eld f) refusal) × Y refusal) → EndsSo first past e
     by_row X Y None k =
-        rw k.0 record { tries = tt; starts = tt; refused = λ old new no same. cc; done = λ old new h fewer. fewer }
+        rw k.0 record { tries = tt; starts = tt; tracking = record { stay = tt; track = tt }; refused = λ old new no same. cc; done = λ old new h fewer. fewer }
     by_row X Y (Some refusal) k =
-        rw k.0 record { tries = tt; starts = tt; refused = λ old new h same. same; done = λ old new no fewer. cc }
+        rw k.0 record { tries = tt; starts = tt; tracking = record { stay = tt; track = tt }; refused = λ old new h same. same; done = λ old new no fewer. cc }
 
 module _ (made : Making) (j : JobView) (past : List Entry) (d d' : Driver) (m m' : Parts) (taken : List Taken) (phase : Phase) (cpu : Cpu)
     (page : Page) (n : ℕ) (loaded : Loaded) (can : CanFinish cpu page d m) (r : Agrees made j past d m)
@@ -84,8 +86,8 @@ module _ (made : Making) (j : JobView) (past : List Entry) (d d' : Driver) (m m'
     (last : last_of past cpu.0 ≡ Loads n page)
     (is : IsFinished cpu page can.slot can.frame can.kept d (state_of m) loaded d' (state_of m'))
     (right : IsRightEnd j past cpu page can.frame loaded d') (cpus : length m'.cpus ≡ length m.cpus) where
-  so : EndsSo past is.entry
-  so = end_so (state_of m) (state_of m') past cpu can.frame can.kept is.entry is.reloaded
+  so : EndsSo made.first_epoch past is.entry
+  so = end_so made.first_epoch (state_of m) (state_of m') past cpu can.frame can.kept is.entry is.reloaded
 
   -- the load is into the frame that the processor's last entry names
   frame_is : n ≡ can.frame.0
@@ -130,6 +132,7 @@ module _ (made : Making) (j : JobView) (past : List Entry) (d d' : Driver) (m m'
         can = subst (λ (e : Entry). CanMove past e.event) k.0 right.kept;
         tries = so.tries;
         starts = so.starts;
+        tracking = so.tracking;
         follows = is.carries.shape made past r.follows;
         fits = is.carries.fits made past r.follows r.fits;
         cpus = cpus;
@@ -173,6 +176,7 @@ out_by made j past d d' m m' f page x tag e after behind a going entry opened wr
   can = ended.kept.can;
   tries = ended.kept.tells;
   starts = rw entry (x, opened, writes, refl);
+  tracking = rw entry record { stay = tt; track = tt };
   follows = on.shape;
   fits = on.fits;
   cpus = cpus;

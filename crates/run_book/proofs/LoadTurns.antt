@@ -36,6 +36,7 @@ use Rattle.driver_rules.specs.Stops.{is_spent}
 use Rattle.driver_rules.specs.Turns.{Fails, Last, Loads, Other, WasEnded, cpu_due, fetches, last_of}
 use Rattle.driver_laws.specs.Agrees.{loaded_by}
 use Rattle.driver_laws.specs.Counted.{CountMoves}
+use Rattle.driver_laws.specs.Tracking.{TrackingRule}
 use Rattle.driver_laws.specs.Tracks.{TryTells}
 use Rattle.driver_laws.specs.Used.{StartTells}
 use Rattle.driver_tables.specs.declared.driver.Driver.{Driver}
@@ -138,24 +139,26 @@ idle j past p page going due = by_last (last_of past p) refl
 -- ---- the entry
 
 -- what a load's start tells is so, and no slot is given or taken by it
-record StartsSo (past : List Entry) (e : Entry) (old new : ℕ) : Type 0 where
+record StartsSo (first : ℕ) (past : List Entry) (e : Entry) (old new : ℕ) : Type 0 where
   tries : TryTells past e.event
   starts : StartTells past e.event
+  tracking : TrackingRule first past e
   counts : CountMoves e.event old new
 
-start_tells : (s t : State) (past : List Entry) (cpu : Cpu) (f : Frame) (page : Page) (slot : SlotAt) (e : Entry) (old new : ℕ)
-    → HasColumns s past → new ≡ old → IsStep s (actors.Cpu cpu) (EldStart f page slot) e t → StartsSo past e old new
-start_tells s t past cpu f page slot e old new columns same is =
+start_tells : (first : ℕ) (s t : State) (past : List Entry) (cpu : Cpu) (f : Frame) (page : Page) (slot : SlotAt) (e : Entry) (old new : ℕ)
+    → HasColumns s past → new ≡ old → IsStep s (actors.Cpu cpu) (EldStart f page slot) e t → StartsSo first past e old new
+start_tells first s t past cpu f page slot e old new columns same is =
     by_row (first_of_row (row_of s (actors.Cpu cpu) (EldStart f page slot))) is
   where
     by_row : (o : Option Refusal) → MatchOption o (IsDone s (actors.Cpu cpu) (EldStart f page slot) e t)
-        (λ refusal. (e ≡ refused_by (actors.Cpu cpu) (EldStart f page slot) refusal) × (t ≡ s)) → StartsSo past e old new
+        (λ refusal. (e ≡ refused_by (actors.Cpu cpu) (EldStart f page slot) refusal) × (t ≡ s)) → StartsSo first past e old new
     by_row None k = rw k.0 record {
       tries = tt;
       starts = ap (λ (c : SlotColumns). c.version_in slot) columns.slots;
+      tracking = record { stay = tt; track = tt };
       counts = same;
     }
-    by_row (Some refusal) k = rw k.0 record { tries = tt; starts = tt; counts = same }
+    by_row (Some refusal) k = rw k.0 record { tries = tt; starts = tt; tracking = record { stay = tt; track = tt }; counts = same }
 
 pub fault_next : (made : Making) (j : JobView) (past : List Entry) (d d' : Driver) (m m' : Parts) (taken : List Taken) (phase : Phase)
     (cpu : Cpu) (page : Page) (answer : FaultAnswer) (told told' : Option (List Call)) → Agrees made j past d m
@@ -174,7 +177,7 @@ fault_next made j past d d' m m' taken phase cpu page answer told told' r stands
         → ((why : BusWhy) → a ≡ answers.Bus why → GoesOnWith made past (bus_of cpu page why) m)
         → OfAnswer cpu page a (λ e. IsNextOf made j past d m e d' m')
     by_answer (answers.Started e work) k did goes =
-        let so = start_tells (state_of m) (state_of m') past cpu did.frame page did.slot e (count_out d.slots) (count_out d'.slots)
+        let so = start_tells made.first_epoch (state_of m) (state_of m') past cpu did.frame page did.slot e (count_out d.slots) (count_out d'.slots)
         r.follows.shape.columns (ap count_out did.slots) did.step in
         record {
           script = record {
@@ -186,6 +189,7 @@ fault_next made j past d d' m m' taken phase cpu page answer told told' r stands
           can = k.kept.0;
           tries = so.tries;
           starts = so.starts;
+          tracking = so.tracking;
           follows = did.carries.shape made past r.follows;
           fits = did.carries.fits made past r.follows k.kept.1 r.fits;
           cpus = cpus;
@@ -201,6 +205,7 @@ fault_next made j past d d' m m' taken phase cpu page answer told told' r stands
           can = tt;
           tries = tt;
           starts = tt;
+          tracking = record { stay = tt; track = tt };
           follows = subst (λ (x : Parts). ShapeWithRules made (state_of x) (bus_of cpu page why ∷ past)) (sym did.machine) on.shape;
           fits = on.fits;
           cpus = cpus;

@@ -1,8 +1,8 @@
 -- An instruction that moves no page out or back is the next of what driver and machine agree on.
-use Rattle.std.proofs.Common.{◌≡◌, ◌⊎◌, inl, inr, ℕ, not, true, false, sym, ◌∙◌, ap, subst, List, [], ◌∷◌, None, is_some, length}
+use Rattle.std.proofs.Common.{◌≡◌, ◌⊎◌, inl, inr, ℕ, not, true, false, refl, sym, ◌∙◌, ap, subst, List, [], ◌∷◌, Option, Some, None, is_some, length}
 use Rattle.std.proofs.lemmas.Bool.{false≢true}
 use Rattle.sgx_types.specs.declared.entries.Action.{Action}
-use Rattle.sgx_types.specs.declared.entries.Action.TheVariants.{Block, Track, EwbStart, Ewb, EldStart, Eld}
+use Rattle.sgx_types.specs.declared.entries.Action.TheVariants.{Aex, Block, EldStart, Eld, Enter, Ewb, EwbStart, Exit, Resume, Track}
 use Rattle.sgx_types.specs.declared.entries.Actor.{Actor}
 use Rattle.sgx_types.specs.declared.entries.Actor.TheVariants as actors
 use Rattle.sgx_types.specs.declared.entries.Answer.{Answer}
@@ -11,14 +11,21 @@ use Rattle.sgx_types.specs.declared.entries.Event.{Event}
 use Rattle.sgx_types.specs.declared.entries.Event.TheVariants.{Did, Refused}
 use Rattle.sgx_types.specs.declared.names.Page.{Page}
 use Rattle.sgx_types.specs.declared.refusals.Refusal.{Refusal}
+use Rattle.sgx_types.specs.Enclaves.{created}
+use Rattle.sgx_types.specs.Flat.{FlatEnclave, enclave_sight_of}
 use Rattle.sgx_types.specs.Frames.{added}
 use Rattle.sgx_types.specs.Making.{Making}
 use Rattle.sgx_types.specs.Rules.{LoadsAwayRule}
-use Rattle.sgx_types.specs.Table.{first_of_row}
+use Rattle.sgx_types.specs.Processors.{Stay, stay}
+use Rattle.sgx_types.specs.Sights.{seat_of}
+use Rattle.sgx_types.specs.Table.{aex_row, enter_row, exit_row, first_of_row, is_made, resume_row}
+use Rattle.sgx_types.proofs.Rows.{none_holds}
+use Rattle.sgx_types.proofs.Truths.{not_false}
 use Rattle.job_grammar.specs.Jobs.{JobView}
-use Rattle.paging_laws.specs.Columns.{HasColumns}
-use Rattle.paging_laws.specs.State.{State, row_of}
+use Rattle.paging_laws.specs.Columns.{HasColumns, seat_of_stay}
+use Rattle.paging_laws.specs.State.{State, enter_sight, row_of}
 use Rattle.paging_laws.specs.Steps.{IsStep}
+use Rattle.paging_laws.proofs.ColumnLaws.{inside_is}
 use Rattle.paging_machine.specs.Parts.{Parts, state_of}
 use Rattle.version_array.specs.Keeper.{count_out}
 use Rattle.driver_rules.specs.Ages.{BesideOf, FormOf, IsBeside, KickRule}
@@ -29,6 +36,7 @@ use Rattle.driver_rules.specs.Scripts.{ScriptRule}
 use Rattle.driver_laws.specs.Counted.{CountMoves}
 use Rattle.driver_laws.specs.Kinds.{CanMove}
 use Rattle.driver_laws.specs.Sound.{is_absent}
+use Rattle.driver_laws.specs.Tracking.{StayTells, TrackingRule}
 use Rattle.driver_laws.specs.Tracks.{TryTells}
 use Rattle.driver_laws.specs.Used.{StartTells}
 use Rattle.driver_tables.specs.declared.driver.Driver.{Driver}
@@ -46,41 +54,94 @@ use Rattle.table_notes.specs.Plain.{is_plain, is_reclaimer}
 
 -- ---- what it asks of the entries before it
 
-record AsksNothing (past : List Entry) (a : Actor) (event : Event) : Type 0 where
+-- who enters was outside, and who leaves was inside
+same_some : (o : Option Stay) → is_some (seat_of_stay o) ≡ is_some o
+same_some None = refl
+same_some (Some x) = refl
+
+inside_now : {s : State} {past : List Entry} → HasColumns s past → (p : ℕ) → is_some (stay past p) ≡ is_some (s.inside p)
+inside_now {s} {past} columns p = sym (ap is_some (inside_is columns p) ∙ same_some (stay past p))
+
+outside : (o : Option Stay) → is_some o ≡ false → o ≡ None
+outside None h = refl
+outside (Some x) h = absurd (false≢true (sym h))
+
+pub enclave_is : {s : State} {past : List Entry} → HasColumns s past → (e : ℕ) → s.enclaves e ≡ created past e
+enclave_is h e i = (h.enclaves i).enclaves e
+
+made_now : {s : State} {past : List Entry} → HasColumns s past → (enclave : ℕ) → not (is_made (enclave_sight_of (s.enclaves enclave))) ≡ false
+    → is_some (created past enclave) ≡ true
+made_now {s} {past} columns enclave h =
+    sym (ap is_some (enclave_is columns enclave)) ∙ by_enclave (s.enclaves enclave) (not_false (is_made (enclave_sight_of (s.enclaves enclave))) h)
+  where
+    by_enclave : (o : Option FlatEnclave) → is_made (enclave_sight_of o) ≡ true → is_some o ≡ true
+    by_enclave None k = absurd (false≢true k)
+    by_enclave (Some x) k = refl
+
+stay_tells : (s : State) (past : List Entry) (a : Actor) (action : Action) (answer : Answer) → HasColumns s past
+    → first_of_row (row_of s a action) ≡ None → StayTells past a (Did action answer)
+stay_tells s past (actors.Cpu p) (Enter enclave tcs tf sf) answer columns row =
+    let none = none_holds (enter_row enclave tcs (enter_sight s p.0 (seat_of enclave tcs tf.0 sf.0))) row in
+    (outside (stay past p.0) (inside_now columns p.0 ∙ none.0), made_now columns enclave none.1.1.0)
+stay_tells s past (actors.Cpu p) (Resume enclave tcs tf sf) answer columns row =
+    let none = none_holds (resume_row enclave tcs (enter_sight s p.0 (seat_of enclave tcs tf.0 sf.0))) row in
+    (outside (stay past p.0) (inside_now columns p.0 ∙ none.0), made_now columns enclave none.1.1.0)
+stay_tells s past (actors.Cpu p) Exit answer columns row =
+    inside_now columns p.0 ∙ not_false (is_some (s.inside p.0)) (none_holds (exit_row (is_some (s.inside p.0))) row).0
+stay_tells s past (actors.Cpu p) (Aex cause) answer columns row =
+    inside_now columns p.0 ∙ not_false (is_some (s.inside p.0)) (none_holds (aex_row (is_some (s.inside p.0))) row).0
+stay_tells s past (actors.Cpu p) action answer columns row = tt
+stay_tells s past actors.Builder action answer columns row = tt
+stay_tells s past actors.Reclaimer action answer columns row = tt
+
+refused_stay : (past : List Entry) (a : Actor) (action : Action) (refusal : Refusal) → StayTells past a (Refused action refusal)
+refused_stay past (actors.Cpu p) action refusal = tt
+refused_stay past actors.Builder action refusal = tt
+refused_stay past actors.Reclaimer action refusal = tt
+
+record AsksNothing (first : ℕ) (past : List Entry) (a : Actor) (event : Event) : Type 0 where
   can : CanMove past event
   tries : TryTells past event
   starts : StartTells past event
+  tracking : TrackingRule first past (record { actor = a; event = event })
   loads : LoadsAwayRule past (record { actor = a; event = event })
 
-did_asks : (s : State) (past : List Entry) (a : Actor) (action : Action) (answer : Answer) → is_plain action ≡ true → HasColumns s past
+did_asks : (first : ℕ) (s : State) (past : List Entry) (a : Actor) (action : Action) (answer : Answer) → is_plain action ≡ true → HasColumns s past
     → ((g : Page) → is_some (added past g) ≡ not (is_absent (place past g))) → first_of_row (row_of s a action) ≡ None
-    → AsksNothing past a (Did action answer)
-did_asks s past a (Block f) answer plain columns seen row = absurd (false≢true plain)
-did_asks s past a (Track enclave) answer plain columns seen row = absurd (false≢true plain)
-did_asks s past a (EwbStart f slot) answer plain columns seen row = absurd (false≢true plain)
-did_asks s past a (Ewb f) answer plain columns seen row = absurd (false≢true plain)
-did_asks s past a (EldStart f page slot) answer plain columns seen row = absurd (false≢true plain)
-did_asks s past a (Eld f) answer plain columns seen row = absurd (false≢true plain)
-did_asks s past a action answer plain columns seen row = record {
+    → AsksNothing first past a (Did action answer)
+did_asks first s past a (Block f) answer plain columns seen row = absurd (false≢true plain)
+did_asks first s past a (Track enclave) answer plain columns seen row = absurd (false≢true plain)
+did_asks first s past a (EwbStart f slot) answer plain columns seen row = absurd (false≢true plain)
+did_asks first s past a (Ewb f) answer plain columns seen row = absurd (false≢true plain)
+did_asks first s past a (EldStart f page slot) answer plain columns seen row = absurd (false≢true plain)
+did_asks first s past a (Eld f) answer plain columns seen row = absurd (false≢true plain)
+did_asks first s past a action answer plain columns seen row = record {
   can = did_moves s past a action answer plain columns seen row;
   tries = tt;
   starts = tt;
+  tracking = record { stay = stay_tells s past a action answer columns row; track = tt };
   loads = tt;
 }
 
-refused_asks : (past : List Entry) (a : Actor) (action : Action) (refusal : Refusal) → is_plain action ≡ true
-    → AsksNothing past a (Refused action refusal)
-refused_asks past a (EwbStart f slot) refusal plain = absurd (false≢true plain)
-refused_asks past a (Eld f) refusal plain = absurd (false≢true plain)
-refused_asks past a action refusal plain = record { can = tt; tries = tt; starts = tt; loads = tt }
+refused_asks : (first : ℕ) (past : List Entry) (a : Actor) (action : Action) (refusal : Refusal) → is_plain action ≡ true
+    → AsksNothing first past a (Refused action refusal)
+refused_asks first past a (EwbStart f slot) refusal plain = absurd (false≢true plain)
+refused_asks first past a (Eld f) refusal plain = absurd (false≢true plain)
+refused_asks first past a action refusal plain = record {
+  can = tt;
+  tries = tt;
+  starts = tt;
+  tracking = record { stay = refused_stay past a action refusal; track = tt };
+  loads = tt;
+}
 
-asks : (s t : State) (past : List Entry) (a : Actor) (action : Action) (e : Entry) → is_plain action ≡ true → HasColumns s past
-    → ((g : Page) → is_some (added past g) ≡ not (is_absent (place past g))) → IsStep s a action e t → AsksNothing past e.actor e.event
-asks s t past a action e plain columns seen is = by_entry (entry_by s t a action e is)
+asks : (first : ℕ) (s t : State) (past : List Entry) (a : Actor) (action : Action) (e : Entry) → is_plain action ≡ true → HasColumns s past
+    → ((g : Page) → is_some (added past g) ≡ not (is_absent (place past g))) → IsStep s a action e t → AsksNothing first past e.actor e.event
+asks first s t past a action e plain columns seen is = by_entry (entry_by s t a action e is)
   where
-    by_entry : IsEntryOf s a action e → AsksNothing past e.actor e.event
-    by_entry (inl k) = rw k.is (did_asks s past a action k.answer plain columns seen k.row)
-    by_entry (inr k) = rw k.is (refused_asks past a action k.refusal plain)
+    by_entry : IsEntryOf s a action e → AsksNothing first past e.actor e.event
+    by_entry (inl k) = rw k.is (did_asks first s past a action k.answer plain columns seen k.row)
+    by_entry (inr k) = rw k.is (refused_asks first past a action k.refusal plain)
 
 actor_is : (s t : State) (a : Actor) (action : Action) (e : Entry) → IsStep s a action e t → e.actor ≡ a
 actor_is s t a action e is = by_entry (entry_by s t a action e is)
@@ -151,7 +212,7 @@ pub plain_next : (made : Making) (j : JobView) (past : List Entry) (d d' : Drive
     → Carries (state_of m) e (state_of m') → length m'.cpus ≡ length m.cpus → ShowsTables j d' (e ∷ past)
     → CountMoves e.event (count_out d.slots) (count_out d'.slots) → IsNextOf made j past d m e d' m'
 plain_next made j past d d' m m' taken phase a action e other plain r stands script is carries cpus shows counts =
-    let k = asks (state_of m) (state_of m') past a action e plain r.follows.shape.columns r.sound.added is in
+    let k = asks made.first_epoch (state_of m) (state_of m') past a action e plain r.follows.shape.columns r.sound.added is in
     let by : is_reclaimer e.actor ≡ false = ap is_reclaimer (actor_is (state_of m) (state_of m') a action e is) ∙ other in
     record {
       script = script;
@@ -160,6 +221,7 @@ plain_next made j past d d' m m' taken phase a action e other plain r stands scr
       can = k.can;
       tries = k.tries;
       starts = k.starts;
+      tracking = k.tracking;
       follows = carries.shape made past r.follows;
       fits = carries.fits made past r.follows k.loads r.fits;
       cpus = cpus;

@@ -1,5 +1,5 @@
 -- The entry of a turn of a pass is the next of what driver and machine agree on.
-use Rattle.std.proofs.Common.{◌≡◌, ◌≤◌, ◌<◌, ◌+◌, ◌==◌, ◌^◌, inl, inr, ℕ, Bool, true, false, if◌then◌else◌, refl, sym, ◌∙◌, subst, List, [], ◌∷◌, Option, Some, None, length, arith}
+use Rattle.std.proofs.Common.{◌≡◌, ◌≤◌, ◌<◌, ◌+◌, ◌==◌, ◌^◌, inl, inr, ℕ, Bool, true, false, if◌then◌else◌, not, refl, sym, ◌∙◌, ap, subst, List, [], ◌∷◌, Option, Some, None, is_some, length, arith}
 use Rattle.sgx_types.specs.declared.entries.Action.TheVariants.{Block, Track, EwbStart, Ewb}
 use Rattle.sgx_types.specs.declared.entries.Actor.TheVariants as actors
 use Rattle.sgx_types.specs.declared.entries.Answer.TheVariants as answers
@@ -9,13 +9,16 @@ use Rattle.sgx_types.specs.declared.names.Page.{Page}
 use Rattle.sgx_types.specs.declared.names.SlotAt.{SlotAt}
 use Rattle.sgx_types.specs.declared.names.TheConstants.{LAST_EPOCH}
 use Rattle.sgx_types.specs.declared.refusals.Refusal.TheVariants as why
+use Rattle.sgx_types.specs.Enclaves.{created}
 use Rattle.sgx_types.specs.Epochs.{epoch, epoch_in}
 use Rattle.sgx_types.specs.Eviction.{is_drained, kept_back}
+use Rattle.sgx_types.specs.Frames.{added}
 use Rattle.sgx_types.specs.Making.{Making}
 use Rattle.sgx_types.specs.Rules.{LoadsAwayRule}
 use Rattle.sgx_types.specs.Slots.{is_draw, next_version}
 use Rattle.sgx_types.specs.Starts.{open_start}
 use Rattle.job_grammar.specs.Jobs.{JobView}
+use Rattle.paging_laws.proofs.ColumnLaws.{added_is}
 use Rattle.paging_machine.specs.Parts.{Parts, state_of}
 use Rattle.version_array.specs.Keeper.{Keeper, count_out}
 use Rattle.turn_rules.specs.Script.{frame_at}
@@ -28,12 +31,17 @@ use Rattle.driver_rules.specs.Reclaims.{are_held, form_due, in_frame, leaving_du
 use Rattle.driver_rules.specs.Scripts.{is_load}
 use Rattle.driver_rules.specs.Stops.{is_spent}
 use Rattle.driver_laws.specs.Counted.{CountMoves}
+use Rattle.driver_laws.specs.Sound.{is_absent}
 use Rattle.driver_laws.specs.Stages.{HasPages, IsTaken, IsTrying}
+use Rattle.driver_laws.specs.Tracking.{TrackingRule}
+use Rattle.driver_laws.specs.Tracks.{IsCalm, KeepsTracks}
 use Rattle.driver_laws.specs.Used.{StartTells}
+use Rattle.driver_laws.proofs.EpochLaws.{none_older}
 use Rattle.driver_tables.specs.declared.driver.Driver.{Driver}
 use Rattle.driver_steps.specs.Agrees.{Agrees}
 use Rattle.driver_steps.specs.Asked.{IsNextOf}
 use Rattle.driver_steps.specs.Carried.{Carries}
+use Rattle.driver_steps.proofs.PartLaws.{added_created}
 use Rattle.reclaim_worker.specs.declared.turns.Phase.{Phase}
 use Rattle.reclaim_worker.specs.declared.turns.PassTurn.{PassTurn}
 use Rattle.reclaim_worker.specs.declared.turns.PassTurn.TheVariants as turns
@@ -45,11 +53,13 @@ use Rattle.reclaim_worker.specs.Shown.{ShowsAfter}
 use Rattle.reclaim_worker.specs.Standing.{StandsFor, is_kicked}
 use Rattle.reclaim_worker.specs.Tables.{Shows}
 use Rattle.run_book.specs.Turns.{OfEntry}
+use Rattle.run_book.proofs.PlainLaws.{enclave_is}
 
 -- what an entry of the reclaimer is, besides what its turn keeps
-record IsOwn (past : List Entry) (e : Entry) : Type 0 where
+record IsOwn (first : ℕ) (past : List Entry) (e : Entry) : Type 0 where
   actor_is : e.actor ≡ actors.Reclaimer
   starts : StartTells past e.event
+  tracking : TrackingRule first past e
   no_load : is_load e.event ≡ false
   loads : LoadsAwayRule past e
 
@@ -62,39 +72,47 @@ first_below first (e ∷ past) = by_draw (is_draw e.event) (first_below first pa
     by_draw true h = omega (arith, h)
     by_draw false h = h
 
-module _ (made : Making) (j : JobView) (past : List Entry) (slots : Keeper) (turn : PassTurn) (positive : 1 ≤ made.first_version) where
+module _ (made : Making) (j : JobView) (past : List Entry) (slots : Keeper) (turn : PassTurn) (positive : 1 ≤ made.first_version)
+    (theirs : (g : Page) → IsTaken past true g → is_some (created past g.enclave) ≡ true) where
   abbrev Mine : Type 0
-  Mine = OfEntry turn (IsOwn past)
+  Mine = OfEntry turn (IsOwn made.first_epoch past)
 
-  told : (to : PassTurn) → turn ≡ to → OfEntry to (IsOwn past) → Mine
-  told to is own = subst (λ t. OfEntry t (IsOwn past)) (sym is) own
+  told : (to : PassTurn) → turn ≡ to → OfEntry to (IsOwn made.first_epoch past) → Mine
+  told to is own = subst (λ t. OfEntry t (IsOwn made.first_epoch past)) (sym is) own
 
   looks : IsTurn made past slots (look_due j past) turn → Mine
   looks k = by_head (head_of (active past)) k
     where
       by_head : (o : Option Page) → IsTurn made past slots (look_at j past o) turn → Mine
       by_head None l = told _ l tt
-      by_head (Some g) l = told _ l.told (record { actor_is = refl; starts = tt; no_load = refl; loads = tt })
+      by_head (Some g) l = told _ l.told (record { actor_is = refl; starts = tt; tracking = record { stay = tt; track = tt }; no_load = refl; loads = tt })
 
   blocks : (g : Page) → IsTurn made past slots (leaving_due past g (λ f. Makes (Block (frame_at f)))) turn → Mine
   blocks g k = by_frame (frame_leaving (place past g)) k
     where
       by_frame : (o : Option ℕ) → IsTurn made past slots (in_frame g o (λ f. Makes (Block (frame_at f)))) turn → Mine
       by_frame None l = told _ l tt
-      by_frame (Some f) l = told _ l (record { actor_is = refl; starts = tt; no_load = refl; loads = tt })
+      by_frame (Some f) l = told _ l (record { actor_is = refl; starts = tt; tracking = record { stay = tt; track = tt }; no_load = refl; loads = tt })
 
-  tracks : (enclave : ℕ) → turn ≡ track_turn made.first_epoch past enclave → Mine
-  tracks enclave k = told _ k (by_last (epoch made.first_epoch past enclave == LAST_EPOCH))
+  tracks : (enclave : ℕ) → is_some (created past enclave) ≡ true → IsCalm past enclave → turn ≡ track_turn made.first_epoch past enclave → Mine
+  tracks enclave made_it calm k = told _ k (by_last (epoch made.first_epoch past enclave == LAST_EPOCH) refl)
     where
-      by_last : (b : Bool) → OfEntry (if b then turns.Spent (by_reclaimer (Refused (Track enclave) why.EpochSpent))
-          else turns.One (by_reclaimer (Did (Track enclave) answers.Plain))) (IsOwn past)
-      by_last true = record { actor_is = refl; starts = tt; no_load = refl; loads = tt }
-      by_last false = record { actor_is = refl; starts = tt; no_load = refl; loads = tt }
+      by_last : (b : Bool) → (epoch made.first_epoch past enclave == LAST_EPOCH) ≡ b
+          → OfEntry (if b then turns.Spent (by_reclaimer (Refused (Track enclave) why.EpochSpent))
+          else turns.One (by_reclaimer (Did (Track enclave) answers.Plain))) (IsOwn made.first_epoch past)
+      by_last true is = record { actor_is = refl; starts = tt; tracking = record { stay = tt; track = tt }; no_load = refl; loads = tt }
+      by_last false is = record {
+        actor_is = refl;
+        starts = tt;
+        tracking = record { stay = tt; track = record { made = made_it; none_older = none_older past enclave calm; not_last = is } };
+        no_load = refl;
+        loads = tt;
+      }
 
   tries : (g : Page) → IsTaken past true g → IsTurn made past slots (leaving_due past g TriesOut) turn → Mine
   tries g w k = by_place (place past g) refl k
     where
-      try_own : (f : ℕ) (slot : SlotAt) → place past g ≡ Leaving f → OfEntry (try_turn made past f slot) (IsOwn past)
+      try_own : (f : ℕ) (slot : SlotAt) → place past g ≡ Leaving f → OfEntry (try_turn made past f slot) (IsOwn made.first_epoch past)
       try_own f slot at = by_drain (is_drained past f) (next_version made.first_version past == 2 ^ 64)
         where
           idle : open_start past f ≡ None
@@ -110,10 +128,10 @@ module _ (made : Making) (j : JobView) (past : List Entry) (slots : Keeper) (tur
               then (if v then turns.Spent (by_reclaimer (Refused (EwbStart (frame_at f) slot) why.VersionSpent)) else turns.Seal
               (by_reclaimer (Did (EwbStart (frame_at f) slot) (answers.Version (next_version made.first_version past)))))
               else turns.One (by_reclaimer (Refused (EwbStart (frame_at f) slot)
-              (why.NotTracked (epoch_in made.first_epoch past f) (kept_back past f))))) (IsOwn past)
-          by_drain true true = record { actor_is = refl; starts = tt; no_load = refl; loads = tt }
-          by_drain true false = record { actor_is = refl; starts = (idle, drawn); no_load = refl; loads = tt }
-          by_drain false v = record { actor_is = refl; starts = tt; no_load = refl; loads = tt }
+              (why.NotTracked (epoch_in made.first_epoch past f) (kept_back past f))))) (IsOwn made.first_epoch past)
+          by_drain true true = record { actor_is = refl; starts = tt; tracking = record { stay = tt; track = tt }; no_load = refl; loads = tt }
+          by_drain true false = record { actor_is = refl; starts = (idle, drawn); tracking = record { stay = tt; track = tt }; no_load = refl; loads = tt }
+          by_drain false v = record { actor_is = refl; starts = tt; tracking = record { stay = tt; track = tt }; no_load = refl; loads = tt }
 
       by_place : (p : Place) → place past g ≡ p → IsTurn made past slots (in_frame g (frame_leaving p) TriesOut) turn → Mine
       by_place (Leaving f) at (inl l) = told _ l.told (try_own f l.slot at)
@@ -127,37 +145,45 @@ module _ (made : Making) (j : JobView) (past : List Entry) (slots : Keeper) (tur
   thirds g [] w k = tries g w k
   thirds g (p ∷ ps) w k = told _ k tt
 
-  forms : (g : Page) (rest : List Page) (kicked : Bool) (form : Form) → IsTrying past g rest form
+  forms : (g : Page) (rest : List Page) (kicked : Bool) (form : Form) → IsTrying past g rest form → KeepsTracks past (Tries g rest form)
       → IsTurn made past slots (form_due past g kicked form) turn → Mine
-  forms g rest kicked First has k = tries g has.page k
-  forms g rest kicked ToTrack has k = tracks g.enclave k
-  forms g rest kicked Second has k = tries g has.page k
-  forms g rest true ToKick has k = thirds g (keepers past g) has.page k
-  forms g rest false ToKick has k = told _ k tt
-  forms g rest kicked (Kicks ps) has k = told _ k tt
-  forms g rest kicked Third has k = thirds g (keepers past g) has.page k
-  forms g rest kicked Sealing has k = by_frame (frame_leaving (place past g)) k
+  forms g rest kicked First has calm k = tries g has.page k
+  forms g rest kicked ToTrack has calm k = tracks g.enclave (theirs g has.page) (calm.calm g.enclave) k
+  forms g rest kicked Second has calm k = tries g has.page k
+  forms g rest true ToKick has calm k = thirds g (keepers past g) has.page k
+  forms g rest false ToKick has calm k = told _ k tt
+  forms g rest kicked (Kicks ps) has calm k = told _ k tt
+  forms g rest kicked Third has calm k = thirds g (keepers past g) has.page k
+  forms g rest kicked Sealing has calm k = by_frame (frame_leaving (place past g)) k
     where
       by_frame : (o : Option ℕ) → IsTurn made past slots (in_frame g o (λ f. Ends (Ewb (frame_at f)))) turn → Mine
       by_frame None l = told _ l tt
       by_frame (Some f) l = absurd l
 
-  own : (kicked : Bool) (p : Pass) → HasPages past p → IsTurn made past slots (pass_due j past kicked p) turn → Mine
-  own kicked (Between false) has k = told _ k tt
-  own kicked (Between true) has k = by_held (are_held j past) k
+  own : (kicked : Bool) (p : Pass) → HasPages past p → KeepsTracks past p → IsTurn made past slots (pass_due j past kicked p) turn → Mine
+  own kicked (Between false) has calm k = told _ k tt
+  own kicked (Between true) has calm k = by_held (are_held j past) k
     where
       by_held : (b : Bool) → IsTurn made past slots (if b then Waits waits.AllHeld else look_due j past) turn → Mine
       by_held true l = told _ l tt
       by_held false l = looks l
-  own kicked (Scan left taken) has k = looks k
-  own kicked (Blocking [] taken) has k = absurd k
-  own kicked (Blocking (g ∷ gs) taken) has k = blocks g k
-  own kicked (Tries g rest form) has k = forms g rest kicked form has k
+  own kicked (Scan left taken) has calm k = looks k
+  own kicked (Blocking [] taken) has calm k = absurd k
+  own kicked (Blocking (g ∷ gs) taken) has calm k = blocks g k
+  own kicked (Tries g rest form) has calm k = forms g rest kicked form has calm k
 
 -- ---- the entry
 
+-- the enclave of a page that a pass has taken was created
+taken_made : {made : Making} {j : JobView} {past : List Entry} {d : Driver} {m : Parts} → Agrees made j past d m → (g : Page)
+    → IsTaken past true g → is_some (created past g.enclave) ≡ true
+taken_made {past = past} {m = m} r g taken =
+    let columns = r.follows.shape.columns in
+    let there : is_some (added past g) ≡ true = r.sound.added g ∙ ap (λ p. not (is_absent p)) taken.leaving in
+    sym (ap is_some (enclave_is columns g.enclave)) ∙ added_created m g (ap is_some (added_is columns g) ∙ there)
+
 entry_next : (made : Making) (j : JobView) (past : List Entry) (d d' : Driver) (m m' : Parts) (e : Entry) → Agrees made j past d m
-    → is_spent past ≡ false → IsOwn past e → Keeps j past (pass j past) e.event → Carries (state_of m) e (state_of m')
+    → is_spent past ≡ false → IsOwn made.first_epoch past e → Keeps j past (pass j past) e.event → Carries (state_of m) e (state_of m')
     → length m'.cpus ≡ length m.cpus → Shows j d' (e ∷ past) → CountMoves e.event (count_out d.slots) (count_out d'.slots)
     → IsNextOf made j past d m e d' m'
 entry_next made j past d d' m m' e r going own keeps carries cpus shows counts = record {
@@ -167,6 +193,7 @@ entry_next made j past d d' m m' e r going own keeps carries cpus shows counts =
   can = keeps.can;
   tries = keeps.tells;
   starts = own.starts;
+  tracking = own.tracking;
   follows = carries.shape made past r.follows;
   fits = carries.fits made past r.follows own.loads r.fits;
   cpus = cpus;
@@ -181,9 +208,9 @@ pub turn_next : (made : Making) (j : JobView) (past : List Entry) (d d' : Driver
     → ShowsAfter j past (pass j past) turn d' → OfEntry turn (λ e. CountMoves e.event (count_out d.slots) (count_out d'.slots))
     → OfEntry turn (λ e. IsNextOf made j past d m e d' m')
 turn_next made j past d d' m m' taken phase turn positive r stands going due =
-    by_turn turn (own made j past d.slots turn positive (is_kicked phase) (pass j past) r.pages.pages due)
+    by_turn turn (own made j past d.slots turn positive (λ g taken. taken_made r g taken) (is_kicked phase) (pass j past) r.pages.pages r.tracks due)
   where
-    by_turn : (t : PassTurn) → OfEntry t (IsOwn past) → TurnKeeps j past (pass j past) t → TurnGoes (state_of m) t (state_of m')
+    by_turn : (t : PassTurn) → OfEntry t (IsOwn made.first_epoch past) → TurnKeeps j past (pass j past) t → TurnGoes (state_of m) t (state_of m')
         → length m'.cpus ≡ length m.cpus → ShowsAfter j past (pass j past) t d'
         → OfEntry t (λ e. CountMoves e.event (count_out d.slots) (count_out d'.slots)) → OfEntry t (λ e. IsNextOf made j past d m e d' m')
     by_turn (turns.One e) mine keeps goes cpus shows counts = entry_next made j past d d' m m' e r going mine keeps goes cpus shows counts

@@ -11,6 +11,7 @@ use Rattle.paging_machine.specs.Parts.{Parts, state_of}
 use Rattle.driver_rules.specs.Ages.{AgeRule, KickRule}
 use Rattle.driver_rules.specs.Scripts.{ScriptRule}
 use Rattle.driver_laws.specs.Three.{IsApart}
+use Rattle.driver_laws.specs.Tracking.{TrackingRule}
 use Rattle.driver_tables.specs.declared.driver.Driver.{Driver}
 use Rattle.driver_steps.specs.Agrees.{Agrees}
 use Rattle.driver_steps.specs.Asked.{IsNextOf}
@@ -53,6 +54,8 @@ pub record KeepsBook (made : Making) (j : JobView) (past : List Entry) (told : O
   pub script : Along (ScriptRule j) past
   pub age : Along (AgeRule j) past
   pub kick : Along (KickRule j) past
+  -- who entered was outside, who left inside, and epochs began where no processor was older
+  pub tracking : Along (TrackingRule made.first_epoch) past
   -- a store that tells its calls tells those of the entries
   pub store : IfSome told (λ calls. TellsStore j.key past calls d)
   pub bytes : IfSome told (KeepsBytes made j past m)

@@ -120,6 +120,7 @@ module _ (j : JobView) (g : Page) (gs : List Page) where
     can = tt;
     tries = tt;
     starts = tt;
+    tracking = record { stay = tt; track = tt };
     follows = goes.shape;
     fits = goes.fits;
     cpus = refl;

@@ -1,11 +1,11 @@
 -- What a turn of the reclaimer answers.
-use Rattle.std.proofs.Common.{◌≡◌, ℕ, ◌≤◌, ◌+◌, ◌⊎◌, inl, inr, false, List, Option, vec_len, vec_capacity, refl, sym, ap, subst, ◌∙◌, arith}
+use Rattle.std.proofs.Common.{◌≡◌, ℕ, ◌≤◌, ◌+◌, ◌⊎◌, inl, inr, false, List, [], ◌∷◌, Option, None, Some, vec_len, vec_capacity, refl, sym, ap, subst, ◌∙◌, arith}
 use Rattle.sgx_types.specs.declared.entries.Actor.{Actor}
 use Rattle.sgx_types.specs.declared.entries.Actor.TheVariants as actors
 use Rattle.sgx_types.specs.declared.entries.Entry.{Entry}
 use Rattle.sgx_types.specs.Making.{Making}
 use Rattle.version_array.specs.Keeper.{Keeper}
-use Rattle.reclaim_worker.specs.Answers.{IsTurn}
+use Rattle.reclaim_worker.specs.Answers.{IsTurn, by_reclaimer}
 use Rattle.seal_record.specs.declared.seal.SealWork.{SealWork}
 use Rattle.job_grammar.specs.Jobs.{JobView}
 use Rattle.backing_store.specs.Calls.{Call}
@@ -15,7 +15,7 @@ use Rattle.driver_rules.specs.Dues.{Due, Ends, Fetches, Finished, KicksAll, Look
 use Rattle.driver_rules.specs.Dues as dues
 use Rattle.driver_rules.specs.Passes.{pass}
 use Rattle.driver_rules.specs.Reclaims.{all_finished, pass_due, reclaimer_due}
-use Rattle.driver_rules.specs.Stops.{is_spent}
+use Rattle.driver_rules.specs.Stops.{frame_started, is_frame, is_spent, started}
 use Rattle.driver_tables.specs.declared.driver.Driver.{Driver}
 use Rattle.reclaim_worker.specs.declared.passes.Pass as worker
 use Rattle.reclaim_worker.specs.declared.turns.Phase.{Phase}
@@ -30,6 +30,10 @@ use Rattle.run_turns.specs.declared.turn.Turn.TheVariants as turns
 use Rattle.run_turns.specs.Courses.{Grows, IsSame, KeepsCourse, past_of}
 use Rattle.run_turns.specs.Passing.{FollowsBy, HasKicks, HasOne, HasSealed, IsFollowed, IsOwnEntry, IsSealOf}
 use Rattle.run_turns.specs.Turns.{IsAtRest, IsReclaimerTurn, IsWaitBy, MakesMany, due_of}
+use Rattle.reclaim_worker.specs.After.{cpu_of, kicked_past}
+use Rattle.sgx_types.specs.declared.entries.Event.TheVariants.{Kick}
+use Rattle.run_turns.proofs.PassTurnLaws.{IsTurnEntry, TellsDue, spent_none}
+use Rattle.run_turns.proofs.StartLaws.{none_started}
 use Rattle.run_turns.proofs.FollowLaws.{IsStepped, course_ready, kicks_due, tells_of}
 use Rattle.run_turns.proofs.KeepLaws.{same_self}
 use Rattle.run_turns.proofs.RestLaws.{rest_behind, rest_keeps, same_grows, same_past, same_twice}
@@ -43,7 +47,7 @@ own_by c turn e longer spare (inl is) by = subst (λ t. FollowsBy c t longer spa
 own_by c turn e longer spare (inr is) by = subst (λ t. FollowsBy c t longer spare) is by
 
 pub did_by : (old : Course) (turn : PassTurn) (e : Entry) (result : Turn) (new : Course) (told : Option (List Call)) (spare : ℕ)
-    → (turn ≡ passed.One e) ⊎ (turn ≡ passed.Spent e) → HasOne old result new told spare → IsFollowed old turn result new told spare
+    → (turn ≡ passed.One e) ⊎ (turn ≡ passed.Spent e) → HasOne e old result new told spare → IsFollowed old turn result new told spare
 did_by old turn e result new told spare (inl is) h = subst (λ t. IsFollowed old t result new told spare) (sym is) h
 did_by old turn e result new told spare (inr is) h = subst (λ t. IsFollowed old t result new told spare) (sym is) h
 
@@ -92,6 +96,22 @@ seal_again c turns.Stopped told spare seals = absurd seals
 
 -- ---- a turn of the pass
 
+-- an entry of it starts nothing, but in a turn that says so
+own_of : (slots : Keeper) (due : Due) (turn : PassTurn) (e : Entry) → (turn ≡ passed.One e) ⊎ (turn ≡ passed.Spent e)
+    → TellsDue slots due turn → IsTurnEntry e × (frame_started (Some e.event) ≡ None)
+own_of slots due turn e (inl is) tells = subst (TellsDue slots due) is tells
+own_of slots due turn e (inr is) tells =
+    let both = subst (TellsDue slots due) is tells in (both.0, spent_none e both.1)
+
+none_own : (past : List Entry) (e : Entry) → e.actor ≡ actors.Reclaimer → frame_started (Some e.event) ≡ None
+    → started (e ∷ past) actors.Reclaimer ≡ false
+none_own past e mine none = rw mine (ap is_frame none)
+
+none_kicked : (ps : List ℕ) (past : List Entry) → started past actors.Reclaimer ≡ false
+    → started (kicked_past ps past) actors.Reclaimer ≡ false
+none_kicked [] past h = h
+none_kicked (p ∷ ps) past h = none_kicked ps (by_reclaimer (Kick (cpu_of p)) ∷ past) refl
+
 -- a turn of one entry
 makes_one : (made : Making) (past : List Entry) (slots : Keeper) (due : Due) (turn : PassTurn) (e : Entry)
     → (turn ≡ passed.One e) ⊎ (turn ≡ passed.Spent e) → IsTurn made past slots due turn → MakesMany due 1
@@ -134,14 +154,23 @@ module _ (c : Course) (told longer : Option (List Call)) (before spare : ℕ) (p
   due_is = next_is_pass (machine_of c.job) c.job (past_of c) c.pass.taken.items c.pass.phase c.driver c.machine (is_kicked c.pass.phase)
       (course_ready c told before k) k.book.age idle going some
 
+  -- no write-out is open before it
+  calm : started (past_of c) actors.Reclaimer ≡ false
+  calm = ap is_frame
+      (none_started c.job.start_epoch c.job (past_of c) c.pass.taken.items c.pass.phase k.stands k.book.age idle)
+
   one : (turn : PassTurn) (e : Entry) (result : Turn) → (turn ≡ passed.One e) ⊎ (turn ≡ passed.Spent e)
-      → IsStepped c told turn p d m longer spare → HasOne after result c' longer spare → IsReclaimerTurn c result c' longer spare
+      → IsStepped c told turn p d m longer spare → HasOne e after result c' longer spare → IsReclaimerTurn c result c' longer spare
   one turn e (turns.Did n) is s g =
-      subst (λ k. MakesMany (due_of c) k × Grows c actors.Reclaimer k c' longer spare) (sym g.0) (
+      let own = own_of c.driver.slots (pass_due c.job (past_of c) (is_kicked c.pass.phase) (pass c.job (past_of c))) turn e is
+      (tells_of c told longer before spare p d m k going room turn s) in
+      subst (λ n. MakesMany (due_of c) n × (started (past_of c') actors.Reclaimer ≡ false) × Grows c actors.Reclaimer n c' longer spare)
+      (sym g.0) (
         subst (λ due. MakesMany due 1) (sym due_is)
             (makes_one (machine_of c.job) (past_of c) c.driver.slots
             (pass_due c.job (past_of c) (is_kicked c.pass.phase) (pass c.job (past_of c))) turn e is s.due),
-        same_grows c after c' actors.Reclaimer 1 longer spare refl refl g.1,
+        subst (λ h. started h actors.Reclaimer ≡ false) (sym g.1) (none_own (past_of c) e own.0.actor own.1),
+        same_grows c after c' actors.Reclaimer 1 longer spare refl refl g.2,
       )
   one turn e (turns.Seal work) is s g = absurd g
   one turn e (turns.Unseal work) is s g = absurd g
@@ -152,8 +181,10 @@ module _ (c : Course) (told longer : Option (List Call)) (before spare : ℕ) (p
   kicks : (bits : ℕ) (result : Turn) → IsStepped c told (passed.Kicks bits) p d m longer spare → HasKicks after result c' longer spare
       → IsReclaimerTurn c result c' longer spare
   kicks bits (turns.Did n) s g =
-      let are = kicks_due c told longer before spare p d m k going room bits s in (
-        subst (λ due. MakesMany due n) (sym (due_is ∙ are.1.0)) (g.0 are.0 are.1.1),
+      let are = kicks_due c told longer before spare p d m k going room bits s in
+      let both = g.0 are.0 are.1.1 in (
+        subst (λ due. MakesMany due n) (sym (due_is ∙ are.1.0)) both.0,
+        subst (λ h. started h actors.Reclaimer ≡ false) (sym both.1) (none_kicked are.0 (past_of c) calm),
         same_grows c after c' actors.Reclaimer n longer spare refl refl g.1,
       )
   kicks bits (turns.Seal work) s g = absurd g
@@ -183,13 +214,13 @@ module _ (c : Course) (told longer : Option (List Call)) (before spare : ℕ) (p
       (subst (λ due. IsWaitBy due reason) (sym (due_is ∙ told_due)) refl, subst (IsAtRest c) (sym h.1) (rests reason s waits))
   turn_answers passed.NoSlot result s waits h = absurd h
 
-  one_keeps : (result : Turn) → HasOne after result c' longer spare → KeepsCourse c' longer spare
-  one_keeps (turns.Did n) g = g.1.keeps
-  one_keeps (turns.Seal work) g = absurd g
-  one_keeps (turns.Unseal work) g = absurd g
-  one_keeps (turns.Again reason) g = absurd g
-  one_keeps turns.Finished g = absurd g
-  one_keeps turns.Stopped g = absurd g
+  one_keeps : (e : Entry) (result : Turn) → HasOne e after result c' longer spare → KeepsCourse c' longer spare
+  one_keeps e (turns.Did n) g = g.2.keeps
+  one_keeps e (turns.Seal work) g = absurd g
+  one_keeps e (turns.Unseal work) g = absurd g
+  one_keeps e (turns.Again reason) g = absurd g
+  one_keeps e turns.Finished g = absurd g
+  one_keeps e turns.Stopped g = absurd g
 
   kicks_keep : (result : Turn) → HasKicks after result c' longer spare → KeepsCourse c' longer spare
   kicks_keep (turns.Did n) g = g.1.keeps
@@ -210,8 +241,8 @@ module _ (c : Course) (told longer : Option (List Call)) (before spare : ℕ) (p
   -- .. and what stands behind it
   pub turn_keeps : (turn : PassTurn) (result : Turn) → IsStepped c told turn p d m longer spare → Waits turn
       → (IsWait turn → KeepsCourse c longer spare) → IsFollowed after turn result c' longer spare → KeepsCourse c' longer spare
-  turn_keeps (passed.One e) result s waits still h = one_keeps result h
-  turn_keeps (passed.Spent e) result s waits still h = one_keeps result h
+  turn_keeps (passed.One e) result s waits still h = one_keeps e result h
+  turn_keeps (passed.Spent e) result s waits still h = one_keeps e result h
   turn_keeps (passed.Kicks bits) result s waits still h = kicks_keep result h
   turn_keeps (passed.Seal e) result s waits still h = sealed_keeps result h
   turn_keeps (passed.Again reason) result s waits still h =
@@ -231,7 +262,8 @@ pub same_answers : (a b c : Course) (result : Turn) (told : Option (List Call)) 
     → IsReclaimerTurn b result c told spare → IsReclaimerTurn a result c told spare
 same_answers a b c (turns.Did n) told spare same g = (
   subst (λ due. MakesMany due n) (same_due a b same) g.0,
-  same_grows a b c actors.Reclaimer n told spare same.job (same_past a b same.entries) g.1,
+  g.1,
+  same_grows a b c actors.Reclaimer n told spare same.job (same_past a b same.entries) g.2,
 )
 same_answers a b c (turns.Seal work) told spare same (seals, inl g) =
     (seals, inl (same_grows a b c actors.Reclaimer 1 told spare same.job (same_past a b same.entries) g))

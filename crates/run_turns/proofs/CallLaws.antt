@@ -1,5 +1,5 @@
 -- A store that tells its calls goes on to, whatever the reclaimer asks of it.
-use Rattle.std.proofs.Common.{◌≡◌, ℕ, List, Option, Some, None, is_some, refl, ap, ◌∙◌}
+use Rattle.std.proofs.Common.{◌≡◌, ℕ, List, Option, Some, None, is_some, refl, sym, ap, subst, ◌∙◌}
 use Rattle.std.specs.Option.{IsSomeAnd}
 use Rattle.sgx_types.specs.declared.entries.Entry.{Entry}
 use Rattle.sgx_types.specs.declared.entries.Look.{Look}
@@ -21,6 +21,7 @@ use Rattle.run_turns.specs.declared.course.Course.{Course}
 use Rattle.run_turns.specs.declared.turn.Turn.{Turn}
 use Rattle.run_turns.specs.declared.turn.Turn.TheVariants as turns
 use Rattle.run_turns.specs.Passing.{IsFollowed, IsWaiting}
+use Rattle.run_turns.specs.Turns.{WritesOut}
 
 call_tells : (call : Call) (told : Option (List Call)) → is_some (with_call call told) ≡ is_some told
 call_tells call None = refl
@@ -52,6 +53,19 @@ stored_tells taken (phases.Idle works) s t d d' told told' before after e says =
 stored_tells taken (phases.Scan left) s t d d' told told' before after e says = absurd says
 stored_tells taken (phases.Block next) s t d d' told told' before after e says = absurd says
 stored_tells taken (phases.Tries next form block) s t d d' told told' before after e says = absurd says
+
+-- .. whose entry says so
+pub stored_writes : (taken : List Taken) (phase : Phase) (s t : State) (d d' : Driver) (told told' : Option (List Call)) (before after : ℕ)
+    (e : Entry) → StoredSays taken phase s d told before e t d' told' after → WritesOut e.event
+stored_writes taken (phases.Sealing next slot) s t d d' told told' before after e says = by_one _ says
+  where
+    by_one : (o : Option Taken) → IsSomeAnd o (λ one. IsStored one slot s d told before e t d' told' after) → WritesOut e.event
+    by_one None k = absurd k
+    by_one (Some one) k = subst (λ (x : Entry). WritesOut x.event) (sym k.out.entry) tt
+stored_writes taken (phases.Idle works) s t d d' told told' before after e says = absurd says
+stored_writes taken (phases.Scan left) s t d d' told told' before after e says = absurd says
+stored_writes taken (phases.Block next) s t d d' told told' before after e says = absurd says
+stored_writes taken (phases.Tries next form block) s t d d' told told' before after e says = absurd says
 
 -- what only answers was a turn of the pass that waits
 pub followed_waits : (old new : Course) (turn : PassTurn) (result : Turn) (told : Option (List Call)) (spare : ℕ)

@@ -139,6 +139,7 @@ book_first j d m t told new fresh shows none = record {
   script = tt;
   age = tt;
   kick = tt;
+  tracking = tt;
   store = store_first j d told new none;
   bytes = bytes_first j m told fresh;
   honest = honest_first told none;

@@ -286,7 +286,7 @@ module _ (c : Course) (told longer : Option (List Call)) (before spare : ℕ) (p
   -- whatever the turn made
   pub follows_by : is_some c.room ≡ true → (turn : PassTurn) → IsStepped c told turn p d m longer spare → FollowsBy behind turn longer spare
   follows_by some (turns.One e) s =
-      by_entry e (next_of (turns.One e) s) (leaves_of (turns.One e) s) (tells_of (turns.One e) s) (flat_of (turns.One e) s)
+      by_entry e (next_of (turns.One e) s) (leaves_of (turns.One e) s) (tells_of (turns.One e) s).0 (flat_of (turns.One e) s)
       (told_of (turns.One e) s) (bytes_of (turns.One e) s) s.stands s.places
   follows_by some (turns.Spent e) s =
       by_entry e (next_of (turns.Spent e) s) (leaves_of (turns.Spent e) s).0 (tells_of (turns.Spent e) s).0 (flat_of (turns.Spent e) s)

@@ -32,6 +32,8 @@ use Rattle.table_notes.specs.Noted.{AreNoted, CanNoteTables}
 use Rattle.table_notes.proofs.EntryLaws.{IsEntryOf, entry_by}
 use Rattle.run_book.specs.Books.{CarriesBytes, IsMade, KeepsBook}
 use Rattle.table_notes.specs.Plain.{is_plain, is_reclaimer}
+use Rattle.driver_rules.specs.Stops.{frame_started, started}
+use Rattle.run_turns.proofs.RecordLaws.{none_started_built, none_started_by}
 use Rattle.run_book.proofs.PlainLaws.{plain_next}
 use Rattle.run_records.proofs.FlatSteps.{flat_step}
 use Rattle.run_records.proofs.ToldLaws.{plain_told}
@@ -217,3 +219,10 @@ entered c x m' actor action e before k is carries cpus stood notes machine job t
           (passes_stay_next (machine_of c.job) c.job (past_of c) c.driver x.driver c.machine m' e c.pass.taken.items c.pass.phase
           k.keeps.book.agrees made.next other k.keeps.stands);
     }
+
+-- behind an instruction that is no start its actor has none open
+pub none_started_of : (c : Course) (past : List Entry) (e : Entry) (actor : Actor) (action : Action) → IsDueTo c actor action
+    → e.actor ≡ actor → frame_started (Some e.event) ≡ None → started (e ∷ past) actor ≡ false
+none_started_of c past e actors.Builder action due mine none = none_started_built past e mine none
+none_started_of c past e (actors.Cpu p) action due mine none = none_started_by past e p mine none
+none_started_of c past e actors.Reclaimer action due mine none = absurd due

@@ -61,7 +61,7 @@ use Rattle.run_records.proofs.LoadRecords.{end_told}
 use Rattle.run_turns.specs.declared.course.Course.{Course}
 use Rattle.run_turns.specs.Courses.{Grows, KeepsCourse, is_loading, open_starts, past_of}
 use Rattle.run_turns.specs.Recording.{CanTake, IsRecorded, IsTaken}
-use Rattle.run_turns.specs.Turns.{EndsBy, EndsLoad}
+use Rattle.run_turns.specs.Turns.{EndsBy, EndsLoad, RefusesLoad}
 use Rattle.run_turns.proofs.KeepLaws.{few_cpus, room_behind}
 use Rattle.run_turns.proofs.LoadCourse.{Stands, is_open, kept_room, bus_starts, ended_starts, one_longer, stands_keeps, taken_stands}
 use Rattle.run_turns.proofs.LoadLaws.{IsOfAway, due_quiet, end_of_load, one, starts_set, end_quiet, loading_told, none_behind_bus, none_more}
@@ -149,24 +149,44 @@ grows_two old new cpu e e' told spare by by' past job keeps = record {
 -- ---- the newest entry
 
 -- the end of a load that is no refusal is its only entry
-ends_here : (f : Frame) (event : Event) → action_of event ≡ Some (actions.Eld f) → is_refused event ≡ false → EndsBy 1 event
-ends_here f (Did action answer) acts done = subst (λ a. EndsBy 1 (Did a answer)) (sym (same action acts)) refl
+ends_here : (f : Frame) (event : Event) → action_of event ≡ Some (actions.Eld f) → is_refused event ≡ false
+    → (past : List Entry) → EndsBy 1 event past
+ends_here f (Did action answer) acts done past = subst (λ a. EndsBy 1 (Did a answer) past) (sym (same action acts)) refl
   where
     same : (a : Action) → Some a ≡ Some (actions.Eld f) → a ≡ actions.Eld f
     same a is = cc
-ends_here f (Refused action reason) acts done = cc
-ends_here f (Age page look) acts done = cc
-ends_here f (Kick cpu) acts done = cc
-ends_here f (Bus page reason) acts done = cc
+ends_here f (Refused action reason) acts done past = cc
+ends_here f (Age page look) acts done past = cc
+ends_here f (Kick cpu) acts done past = cc
+ends_here f (Bus page reason) acts done past = cc
 
 pub load_ends_here : (c : Course) (past : List Entry) (e : Entry) (f : Frame) → past_of c ≡ e ∷ past → action_of e.event ≡ Some (actions.Eld f)
     → is_refused e.event ≡ false → EndsLoad 1 (past_of c)
-load_ends_here c past e f is acts done = subst (EndsLoad 1) (sym is) (ends_here f e.event acts done)
+load_ends_here c past e f is acts done = subst (EndsLoad 1) (sym is) (ends_here f e.event acts done past)
 
 -- .. and behind a refusal the processor is told
-pub load_ends_so : (c : Course) (past : List Entry) (e : Entry) (cpu : Cpu) (page : Page) (reason : BusWhy)
-    → past_of c ≡ bus_of cpu page reason ∷ e ∷ past → EndsLoad 2 (past_of c)
-load_ends_so c past e cpu page reason is = subst (EndsLoad 2) (sym is) refl
+refuses_by : (past : List Entry) (f : Frame) (event : Event) (page : Page) (reason : BusWhy) → action_of event ≡ Some (actions.Eld f)
+    → last_by event (open_start past) ≡ Fails page reason → RefusesLoad event
+refuses_by past f (Refused action refusal) page reason acts is = subst (λ a. RefusesLoad (Refused a refusal)) (sym (same action acts)) tt
+  where
+    same : (a : Action) → Some a ≡ Some (actions.Eld f) → a ≡ actions.Eld f
+    same a at = cc
+refuses_by past f (Did action answer) page reason acts is =
+    absurd (none (subst (λ a. last_by (Did a answer) (open_start past) ≡ Fails page reason) (same action acts) is))
+  where
+    same : (a : Action) → Some a ≡ Some (actions.Eld f) → a ≡ actions.Eld f
+    same a at = cc
+
+    none : last_by (Did (actions.Eld f) answer) (open_start past) ≡ Fails page reason → ⊥
+    none at = cc
+refuses_by past f (Age g look) page reason acts is = cc
+refuses_by past f (Kick cpu) page reason acts is = cc
+refuses_by past f (Bus g other) page reason acts is = cc
+
+pub load_ends_so : (c : Course) (past : List Entry) (e : Entry) (cpu : Cpu) (page : Page) (reason : BusWhy) (f : Frame)
+    → past_of c ≡ bus_of cpu page reason ∷ e ∷ past → action_of e.event ≡ Some (actions.Eld f)
+    → last_by e.event (open_start past) ≡ Fails page reason → EndsLoad 2 (past_of c)
+load_ends_so c past e cpu page reason f is acts fails = subst (EndsLoad 2) (sym is) (refl, refuses_by past f e.event page reason acts fails)
 
 -- ---- a fault step
 

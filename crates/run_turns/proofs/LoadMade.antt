@@ -332,6 +332,7 @@ bus_made j past told d m t taken phase cpu page why k stands going mine due show
     can = tt;
     tries = tt;
     starts = tt;
+    tracking = record { stay = tt; track = tt };
     follows = notes.goes.shape;
     fits = notes.goes.fits;
     cpus = refl;

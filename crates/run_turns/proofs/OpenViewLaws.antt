@@ -81,7 +81,8 @@ module _ (c c' : Course) (told told' : Option (List Call)) (plans plans' : List 
 
   run_seen : (turn : Turn) → (past_of c' ≡ past_of c → told' ≡ told) → IsCpuTurn c cpu turn c' told' spare'
       → IsRun (view_of c told plans false) cpu turn (view_of c' told' plans' false)
-  run_seen (turns.Did n) calm (one, g) = (one, grown_seen c c' (actors.Cpu cpu) 1 told told' told' plans plans' spare' false g)
+  run_seen (turns.Did n) calm (one, quiet, g) =
+      (one, quiet, grown_seen c c' (actors.Cpu cpu) 1 told told' told' plans plans' spare' false g)
   run_seen (turns.Unseal work) calm (opens, inl g) = (
     opens_seen c' told' spare' cpu work k plans' false opens,
     inl (grown_seen c c' (actors.Cpu cpu) 1 told told' told' plans plans' spare' false g),
@@ -103,7 +104,7 @@ module _ (c c' : Course) (told told' : Option (List Call)) (plans plans' : List 
   run_turn_seen (Err memory) calm is = tt
 
   run_job : (turn : Turn) → IsCpuTurn c cpu turn c' told' spare' → c'.job ≡ c.job
-  run_job (turns.Did n) (one, g) = g.job
+  run_job (turns.Did n) (one, quiet, g) = g.job
   run_job (turns.Unseal work) (opens, inl g) = g.job
   run_job (turns.Unseal work) (opens, inr s) = s.job
   run_job (turns.Again why) (due, s) = s.job

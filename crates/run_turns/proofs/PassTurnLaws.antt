@@ -49,7 +49,7 @@ use Rattle.reclaim_worker.specs.Tried.{count_from, is_kept_by}
 use Rattle.reclaim_worker.specs.Turning.{IsFormTurn, TurnSays, WithPage}
 use Rattle.table_notes.proofs.EntryLaws.{IsEntryOf, entry_by}
 use Rattle.turn_tables.specs.Entries.{EntersApart}
-use Rattle.driver_rules.specs.Stops.{is_bus}
+use Rattle.driver_rules.specs.Stops.{frame_started, is_bus}
 
 -- ---- what a turn leaves, by its phase
 
@@ -232,7 +232,7 @@ pub record AreKicks (due : Due) (bits : ℕ) : Type 0 where
   pub same : bits ≡ bits_of cpus
 
 abbrev pub TellsDue : Keeper → Due → PassTurn → Type 0
-TellsDue slots due (turns.One e) = IsTurnEntry e
+TellsDue slots due (turns.One e) = IsTurnEntry e × (frame_started (Some e.event) ≡ None)
 TellsDue slots due (turns.Spent e) = IsTurnEntry e × (IsTrackSpent e ⊎ IsTrySpent e)
 TellsDue slots due (turns.Seal e) = IsTurnEntry e
 TellsDue slots due (turns.Kicks bits) = AreKicks due bits
@@ -249,7 +249,7 @@ module _ (made : Making) (past : List Entry) (slots : Keeper) (turn : PassTurn) 
       by_last : (b : Bool) → TellsDue slots due (if b then turns.Spent (by_reclaimer (Refused (Track enclave) why.EpochSpent))
           else turns.One (by_reclaimer (Did (Track enclave) answers.Plain)))
       by_last true = (record { actor = refl; enters = tt; back = refl }, inl (record { enclave = enclave; is = refl }))
-      by_last false = record { actor = refl; enters = tt; back = refl }
+      by_last false = (record { actor = refl; enters = tt; back = refl }, refl)
 
   try_own : (due : Due) (f : ℕ) (slot : SlotAt) → TellsDue slots due (try_turn made past f slot)
   try_own due f slot = by_drain (is_drained past f) (next_version made.first_version past == 2 ^ 64)
@@ -261,17 +261,22 @@ module _ (made : Making) (past : List Entry) (slots : Keeper) (turn : PassTurn) 
           (why.NotTracked (epoch_in made.first_epoch past f) (kept_back past f)))))
       by_drain true true = (record { actor = refl; enters = tt; back = refl }, inr (record { frame = frame_at f; slot = slot; is = refl }))
       by_drain true false = record { actor = refl; enters = tt; back = refl }
-      by_drain false v = record { actor = refl; enters = tt; back = refl }
+      by_drain false v = (record { actor = refl; enters = tt; back = refl }, refl)
 
   pub turn_tells : (due : Due) → IsTurn made past slots due turn → TellsDue slots due turn
   turn_tells (Waits reason) k = said (Waits reason) _ k refl
-  turn_tells (LooksAt page held young) k = said (LooksAt page held young) _ k.told (record { actor = refl; enters = tt; back = refl })
-  turn_tells (Makes (Block f)) k = said (Makes (Block f)) _ k (record { actor = refl; enters = tt; back = refl })
+  turn_tells (LooksAt page held young) k = said (LooksAt page held young) _ k.told (record { actor = refl; enters = tt; back = refl }, refl)
+  turn_tells (Makes (Block f)) k = said (Makes (Block f)) _ k (record { actor = refl; enters = tt; back = refl }, refl)
   turn_tells (Makes (Track enclave)) k = said (Makes (Track enclave)) _ k (track_own (Makes (Track enclave)) enclave)
   turn_tells (TriesOut f) (inl k) = said (TriesOut f) _ k.told (try_own (TriesOut f) f k.slot)
   turn_tells (TriesOut f) (inr k) = said (TriesOut f) _ k.1 k.0
   turn_tells (KicksAll ps) k = said (KicksAll ps) _ k (record { cpus = ps; due_is = refl; same = refl })
   turn_tells due k = absurd k
+
+-- an entry that found nothing left starts nothing
+pub spent_none : (e : Entry) → IsTrackSpent e ⊎ IsTrySpent e → frame_started (Some e.event) ≡ None
+spent_none e (inl k) = subst (λ (x : Entry). frame_started (Some x.event) ≡ None) (sym k.is) refl
+spent_none e (inr k) = subst (λ (x : Entry). frame_started (Some x.event) ≡ None) (sym k.is) refl
 
 -- ---- behind an entry that found nothing left
 

@@ -105,6 +105,7 @@ holds_anyhow c told plans spare noted kept =
       script = book.script;
       age = book.age;
       kick = book.kick;
+      tracking = book.tracking;
       fits = book.agrees.fits.fits;
       stale = book.agrees.follows.stale;
       evict = book.agrees.follows.evict;

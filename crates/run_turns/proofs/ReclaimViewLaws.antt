@@ -172,8 +172,9 @@ module _ (c c' : Course) (told told' : Option (List Call)) (plans plans' : List 
   reclaim_seen : (turn : Turn) (spare : ℕ) → KeepsCourse c told spare → (IsWaiting turn → told' ≡ told)
       → (is_sealing c.pass.phase ≡ true → told' ≡ told) → IsReclaimerTurn c turn c' told' spare'
       → IsReclaim (view_of c told plans false) turn (view_of c' told' plans' false)
-  reclaim_seen (turns.Did n) spare before calm again (many, g) = (
+  reclaim_seen (turns.Did n) spare before calm again (many, quiet, g) = (
     (due_of c, due_now c told spare plans before, many),
+    quiet,
     grown_seen c c' actors.Reclaimer n told told' told' plans plans' spare' false g,
   )
   reclaim_seen (turns.Seal work) spare before calm again (seals, inl g) = (
@@ -200,7 +201,7 @@ module _ (c c' : Course) (told told' : Option (List Call)) (plans plans' : List 
   reclaim_turn_seen (Err memory) spare X before calm rests again is = tt
 
   reclaim_job : (turn : Turn) → IsReclaimerTurn c turn c' told' spare' → c'.job ≡ c.job
-  reclaim_job (turns.Did n) (many, g) = g.job
+  reclaim_job (turns.Did n) (many, quiet, g) = g.job
   reclaim_job (turns.Seal work) (seals, inl g) = g.job
   reclaim_job (turns.Seal work) (seals, inr s) = s.job
   reclaim_job (turns.Again why) (due, s) = s.job
@@ -226,8 +227,8 @@ module _ (c c' : Course) (told told' : Option (List Call)) (plans plans' : List 
     none_started c.job.start_epoch c.job (past_of c) c.pass.taken.items c.pass.phase before.stands before.book.age idle,
     rest_seen s.job s.entries (calm tt),
   )
-  sealed_seen (turns.Did (suc n)) spare before calm (one, g) =
-      (one, grown_seen c c' actors.Reclaimer 1 told told' told' plans plans' spare' false g)
+  sealed_seen (turns.Did (suc n)) spare before calm (one, ends, g) =
+      (one, ends, grown_seen c c' actors.Reclaimer 1 told told' told' plans plans' spare' false g)
   sealed_seen turns.Stopped spare before calm (spent, s) = (spent, rest_seen s.job s.entries (calm tt))
   sealed_seen (turns.Seal work) spare before calm is = absurd is
   sealed_seen (turns.Unseal work) spare before calm is = absurd is
@@ -241,7 +242,7 @@ module _ (c c' : Course) (told told' : Option (List Call)) (plans plans' : List 
     where
       job : (x : Turn) → IsSealed c x c' told' spare' → c'.job ≡ c.job
       job (turns.Did zero) (idle, s) = s.job
-      job (turns.Did (suc n)) (one, g) = g.job
+      job (turns.Did (suc n)) (one, ends, g) = g.job
       job turns.Stopped (spent, s) = s.job
       job (turns.Seal work) y = absurd y
       job (turns.Unseal work) y = absurd y

@@ -51,6 +51,7 @@ book_of_state made j past told d m m' t same k = record {
   script = k.script;
   age = k.age;
   kick = k.kick;
+  tracking = k.tracking;
   store = k.store;
   bytes = subst (λ s. IfSome told (λ calls. UnforgedRun j.key past calls → StandsWithAllRules made s past (made_in past calls))) (sym same)
       k.bytes;

@@ -75,14 +75,16 @@ pub record CanFollow (c : Course) (turn : PassTurn) : Type 0 where
   pub by : FollowsBy c turn longer spare
 
 -- one entry more of the reclaimer
-abbrev pub HasOne : Course → Turn → Course → Option (List Call) → ℕ → Type 0
-HasOne old (turns.Did n) new told spare = (n ≡ 1) × Grows old actors.Reclaimer 1 new told spare
-HasOne old _ new told spare = ⊥
+abbrev pub HasOne : Entry → Course → Turn → Course → Option (List Call) → ℕ → Type 0
+HasOne e old (turns.Did n) new told spare =
+    (n ≡ 1) × (past_of new ≡ e ∷ past_of old) × Grows old actors.Reclaimer 1 new told spare
+HasOne e old _ new told spare = ⊥
 
 -- one for each processor that was due to be kicked
 abbrev pub HasKicks : Course → Turn → Course → Option (List Call) → ℕ → Type 0
 HasKicks old (turns.Did n) new told spare =
-    ((cpus : List ℕ) → pass_due old.job (past_of old) false (pass old.job (past_of old)) ≡ KicksAll cpus → n ≡ length cpus)
+    ((cpus : List ℕ) → pass_due old.job (past_of old) false (pass old.job (past_of old)) ≡ KicksAll cpus
+    → (n ≡ length cpus) × (past_of new ≡ kicked_past cpus (past_of old)))
     × Grows old actors.Reclaimer n new told spare
 HasKicks old _ new told spare = ⊥
 
@@ -93,8 +95,8 @@ HasSealed old _ new told spare = ⊥
 
 -- what is answered behind it
 abbrev pub IsFollowed : Course → PassTurn → Turn → Course → Option (List Call) → ℕ → Type 0
-IsFollowed old (passed.One e) result new told spare = HasOne old result new told spare
-IsFollowed old (passed.Spent e) result new told spare = HasOne old result new told spare
+IsFollowed old (passed.One e) result new told spare = HasOne e old result new told spare
+IsFollowed old (passed.Spent e) result new told spare = HasOne e old result new told spare
 IsFollowed old (passed.Kicks bits) result new told spare = HasKicks old result new told spare
 IsFollowed old (passed.Seal e) result new told spare = HasSealed old result new told spare
 IsFollowed old (passed.Again why) result new told spare = (result ≡ turns.Again why) × (new ≡ old)

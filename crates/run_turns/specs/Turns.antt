@@ -1,12 +1,12 @@
 -- What each turn asks, and what it answers.
 use Rattle.std.specs.Prelude.{ℕ, zero, suc, ◌≡◌, ◌⊎◌, ◌<◌, ◌≤◌, true, false, List, [], ◌∷◌, Option, None, Some, length, vec_capacity}
 use Rattle.sgx_types.specs.declared.entries.Action.{Action}
-use Rattle.sgx_types.specs.declared.entries.Action.TheVariants.{Eld}
+use Rattle.sgx_types.specs.declared.entries.Action.TheVariants.{Eld, Ewb}
 use Rattle.sgx_types.specs.declared.entries.Actor.{Actor}
 use Rattle.sgx_types.specs.declared.entries.Actor.TheVariants as actors
 use Rattle.sgx_types.specs.declared.entries.Entry.{Entry}
 use Rattle.sgx_types.specs.declared.entries.Event.{Event}
-use Rattle.sgx_types.specs.declared.entries.Event.TheVariants.{Bus, Did}
+use Rattle.sgx_types.specs.declared.entries.Event.TheVariants.{Bus, Did, Refused}
 use Rattle.sgx_types.specs.declared.names.Cpu.{Cpu}
 use Rattle.seal_record.specs.declared.seal.SealWork.{SealWork}
 use Rattle.seal_record.specs.declared.unseal.UnsealWork.{UnsealWork}
@@ -16,7 +16,7 @@ use Rattle.driver_rules.specs.declared.waits.Why.{Why}
 use Rattle.driver_rules.specs.declared.waits.Why.TheVariants as waits
 use Rattle.driver_rules.specs.Dues.{Due, Fetches, Finished, KicksAll, LooksAt, Makes, Stopped, TriesOut, Waits}
 use Rattle.driver_rules.specs.Reclaims.{reclaimer_due}
-use Rattle.driver_rules.specs.Stops.{is_spent}
+use Rattle.driver_rules.specs.Stops.{is_spent, started}
 use Rattle.driver_rules.specs.Turns.{builder_due, cpu_due, last_of}
 use Rattle.driver_laws.specs.Agrees.{loaded_by}
 use Rattle.fault_handler.specs.Repeating.{IsAgain}
@@ -67,9 +67,10 @@ IsBuilderTurn old _ new told spare = ⊥
 abbrev pub OpensFor : Course → Cpu → UnsealWork → Type 0
 OpensFor c cpu work = IsAgain cpu c.driver c.machine (Some work)
 
--- a turn of a processor. A load has started in it, or was open before
+-- a turn of a processor. By an entry it starts nothing; or a load has started in it, or was open before
 abbrev pub IsCpuTurn : Course → Cpu → Turn → Course → Option (List Call) → ℕ → Type 0
-IsCpuTurn old cpu (turns.Did n) new told spare = (n ≡ 1) × Grows old (actors.Cpu cpu) 1 new told spare
+IsCpuTurn old cpu (turns.Did n) new told spare =
+    (n ≡ 1) × (started (past_of new) (actors.Cpu cpu) ≡ false) × Grows old (actors.Cpu cpu) 1 new told spare
 IsCpuTurn old cpu (turns.Unseal work) new told spare =
     OpensFor new cpu work × (Grows old (actors.Cpu cpu) 1 new told spare ⊎ IsSame old new)
 IsCpuTurn old cpu (turns.Again why) new told spare = IsWaitBy (cpu_due old.job (past_of old) cpu.0) why × IsSame old new
@@ -77,15 +78,24 @@ IsCpuTurn old cpu turns.Finished new told spare = (cpu_due old.job (past_of old)
 IsCpuTurn old cpu turns.Stopped new told spare = (cpu_due old.job (past_of old) cpu.0 ≡ Stopped) × IsSame old new
 IsCpuTurn old cpu _ new told spare = ⊥
 
--- the newest of so many entries ends a load: its page came back by the only one, or by the second it is told why not
-abbrev pub EndsBy : ℕ → Event → Type 0
-EndsBy n (Did (Eld f) answer) = n ≡ 1
-EndsBy n (Bus page why) = n ≡ 2
-EndsBy n event = ⊥
+-- a load is refused
+abbrev pub RefusesLoad : Event → Type 0
+RefusesLoad (Refused (Eld f) refusal) = Unit {0}
+RefusesLoad event = ⊥
+
+abbrev pub IsRefusedLoad : List Entry → Type 0
+IsRefusedLoad [] = ⊥
+IsRefusedLoad (e ∷ past) = RefusesLoad e.event
+
+-- the newest of so many entries ends a load: its page came back by the only one, or it was refused, and by the second it is told why
+abbrev pub EndsBy : ℕ → Event → List Entry → Type 0
+EndsBy n (Did (Eld f) answer) past = n ≡ 1
+EndsBy n (Bus page why) past = (n ≡ 2) × IsRefusedLoad past
+EndsBy n event past = ⊥
 
 abbrev pub EndsLoad : ℕ → List Entry → Type 0
 EndsLoad n [] = ⊥
-EndsLoad n (e ∷ past) = EndsBy n e.event
+EndsLoad n (e ∷ past) = EndsBy n e.event past
 
 -- the end of a processor's started load
 abbrev pub IsOpened : Course → Cpu → Turn → Course → Option (List Call) → ℕ → Type 0
@@ -122,18 +132,28 @@ MakesMany (TriesOut f) n = n ≡ 1
 MakesMany (KicksAll cpus) n = n ≡ length cpus
 MakesMany due n = ⊥
 
--- a turn of the reclaimer. A write-out has started in it, or was open before
+-- a turn of the reclaimer. By entries it starts nothing; or a write-out has started in it, or was open before
 abbrev pub IsReclaimerTurn : Course → Turn → Course → Option (List Call) → ℕ → Type 0
-IsReclaimerTurn old (turns.Did n) new told spare = MakesMany (due_of old) n × Grows old actors.Reclaimer n new told spare
+IsReclaimerTurn old (turns.Did n) new told spare =
+    MakesMany (due_of old) n × (started (past_of new) actors.Reclaimer ≡ false) × Grows old actors.Reclaimer n new told spare
 IsReclaimerTurn old (turns.Seal work) new told spare = SealsFor new work × (Grows old actors.Reclaimer 1 new told spare ⊎ IsSame old new)
 IsReclaimerTurn old (turns.Again why) new told spare = IsWaitBy (due_of old) why × IsAtRest old new
 IsReclaimerTurn old turns.Finished new told spare = (due_of old ≡ Finished) × IsSame old new
 IsReclaimerTurn old turns.Stopped new told spare = (is_spent (past_of old) ≡ true) × IsSame old new
 IsReclaimerTurn old _ new told spare = ⊥
 
+-- the newest entry ends a write-out
+abbrev pub WritesOut : Event → Type 0
+WritesOut (Did (Ewb f) answer) = Unit {0}
+WritesOut event = ⊥
+
+abbrev pub EndsOut : List Entry → Type 0
+EndsOut [] = ⊥
+EndsOut (e ∷ past) = WritesOut e.event
+
 -- the end of the started write-out
 abbrev pub IsSealed : Course → Turn → Course → Option (List Call) → ℕ → Type 0
 IsSealed old (turns.Did zero) new told spare = (is_sealing old.pass.phase ≡ false) × IsSame old new
-IsSealed old (turns.Did (suc n)) new told spare = (n ≡ 0) × Grows old actors.Reclaimer 1 new told spare
+IsSealed old (turns.Did (suc n)) new told spare = (n ≡ 0) × EndsOut (past_of new) × Grows old actors.Reclaimer 1 new told spare
 IsSealed old turns.Stopped new told spare = (is_spent (past_of old) ≡ true) × IsSame old new
 IsSealed old _ new told spare = ⊥

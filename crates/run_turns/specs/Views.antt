@@ -19,9 +19,10 @@ use Rattle.driver_rules.specs.Ages.{AgeRule, KickRule}
 use Rattle.driver_rules.specs.Dues.{Due, Finished, KicksAll}
 use Rattle.driver_rules.specs.Reclaims.{reclaimer_due}
 use Rattle.driver_rules.specs.Scripts.{IsEnded, ScriptRule}
-use Rattle.driver_rules.specs.Stops.{frame_started, is_spent, last_event}
+use Rattle.driver_rules.specs.Stops.{frame_started, is_spent, last_event, started}
 use Rattle.driver_rules.specs.Turns.{Loads, builder_due, cpu_due, last_of}
 use Rattle.driver_laws.specs.Agrees.{loaded_by}
+use Rattle.driver_laws.specs.Tracking.{TrackingRule}
 use Rattle.run_history.specs.Given.{UnforgedRun, gift}
 use Rattle.run_history.specs.Histories.{GoesOn}
 use Rattle.run_history.specs.Honest.{IsHonest}
@@ -29,7 +30,7 @@ use Rattle.run_history.specs.Stored.{PutsAreFlat, StoreTrue}
 use Rattle.run_book.specs.Lost.{AllCameBack}
 use Rattle.run_turns.specs.declared.turn.Turn.{Turn}
 use Rattle.run_turns.specs.declared.turn.Turn.TheVariants as turns
-use Rattle.run_turns.specs.Turns.{EndsLoad, IsWaitBy, MakesMany}
+use Rattle.run_turns.specs.Turns.{EndsLoad, EndsOut, IsWaitBy, MakesMany}
 
 -- the job, the entries so far, the newest first, what the store tells, and whether memory was refused to a worker
 pub record BookView : Type 0 where
@@ -43,12 +44,13 @@ pub record BookView : Type 0 where
 abbrev pub is_stopped : BookView → Bool
 is_stopped b = if b.noted then true else is_spent b.past
 
--- whatever the store gave: who makes which entry, the reclaimer's looks and kicks, no frame twice, no stale translation, only drained
+-- whatever the store gave: who makes which entry, the reclaimer's looks and kicks, who is inside since which epoch, no frame twice, no stale translation, only drained
 -- pages go out, versions rise, and the store's calls are those of the entries
 pub record HoldsAnyhow (b : BookView) : Type 0 where
   pub script : Along (ScriptRule b.job) b.past
   pub age : Along (AgeRule b.job) b.past
   pub kick : Along (KickRule b.job) b.past
+  pub tracking : Along (TrackingRule b.job.start_epoch) b.past
   pub fits : Fits b.job.epc b.past
   pub stale : Stale b.past
   pub evict : Along EvictRule b.past
@@ -96,9 +98,9 @@ pub record OpensLoad (b : BookView) (cpu : Cpu) (work : UnsealWork) : Type 0 whe
   pub version : IsSomeAnd (open_start b.past frame) (λ start. work.version ≡ start.version)
   pub given : IfSome b.told (λ calls. gift b.past calls frame ≡ Some work.rec)
 
--- a turn of a processor. A load has started in it, or was open before
+-- a turn of a processor. By an entry it starts nothing; or a load has started in it, or was open before
 abbrev pub IsRun : BookView → Cpu → Turn → BookView → Type 0
-IsRun old cpu (turns.Did n) new = (n ≡ 1) × HasGrown old (actors.Cpu cpu) 1 new
+IsRun old cpu (turns.Did n) new = (n ≡ 1) × (started new.past (actors.Cpu cpu) ≡ false) × HasGrown old (actors.Cpu cpu) 1 new
 IsRun old cpu (turns.Unseal work) new = OpensLoad new cpu work × (HasGrown old (actors.Cpu cpu) 1 new ⊎ (new ≡ old))
 IsRun old cpu (turns.Again why) new = IsWaitBy (cpu_due old.job old.past cpu.0) why × (new ≡ old)
 IsRun old cpu turns.Finished new = (cpu_due old.job old.past cpu.0 ≡ Finished) × (new ≡ old)
@@ -130,9 +132,10 @@ abbrev pub IsDueNow : BookView → Due → Type 0
 IsDueNow b due = (due ≡ reclaimer_due b.job b.past false)
     ⊎ ((reclaimer_due b.job b.past false ≡ KicksAll []) × (due ≡ reclaimer_due b.job b.past true))
 
--- a turn of the reclaimer. A write-out has started in it, or was open before
+-- a turn of the reclaimer. By entries it starts nothing; or a write-out has started in it, or was open before
 abbrev pub IsReclaim : BookView → Turn → BookView → Type 0
-IsReclaim old (turns.Did n) new = ((due : Due) × IsDueNow old due × MakesMany due n) × HasGrown old actors.Reclaimer n new
+IsReclaim old (turns.Did n) new =
+    ((due : Due) × IsDueNow old due × MakesMany due n) × (started new.past actors.Reclaimer ≡ false) × HasGrown old actors.Reclaimer n new
 IsReclaim old (turns.Seal work) new = SealsPageOut new work × (HasGrown old actors.Reclaimer 1 new ⊎ (new ≡ old))
 IsReclaim old (turns.Again why) new = ((due : Due) × IsDueNow old due × IsWaitBy due why) × (new ≡ old)
 IsReclaim old turns.Finished new = IsDueNow old Finished × (new ≡ old)
@@ -142,6 +145,6 @@ IsReclaim old _ new = ⊥
 -- the end of the started write-out
 abbrev pub IsOutEnd : BookView → Turn → BookView → Type 0
 IsOutEnd old (turns.Did zero) new = (frame_started (last_event old.past actors.Reclaimer) ≡ None) × (new ≡ old)
-IsOutEnd old (turns.Did (suc n)) new = (n ≡ 0) × HasGrown old actors.Reclaimer 1 new
+IsOutEnd old (turns.Did (suc n)) new = (n ≡ 0) × EndsOut new.past × HasGrown old actors.Reclaimer 1 new
 IsOutEnd old turns.Stopped new = (is_stopped old ≡ true) × (new ≡ old)
 IsOutEnd old _ new = ⊥

@@ -1,11 +1,12 @@
 //! Instructions that move no page out or back, and the turns of the builder.
 
-ghost use Rattle.std.specs.Prelude.{◌≡◌, IfOk, OnErr, length};
+ghost use Rattle.std.specs.Prelude.{◌≡◌, IfOk, OnErr, false, length};
+ghost use Rattle.driver_rules.specs.Stops.{started};
 ghost use Rattle.driver_steps.specs.Carried.{Carries};
 ghost use Rattle.paging_laws.specs.Steps.{CanApply, IsStep};
 ghost use Rattle.paging_machine.specs.Parts.{state_of};
 ghost use Rattle.run_turns.specs.declared.turn.Turn.TheVariants as turns;
-ghost use Rattle.run_turns.specs.Courses.{Grows, IsSame};
+ghost use Rattle.run_turns.specs.Courses.{Grows, IsSame, past_of};
 ghost use Rattle.run_turns.specs.Turns.{CanInstruct, CanTurn, IsBuilderTurn};
 
 use crate::course::Course;
@@ -53,6 +54,7 @@ impl Course {
         ensures turn { IfOk result (λ turn. turn ≡ turns.Did 1) }
         ensures more { IfOk result (λ turn. (can : CanInstruct self.old actor action)
             → Grows self.old actor 1 self.new can.told can.spare) }
+        ensures quiet { IfOk result (λ turn. CanInstruct self.old actor action → started (past_of self.new) actor ≡ false) }
         ensures memory { OnErr result (IsSame self.old self.new) }
     {
         self.entries.reserve(ROOM)?;

@@ -7,7 +7,7 @@ ghost use Rattle.reclaim_worker.specs.Standing.{is_sealing};
 ghost use Rattle.run_turns.specs.Courses.{Grows, IsSame, KeepsCourse, past_of};
 ghost use Rattle.run_turns.specs.Kicking.{CanKick, CanKickOne, HasKicked};
 ghost use Rattle.run_turns.specs.Passing.{CanFollow, CanTakeOwn, EndsNone, IsFollowed, IsSealOf, IsWaiting, is_left};
-ghost use Rattle.run_turns.specs.Turns.{CanTurn, IsReclaimerTurn, IsSealed};
+ghost use Rattle.run_turns.specs.Turns.{CanTurn, EndsOut, IsReclaimerTurn, IsSealed};
 ghost use Rattle.sgx_types.specs.declared.entries.Actor.TheVariants as actors;
 
 use crate::building::ROOM;
@@ -156,6 +156,7 @@ impl Course {
     fn take_own(&mut self, entry: Entry)
         requires { CanTakeOwn self.old entry }
         ensures grows { (can : CanTakeOwn self.old entry) → Grows self.old actors.Reclaimer 1 self.new can.longer can.spare }
+        ensures past { past_of self.new ≡ entry ∷ past_of self.old }
         ensures sealing { is_sealing self.new.pass.phase ≡ is_sealing self.old.pass.phase }
         ensures room { self.new.room ≡ self.old.room }
     {
@@ -242,6 +243,7 @@ impl Course {
         requires going { is_spent (past_of self.old) ≡ false }
         requires sealing { is_sealing self.old.pass.phase ≡ true }
         ensures grows { Grows self.old actors.Reclaimer 1 self.new (S.told store.new) (S.spare store.new) }
+        ensures ends { EndsOut (past_of self.new) }
         ensures plans { S.plans store.new ≡ S.plans store.old }
         ensures tells { is_some (S.told store.new) ≡ is_some (S.told store.old) }
     {

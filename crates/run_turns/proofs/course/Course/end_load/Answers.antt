@@ -8,8 +8,8 @@ use Rattle.run_turns.specs.Courses.{past_of}
 use Rattle.run_turns.specs.Recording.{CanTake}
 use Rattle.run_turns.proofs.InstructLaws.{cpus_of}
 use Rattle.run_turns.proofs.LoadCourse.{can_take, course_stands}
-use Rattle.run_turns.proofs.LoadEnds.{Takes, back_keeps, end_facts, grows_one, load_ends_here, load_ends_so, opened_can, took_in, took_past}
-use Rattle.run_turns.proofs.LoadPair.{back_done, first_stands, pair_grows, second_can, took_first}
+use Rattle.run_turns.proofs.LoadEnds.{Takes, back_keeps, end_facts, grows_one, load_ends_here, load_ends_so, opened_can, own_last, took_in, took_past}
+use Rattle.run_turns.proofs.LoadPair.{back_done, end_last, first_stands, pair_grows, second_can, took_first}
 use Rattle.run_turns.proofs.course.Course.end_load.Goals as goal
 
 pub finish-requires : goal.finish-requires
@@ -144,8 +144,9 @@ returns-in-Bus c = λ can.
     (second_can s new can.told can.spare c.args.cpu c.args.page c.finish.new.driver c.finish.new.machine c.mode-before.result
     c.mode-between.result e c.in-Bus.why can.keeps c.requires.cpu c.requires.going f took c.mode-between.ensures stands c.bus-told.result
     c.bus-told.ensures c.note.ensures.shape c.note.ensures.fits c.note.ensures.history) in (
-      load_ends_so last (past_of s) e c.args.cpu c.args.page c.in-Bus.why
-          (took_past new last (e ∷ past_of s) can.told c.mode-between.result (bus_of c.args.cpu c.args.page c.in-Bus.why) stands.same second),
+      load_ends_so last (past_of s) e c.args.cpu c.args.page c.in-Bus.why f.frame
+          (took_past new last (e ∷ past_of s) can.told c.mode-between.result (bus_of c.args.cpu c.args.page c.in-Bus.why) stands.same second)
+          f.acts (sym (own_last (past_of s) c.args.cpu e f.by) ∙ end_last s can.told c.args.cpu c.args.page c.finish.new.driver c.finish.new.machine e c.in-Bus.why f),
       pair_grows s new last can.told can.spare c.args.cpu c.args.page c.finish.new.driver c.finish.new.machine c.mode-before.result
           c.mode-between.result e c.in-Bus.why can.keeps c.requires.cpu f took stands second,
     ))

@@ -1,7 +1,9 @@
+use Rattle.std.proofs.Common.{subst, sym}
 use Rattle.turn_rules.specs.Machines.{machine_of}
 use Rattle.run_turns.specs.Courses.{past_of}
 use Rattle.paging_machine.specs.Parts.{state_of}
-use Rattle.run_turns.proofs.CallLaws.{stored_tells}
+use Rattle.run_turns.specs.Turns.{EndsOut}
+use Rattle.run_turns.proofs.CallLaws.{stored_tells, stored_writes}
 use Rattle.run_turns.proofs.EndTurnLaws.{course_open, end_is_own, one_out}
 use Rattle.run_turns.proofs.FollowLaws.{course_ready}
 use Rattle.run_turns.proofs.course.Course.end_write_out.Goals as goal
@@ -52,6 +54,14 @@ returns-clause-grows g c =
           (e.fits made past k.book.agrees.follows k.book.agrees.fits) e.cpus;
     }) in
     record { entries = grows.entries; count = grows.count; actors = grows.actors; past = grows.past; job = grows.job; keeps = grows.keeps }
+
+pub returns-clause-ends : goal.returns-clause-ends
+returns-clause-ends g c =
+    subst EndsOut (sym c.take_own.ensures.past)
+    (stored_writes c.args.self.now.pass.taken.items c.args.self.now.pass.phase (state_of c.args.self.now.machine)
+    (state_of c.stored-entry.new.machine) c.args.self.now.driver c.stored-entry.new.driver (g.S.Backing.told c.args.store.now)
+    (g.S.Backing.told c.stored-entry.new.store) (g.S.Backing.faults c.args.store.now) (g.S.Backing.faults c.stored-entry.new.store)
+    c.stored-entry.result c.stored-entry.ensures.says)
 
 pub returns-clause-tells : goal.returns-clause-tells
 returns-clause-tells g c =

@@ -1,8 +1,12 @@
-use Rattle.std.proofs.Common.{◌∷◌, ◌++◌, [], inl, refl, ap, sym, subst, ◌∙◌, arith}
+use Rattle.std.proofs.Common.{◌≡◌, false, reverse, ◌∷◌, ◌++◌, [], inl, refl, ap, sym, subst, ◌∙◌, arith}
 use Rattle.fault_handler.specs.declared.answers.FaultAnswer.TheVariants as answers
 use Rattle.run_turns.specs.Courses.{KeepsCourse}
 use Rattle.run_turns.proofs.LoadFetch.{again_keeps, again_same, again_waits_by, fetched_of, here_keeps, here_same, here_waits_by, mid, start_can, start_turns, told_takes, told_turns}
-use Rattle.run_turns.proofs.RecordLaws.{longer_apart}
+use Rattle.run_turns.proofs.RecordLaws.{longer_apart, newest, none_started_by}
+use Rattle.driver_calls.specs.Comes.{bus_of}
+use Rattle.driver_rules.specs.Stops.{started}
+use Rattle.sgx_types.specs.declared.entries.Actor.TheVariants as actors
+use Rattle.sgx_types.specs.declared.entries.Entry.{Entry}
 use Rattle.run_turns.proofs.SameLaws.{same_keeps}
 use Rattle.run_turns.proofs.course.Course.fetch.Goals as goal
 
@@ -114,6 +118,10 @@ returns-in-Bus-clause-turn g c =
     (sym c.has_place.ensures ∙ c.if-not-has_place.false) c.mode-before.ensures c.reserve.ensures.items (omega (arith, room))
     c.in_ok-resolve.ensures.does c.in_ok-resolve.ensures.right c.resolve.ensures.cpus c.in-Bus.is in (
       refl,
+      subst (λ h. started h (actors.Cpu c.args.cpu) ≡ false)
+          (sym (newest c.reserve.new.self.items c.take_in.new.self.entries.items c.bus-entry.result c.take_in.ensures.kept))
+          (subst (λ (e : Entry). started (e ∷ reverse c.reserve.new.self.items) (actors.Cpu c.args.cpu) ≡ false) (sym c.bus-entry.ensures)
+          (none_started_by (reverse c.reserve.new.self.items) (bus_of c.args.cpu c.args.page c.in-Bus.why) c.args.cpu refl refl)),
       told_turns c.in-Bus.why c.take_in.new.self (g.S.Backing.spare c.resolve.new.store) f c.bus-entry.result c.bus-entry.ensures
           c.note.ensures.shape c.note.ensures.fits c.note.ensures.history
           (record {

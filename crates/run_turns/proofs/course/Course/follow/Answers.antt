@@ -1,4 +1,6 @@
-use Rattle.std.proofs.Common.{◌≡◌, ℕ, List, length, refl, ap, subst, sym, ◌∙◌}
+use Rattle.reclaim_worker.specs.After.{kicked_past}
+use Rattle.run_turns.specs.Courses.{past_of}
+use Rattle.std.proofs.Common.{◌≡◌, ℕ, List, [], length, refl, ap, subst, sym, ◌∙◌}
 use Rattle.driver_rules.specs.Dues.{Due, KicksAll}
 use Rattle.run_turns.specs.Passing.{FollowsBy, IsFollowed}
 use Rattle.run_turns.specs.declared.turn.Turn.TheVariants as turns
@@ -6,12 +8,12 @@ use Rattle.run_turns.proofs.AnswerLaws.{did_by, own_by, sealed_by}
 use Rattle.run_turns.proofs.KickTurnLaws.{kicks_grow}
 use Rattle.run_turns.proofs.course.Course.follow.Goals as goal
 
-same_cpus : (a b : List ℕ) → KicksAll a ≡ KicksAll b → length a ≡ length b
-same_cpus a b same = ap many same
+same_cpus : (a b : List ℕ) → KicksAll a ≡ KicksAll b → a ≡ b
+same_cpus a b same = ap kicked same
   where
-    many : Due → ℕ
-    many (KicksAll cpus) = length cpus
-    many due = 0
+    kicked : Due → List ℕ
+    kicked (KicksAll cpus) = cpus
+    kicked due = []
 
 pub seal-requires-clause-can : goal.seal-requires-clause-can
 seal-requires-clause-can c =
@@ -30,6 +32,7 @@ pub returns-in-One : goal.returns-in-One
 returns-in-One c can =
     did_by c.args.self.now c.args.turn c.in-One.entry (turns.Did 1) c.take_own-in-One.new.self can.longer can.spare c.in-One.is (
       refl,
+      c.take_own-in-One.ensures.past,
       c.take_own-in-One.ensures.grows (record {
         longer = can.longer;
         spare = can.spare;
@@ -41,7 +44,11 @@ pub returns-in-Kicks : goal.returns-in-Kicks
 returns-in-Kicks c can =
     let own = subst (λ turn. FollowsBy c.args.self.now turn can.longer can.spare) c.in-Kicks.is can.by in
     subst (λ turn. IsFollowed c.args.self.now turn (turns.Did c.kick.result) c.kick.new.self can.longer can.spare) (sym c.in-Kicks.is) (
-      λ cpus due. c.kick.ensures.count own.kick ∙ same_cpus own.kick.cpus cpus (sym own.kick.due ∙ due),
+      λ cpus due.
+          (let same = same_cpus own.kick.cpus cpus (sym own.kick.due ∙ due) in (
+            c.kick.ensures.count own.kick ∙ ap length same,
+            (c.kick.ensures.kicked own.kick).past ∙ ap (λ ps. kicked_past ps (past_of c.args.self.now)) same,
+          )),
       kicks_grow c.args.self.now c.kick.new.self c.in-Kicks.bits can.longer can.spare c.kick.result own (c.kick.ensures.kicked own.kick)
           (c.kick.ensures.count own.kick),
     )

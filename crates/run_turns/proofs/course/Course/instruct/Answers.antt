@@ -1,11 +1,13 @@
-use Rattle.std.proofs.Common.{◌≤◌, ◌∷◌, sym, subst, ap, refl, arith}
+use Rattle.std.proofs.Common.{◌≡◌, false, reverse, ◌≤◌, ◌∷◌, sym, subst, ap, refl, arith}
 use Rattle.driver_tables.specs.declared.driver.Driver.{Driver}
 use Rattle.table_notes.specs.Arrays.{KeepsArrays}
 use Rattle.run_turns.specs.declared.course.Course.{Course}
 use Rattle.run_turns.specs.Courses.{past_of}
 use Rattle.run_turns.proofs.EndedLaws.{ends_told, none_fail}
-use Rattle.run_turns.proofs.InstructLaws.{acts, entered, lawful, notable, noted_by, plain_event}
+use Rattle.run_turns.proofs.InstructLaws.{none_started_of, acts, entered, lawful, notable, noted_by, plain_event}
 use Rattle.run_turns.proofs.KeepLaws.{grown_by_one, take_at}
+use Rattle.driver_rules.specs.Stops.{started}
+use Rattle.run_turns.proofs.RecordLaws.{newest, plain_is_none}
 use Rattle.run_turns.proofs.course.Course.instruct.Goals as goal
 
 pub apply-requires : goal.apply-requires
@@ -51,3 +53,12 @@ returns-clause-more c = λ can.
     (subst (λ n. n ≤ can.spare) (sym c.take_in.ensures.places) can.keeps.places)
     (subst (λ k. KeepsArrays s.job k (e ∷ past_of s)) (sym (ap (λ (d : Driver). d.slots) c.take_in.ensures.driver)) noted.arrays)
     (ends_told (past_of s) e quiet can.keeps.ends) (none_fail (past_of s) e quiet can.keeps.none) (omega (arith, room)) both.0)
+
+pub returns-clause-quiet : goal.returns-clause-quiet
+returns-clause-quiet c = λ can.
+    (let e = c.in_ok-entry.entry in
+    let both = acts c.args.self.now.machine c.apply.new.machine c.args.actor c.args.action e c.in_ok-entry.ensures.step in
+    let none = plain_is_none e.event c.args.action both.1 (lawful c.args.self.now c.args.actor c.args.action can).plain in
+    subst (λ h. started h c.args.actor ≡ false)
+    (sym (newest c.reserve.new.self.items c.take_in.new.self.entries.items e c.take_in.ensures.kept))
+    (none_started_of c.args.self.now (reverse c.reserve.new.self.items) e c.args.actor c.args.action can.due both.0 none))

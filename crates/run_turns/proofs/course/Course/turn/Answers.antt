@@ -84,7 +84,7 @@ returns-in-Makes-clause-turn g c =
         sym (c.cpu_due.ensures (machine_of s.job) (past_of s) k.agrees k.orderly k.turns)
             ∙ ap (due_in s.job (past_of s)) c.in-Makes.is,
       );
-    }) c.instruct.ensures.turn c.instruct.ensures.more
+    }) c.instruct.ensures.turn c.instruct.ensures.more c.instruct.ensures.quiet
 
 pub returns-in-Makes-clause-keeps : goal.returns-in-Makes-clause-keeps
 returns-in-Makes-clause-keeps g c =
