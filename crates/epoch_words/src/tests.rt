@@ -128,12 +128,13 @@ impl World {
     fn new(alloc: Global, job: &Job) -> Result<World, Fail> {
         let (words, seat, mut pass) = Words::new(alloc, job)?;
         let other = words.split_pass(&mut pass);
+        let count = words.enclaves();
         Ok(World {
             words,
             seat,
             pass,
             other,
-            count: job.enclaves().len(),
+            count,
         })
     }
 

@@ -111,6 +111,13 @@ impl Words {
         ))
     }
 
+    /// How many enclaves have a word.
+    pub fn enclaves(&self) -> usize
+        ensures { result ≡ enclaves self.now }
+    {
+        self.table.word_count()
+    }
+
     /// What the word of an enclave says. It is never behind what the pass has seen of the enclave. It takes no lock.
     pub fn observe(&self, pass: &mut Pass, enclave: u16) -> Seen
         requires words { pass.old.words ≡ self.now }

@@ -1,0 +1,4 @@
+pub mod WordLaws
+pub mod NoteLaws
+pub mod EntryLaws
+pub mod ManyLaws

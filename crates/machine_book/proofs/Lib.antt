@@ -1,0 +1,2 @@
+pub mod CreatedLaws
+pub mod GrownLaws
