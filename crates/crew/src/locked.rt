@@ -4,7 +4,8 @@ ghost use Rattle.std.specs.Prelude.{◌≡◌};
 ghost use Rattle.crew.specs.Actors.{IsOf};
 
 use backing_store::backing::Backing;
-use run_turns::book::Book;
+use epoch_words::words::Words;
+use machine_book::book::MachineBook;
 use run_turns::turn::Turn;
 use seal_record::seal::SealedWork;
 use seal_record::unseal::UnsealedWork;
@@ -13,30 +14,37 @@ use sgx_types::names::{Cpu, Memory};
 use std::alloc::Global;
 use std::marker::{Brand, PhantomData};
 
-/// The name of a run, which fixes its job.
+/// The name of a run, which fixes its job and its words.
 pub trait Run {
     ghost use Rattle.job_grammar.specs.Jobs.{JobView};
+    ghost use Rattle.crew.specs.Actors.{TableId};
 
     ghost job: { JobView };
+
+    ghost words: { TableId };
 }
 
 impl Run for Brand {
-    ghost use Rattle.crew.specs.Actors.{no_job};
+    ghost use Rattle.crew.specs.Actors.{no_job, no_words};
 
     ghost job = { no_job };
+
+    ghost words = { no_words };
 }
 
-/// A book of the run's job. When the lock is free the book keeps its promises, as every book does, and nothing else is known of it.
+/// A book of the run's job and words. When the lock is free the book keeps its promises, as every book does, and nothing else is known of it.
 #[derive(Drop)]
 pub struct Locked<B: Backing, N: Run> {
-    book: Book<B>,
+    book: MachineBook<B>,
     of: PhantomData<N>,
-    ghost same_job: { book.job ≡ N.job },
+    ghost same_job: { book.book.job ≡ N.job },
+    ghost same_words: { book.words ≡ N.words },
 }
 
 impl<B: Backing, N: Run> Locked<B, N> {
-    pub fn new(book: Book<B>) -> Locked<B, N>
-        requires { book.job ≡ N.job }
+    pub fn new(book: MachineBook<B>) -> Locked<B, N>
+        requires job { book.book.job ≡ N.job }
+        requires words { book.words ≡ N.words }
     {
         Locked {
             book,
@@ -44,21 +52,23 @@ impl<B: Backing, N: Run> Locked<B, N> {
         }
     }
 
-    pub fn into_book(self) -> Book<B>
-        ensures { result.job ≡ N.job }
+    pub fn into_book(self) -> MachineBook<B>
+        ensures job { result.book.job ≡ N.job }
+        ensures words { result.words ≡ N.words }
     {
         let Locked { book, of: _ } = self;
         book
     }
 
     /// A turn of an actor of the job.
-    pub fn turn(&mut self, alloc: Global, who: Actor) -> Result<Turn, Memory>
-        requires { IsOf N.job who }
+    pub fn turn(&mut self, alloc: Global, words: &Words, who: Actor) -> Result<Turn, Memory>
+        requires who { IsOf N.job who }
+        requires words { words.now ≡ N.words }
     {
         match who {
             Actor::Builder => self.book.build_turn(alloc),
-            Actor::Cpu(cpu) => self.book.turn(alloc, cpu),
-            Actor::Reclaimer => self.book.reclaim_turn(alloc),
+            Actor::Cpu(cpu) => self.book.turn(alloc, words, cpu),
+            Actor::Reclaimer => self.book.reclaim_turn(alloc, words),
         }
     }
 

@@ -10,8 +10,9 @@ use crate::tally::{Tally, count};
 use crate::waiting::Made;
 use crate::workers::work;
 use backing_store::backing::Backing;
+use epoch_words::words::{Pass, Words};
+use machine_book::book::MachineBook;
 use rounds::run::run;
-use run_turns::book::Book;
 use sgx_types::entries::Actor;
 use sgx_types::names::{Cpu, Memory};
 use std::alloc::Global;
@@ -23,41 +24,53 @@ use std::thread::Threads;
 /// Lets the builder, each processor and the reclaimer work on a book, each in a thread of its own, until nothing is left to anyone or the
 /// run is stopped. Nothing is supposed of the order in which they take the lock. What a worker knew of the book is not known behind the
 /// lock, so rounds of turns on one thread close the run; they call no gate. Where no thread can be made, the caller does that worker's
-/// turns. A run whose store fails for ever may not return.
+/// turns. While a processor keeps a page back, the reclaimer's worker looks at the word of that enclave, with the lock free; the words and
+/// the pass are those of the book's seat. A run whose store fails for ever may not return.
 pub fn run_crew<R: Threads + Wait + Sync, B: Backing + Send, G: Gate + Sync>(
     rt: &R,
     alloc: Global,
-    book: Book<B>,
+    book: MachineBook<B>,
+    words: &Words,
+    pass: Pass,
     gate: &G,
-) -> Result<(Book<B>, Tally), Memory>
-    ensures job { IfOk result (λ made. made.0.job ≡ book.job) }
-    ensures ended { IfOk result (λ made. IsEnded made.0.job made.0.past) }
-    ensures tally { IfOk result (λ made. IsTally (reverse made.0.past) (length made.0.job.scripts) made.1) }
+) -> Result<(MachineBook<B>, Tally), Memory>
+    requires words { book.words ≡ words.now }
+    requires pass { pass.words ≡ words.now }
+    ensures job { IfOk result (λ made. made.0.book.job ≡ book.book.job) }
+    ensures words { IfOk result (λ made. made.0.words ≡ book.words) }
+    ensures ended { IfOk result (λ made. IsEnded made.0.book.job made.0.book.past) }
+    ensures tally { IfOk result (λ made. IsTally (reverse made.0.book.past) (length made.0.book.job.scripts) made.1) }
 {
-    let mut book = run_named::<Brand, R, B, G>(rt, alloc, book, gate);
+    let mut book = run_named::<Brand, R, B, G>(rt, alloc, book, words, pass, gate);
     if book.noted() {
         return Err(Memory);
     }
-    run(rt, alloc, &mut book)?;
+    run(rt, alloc, &mut book, words)?;
     let cpus = book.job().scripts().len();
     let tally = count(alloc, book.entries(), cpus)?;
     Ok((book, tally))
 }
 
-// The same under a name, which fixes the job.
+// The same under a name, which fixes the job and the words.
 fn run_named<N: Run + Send + Sync, R: Threads + Wait + Sync, B: Backing + Send, G: Gate + Sync>(
     rt: &R,
     alloc: Global,
-    book: Book<B>,
+    book: MachineBook<B>,
+    words: &Words,
+    pass: Pass,
     gate: &G,
-) -> Book<B>
-    requires { book.job ≡ N.job }
-    ensures { result.job ≡ N.job }
+) -> MachineBook<B>
+    requires job { book.book.job ≡ N.job }
+    requires seat { book.words ≡ N.words }
+    requires words { words.now ≡ N.words }
+    requires pass { pass.words ≡ words.now }
+    ensures job { result.book.job ≡ N.job }
+    ensures words { result.words ≡ N.words }
 {
     let cpus = book.job().scripts().len() as u8;
     let shared: Mutex<Locked<B, N>> = Mutex::new(Locked::new(book));
     let made = Made::new();
-    in_threads(rt, alloc, &shared, &made, gate, cpus);
+    in_threads(rt, alloc, &shared, &made, words, pass, gate, cpus);
     shared.into_inner().into_book()
 }
 
@@ -68,34 +81,82 @@ fn in_threads<
     R: Threads + Wait + Sync,
     B: Backing + Send,
     G: Gate + Sync,
->(rt: &'x R, alloc: Global, shared: &'x Mutex<Locked<B, N>>, made: &'x Made, gate: &'x G, cpus: u8)
-    requires { cpus ≤ length N.job.scripts }
+>(
+    rt: &'x R,
+    alloc: Global,
+    shared: &'x Mutex<Locked<B, N>>,
+    made: &'x Made,
+    words: &'x Words,
+    mut pass: Pass,
+    gate: &'x G,
+    cpus: u8,
+)
+    requires cpus { cpus ≤ length N.job.scripts }
+    requires words { words.now ≡ N.words }
+    requires pass { pass.words ≡ words.now }
 {
     thread::scope(
         thread::scope_env(),
         rt,
         |scope| -> ()
-            requires { cpus ≤ length N.job.scripts }
+            requires { (cpus ≤ length N.job.scripts) × (words.now ≡ N.words) × (pass.words ≡ words.now) }
         {
+            let other = words.split_pass(&mut pass);
             if scope
-                .spawn(move || work(rt, alloc, shared, made, gate, Actor::Builder))
+                .spawn(move || work(rt, alloc, shared, made, words, None, gate, Actor::Builder))
                 .is_err()
             {
-                work(rt, alloc, shared, made, gate, Actor::Builder);
+                work(rt, alloc, shared, made, words, None, gate, Actor::Builder);
             }
             for number in 0..cpus {
                 if scope
-                    .spawn(move || work(rt, alloc, shared, made, gate, Actor::Cpu(Cpu(number))))
+                    .spawn(move || work(
+                        rt,
+                        alloc,
+                        shared,
+                        made,
+                        words,
+                        None,
+                        gate,
+                        Actor::Cpu(Cpu(number)),
+                    ))
                     .is_err()
                 {
-                    work(rt, alloc, shared, made, gate, Actor::Cpu(Cpu(number)));
+                    work(
+                        rt,
+                        alloc,
+                        shared,
+                        made,
+                        words,
+                        None,
+                        gate,
+                        Actor::Cpu(Cpu(number)),
+                    );
                 }
             }
             if scope
-                .spawn(move || work(rt, alloc, shared, made, gate, Actor::Reclaimer))
+                .spawn(move || work(
+                    rt,
+                    alloc,
+                    shared,
+                    made,
+                    words,
+                    Some(other),
+                    gate,
+                    Actor::Reclaimer,
+                ))
                 .is_err()
             {
-                work(rt, alloc, shared, made, gate, Actor::Reclaimer);
+                work(
+                    rt,
+                    alloc,
+                    shared,
+                    made,
+                    words,
+                    Some(pass),
+                    gate,
+                    Actor::Reclaimer,
+                );
             }
         },
     );

@@ -1,5 +1,8 @@
 //! How a worker waits that had nothing to do.
 
+ghost use Rattle.std.specs.Prelude.{◌≡◌};
+
+use epoch_words::words::{Pass, Words};
 use std::sync::atomic::{AtomicU64, Ordering};
 use std::thread;
 
@@ -8,6 +11,9 @@ const LOOKS: u32 = 64;
 
 // It waits for 2 to the power of this many turns at most.
 const MOST: u32 = 6;
+
+// Who waits for processors to leave an enclave looks at its word so often at most.
+const WORD_LOOKS: u32 = 1000;
 
 /// How many turns made something. A worker that was answered that it has to wait looks at it in place of the lock, so that those who have
 /// something to do find the lock free.
@@ -38,5 +44,22 @@ impl Made {
             }
             thread::yield_now();
         }
+    }
+}
+
+/// Looks at the word of an enclave until no processor is inside since before its last track, and a short while at most. It takes no lock. A
+/// number that no enclave has is not looked at.
+pub(crate) fn watch(words: &Words, pass: &mut Pass, enclave: u16)
+    requires { pass.old.words ≡ words.now }
+    ensures { pass.new.words ≡ pass.old.words }
+{
+    if enclave == 0 || usize::from(enclave) > words.enclaves() {
+        return;
+    }
+    for _ in 0..WORD_LOOKS {
+        if words.observe(pass, enclave).older == 0 {
+            return;
+        }
+        thread::yield_now();
     }
 }

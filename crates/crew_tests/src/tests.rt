@@ -1,12 +1,17 @@
+ghost use Rattle.std.specs.Prelude.{◌≡◌, IfOk, length, replicate};
+ghost use Rattle.epoch_words.specs.Known.{enclaves};
+ghost use Rattle.epoch_words.specs.Seen.{starting_at};
+
 use crate::meeting::Meeting;
 use crate::seen_store::SeenStore;
 use backing_store::planned_store::PlannedStore;
 use crew::gate::OpenGate;
 use crew::run::run_crew;
+use epoch_words::words::{HardwareSeat, Words};
 use job_grammar::jobs::Job;
 use job_text::reader::read_job;
-use run_turns::book::Book;
-use sgx_types::entries::{Action, Answer, Event};
+use machine_book::book::MachineBook;
+use sgx_types::entries::{Action, Actor, Answer, Event};
 use sgx_types::names::Memory;
 use std::alloc::Global;
 use std::sync::atomic::{AtomicU64, Ordering};
@@ -33,10 +38,20 @@ fn adds(alloc: Global) -> Result<Vec<u8>, Fail> {
 fn four_processors_add_in_threads(rt: HostRuntime) -> Result<(), Fail> {
     let alloc = rt.alloc();
     let job = read_job(alloc, &adds(alloc)?)?;
-    let book = Book::start(alloc, job, PlannedStore::new())?;
-    let (book, tally) = run_crew(&rt, alloc, book, &OpenGate)?;
+    let (words, seat, mut pass) = Words::new(alloc, &job)?;
+    let mut after = words.split_pass(&mut pass);
+    let book = MachineBook::start(alloc, job, PlannedStore::new(), seat)?;
+    let (book, tally) = run_crew(&rt, alloc, book, &words, pass, &OpenGate)?;
     let mut seen = vec![in alloc; false; 400]?;
+    let mut tracks = 0u64;
     for entry in book.entries() {
+        if let Event::Did {
+            action: Action::Track { .. },
+            ..
+        } = entry.event
+        {
+            tracks = tracks.wrapping_add(1);
+        }
         if let Event::Did {
             action: Action::Xadd { .. },
             answer: Answer::Value(value),
@@ -49,6 +64,12 @@ fn four_processors_add_in_threads(rt: HostRuntime) -> Result<(), Fail> {
     }
     assert_eq!(rt; seen.iter().all(|once| *once), true);
     assert_eq!(rt; tally.cpus.len(), 4);
+    // The word of the enclave counts the tracks, and nobody is inside any more.
+    assert!(rt; words.enclaves() == 1);
+    let word = words.observe(&mut after, 1);
+    assert!(rt; tracks > 10);
+    assert_eq!(rt; word.epoch, tracks.wrapping_add(1));
+    assert_eq!(rt; (word.older, word.newer), (0, 0));
     Ok(())
 }
 
@@ -56,17 +77,82 @@ fn four_processors_add_in_threads(rt: HostRuntime) -> Result<(), Fail> {
 fn seen_book<'a>(
     alloc: Global,
     job: Job,
+    seat: HardwareSeat,
     inside: &'a AtomicU64,
     calls: &'a AtomicU64,
     alone: &'a AtomicU64,
-) -> Result<Book<SeenStore<'a>>, Memory> {
+) -> Result<MachineBook<SeenStore<'a>>, Memory>
+    requires enclaves { enclaves seat.words ≡ length job.enclaves }
+    requires seen { seat.seen ≡ replicate (length job.enclaves) (starting_at job.start_epoch) }
+    ensures { IfOk result (λ book. book.words ≡ seat.words) }
+{
     let store = SeenStore {
         store: PlannedStore::new(),
         inside,
         calls,
         alone,
     };
-    Book::start(alloc, job, store)
+    MachineBook::start(alloc, job, store, seat)
+}
+
+// Sixteen processors, two in each of eight enclaves with ten pages, add one to a word of theirs fifty times each, in an EPC of 64 frames.
+fn crowd(alloc: Global) -> Result<Vec<u8>, Fail> {
+    let mut job = Vec::new(alloc);
+    job.extend_from_slice(b"epc 64\n")?;
+    for letter in ["A", "B", "C", "D", "E", "F", "G", "H"] {
+        job.extend_from_slice(format!(in alloc;
+            "enclave {letter} 0x10000 0x10000\ntcs 0 2 1 plain\ntcs 1 3 1 plain\nreg 2 8 rw 0 plain\n"
+        )?.as_bytes())?;
+    }
+    let mut number = 0u64;
+    for letter in ["A", "B", "C", "D", "E", "F", "G", "H"] {
+        for tcs in 0..2 {
+            job.extend_from_slice(format!(in alloc;
+                "cpu {number}\neenter {letter} {tcs}\n"
+            )?.as_bytes())?;
+            number = number.wrapping_add(1);
+            for _ in 0..50 {
+                job.extend_from_slice(b"xadd 0x4000 1\n")?;
+            }
+            job.extend_from_slice(b"eexit\n")?;
+        }
+    }
+    Ok(job)
+}
+
+#[test]
+fn sixteen_processors_add_in_eight_enclaves(rt: HostRuntime) -> Result<(), Fail> {
+    let alloc = rt.alloc();
+    let job = read_job(alloc, &crowd(alloc)?)?;
+    let (words, seat, pass) = Words::new(alloc, &job)?;
+    let book = MachineBook::start(alloc, job, PlannedStore::new(), seat)?;
+    let (book, tally) = run_crew(&rt, alloc, book, &words, pass, &OpenGate)?;
+    // Of each enclave each number from 0 to 99 is answered once.
+    let mut seen = vec![in alloc; false; 800]?;
+    for entry in book.entries() {
+        if let (
+            Actor::Cpu(cpu),
+            Event::Did {
+                action: Action::Xadd { .. },
+                answer: Answer::Value(value),
+            },
+        ) = (entry.actor, entry.event)
+        {
+            if value < 100
+                && let Some(once) = seen.get_mut(
+                    (usize::from(cpu.0) / 2)
+                        .wrapping_mul(100)
+                        .wrapping_add(value as usize),
+                )
+            {
+                *once = !*once;
+            }
+        }
+    }
+    assert_eq!(rt; seen.iter().all(|once| *once), true);
+    assert_eq!(rt; tally.cpus.len(), 16);
+    assert!(rt; tally.reclaimer > 0);
+    Ok(())
 }
 
 #[test]
@@ -76,8 +162,9 @@ fn two_processors_meet_at_the_gate(rt: HostRuntime) -> Result<(), Fail> {
     let gate = Meeting::new();
     let calls = AtomicU64::new(0);
     let alone = AtomicU64::new(0);
-    let book = seen_book(alloc, job, &gate.inside, &calls, &alone)?;
-    let (_, tally) = run_crew(&rt, alloc, book, &gate)?;
+    let (words, seat, pass) = Words::new(alloc, &job)?;
+    let book = seen_book(alloc, job, seat, &gate.inside, &calls, &alone)?;
+    let (_, tally) = run_crew(&rt, alloc, book, &words, pass, &gate)?;
     assert_eq!(rt; gate.late.load(Ordering::SeqCst), 0);
     assert_eq!(rt; gate.came[0].load(Ordering::SeqCst), 1);
     assert_eq!(rt; gate.came[1].load(Ordering::SeqCst), 1);

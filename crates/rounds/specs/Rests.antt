@@ -4,11 +4,13 @@ use Rattle.driver_rules.specs.Dues.{Finished}
 use Rattle.driver_rules.specs.Stops.{is_spent}
 use Rattle.driver_rules.specs.Turns.{builder_due, cpu_due}
 use Rattle.run_turns.specs.Views.{BookView}
+use Rattle.machine_book.specs.Words.{MachineView}
 
--- a book of the same job, to which no want of memory was noted
-pub record IsSameRun (old new : BookView) : Type 0 where
-  pub job : new.job ≡ old.job
-  pub noted : new.noted ≡ false
+-- a book of the same job and of the same words, to which no want of memory was noted
+pub record IsSameRun (old new : MachineView) : Type 0 where
+  pub job : new.book.job ≡ old.book.job
+  pub words : new.words ≡ old.words
+  pub noted : new.book.noted ≡ false
 
 -- the builder has nothing more to do, unless the run was stopped
 abbrev pub BuilderRests : BookView → Type 0

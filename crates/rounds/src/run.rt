@@ -6,7 +6,8 @@ ghost use Rattle.std.specs.Prelude.{◌≡◌, OnOk, IfOk, false, length, true};
 
 use crate::turns::{build, cpus_of, reclaim, run_cpu};
 use backing_store::backing::Backing;
-use run_turns::book::Book;
+use epoch_words::words::Words;
+use machine_book::book::MachineBook;
 use sgx_types::names::{Cpu, Memory};
 use std::alloc::Global;
 use std::sync::Wait;
@@ -14,14 +15,21 @@ use std::sync::Wait;
 /// Takes rounds of turns of a book on one thread, each with its work done and committed at once: the builder, the reclaimer and each
 /// processor, until a round in which nobody had anything more to do, or the run was stopped for want of an epoch or a version.
 /// A run whose store fails for ever may not return.
-pub fn run<R: Wait, B: Backing>(rt: &R, alloc: Global, book: &mut Book<B>) -> Result<(), Memory>
-    requires { book.old.noted ≡ false }
-    ensures job { book.new.job ≡ book.old.job }
-    ensures noted { book.new.noted ≡ false }
-    ensures ended { OnOk result (IsEnded book.new.job book.new.past) }
+pub fn run<R: Wait, B: Backing>(
+    rt: &R,
+    alloc: Global,
+    book: &mut MachineBook<B>,
+    words: &Words,
+) -> Result<(), Memory>
+    requires noted { book.old.book.noted ≡ false }
+    requires words { book.old.words ≡ words.now }
+    ensures job { book.new.book.job ≡ book.old.book.job }
+    ensures words { book.new.words ≡ book.old.words }
+    ensures noted { book.new.book.noted ≡ false }
+    ensures ended { OnOk result (IsEnded book.new.book.job book.new.book.past) }
 {
     for _ in rt.forever() {
-        if is_last_round(alloc, book)? {
+        if is_last_round(alloc, book, words)? {
             return Ok(());
         }
     }
@@ -29,29 +37,39 @@ pub fn run<R: Wait, B: Backing>(rt: &R, alloc: Global, book: &mut Book<B>) -> Re
 }
 
 // One round. Whether nobody had anything more to do.
-fn is_last_round<B: Backing>(alloc: Global, book: &mut Book<B>) -> Result<bool, Memory>
-    requires { book.old.noted ≡ false }
+fn is_last_round<B: Backing>(
+    alloc: Global,
+    book: &mut MachineBook<B>,
+    words: &Words,
+) -> Result<bool, Memory>
+    requires noted { book.old.book.noted ≡ false }
+    requires words { book.old.words ≡ words.now }
     ensures run { IsSameRun book.old book.new }
-    ensures ended { IfOk result (λ is_last. is_last ≡ true → IsEnded book.new.job book.new.past) }
+    ensures ended { IfOk result (λ is_last. is_last ≡ true → IsEnded book.new.book.job book.new.book.past) }
 {
     let is_built = build(alloc, book)?;
-    let is_calm = reclaim(alloc, book)?;
-    let is_done = run_cpus(alloc, book)?;
+    let is_calm = reclaim(alloc, book, words)?;
+    let is_done = run_cpus(alloc, book, words)?;
     // Every book tells what holds of it.
     let _ = book.entries();
     Ok(is_built && is_calm && is_done)
 }
 
 // A turn of each processor. Whether none has anything more to do.
-fn run_cpus<B: Backing>(alloc: Global, book: &mut Book<B>) -> Result<bool, Memory>
-    requires { book.old.noted ≡ false }
+fn run_cpus<B: Backing>(
+    alloc: Global,
+    book: &mut MachineBook<B>,
+    words: &Words,
+) -> Result<bool, Memory>
+    requires noted { book.old.book.noted ≡ false }
+    requires words { book.old.words ≡ words.now }
     ensures run { IsSameRun book.old book.new }
     ensures rest { IfOk result (λ is_done. is_done ≡ true
-        → (book.new ≡ book.old) × CpusRest book.new (length book.new.job.scripts)) }
+        → (book.new.book ≡ book.old.book) × CpusRest book.new.book (length book.new.book.job.scripts)) }
 {
     let mut is_done = true;
     for number in 0..cpus_of(book.job()) {
-        if !run_cpu(alloc, book, Cpu(number))? {
+        if !run_cpu(alloc, book, words, Cpu(number))? {
             is_done = false;
         }
     }

@@ -4,8 +4,9 @@ ghost use Rattle.rounds.specs.Rests.{BuilderRests, CpuRests, IsSameRun};
 ghost use Rattle.std.specs.Prelude.{◌≡◌, ◌<◌, IfOk, false, length, true};
 
 use backing_store::backing::Backing;
+use epoch_words::words::Words;
 use job_grammar::jobs::Job;
-use run_turns::book::Book;
+use machine_book::book::MachineBook;
 use run_turns::turn::Turn;
 use seal_record::seal::seal;
 use seal_record::unseal::unseal;
@@ -13,10 +14,10 @@ use sgx_types::names::{Cpu, Memory};
 use std::alloc::Global;
 
 /// A turn of the builder. Whether it has nothing more to do.
-pub(crate) fn build<B: Backing>(alloc: Global, book: &mut Book<B>) -> Result<bool, Memory>
-    requires { book.old.noted ≡ false }
+pub(crate) fn build<B: Backing>(alloc: Global, book: &mut MachineBook<B>) -> Result<bool, Memory>
+    requires { book.old.book.noted ≡ false }
     ensures run { IsSameRun book.old book.new }
-    ensures rests { IfOk result (λ is_built. is_built ≡ true → (book.new ≡ book.old) × BuilderRests book.new) }
+    ensures rests { IfOk result (λ is_built. is_built ≡ true → (book.new.book ≡ book.old.book) × BuilderRests book.new.book) }
 {
     match book.build_turn(alloc)? {
         Turn::Finished | Turn::Stopped => Ok(true),
@@ -25,12 +26,17 @@ pub(crate) fn build<B: Backing>(alloc: Global, book: &mut Book<B>) -> Result<boo
 }
 
 /// A turn of the reclaimer. Whether it has nothing more to do.
-pub(crate) fn reclaim<B: Backing>(alloc: Global, book: &mut Book<B>) -> Result<bool, Memory>
-    requires { book.old.noted ≡ false }
+pub(crate) fn reclaim<B: Backing>(
+    alloc: Global,
+    book: &mut MachineBook<B>,
+    words: &Words,
+) -> Result<bool, Memory>
+    requires noted { book.old.book.noted ≡ false }
+    requires words { book.old.words ≡ words.now }
     ensures run { IsSameRun book.old book.new }
-    ensures rests { IfOk result (λ is_calm. is_calm ≡ true → book.new ≡ book.old) }
+    ensures rests { IfOk result (λ is_calm. is_calm ≡ true → book.new.book ≡ book.old.book) }
 {
-    match book.reclaim_turn(alloc)? {
+    match book.reclaim_turn(alloc, words)? {
         Turn::Seal(work) => {
             let _ = book.commit_sealed(seal(work));
             Ok(false)
@@ -43,15 +49,17 @@ pub(crate) fn reclaim<B: Backing>(alloc: Global, book: &mut Book<B>) -> Result<b
 /// A turn of a processor of the job. Whether it has nothing more to do.
 pub(crate) fn run_cpu<B: Backing>(
     alloc: Global,
-    book: &mut Book<B>,
+    book: &mut MachineBook<B>,
+    words: &Words,
     cpu: Cpu,
 ) -> Result<bool, Memory>
-    requires noted { book.old.noted ≡ false }
-    requires low { cpu.0 < length book.old.job.scripts }
+    requires noted { book.old.book.noted ≡ false }
+    requires words { book.old.words ≡ words.now }
+    requires low { cpu.0 < length book.old.book.job.scripts }
     ensures run { IsSameRun book.old book.new }
-    ensures rests { IfOk result (λ is_done. is_done ≡ true → (book.new ≡ book.old) × CpuRests book.new cpu.0) }
+    ensures rests { IfOk result (λ is_done. is_done ≡ true → (book.new.book ≡ book.old.book) × CpuRests book.new.book cpu.0) }
 {
-    match book.turn(alloc, cpu)? {
+    match book.turn(alloc, words, cpu)? {
         Turn::Unseal(work) => {
             let _ = book.commit_opened(cpu, unseal(work));
             Ok(false)

@@ -7,8 +7,10 @@ use crate::ends::{End, end_of};
 use backing_store::backing::Backing;
 use crew::gate::Gate;
 use crew::run::run_crew;
+use epoch_words::words::Words;
 use job_grammar::jobs::Job;
-use run_turns::book::{Book, Parts};
+use machine_book::book::MachineBook;
+use run_turns::book::Parts;
 use sgx_types::entries::Entry;
 use sgx_types::names::Memory;
 use std::alloc::Global;
@@ -40,8 +42,9 @@ pub fn run_job<R: Threads + Wait + Sync, B: Backing + Send, G: Gate + Sync>(
     ensures run { IfOk result (λ run.
         WholeRun run.job (reverse run.entries.items) run.end (B.told run.store) (B.plans run.store)) }
 {
-    let book = Book::start(alloc, job, store)?;
-    let (book, _) = run_crew(rt, alloc, book, gate)?;
+    let (words, seat, pass) = Words::new(alloc, &job)?;
+    let book = MachineBook::start(alloc, job, store, seat)?;
+    let (book, _) = run_crew(rt, alloc, book, &words, pass, gate)?;
     let Parts {
         job,
         entries,

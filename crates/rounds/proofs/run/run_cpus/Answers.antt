@@ -7,11 +7,15 @@ use Rattle.rounds.proofs.run.run_cpus.Goals.{then-not-branch, else-not-branch}
 -- a processor with something to do makes the round one of many; one without leaves the book as it was
 pub loop-number-preserved : goal.loop-number-preserved
 loop-number-preserved g c = (
-  record { job = c.in_ok-run_cpu.ensures.run.job ∙ c.loop-number.invariant.0.job; noted = c.in_ok-run_cpu.ensures.run.noted },
+  record {
+    job = c.in_ok-run_cpu.ensures.run.job ∙ c.loop-number.invariant.0.job;
+    words = c.in_ok-run_cpu.ensures.run.words ∙ c.loop-number.invariant.0.words;
+    noted = c.in_ok-run_cpu.ensures.run.noted;
+  },
   elim c.if-not-branch.branch [
     | then-not-branch w ↦ λ done. absurd (false≢true (sym w.is_done-is ∙ done))
     | else-not-branch w ↦ λ done.
-        rested_more c.args.book.now c.loop-number.book c.run_cpu.new.book c.loop-number.number
+        rested_more c.args.book.now.book c.loop-number.book.book c.run_cpu.new.book.book c.loop-number.number
         (c.loop-number.invariant.1 (sym w.is_done-is ∙ done)) (c.in_ok-run_cpu.ensures.rests w.if-not-branch.false)
   ],
 )

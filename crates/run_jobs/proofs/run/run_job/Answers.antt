@@ -7,7 +7,7 @@ use Rattle.run_jobs.proofs.run.run_job.Goals as goal
 
 pub returns-clause-run : goal.returns-clause-run
 returns-clause-run g c =
-    whole_of c.in_ok-book-2.book c.end_of-end.result c.into_parts-job.result.job (reverse c.into_parts-job.result.entries.items)
+    whole_of c.in_ok-book-2.book.book c.end_of-end.result c.into_parts-job.result.job (reverse c.into_parts-job.result.entries.items)
     (g.B.Backing.told c.into_parts-job.result.store) (g.B.Backing.plans c.into_parts-job.result.store) c.into_parts-job.ensures.holds
     c.in_ok-book-2.ensures.ended
     (subst (λ (xs : List Entry). IsEndOf (reverse xs) c.end_of-end.result) c.deref.ensures.value c.end_of-end.ensures)

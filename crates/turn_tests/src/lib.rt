@@ -1,0 +1,9 @@
+// Turns of a book taken by hand: what stands between the start of a write-out or of a load and its end.
+#![tactic(auto)]
+
+#[cfg(test)]
+mod loads;
+#[cfg(test)]
+mod worlds;
+#[cfg(test)]
+mod write_outs;

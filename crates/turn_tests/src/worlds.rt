@@ -1,0 +1,95 @@
+//! A book of a job whose pages do not fit, with its words.
+
+ghost use Rattle.std.specs.Prelude.{◌≡◌, ◌<◌, length};
+
+use backing_store::planned_store::PlannedStore;
+use epoch_words::words::Words;
+use job_text::reader::read_job;
+use machine_book::book::MachineBook;
+use run_turns::turn::Turn;
+use seal_record::seal::{SealWork, SealedWork, seal};
+use seal_record::unseal::{UnsealWork, UnsealedWork};
+use sgx_types::entries::Entry;
+use sgx_types::names::{Cpu, Memory};
+use std::alloc::Global;
+use std::process::Abort;
+use std::test::Fail;
+
+// One processor stores to 40 pages, and loads from them, in an EPC of 12 frames for 42 pages.
+const FORTY_PAGES: &[u8] =
+    b"epc 12\nenclave A 0x40000 0x40000\ntcs 0 1 1 plain\nreg 1 1 rw 0 plain\nreg 2 40 rw 0 plain\ncpu 0\neenter A 0\nstore 0x2000 1\nstore 0x3000 2\nstore 0x4000 3\nstore 0x5000 4\nstore 0x6000 5\nstore 0x7000 6\nstore 0x8000 7\nstore 0x9000 8\nstore 0xa000 9\nstore 0xb000 10\nstore 0xc000 11\nstore 0xd000 12\nstore 0xe000 13\nstore 0xf000 14\nstore 0x10000 15\nstore 0x11000 16\nstore 0x12000 17\nstore 0x13000 18\nstore 0x14000 19\nstore 0x15000 20\nstore 0x16000 21\nstore 0x17000 22\nstore 0x18000 23\nstore 0x19000 24\nstore 0x1a000 25\nstore 0x1b000 26\nstore 0x1c000 27\nstore 0x1d000 28\nstore 0x1e000 29\nstore 0x1f000 30\nstore 0x20000 31\nstore 0x21000 32\nstore 0x22000 33\nstore 0x23000 34\nstore 0x24000 35\nstore 0x25000 36\nstore 0x26000 37\nstore 0x27000 38\nstore 0x28000 39\nstore 0x29000 40\nload 0x2000\nload 0x3000\nload 0x4000\nload 0x5000\nload 0x6000\nload 0x7000\nload 0x8000\nload 0x9000\nload 0xa000\nload 0xb000\nload 0xc000\nload 0xd000\nload 0xe000\nload 0xf000\nload 0x10000\nload 0x11000\nload 0x12000\nload 0x13000\nload 0x14000\nload 0x15000\nload 0x16000\nload 0x17000\nload 0x18000\nload 0x19000\nload 0x1a000\nload 0x1b000\nload 0x1c000\nload 0x1d000\nload 0x1e000\nload 0x1f000\nload 0x20000\nload 0x21000\nload 0x22000\nload 0x23000\nload 0x24000\nload 0x25000\nload 0x26000\nload 0x27000\nload 0x28000\nload 0x29000\neexit\n";
+
+/// A book of that job, and its words.
+#[derive(Drop)]
+pub struct World {
+    book: MachineBook<PlannedStore>,
+    words: Words,
+    ghost theirs: { book.words ≡ words },
+    ghost some: { 0 < length book.book.job.scripts },
+}
+
+impl World {
+    pub fn new(rt: &impl Abort, alloc: Global) -> Result<Box<World>, Fail> {
+        let job = read_job(alloc, FORTY_PAGES)?;
+        assert!(rt; !job.scripts().is_empty());
+        let (words, seat, _) = Words::new(alloc, &job)?;
+        let book = MachineBook::start(alloc, job, PlannedStore::new(), seat)?;
+        Ok(Box::new(alloc, World { book, words })?)
+    }
+
+    pub fn entries(&self) -> &[Entry] {
+        self.book.entries()
+    }
+
+    pub fn build(&mut self, alloc: Global) -> Result<Turn, Memory> {
+        self.book.build_turn(alloc)
+    }
+
+    pub fn run(&mut self, alloc: Global) -> Result<Turn, Memory> {
+        self.book.turn(alloc, &self.words, Cpu(0))
+    }
+
+    pub fn reclaim(&mut self, alloc: Global) -> Result<Turn, Memory> {
+        self.book.reclaim_turn(alloc, &self.words)
+    }
+
+    pub fn end_write_out(&mut self, work: SealedWork) -> Turn {
+        self.book.commit_sealed(work)
+    }
+
+    pub fn end_load(&mut self, work: UnsealedWork) -> Turn {
+        self.book.commit_opened(Cpu(0), work)
+    }
+
+    /// Turns of the reclaimer until a write-out has started.
+    pub fn start_write_out(&mut self, rt: &impl Abort, alloc: Global) -> Result<SealWork, Fail> {
+        for _ in 0..1000 {
+            if let Turn::Seal(work) = self.reclaim(alloc)? {
+                return Ok(work);
+            }
+        }
+        panic!(rt; "no write-out has started");
+    }
+
+    /// Rounds of turns, each write-out ended at once, until the processor's load has started.
+    pub fn start_load(&mut self, rt: &impl Abort, alloc: Global) -> Result<UnsealWork, Fail> {
+        for _ in 0..10_000 {
+            if let Turn::Seal(work) = self.reclaim(alloc)? {
+                let _ = self.end_write_out(seal(work));
+            }
+            let _ = self.build(alloc)?;
+            if let Turn::Unseal(work) = self.run(alloc)? {
+                return Ok(work);
+            }
+        }
+        panic!(rt; "no load has started");
+    }
+}
+
+/// How many entries a turn made, none where it answered something else.
+pub fn made(turn: Turn) -> Option<u32> {
+    match turn {
+        Turn::Did { entries } => Some(entries),
+        _ => None,
+    }
+}
