@@ -18,9 +18,27 @@ size_of word = do
   n ← count_of word
   if nat_le 4 n && nat_le n 2000 then Some n else None
 
+-- ROUNDS is such a number from 1 to 100,000
+abbrev pub rounds_of : List ℕ → Option ℕ
+rounds_of word = do
+  n ← count_of word
+  if nat_le 1 n && nat_le n 100000 then Some n else None
+
 -- `run PATH`, where PATH is any word that is not empty
 abbrev pub with_path : List ℕ → List ℕ → Option Command
-with_path name path = if bytes_eq name (codes "run") && nat_lt 0 (length path) then Some commands.Run else None
+with_path name path =
+    if nat_lt 0 (length path)
+    then if bytes_eq name (codes "run") then Some commands.Run else None
+    else None
+
+-- `gate ROUNDS`
+abbrev pub with_rounds : List ℕ → Option Command
+with_rounds word = do
+  rounds ← rounds_of word
+  Some (commands.Gate rounds)
+
+abbrev pub with_word : List ℕ → List ℕ → Option Command
+with_word name word = if bytes_eq name (codes "gate") then with_rounds word else with_path name word
 
 abbrev pub sized_by : List ℕ → ℕ → ℕ → Option Command
 sized_by name number size =
@@ -36,12 +54,13 @@ with_size name first second = do
   sized_by name number size
 
 abbrev pub command_in : List (List ℕ) → Option Command
-command_in (name ∷ path ∷ []) = with_path name path
+command_in (name ∷ word ∷ []) = with_word name word
 command_in (name ∷ first ∷ second ∷ []) = with_size name first second
 command_in words = None
 
--- its size is one of those
+-- its size, or its rounds, are as many as those words can say
 abbrev pub IsSized : Command → Type 0
 IsSized commands.Run = Unit {0}
 IsSized (commands.Make number size) = (4 ≤ size) × (size ≤ 2000)
 IsSized (commands.Demo number size) = (4 ≤ size) × (size ≤ 2000)
+IsSized (commands.Gate rounds) = (1 ≤ rounds) × (rounds ≤ 100000)

@@ -1,6 +1,6 @@
 //! The command that the words of the command line name.
 
-ghost use Rattle.command_words.specs.Commands.{IsSized, command_in, count_of, is_digit, size_of, sized_by, with_path, with_size};
+ghost use Rattle.command_words.specs.Commands.{IsSized, command_in, count_of, is_digit, rounds_of, size_of, sized_by, with_path, with_rounds, with_size, with_word};
 ghost use Rattle.std.specs.List.{list_all};
 ghost use Rattle.std.specs.Prelude.{◌≡◌, ◌≤◌, IfSome, map, string_bytes};
 
@@ -17,18 +17,32 @@ pub enum Command {
 
     /// `demo NUMBER SIZE`: runs that job, and gives a summary.
     Demo { number: u64, size: u32 },
+
+    /// `gate ROUNDS`: from 1 to 100,000 rounds of four processors and a pager at a gate with no lock.
+    Gate { rounds: u32 },
 }
 
-/// The command that these words name, which stand without the program's name. NUMBER and SIZE are one to twenty decimal digits, with a value
-/// below 2^64.
+/// The command that these words name, which stand without the program's name. NUMBER, SIZE and ROUNDS are one to twenty decimal digits, with a
+/// value below 2^64.
 pub fn command_of(words: &[String]) -> Option<Command>
     ensures value { result ≡ command_in (map string_bytes words.now) }
     ensures sized { IfSome result IsSized }
 {
     match words {
-        [name, path] => path_command(name, path),
+        [name, word] => word_command(name, word),
         [name, first, second] => sized_command(name, first, second),
         _ => None,
+    }
+}
+
+fn word_command(name: &str, word: &str) -> Option<Command>
+    ensures value { result ≡ with_word name.now word.now }
+    ensures sized { IfSome result IsSized }
+{
+    if name == "gate" {
+        gate_command(word)
+    } else {
+        path_command(name, word)
     }
 }
 
@@ -36,11 +50,21 @@ fn path_command(name: &str, path: &str) -> Option<Command>
     ensures value { result ≡ with_path name.now path.now }
     ensures sized { IfSome result IsSized }
 {
-    if name == "run" && !path.is_empty() {
+    if path.is_empty() {
+        None
+    } else if name == "run" {
         Some(Command::Run)
     } else {
         None
     }
+}
+
+fn gate_command(word: &str) -> Option<Command>
+    ensures value { result ≡ with_rounds word.now }
+    ensures sized { IfSome result IsSized }
+{
+    let rounds = rounds(word.as_bytes())?;
+    Some(Command::Gate { rounds })
 }
 
 fn sized_command(name: &str, first: &str, second: &str) -> Option<Command>
@@ -93,6 +117,20 @@ fn size(word: &[u8]) -> Option<u32>
     let size = count(word)?;
     if (4..=2000).contains(&size) {
         Some(size as u32)
+    } else {
+        None
+    }
+}
+
+// .. from 1 to 100,000.
+fn rounds(word: &[u8]) -> Option<u32>
+    ensures value { result ≡ rounds_of word.now }
+    ensures least { IfSome result (λ rounds. 1 ≤ rounds) }
+    ensures most { IfSome result (λ rounds. rounds ≤ 100000) }
+{
+    let rounds = count(word)?;
+    if (1..=100_000).contains(&rounds) {
+        Some(rounds as u32)
     } else {
         None
     }

@@ -2,7 +2,7 @@
 
 ghost use Rattle.std.specs.Prelude.{◌≡◌, ℕ, ◌+◌, ◌*◌, ◌<◌, ◌≤◌, None, [], length, IfOk, OnOk, All, slice_index_or};
 ghost use Rattle.std.specs.Thread.{IsSync};
-ghost use Rattle.frame_gate.specs.declared.limits.TheConstants.{MOST_PAIRS, MOST_ENTRIES};
+ghost use Rattle.frame_gate.specs.declared.limits.TheConstants.{MOST_FRAMES, MOST_PAIRS, MOST_ENTRIES};
 ghost use Rattle.sgx_types.specs.declared.names.TheConstants.{PROCESSORS};
 ghost use Rattle.frame_gate.specs.Words.{IsFrame};
 ghost use Rattle.frame_gate.specs.Views.{visit};
@@ -193,11 +193,6 @@ pub fn run_gate<R: Threads + Wait + Sync>(
     Ok(())
 }
 
-/// The frames and the processors of the gate that `count_entries` makes.
-const FRAMES: u32 = 8;
-
-const RUNNERS: u32 = 4;
-
 /// The entries of all seats, each of which has entered so often.
 fn sum_entered(procs: &[ProcSeat], rounds: u32) -> u64
     requires few { length procs.now ≤ PROCESSORS }
@@ -228,15 +223,19 @@ fn run_new<R: Threads + Wait + Sync>(
     Ok(sum_entered(procs, rounds))
 }
 
-/// Many rounds on a new gate of eight frames and four processors, at most 100,000. It answers the entries of all.
+/// Many rounds on a new gate with so many frames and processors. It answers the entries of all.
 pub fn count_entries<R: Threads + Wait + Sync>(
     rt: &R,
     alloc: Global,
+    frames: u32,
+    processors: u32,
     rounds: u32,
 ) -> Result<u64, Memory>
-    requires { rounds ≤ 100000 }
-    ensures { IfOk result (λ sum. sum ≡ 4 * rounds) }
+    requires frames { (1 ≤ frames) × (frames ≤ MOST_FRAMES) }
+    requires processors { (1 ≤ processors) × (processors ≤ PROCESSORS) }
+    requires rounds { rounds ≤ MOST_ENTRIES }
+    ensures { IfOk result (λ sum. sum ≡ processors * rounds) }
 {
-    let (gate, mut pager, mut procs) = FrameGate::new(alloc, FRAMES, RUNNERS)?;
+    let (gate, mut pager, mut procs) = FrameGate::new(alloc, frames, processors)?;
     run_new(rt, &gate, &mut pager, procs.as_mut_slice(), rounds)
 }

@@ -249,6 +249,25 @@ fn who_entered_first_may_leave_last(rt: HostRuntime) -> Result<(), Fail> {
 
 #[test]
 fn each_round_is_entered_once(rt: HostRuntime) -> Result<(), Fail> {
-    assert_eq!(rt; count_entries(&rt, rt.alloc(), 1000), Ok(4000));
+    assert_eq!(rt; count_entries(&rt, rt.alloc(), 8, 4, 1000), Ok(4000));
+    Ok(())
+}
+
+// How long these take, `bench/gate` shows.
+#[test]
+fn one_processor_makes_many_rounds(rt: HostRuntime) -> Result<(), Fail> {
+    assert_eq!(rt;
+        count_entries(&rt, rt.alloc(), 8, 1, 1_000_000),
+        Ok(1_000_000)
+    );
+    Ok(())
+}
+
+#[test]
+fn four_processors_make_many_rounds(rt: HostRuntime) -> Result<(), Fail> {
+    assert_eq!(rt;
+        count_entries(&rt, rt.alloc(), 8, 4, 1_000_000),
+        Ok(4_000_000)
+    );
     Ok(())
 }

@@ -1,0 +1,6 @@
+// The command that runs a gate with no lock, and gives what came of it.
+#![tactic(auto)]
+
+pub mod counts;
+#[cfg(test)]
+mod tests;
