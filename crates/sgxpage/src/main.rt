@@ -1,84 +1,63 @@
 #![tactic(auto)]
 
-mod command;
-#[cfg(test)]
-mod cut_jobs;
-mod ended;
-mod fault_lines;
-mod jobs;
-mod making;
-#[cfg(test)]
-mod paged_jobs;
-mod replies;
-mod running;
-mod status;
-#[cfg(test)]
-mod tests;
-#[cfg(test)]
-mod two_enclaves;
-#[cfg(test)]
-mod worked_runs;
-
-use crate::command::{path_of, sgxpage};
-use crate::status::Status;
 use backing_store::planned_store::PlannedStore;
+use command_words::command::{Command, command_of};
 use crew::gate::OpenGate;
-use io_edges::failed_edges::FailedSink;
 use io_edges::late_file::LateFile;
 use io_edges::std_edges::{StdSink, StdSource};
+use page_commands::command::sgxpage;
+use page_commands::complaints::complain;
+use page_commands::status::Status;
 use std::env;
-use std::io::{self, Eprint, ErrorKind};
+use std::fs::File;
+use std::io::{self, ErrorKind};
+use std::os::fd::AsRawFd;
 use std::process::ExitCode;
 use std::sync::Wait;
 use std::thread::Threads;
 
 fn main(rt: HostRuntime) -> ExitCode {
-    let status = carry_out(&rt, &rt);
-    if status == Status::BadWords {
-        // Where the usage can't be printed, the status alone tells.
-        let _ = print_usage(&rt);
-    }
+    let status = match fill_streams(&rt) {
+        Ok(_held) => carry_out(&rt, &rt),
+        Err(_) => end(&rt, Status::WriteFault, None),
+    };
     ExitCode::from(status.code())
 }
 
-// The commands that there are.
-fn print_usage(rt: &impl Eprint) -> io::Result<()> {
-    eprintln!(rt; "usage: sgxpage run PATH | make NUMBER SIZE | demo NUMBER SIZE")
+// Takes the numbers of the standard streams that are closed, so that no file gets one of them and with it what is meant for that stream. A
+// directory can be opened, and each try to read or to write it is refused.
+fn fill_streams(rt: &HostRuntime) -> io::Result<[Option<File>; 3]> {
+    let mut held = [None, None, None];
+    for place in &mut held {
+        let directory = File::open(rt, "/")?;
+        if directory.as_raw_fd() > 2 {
+            break;
+        }
+        *place = Some(directory);
+    }
+    Ok(held)
 }
 
-// Does what the words of the command line say. A run makes threads, and may wait.
+// Does what the words of the command line say, and complains where that could not be done. A run makes threads, and may wait.
 fn carry_out<R: Threads + Wait + Sync>(rt: &HostRuntime, waits: &R) -> Status {
     let words = match given_words(rt) {
         Ok(words) => words,
-        Err(error) if error.kind() == ErrorKind::OutOfMemory => return Status::Memory,
-        // A word is no text.
-        Err(_) => return Status::BadWords,
+        Err(error) => return end(rt, unread_words(error.kind()), None),
     };
-    let mut job = StdSource::new(rt.stdin().reader());
-    let mut out = StdSink::new(io::writer(rt));
-    let ended = match path_of(&words) {
-        Some(path) => sgxpage(
-            waits,
-            rt.alloc(),
-            &words,
-            &mut job,
-            &mut out,
-            &mut StdSink::new(LateFile::new(rt, path)),
-            PlannedStore::new(),
-            &OpenGate,
-        ),
-        None => sgxpage(
-            waits,
-            rt.alloc(),
-            &words,
-            &mut job,
-            &mut out,
-            &mut FailedSink::new(),
-            PlannedStore::new(),
-            &OpenGate,
-        ),
-    };
-    ended.status
+    let path = trace_path(&words);
+    let mut trace = StdSink::new(LateFile::new(rt, path));
+    let ended = sgxpage(
+        waits,
+        rt.alloc(),
+        &words,
+        &mut StdSource::new(rt.stdin().reader()),
+        &mut StdSink::new(io::writer(rt)),
+        &mut trace,
+        PlannedStore::new(),
+        &OpenGate,
+    );
+    let untraced = if trace.faults() > 0 { Some(path) } else { None };
+    end(rt, ended.status, untraced)
 }
 
 // The words of the command line, without the program's name.
@@ -88,4 +67,26 @@ fn given_words(rt: &HostRuntime) -> io::Result<Vec<String>> {
         words.push(word)?;
     }
     Ok(words)
+}
+
+// A word that is no text is one of no command.
+fn unread_words(why: ErrorKind) -> Status {
+    match why {
+        ErrorKind::OutOfMemory => Status::Memory,
+        _ => Status::BadWords,
+    }
+}
+
+// The path that the words name. A command that gives no trace never opens it.
+fn trace_path(words: &[String]) -> &str {
+    match (command_of(words), words.get(1)) {
+        (Some(Command::Run), Some(path)) => path.as_str(),
+        _ => "",
+    }
+}
+
+// Where nothing can be told on standard error, the status alone tells.
+fn end(rt: &HostRuntime, status: Status, untraced: Option<&str>) -> Status {
+    let _ = complain(rt, status, untraced);
+    status
 }

@@ -1,0 +1,171 @@
+//! Runs of jobs, with their outputs and traces.
+
+ghost use Rattle.std.specs.Prelude.{◌≤◌};
+
+use crate::calls::{Given, RUN, given_by};
+use crate::paged_jobs::{ENCLAVE, EPC, MANY_ADDS, SCRIPT, STARTS, STORES, SWAPPED};
+use crate::worked_runs::{
+    FAULTS, FROM_OUTSIDE, MANY_PAGES, MEASURED_APART, OTHER_DIGEST, Run, SAVED_STATE, TIMER,
+};
+use page_commands::status::Status;
+use std::alloc::{Alloc, Global};
+use std::process::Abort;
+use std::sync::Wait;
+use std::test::Fail;
+use std::thread::Threads;
+
+pub const JOB: &[u8] =
+    b"epc 6\nenclave A 0x10000 0x10000\ntcs 0 1 1 plain\nreg 1 1 rw 0 plain\nreg 2 1 rw 7 plain\ncpu 0\neenter A 0\nload 0x2000\neexit\n";
+
+pub const OUT: &[u8] = b"A init\ncpu 0\ncssa 0\n7\nexit\n";
+
+pub const TRACE: &[u8] =
+    b"trace 1\nb epa 0\nb create A 1 0x10000 0x10000\nb add A 0 2 tcs - tcs 1 1\nb add A 1 3 reg rw words 0\nb add A 2 4 reg rw words 7\nb init A - 006d518bbd8825da4a0e7d35d418aaf16b7749c62854a6f40d8d58db415a8c31\np0 enter A 0 2 3 0\np0 fill 2 4\np0 load 0x2000 7\np0 exit\nend 10\n";
+
+/// Runs a job, whose edges move and fail so, and compares how it ends and what it gives.
+pub fn ends(
+    rt: &(impl Abort + Alloc<A = Global> + Threads + Wait + Sync),
+    job: &[u8],
+    piece: usize,
+    fails: [&[u64]; 3],
+    status: Status,
+    out: &[u8],
+    trace: &[u8],
+) -> Result<(), Fail>
+    requires { 1 ≤ piece }
+{
+    let given = given_by(rt, rt.alloc(), RUN, job, piece, fails)?;
+    assert_eq!(rt; given.status, status);
+    assert_eq!(rt; given.out.as_slice(), out);
+    assert_eq!(rt; given.trace.as_slice(), trace);
+    Ok(())
+}
+
+#[test]
+fn a_job_gives_its_trace_and_its_output(rt: HostRuntime) -> Result<(), Fail> {
+    for piece in [1, 7, 16, 100, 1000] {
+        ends(&rt, JOB, piece, [&[], &[], &[]], Status::Done, OUT, TRACE)?;
+    }
+    Ok(())
+}
+
+// Runs a worked job.
+fn gives(
+    rt: &(impl Abort + Alloc<A = Global> + Threads + Wait + Sync),
+    run: &Run,
+) -> Result<(), Fail> {
+    ends(
+        rt,
+        run.job,
+        100,
+        [&[], &[], &[]],
+        Status::Done,
+        run.out,
+        run.trace,
+    )
+}
+
+#[test]
+fn worked_jobs_give_their_texts(rt: HostRuntime) -> Result<(), Fail> {
+    gives(&rt, &TIMER)?;
+    gives(&rt, &SAVED_STATE)?;
+    gives(&rt, &FAULTS)?;
+    gives(&rt, &FROM_OUTSIDE)?;
+    gives(&rt, &OTHER_DIGEST)?;
+    gives(&rt, &MANY_PAGES)?;
+    gives(&rt, &MEASURED_APART)
+}
+
+// What a run of a job gives that is made of these parts.
+fn of_parts(
+    rt: &(impl Abort + Alloc<A = Global> + Threads + Wait + Sync),
+    parts: &[&[u8]],
+) -> Result<Given, Fail> {
+    let mut job = Vec::new(rt.alloc());
+    for part in parts {
+        job.extend_from_slice(part)?;
+    }
+    Ok(given_by(rt, rt.alloc(), RUN, &job, 1000, [&[], &[], &[]])?)
+}
+
+// Runs a job whose pages do not fit, made of these parts. Its trace says `told`, where that is not empty.
+fn pages(
+    rt: &(impl Abort + Alloc<A = Global> + Threads + Wait + Sync),
+    parts: &[&[u8]],
+    status: Status,
+    replies: &[&str],
+    told: &str,
+) -> Result<(), Fail> {
+    let given = of_parts(rt, parts)?;
+    let mut lines = String::new(rt.alloc());
+    for part in replies {
+        lines.push_str(part)?;
+    }
+    assert_eq!(rt; given.status, status);
+    assert_eq!(rt; str::from_utf8(&given.out).ok(), Some(lines.as_str()));
+    let has = str::from_utf8(&given.trace).is_ok_and(|text| text.contains(told));
+    assert_eq!(rt; has, true);
+    Ok(())
+}
+
+#[test]
+fn pages_go_out_and_come_back_or_their_processor_is_told(rt: HostRuntime) -> Result<(), Fail> {
+    for (store, status, replies, told) in STORES {
+        pages(&rt, &[EPC, ENCLAVE, store, SCRIPT], *status, replies, told)?;
+    }
+    Ok(())
+}
+
+#[test]
+fn a_run_is_stopped_where_a_number_is_used_up(rt: HostRuntime) -> Result<(), Fail> {
+    for (start, told) in STARTS {
+        pages(
+            &rt,
+            &[EPC, start, ENCLAVE, SCRIPT],
+            Status::Spent,
+            &["cpu 0\n"],
+            told,
+        )?;
+    }
+    Ok(())
+}
+
+#[test]
+fn records_that_are_swapped_end_both_processors(rt: HostRuntime) -> Result<(), Fail> {
+    pages(
+        &rt,
+        &[EPC, ENCLAVE, SWAPPED],
+        Status::Bus,
+        &["A init\ncpu 0\ncssa 0\nbus\ncpu 1\ncssa 0\nbus\n"],
+        " mac\n",
+    )
+}
+
+// The answers of the adds of four processors to one word.
+#[test]
+fn no_add_is_lost_or_made_twice(rt: HostRuntime) -> Result<(), Fail> {
+    let alloc = rt.alloc();
+    let mut scripts = Vec::new(alloc);
+    for number in 0..4 {
+        let enters = format!(in alloc; "cpu {number}\neenter A {number}\n")?;
+        scripts.extend_from_slice(enters.as_bytes())?;
+        for _ in 0..100 {
+            scripts.extend_from_slice(b"xadd 0x8000 1\n")?;
+        }
+        scripts.extend_from_slice(b"eexit\n")?;
+    }
+    let given = of_parts(&rt, &[MANY_ADDS, &scripts])?;
+    assert_eq!(rt; given.status, Status::Done);
+    let mut seen = vec![in alloc; false; 400]?;
+    let text = str::from_utf8(&given.out).unwrap_or("");
+    for line in text.lines() {
+        if let Ok(number) = line.parse::<usize>() {
+            if let Some(place) = seen.get_mut(number) {
+                *place = !*place;
+            }
+        }
+    }
+    assert_eq!(rt; seen.iter().all(|once| *once), true);
+    assert_eq!(rt; text.lines().count(), 1 + 4 * 103);
+    Ok(())
+}

@@ -1,0 +1,153 @@
+//! The other commands, the words that are none, and what is told of each ending.
+
+use crate::calls::given_by;
+use crate::run_tests::JOB;
+use page_commands::complaints::complain;
+use page_commands::status::Status;
+use std::alloc::{Alloc, Global};
+use std::cell::Cell;
+use std::fmt::Display;
+use std::io::{self, Eprint, ErrorKind};
+use std::process::Abort;
+use std::sync::Wait;
+use std::test::Fail;
+use std::thread::Threads;
+
+const SUMMARY: &str = "pages 209\noperations 808\nloads 1955\nxadds 217\n";
+
+// Commands that read nothing and give no trace, and how the output of each begins. The sums are those of another program.
+const MADE: &[(&[&str], &str)] = &[
+    (&["make", "1", "200"], "epc 128\nmarks 32 64 16\n"),
+    (&["demo", "1", "200"], SUMMARY),
+    (&["demo", "1", "200"], SUMMARY),
+    (
+        &["demo", "00000000000000000007", "4"],
+        "pages 13\noperations 24\nloads 50\nxadds 2\n",
+    ),
+    (&["gate", "1"], "enters 4\nstale 0\n"),
+    (&["gate", "1000"], "enters 4000\nstale 0\n"),
+];
+
+const NO_COMMANDS: &[&[&str]] = &[
+    &[],
+    &["run"],
+    &["run", ""],
+    &["run", "t", "x"],
+    &["run", "t", ""],
+    &["t", "run"],
+    &["", "t"],
+    &["Run", "t"],
+    &["runs", "t"],
+    &["ru", "t"],
+    &["run t"],
+    &["make", "1", "3"],
+    &["make", "1", "2001"],
+    &["demo", "000000000000000000001", "200"],
+    &["demo", "0x1", "200"],
+    &["demo", "18446744073709551616", "200"],
+    &["make", "", "200"],
+    &["make", "1", "200", "1"],
+    &["audit", "t", "x"],
+    &["gate", "0"],
+    &["gate", "100001"],
+    &["gate"],
+    &["gate", "1", "2"],
+];
+
+// Calls the program with these words, which are to read nothing and to give no trace: each edge but the output would fail at its first call.
+fn begins(
+    rt: &(impl Abort + Alloc<A = Global> + Threads + Wait + Sync),
+    words: &[&str],
+    fails: &[u64],
+    status: Status,
+    begin: &str,
+) -> Result<(), Fail> {
+    let given = given_by(rt, rt.alloc(), words, JOB, 1000, [&[1], fails, &[1]])?;
+    assert_eq!(rt; given.status, status);
+    assert_eq!(rt; given.left, JOB.len());
+    assert_eq!(rt; given.faults, [0, 0, 0]);
+    let begun = str::from_utf8(&given.out).is_ok_and(|text| text.starts_with(begin));
+    assert_eq!(rt; begun, true);
+    Ok(())
+}
+
+#[test]
+fn a_job_is_made_and_a_made_job_runs(rt: HostRuntime) -> Result<(), Fail> {
+    for (words, begin) in MADE {
+        begins(&rt, words, &[], Status::Done, begin)?;
+    }
+    Ok(())
+}
+
+#[test]
+fn other_words_are_no_command(rt: HostRuntime) -> Result<(), Fail> {
+    for words in NO_COMMANDS {
+        begins(&rt, words, &[1], Status::BadWords, "")?;
+    }
+    Ok(())
+}
+
+// A terminal that keeps the last line printed on it.
+#[derive(Drop)]
+struct Terminal {
+    alloc: Global,
+    line: Cell<Option<String>>,
+}
+
+impl Eprint for Terminal {
+    fn eprint<D: Display + Drop>(&self, _value: D) -> io::Result<()> {
+        Err(ErrorKind::Unsupported.into())
+    }
+
+    fn eprintln<D: Display + Drop>(&self, value: D) -> io::Result<()> {
+        self.line.set(Some(value.to_string(self.alloc)?));
+        Ok(())
+    }
+}
+
+// Each ending, with its number and what is told of it, where the trace failed and where it did not.
+const ENDINGS: &[(Status, u8, Option<&str>, Option<&str>)] = &[
+    (Status::Done, 0, None, None),
+    (Status::BadJob, 1, None, None),
+    (
+        Status::BadWords,
+        2,
+        None,
+        Some("usage: sgxpage run PATH | make NUMBER SIZE | demo NUMBER SIZE | gate ROUNDS"),
+    ),
+    (
+        Status::ReadFault,
+        3,
+        None,
+        Some("sgxpage: cannot read the job from standard input"),
+    ),
+    (
+        Status::WriteFault,
+        4,
+        Some("a/b.trace"),
+        Some("sgxpage: cannot write the trace: a/b.trace"),
+    ),
+    (
+        Status::WriteFault,
+        4,
+        None,
+        Some("sgxpage: cannot write to standard output"),
+    ),
+    (Status::Memory, 5, None, Some("sgxpage: memory was refused")),
+    (Status::Bus, 7, None, None),
+    (Status::Spent, 9, None, None),
+];
+
+#[test]
+fn an_ending_has_its_number_and_its_line(rt: HostRuntime) -> Result<(), Fail> {
+    for (status, code, untraced, line) in ENDINGS {
+        let terminal = Terminal {
+            alloc: rt.alloc(),
+            line: Cell::new(None),
+        };
+        complain(&terminal, *status, *untraced)?;
+        assert_eq!(rt; status.code(), *code);
+        assert_eq!(rt; terminal.line.take().as_deref(), *line);
+    }
+    Ok(())
+}

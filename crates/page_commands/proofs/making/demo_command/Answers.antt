@@ -1,0 +1,18 @@
+use Rattle.page_commands.proofs.CommandLaws.{demo-by}
+use Rattle.std.proofs.Common.{List}
+use Rattle.io_edges.specs.Sinks.{GivesPart}
+use Rattle.run_summary.specs.Summary.{summary_of}
+use Rattle.sgx_types.specs.declared.entries.Entry.{Entry}
+use Rattle.page_commands.proofs.making.demo_command.Goals as goal
+
+pub returns-in-Ok-run_job-clause-broke : goal.returns-in-Ok-run_job-clause-broke
+returns-in-Ok-run_job-clause-broke g c = λ failed.
+    (let run = c.in-Ok-run_job.run' in (
+      run.end,
+      rw c.sum_up.ensures.store
+          (demo-by c.args.number c.args.size c.in-Ok.job run.job run.entries.items run.end (g.B.Backing.told run.store)
+          (g.B.Backing.plans run.store)
+          (λ (entries : List Entry). GivesPart (g.K.Sink.given c.args.out.now) (g.K.Sink.given c.sum_up.new.out)
+          (summary_of c.args.size entries))
+          c.in-Ok.ensures c.in-Ok-run_job.ensures.job c.in-Ok-run_job.ensures.run (c.sum_up.ensures.broke failed)),
+    ))

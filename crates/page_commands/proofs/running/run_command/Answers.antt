@@ -1,0 +1,16 @@
+use Rattle.std.proofs.Common.{List, reverse, inr}
+use Rattle.job_grammar.specs.Jobs.{JobView}
+use Rattle.sgx_types.specs.declared.entries.Entry.{Entry}
+use Rattle.page_commands.specs.Runs.{HalfGiven}
+use Rattle.page_commands.proofs.CommandLaws.{ran-by}
+use Rattle.page_commands.proofs.running.run_command.Goals as goal
+
+pub returns-in-Ok-run_job-clause-broke : goal.returns-in-Ok-run_job-clause-broke
+returns-in-Ok-run_job-clause-broke g c = λ failed.
+    (let run = c.in-Ok-run_job.run' in
+    let ran = ran-by (g.J.Source.left c.args.job.now) c.in-Ok.job run.job (reverse run.entries.items) run.end
+    (g.B.Backing.told run.store) (g.B.Backing.plans run.store)
+    (λ (j : JobView) (past : List Entry). HalfGiven j past (g.K.Sink.given c.args.out.now) (g.K.Sink.given c.give_run.new.out)
+    (g.L.Sink.given c.args.trace.now) (g.L.Sink.given c.give_run.new.trace))
+    c.in-Ok.ensures.job c.in-Ok-run_job.ensures.job c.in-Ok-run_job.ensures.run (c.give_run.ensures.broke failed) in
+    (ran.0, ran.1, inr (run.end, rw c.give_run.ensures.store ran.2)))

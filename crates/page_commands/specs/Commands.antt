@@ -1,0 +1,61 @@
+-- How a command ends.
+use Rattle.std.specs.Prelude.{ℕ, ◌≡◌}
+use Rattle.io_edges.specs.Faults.{HasRisen}
+use Rattle.run_jobs.specs.declared.ends.End.{End}
+use Rattle.run_jobs.specs.declared.ends.End.TheVariants as ends
+use Rattle.page_commands.specs.declared.status.Status.{Status}
+use Rattle.page_commands.specs.declared.status.Status.TheVariants as statuses
+
+-- no fault was counted
+abbrev pub NoFault : ℕ → ℕ → Type 0
+NoFault old new = HasRisen old new → ⊥
+
+-- the exit status of the program
+abbrev pub number_of : Status → ℕ
+number_of statuses.Done = 0
+number_of statuses.BadJob = 1
+number_of statuses.BadWords = 2
+number_of statuses.ReadFault = 3
+number_of statuses.WriteFault = 4
+number_of statuses.Memory = 5
+number_of statuses.Bus = 7
+number_of statuses.Spent = 9
+
+-- the status of a run whose texts were given
+abbrev pub status_of : End → Status
+status_of ends.Done = statuses.Done
+status_of ends.Bus = statuses.Bus
+status_of ends.Spent = statuses.Spent
+
+-- some run ended so
+abbrev pub HasEnded : Status → Type 0
+HasEnded status = (end : End) × (status ≡ status_of end)
+
+-- a fault or want of memory, which may come in the place of any other ending
+abbrev pub MayStandIn : Status → Type 0
+MayStandIn statuses.ReadFault = Unit {0}
+MayStandIn statuses.WriteFault = Unit {0}
+MayStandIn statuses.Memory = Unit {0}
+MayStandIn _ = ⊥
+
+-- how a command may end that has made no run
+abbrev pub IsUnrun : Status → Type 0
+IsUnrun statuses.BadJob = Unit {0}
+IsUnrun status = MayStandIn status
+
+-- a run that ended so: its status, where its texts were given, and else a fault or want of memory
+abbrev pub IsGiven : End → Status → Type 0 → Type 0
+IsGiven end statuses.WriteFault Given = Unit {0}
+IsGiven end statuses.Memory Given = Unit {0}
+IsGiven end status Given = (status ≡ status_of end) × Given
+
+-- how `run` may end, and how `demo`
+abbrev pub IsRunEnd : Status → Type 0
+IsRunEnd statuses.BadWords = ⊥
+IsRunEnd status = Unit {0}
+
+abbrev pub IsDemoEnd : Status → Type 0
+IsDemoEnd statuses.BadWords = ⊥
+IsDemoEnd statuses.BadJob = ⊥
+IsDemoEnd statuses.ReadFault = ⊥
+IsDemoEnd status = Unit {0}

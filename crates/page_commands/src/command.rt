@@ -1,0 +1,120 @@
+//! The top call: the words of the command line, what each command does, and how it ends.
+
+ghost use Rattle.std.specs.Prelude.{◌≡◌, ◌+◌, ◌^◌, ◌⊎◌, ◌↔◌, ℕ, [], map, string_bytes, IfSome, IsSomeAnd, None, Some};
+ghost use Rattle.command_words.specs.Commands.{command_in};
+ghost use Rattle.command_words.specs.declared.command.Command.TheVariants as commands;
+ghost use Rattle.gate_command.specs.GateText.{gate_text};
+ghost use Rattle.io_edges.specs.Faults.{HasRisen};
+ghost use Rattle.io_edges.specs.Sinks.{GivesPart, followed_by};
+ghost use Rattle.io_edges.specs.Sources.{TakesAtMost};
+ghost use Rattle.job_make.specs.MadeJob.{made_job};
+ghost use Rattle.job_print.specs.JobText.{job_text};
+ghost use Rattle.run_summary.specs.Summary.{summary_of};
+ghost use Rattle.page_commands.specs.Commands.{HasEnded, IsDemoEnd, MayStandIn, NoFault, status_of};
+ghost use Rattle.page_commands.specs.Runs.{BothGiven, DemoBy, HalfGiven, HalfTold, HasFault, HasJob, IsTextGiven, OfRead, RanBy, Told};
+ghost use Rattle.run_jobs.specs.declared.ends.End.{End};
+
+use crate::ended::{Ended, unrun};
+use crate::gates::rounds_command;
+use crate::making::{demo_command, make_command};
+use crate::running::run_command;
+use crate::status::Status;
+use backing_store::backing::Backing;
+use command_words::command::{Command, command_of};
+use crew::gate::Gate;
+use io_edges::sinks::Sink;
+use io_edges::sources::Source;
+use std::alloc::Global;
+use std::sync::Wait;
+use std::thread::Threads;
+
+/// Does what the words of the command line say, which stand without the program's name.
+///
+/// `run PATH` runs the job that `job` gives, over this store, which has told no calls yet. The text of its trace goes to `trace`, which is the
+/// file at that path, and then its replies go to `out`. Where the text is no job's, `out` gets its first faulty line and what is wrong there. A
+/// job of more than 2^24 bytes is refused as line 0, and is read no further than one byte past them. `make NUMBER SIZE` gives the text of the
+/// job that is made of these to `out`. `demo NUMBER SIZE` runs that job, and gives the summary of the run to `out`. `gate ROUNDS` lets processors
+/// and a pager make so many rounds at a gate with no lock, and gives to `out` how many entries there were.
+///
+/// Other words are no command, and then nothing is read or written. `gate`, which is another, is told of each turn of a run. A run whose store
+/// fails for ever may not return.
+pub fn sgxpage<
+    R: Threads + Wait + Sync,
+    J: Source,
+    K: Sink,
+    L: Sink,
+    B: Backing + Send,
+    G: Gate + Sync,
+>(
+    rt: &R,
+    alloc: Global,
+    words: &[String],
+    job: &mut J,
+    out: &mut K,
+    trace: &mut L,
+    store: B,
+    gate: &G,
+) -> Ended<B>
+    requires { IfSome (B.told store) (λ calls. calls ≡ []) }
+    ensures bad_words { (result.status ≡ Status.BadWords) ↔ (command_in (map string_bytes words.now) ≡ None) }
+    ensures no_command { result.status ≡ Status.BadWords →
+        (job.new ≡ job.old) × (out.new ≡ out.old) × (trace.new ≡ trace.old) × (result.store ≡ None) }
+
+    ensures reads { TakesAtMost (2 ^ 24 + 1) (J.left job.old) (J.left job.new) }
+    ensures read_fault { result.status ≡ Status.ReadFault →
+        HasRisen (J.faults job.old) (J.faults job.new) × (out.new ≡ out.old) × (trace.new ≡ trace.old) × (result.store ≡ None) }
+
+    ensures bad_job { result.status ≡ Status.BadJob →
+        OfRead (J.left job.old) (λ bytes. Told bytes (K.given out.old) (K.given out.new))
+        × (trace.new ≡ trace.old) × (result.store ≡ None) }
+    ensures no_job { command_in (map string_bytes words.now) ≡ Some commands.Run → IsSomeAnd (J.left job.old) HasFault →
+        (result.status ≡ Status.BadJob) ⊎ MayStandIn result.status }
+
+    // Whatever the store gave: a whole run of the job, with its texts, that ended as the status says.
+    ensures ran { command_in (map string_bytes words.now) ≡ Some commands.Run → (end : End) → result.status ≡ status_of end →
+        OfRead (J.left job.old) (λ bytes. IsSomeAnd result.store (λ store. RanBy bytes end (B.told store) (B.plans store)
+        (λ j past. BothGiven j past (K.given out.old) (K.given out.new) (L.given trace.old) (L.given trace.new)))) }
+    // A run that meets no fault is complete.
+    ensures complete { command_in (map string_bytes words.now) ≡ Some commands.Run → IsSomeAnd (J.left job.old) HasJob →
+        NoFault (J.faults job.old) (J.faults job.new) →
+        NoFault (K.faults out.old) (K.faults out.new) →
+        NoFault (L.faults trace.old) (L.faults trace.new) →
+        HasEnded result.status ⊎ (result.status ≡ Status.Memory) }
+
+    ensures write_fault { result.status ≡ Status.WriteFault →
+        HasRisen (K.faults out.old) (K.faults out.new) ⊎ HasRisen (L.faults trace.old) (L.faults trace.new) }
+    ensures broke { command_in (map string_bytes words.now) ≡ Some commands.Run → result.status ≡ Status.WriteFault → OfRead (J.left job.old) (λ bytes.
+        (HalfTold bytes (K.given out.old) (K.given out.new) × (trace.new ≡ trace.old) × (result.store ≡ None))
+        ⊎ ((end : End) × IsSomeAnd result.store (λ store. RanBy bytes end (B.told store) (B.plans store)
+        (λ j past. HalfGiven j past (K.given out.old) (K.given out.new) (L.given trace.old) (L.given trace.new))))) }
+    ensures memory { result.status ≡ Status.Memory → (out.new ≡ out.old) × (trace.new ≡ trace.old) }
+
+    ensures make { (number size : ℕ) → command_in (map string_bytes words.now) ≡ Some (commands.Make number size) →
+        IsTextGiven (job_text (made_job number size)) result.status (K.given out.old) (K.given out.new)
+        × (job.new ≡ job.old) × (trace.new ≡ trace.old) × (result.store ≡ None) }
+
+    ensures gate { (rounds : ℕ) → command_in (map string_bytes words.now) ≡ Some (commands.Gate rounds) →
+        IsTextGiven (gate_text rounds) result.status (K.given out.old) (K.given out.new)
+        × (job.new ≡ job.old) × (trace.new ≡ trace.old) × (result.store ≡ None) }
+
+    ensures demo { (number size : ℕ) → command_in (map string_bytes words.now) ≡ Some (commands.Demo number size) →
+        (end : End) → result.status ≡ status_of end → IsSomeAnd result.store (λ store.
+        DemoBy number size end (B.told store) (B.plans store) (λ entries.
+        K.given out.new ≡ followed_by (K.given out.old) (summary_of size entries))) }
+    ensures demo_broke { (number size : ℕ) → command_in (map string_bytes words.now) ≡ Some (commands.Demo number size) →
+        result.status ≡ Status.WriteFault → (end : End) × IsSomeAnd result.store (λ store.
+        DemoBy number size end (B.told store) (B.plans store) (λ entries.
+        GivesPart (K.given out.old) (K.given out.new) (summary_of size entries))) }
+    ensures demo_else { (number size : ℕ) → command_in (map string_bytes words.now) ≡ Some (commands.Demo number size) →
+        IsDemoEnd result.status × (job.new ≡ job.old) × (trace.new ≡ trace.old) }
+{
+    match command_of(words) {
+        None => unrun(Status::BadWords),
+        Some(Command::Run) => run_command(rt, alloc, job, out, trace, store, gate),
+        Some(Command::Make { number, size }) => unrun(make_command(alloc, number, size, out)),
+        Some(Command::Demo { number, size }) => demo_command(
+            rt, alloc, number, size, out, store, gate,
+        ),
+        Some(Command::Gate { rounds }) => unrun(rounds_command(rt, alloc, rounds, out)),
+    }
+}

@@ -1,0 +1,13 @@
+// The commands of the program, over sources, sinks and a store of any kind: what each does, and how it ends.
+#![tactic(auto)]
+
+pub mod command;
+pub mod complaints;
+pub mod ended;
+mod fault_lines;
+mod gates;
+mod jobs;
+mod making;
+pub mod replies;
+mod running;
+pub mod status;

@@ -1,0 +1,269 @@
+//! The text of the output.
+
+ghost use Rattle.std.specs.Prelude.{◌≡◌, [], ◌++◌, reverse, flat_map, OnOk, IfOk};
+ghost use Rattle.sgx_types.specs.Processors.{is_by};
+ghost use Rattle.turn_rules.specs.Script.{interrupted_after, is_reply, is_reply_action, numbers_from};
+ghost use Rattle.text_words.specs.Words.{line_text};
+ghost use Rattle.page_commands.specs.Ending.{ending_lines};
+ghost use Rattle.page_commands.specs.OutText.{cpu_lines, done_reply, enclave_lines, init_line, out_of, refused_reply, reply_words};
+
+use job_grammar::jobs::Job;
+use sgx_types::entries::{Action, Actor, Answer, Cause, Entry, Event};
+use sgx_types::names::Memory;
+use sgx_types::refusals::Refusal;
+use std::alloc::Global;
+use text_words::words::Word::{Decimal, Enclave, Name};
+use text_words::words::push_line;
+use trace_text::names::{fault_name, refusal_name};
+
+/// How an enclave's EINIT ended.
+#[derive(Clone, Copy)]
+enum Ending {
+    Initialised,
+    WrongMeasurement,
+}
+
+/// The output of a run, whose entries are given oldest first.
+#[tactic(auto, unfolding(crate::specs::OutText::out_of))]
+pub fn print_out(alloc: Global, job: &Job, entries: &[Entry]) -> Result<Vec<u8>, Memory>
+    ensures { IfOk result (λ text. text.items ≡ out_of job.now (reverse entries.now)) }
+{
+    let mut text = Vec::new(alloc);
+    push_enclaves(job.enclaves().len(), entries, &mut text)?;
+    push_cpus(job.scripts().len(), entries, &mut text)?;
+    Ok(text)
+}
+
+#[tactic(auto, using(crate::proofs::NumberLaws::enclaves_more))]
+fn push_enclaves(count: usize, entries: &[Entry], onto: &mut Vec<u8>) -> Result<(), Memory>
+    ensures { OnOk result (
+        onto.new.items ≡ onto.old.items
+        ++ flat_map line_text
+        (flat_map (enclave_lines (reverse entries.now)) (numbers_from 1 count))) }
+{
+    for index in 0..count {
+        push_enclave(index + 1, entries, onto)?;
+    }
+    Ok(())
+}
+
+#[tactic(auto, using(crate::proofs::NumberLaws::cpus_more))]
+fn push_cpus(count: usize, entries: &[Entry], onto: &mut Vec<u8>) -> Result<(), Memory>
+    ensures { OnOk result (
+        onto.new.items ≡ onto.old.items
+        ++ flat_map line_text
+        (flat_map (cpu_lines (reverse entries.now)) (numbers_from 0 count))) }
+{
+    for cpu in 0..count {
+        push_cpu(cpu, entries, onto)?;
+    }
+    Ok(())
+}
+
+/// Writes the line of an enclave, where its EINIT has ended.
+#[tactic(auto, using(crate::proofs::EntryLaws::enclave_lines_more))]
+fn push_enclave(enclave: usize, entries: &[Entry], onto: &mut Vec<u8>) -> Result<(), Memory>
+    ensures { OnOk result (
+        onto.new.items ≡ onto.old.items
+        ++ flat_map line_text (enclave_lines (reverse entries.now) enclave)) }
+{
+    let mut ending = None;
+    for entry in entries {
+        ending = ending_after(&entry.event, enclave, ending);
+    }
+    match ending {
+        None => Ok(()),
+        Some(Ending::Initialised) => push_line(Enclave(enclave as u64), &[Name("init")], onto),
+        Some(Ending::WrongMeasurement) => push_line(
+            Enclave(enclave as u64),
+            &[Name("badmeasure")],
+            onto,
+        ),
+    }
+}
+
+/// How the enclave's EINIT has ended after an event, and before it.
+fn ending_after(event: &Event, enclave: usize, before: Option<Ending>) -> Option<Ending>
+    ensures { ending_lines enclave result ≡ init_line event.now enclave (ending_lines enclave before) }
+{
+    match *event {
+        Event::Did {
+            action: Action::Init {
+                enclave: number,
+                ..
+            },
+            ..
+        } => {
+            if usize::from(number) == enclave {
+                Some(Ending::Initialised)
+            } else {
+                before
+            }
+        }
+        Event::Refused {
+            action: Action::Init {
+                enclave: number,
+                ..
+            },
+            why: Refusal::BadMeasure { .. },
+        } => {
+            if usize::from(number) == enclave {
+                Some(Ending::WrongMeasurement)
+            } else {
+                before
+            }
+        }
+        _ => before,
+    }
+}
+
+fn push_done_reply(action: &Action, answer: &Answer, onto: &mut Vec<u8>) -> Result<(), Memory>
+    ensures { OnOk result (
+        onto.new.items ≡ onto.old.items ++ line_text (done_reply action.now answer.now)) }
+{
+    match (*action, *answer) {
+        (Action::Enter { .. }, Answer::Cssa(count)) => push_line(
+            Name("cssa"),
+            &[Decimal(count.into())],
+            onto,
+        ),
+        (Action::Resume { .. }, Answer::Value(acc)) => push_line(
+            Name("acc"),
+            &[Decimal(acc)],
+            onto,
+        ),
+        (Action::Exit, _) => push_line(Name("exit"), &[], onto),
+        (
+            Action::Aex {
+                cause: Cause::Timer,
+            },
+            _,
+        ) => push_line(Name("timer"), &[], onto),
+        (Action::Store { .. } | Action::Set { .. }, _) => push_line(Name("ok"), &[], onto),
+        (
+            Action::Load { .. }
+            | Action::Xadd { .. }
+            | Action::Plus { .. }
+            | Action::OutLoad { .. },
+            Answer::Value(value),
+        ) => push_line(Decimal(value), &[], onto),
+        (Action::Pf { .. }, Answer::Pf(fault)) => push_line(
+            Name("pf"),
+            &[Name(fault_name(fault))],
+            onto,
+        ),
+        (Action::OutStore { .. }, _) => push_line(Name("dropped"), &[], onto),
+        _ => push_empty_line(onto),
+    }
+}
+
+fn push_refused_reply(refusal: &Refusal, onto: &mut Vec<u8>) -> Result<(), Memory>
+    ensures { OnOk result (
+        onto.new.items ≡ onto.old.items ++ line_text (refused_reply refusal.now)) }
+{
+    match refusal {
+        Refusal::WrongMode => push_line(Name("mode"), &[], onto),
+        _ => push_line(Name("gp"), &[Name(refusal_name(refusal))], onto),
+    }
+}
+
+fn push_empty_line(onto: &mut Vec<u8>) -> Result<(), Memory>
+    ensures { OnOk result (onto.new.items ≡ onto.old.items ++ line_text []) }
+{
+    onto.push(b'\n')?;
+    Ok(())
+}
+
+fn push_reply(event: &Event, onto: &mut Vec<u8>) -> Result<(), Memory>
+    ensures { OnOk result (onto.new.items ≡ onto.old.items ++ line_text (reply_words event.now)) }
+{
+    match event {
+        Event::Did { action, answer } => push_done_reply(action, answer, onto),
+        Event::Refused { why, .. } => push_refused_reply(why, onto),
+        Event::Bus { .. } => push_line(Name("bus"), &[], onto),
+        _ => push_empty_line(onto),
+    }
+}
+
+// Whether an instruction answers an operation of a script. A resumption answers one where the processor was not
+// interrupted.
+fn is_reply_action(interrupted: bool, action: &Action) -> bool
+    ensures { result ≡ is_reply_action interrupted action.now }
+{
+    match action {
+        Action::Resume { .. } => !interrupted,
+        Action::Enter { .. }
+        | Action::Exit
+        | Action::Aex {
+            cause: Cause::Timer,
+        }
+        | Action::Load { .. }
+        | Action::Store { .. }
+        | Action::Xadd { .. }
+        | Action::Set { .. }
+        | Action::Plus { .. }
+        | Action::Pf { .. }
+        | Action::OutLoad { .. }
+        | Action::OutStore { .. } => true,
+        _ => false,
+    }
+}
+
+fn is_reply(interrupted: bool, event: &Event) -> bool
+    ensures { result ≡ is_reply interrupted event.now }
+{
+    match event {
+        Event::Did { action, .. } | Event::Refused { action, .. } => is_reply_action(
+            interrupted,
+            action,
+        ),
+        Event::Bus { .. } => true,
+        _ => false,
+    }
+}
+
+// Whether a processor is interrupted after an event of its own: it left, and no operation asked for that.
+fn interrupted_after(event: &Event, before: bool) -> bool
+    ensures { result ≡ interrupted_after event.now before }
+{
+    match event {
+        Event::Did {
+            action: Action::Enter { .. } | Action::Resume { .. } | Action::Exit,
+            ..
+        } => false,
+        Event::Did {
+            action: Action::Aex { cause },
+            ..
+        } => matches!(cause, Cause::Fault | Cause::Kick),
+        _ => before,
+    }
+}
+
+fn is_by(cpu: usize, actor: &Actor) -> bool
+    ensures { result ≡ is_by cpu actor.now }
+{
+    match *actor {
+        Actor::Cpu(number) => usize::from(number.0) == cpu,
+        _ => false,
+    }
+}
+
+/// Writes the line of a processor, and its replies.
+#[tactic(auto, using(crate::proofs::EntryLaws::replies_more, crate::proofs::EntryLaws::replies_same, crate::proofs::EntryLaws::replies_other))]
+fn push_cpu(cpu: usize, entries: &[Entry], onto: &mut Vec<u8>) -> Result<(), Memory>
+    ensures { OnOk result (
+        onto.new.items ≡ onto.old.items
+        ++ flat_map line_text (cpu_lines (reverse entries.now) cpu)) }
+{
+    push_line(Name("cpu"), &[Decimal(cpu as u64)], onto)?;
+    let mut interrupted = false;
+    for entry in entries {
+        if is_by(cpu, &entry.actor) {
+            if is_reply(interrupted, &entry.event) {
+                push_reply(&entry.event, onto)?;
+            }
+            interrupted = interrupted_after(&entry.event, interrupted);
+        }
+    }
+    Ok(())
+}
