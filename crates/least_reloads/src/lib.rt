@@ -5,4 +5,4 @@ pub mod farthest;
 pub mod lawful;
 pub mod load_plan;
 mod page_key;
-mod page_set;
+pub mod page_set;

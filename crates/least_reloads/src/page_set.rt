@@ -14,7 +14,7 @@ use std::marker::Model;
 
 /// A set of pages. No call takes longer where it has more of them.
 #[derive(Drop)]
-pub(crate) struct PageSet {
+pub struct PageSet {
     keys: HashSet<PageKey>,
 }
 
@@ -31,7 +31,7 @@ impl Model for PageSet {
 
 impl PageSet {
     /// A set without pages.
-    pub(crate) fn new(alloc: Global) -> PageSet
+    pub fn new(alloc: Global) -> PageSet
         ensures { result ≡ [] }
     {
         PageSet {
@@ -40,7 +40,7 @@ impl PageSet {
     }
 
     /// How many pages are in the set.
-    pub(crate) fn len(&self) -> usize
+    pub fn len(&self) -> usize
         ensures len { result ≡ length self.now }
         ensures once { IsDistinct same_page self.now }
     {
@@ -48,14 +48,14 @@ impl PageSet {
     }
 
     /// Whether a page is in the set.
-    pub(crate) fn contains(&self, page: Page) -> bool
+    pub fn contains(&self, page: Page) -> bool
         ensures { result ≡ has self.now page }
     {
         self.keys.contains(&PageKey::of(page))
     }
 
     /// Puts a page into the set, and tells whether it was not there.
-    pub(crate) fn insert(&mut self, page: Page) -> Result<bool, Memory>
+    pub fn insert(&mut self, page: Page) -> Result<bool, Memory>
         ensures added { IfOk result (λ added. added ≡ not (has self.old page)) }
         ensures new { OnOk result ((g : Page) → has self.new g ≡ (if same_page page g then true else has self.old g)) }
     {
@@ -63,7 +63,7 @@ impl PageSet {
     }
 
     /// Takes a page out of the set, and tells whether it was there.
-    pub(crate) fn remove(&mut self, page: Page) -> bool
+    pub fn remove(&mut self, page: Page) -> bool
         ensures removed { result ≡ has self.old page }
         ensures new { (g : Page) → has self.new g ≡ (if same_page page g then false else has self.old g) }
     {

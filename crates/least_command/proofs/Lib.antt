@@ -1,0 +1,4 @@
+mod InsideLaws
+mod ReloadLaws
+mod RenamingLaws
+mod NamingLaws

@@ -1,0 +1,9 @@
+use Rattle.std.proofs.Common.{map, take}
+use Rattle.std.specs.HashMap.{get, hash_map_len}
+use Rattle.least_command.specs.Kept.{page_of, same_access}
+use Rattle.least_command.specs.Naming.{AreNamed, access_of}
+use Rattle.least_command.proofs.fewest.named.Given as goal
+
+abbrev pub invariant-loop-access : goal.invariant-loop-access
+invariant-loop-access l =
+    AreNamed (map page_of (take l.access-index l.accesses)) l.pages.items (λ g. get same_access l.names (access_of g)) (hash_map_len l.names)

@@ -1,0 +1,5 @@
+pub mod Accesses
+pub mod Fewest
+pub mod Kept
+pub mod Reloads
+pub mod Naming

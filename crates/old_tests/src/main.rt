@@ -1,0 +1,94 @@
+// Reads old traces from sources, and tells their four numbers or the line of their fault: as a whole, and in pieces of 1 and of 7 bytes,
+// which must give the same text. Then one is read whose source fails.
+#![tactic(auto)]
+
+#[cfg(test)]
+mod endless;
+
+use io_edges::mem_sink::MemSink;
+use io_edges::mem_source::MemSource;
+use job_grammar::jobs::Job;
+use job_text::reader::read_job;
+use least_command::giving::give_least;
+use old_trace::faults::give_fault;
+use old_trace::reading::read_old;
+use old_trace::unread::Unread;
+use std::alloc::Global;
+use std::{env, fs, io};
+use trace_pieces::ungiven::Ungiven;
+
+fn main(rt: HostRuntime) -> io::Result<()> {
+    for name in env::args(&rt)?.skip(1) {
+        tell_trace(&rt, name.as_str())?;
+    }
+    tell_failing(&rt)
+}
+
+// Of which job a trace is: what stands before a dash, where one was changed.
+fn job_name(name: &str) -> &str {
+    match name.split_once('-') {
+        Some((given, _)) => given,
+        None => name,
+    }
+}
+
+// A file of this name.
+fn read(rt: &HostRuntime, name: &str, end: &str) -> io::Result<Vec<u8>> {
+    let path = format!(in rt.alloc(); "{name}{end}")?;
+    fs::read(rt, path.as_str())
+}
+
+fn tell_trace(rt: &HostRuntime, name: &str) -> io::Result<()> {
+    println!(rt; "{name}")?;
+    let trace = read(rt, name, ".trace")?;
+    let text = read(rt, job_name(name), ".job")?;
+    let Ok(job) = read_job(rt.alloc(), &text) else {
+        return println!(rt; "no job");
+    };
+    let Some(whole) = told(rt.alloc(), &job, &trace, 1 << 20) else {
+        return println!(rt; "nothing");
+    };
+    for size in [1, 7] {
+        if told(rt.alloc(), &job, &trace, size).as_deref() != Some(whole.as_slice()) {
+            println!(rt; "in pieces of {size} another answer")?;
+        }
+    }
+    match str::from_utf8(&whole) {
+        Ok(lines) => print!(rt; "{lines}"),
+        Err(_) => println!(rt; "no text"),
+    }
+}
+
+// The text on a trace of a job, which is read in pieces of a size. None where there is none.
+fn told(alloc: Global, job: &Job, trace: &[u8], size: usize) -> Option<Vec<u8>> {
+    let mut source = MemSource::new(alloc, trace, size.max(1), &[]).ok()?;
+    let mut out = MemSink::new(alloc, 16, &[]).ok()?;
+    give(alloc, job, &mut source, &mut out).ok()?;
+    out.bytes().to_vec(alloc).ok()
+}
+
+fn give(
+    alloc: Global,
+    job: &Job,
+    source: &mut MemSource,
+    out: &mut MemSink,
+) -> Result<(), Ungiven> {
+    match read_old(alloc, source) {
+        Ok(entries) => give_least(alloc, job, &entries, out),
+        Err(Unread::Bad { line }) => give_fault(alloc, out, line),
+        Err(Unread::Failed | Unread::Memory) => Ok(()),
+    }
+}
+
+// The third call of a source fails.
+fn tell_failing(rt: &HostRuntime) -> io::Result<()> {
+    let Ok(mut source) = MemSource::new(rt.alloc(), b"trace 1\nend 0\n", 5, &[3]) else {
+        return println!(rt; "no memory");
+    };
+    let told = read_old(rt.alloc(), &mut source);
+    println!(rt;
+        "failing: {}, {} faults",
+        told.err() == Some(Unread::Failed),
+        source.faults()
+    )
+}

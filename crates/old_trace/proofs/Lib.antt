@@ -1,0 +1,2 @@
+mod SeenLaws
+mod OneLaws

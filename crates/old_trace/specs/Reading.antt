@@ -1,0 +1,27 @@
+-- What reading an old trace gives: its entries, or the first faulty line.
+use Rattle.std.specs.Prelude.{ℕ, ◌≡◌, ◌^◌, ◌<◌, ◌≤◌, ◌⊎◌, List, ◌++◌, Option, IfSome, Result, Ok, Err, codes, length}
+use Rattle.std.specs.Fmt.{decimal}
+use Rattle.sgx_types.specs.declared.entries.Entry.{Entry}
+use Rattle.trace_reader.specs.Faults.{IsFirstFault, text_of}
+use Rattle.trace_text.specs.Readable.{AreReadable}
+use Rattle.old_trace.specs.declared.unread.Unread.{Unread}
+use Rattle.old_trace.specs.declared.unread.Unread.TheVariants.{Bad}
+
+-- The bytes are the text of these entries, which stand oldest first; or this is their first line with which no trace goes on, and line 0
+-- where they are too many.
+abbrev pub Reads : List ℕ → Result (List Entry) ℕ → Type 0
+Reads bytes (Ok entries) = (length bytes ≤ 2 ^ 30) × AreReadable entries × (bytes ≡ text_of entries)
+Reads bytes (Err line) = ((2 ^ 30 < length bytes) × (line ≡ 0)) ⊎ ((length bytes ≤ 2 ^ 30) × IsFirstFault bytes line)
+
+-- a fact of the bytes that a source had, where it tells them, and of some bytes otherwise
+abbrev pub OfRead : Option (List ℕ) → (List ℕ → Type 0) → Type 0
+OfRead left P = (bytes : List ℕ) × IfSome left (λ all. bytes ≡ all) × P bytes
+
+-- where there is no trace for a fault of its text, it is what reading the bytes gives
+abbrev pub IsFaultOf : Option (List ℕ) → Unread → Type 0
+IsFaultOf left (Bad line) = OfRead left (λ bytes. Reads bytes (Err line))
+IsFaultOf left _ = Unit {0}
+
+-- the line on the first fault of a trace
+abbrev pub fault_line : ℕ → List ℕ
+fault_line line = codes "trace line " ++ decimal line ++ codes "\n"
