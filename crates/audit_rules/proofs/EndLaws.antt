@@ -1,0 +1,230 @@
+-- Two ends of one write-out, and two of one load: which rule the one breaks that is not the machine's.
+use Rattle.std.specs.Prelude.{◌==◌, if◌then◌else◌}
+use Rattle.std.proofs.Common.{◌≡◌, ℕ, Bool, true, false, refl, sym, ap, subst, ◌∙◌, ◌⊎◌, inl, inr, List, Option, None, Some}
+use Rattle.std.proofs.lemmas.Bool.{eqb-true, eq-eqb}
+use Rattle.sgx_types.specs.declared.entries.Entry.{Entry}
+use Rattle.sgx_types.specs.declared.entries.Event.TheVariants.{Did}
+use Rattle.sgx_types.specs.declared.entries.Actor.{Actor}
+use Rattle.sgx_types.specs.declared.entries.Action.TheVariants.{Ewb, Eld}
+use Rattle.sgx_types.specs.declared.entries.Answer.{Answer}
+use Rattle.sgx_types.specs.declared.entries.Answer.TheVariants as answers
+use Rattle.sgx_types.specs.declared.names.Frame.{Frame}
+use Rattle.sgx_types.specs.declared.names.Kind.{Kind}
+use Rattle.sgx_types.specs.declared.names.Page.{Page}
+use Rattle.sgx_types.specs.declared.names.Perm.{Perm}
+use Rattle.sgx_types.specs.Ends.{EndsIn, EndsOut, IsBack}
+use Rattle.sgx_types.specs.Flat.{flat}
+use Rattle.sgx_types.specs.Fresh.{IsLastOut, Out, last_out}
+use Rattle.sgx_types.specs.Frames.{Content, Holds, content, same_page}
+use Rattle.sgx_types.specs.Rules.{EndsWriteOut, RefusalRule}
+use Rattle.sgx_types.specs.Sealed.{Sealed}
+use Rattle.sgx_types.specs.Starts.{Start, open_start}
+use Rattle.sgx_types.proofs.Pages.{same_pages, same_page-refl}
+use Rattle.sgx_types.proofs.Truths.{tested}
+use Rattle.seal_record.specs.Sealing.{IsSealed}
+use Rattle.job_grammar.specs.Jobs.{JobView}
+use Rattle.turn_rules.specs.Machines.{machine_of}
+use Rattle.driver_rules.specs.Scripts.{ScriptRule}
+use Rattle.run_history.specs.declared.rules.Rule.{Rule}
+use Rattle.run_history.specs.declared.rules.Rule.TheVariants as rules
+use Rattle.run_history.specs.Histories.{FailsHere, Says}
+use Rattle.audit_rules.specs.Rivals.{KeepsMachines, rule_back, rule_out}
+use Rattle.audit_rules.proofs.OrderLaws.{evict_fails, fresh_fails, refusal_fails, sealed_fails}
+
+clash : {b : Bool} → b ≡ false → b ≡ true → ⊥
+clash is_not is = let e = sym is_not ∙ is in absurd (let f : false ≡ true = e in cc)
+
+-- ---- what a place has one of
+
+holds-page : {g h : Page} {k l : Kind} {p q : Perm} → Holds g k p ≡ Holds h l q → g ≡ h
+holds-page e = cc
+
+some-start : {x y : Start} → Some x ≡ Some y → x ≡ y
+some-start e = cc
+
+some-page : {x y : Page} → Some x ≡ Some y → x ≡ y
+some-page e = cc
+
+some-out : {x y : Out} → Some x ≡ Some y → x ≡ y
+some-out e = cc
+
+some-sealed : {x y : Sealed} → Some x ≡ Some y → x ≡ y
+some-sealed e = cc
+
+moved-page : {g h : Page} {v w : ℕ} {s t : List ℕ} → answers.Moved g v s ≡ answers.Moved h w t → g ≡ h
+moved-page e = cc
+
+out-page : (past : List Entry) (n : ℕ) (g h : Page) (v w : ℕ) (s t : List ℕ) → EndsOut past n (answers.Moved g v s)
+    → EndsOut past n (answers.Moved h w t) → g ≡ h
+out-page past n g h v w s t one other =
+    moved-page one.told ∙ holds-page (sym one.held ∙ other.held) ∙ sym (moved-page other.told)
+
+back-page : (past : List Entry) (n : ℕ) (g h : Page) (v w : ℕ) (s t : List ℕ) → IsBack past n (answers.Moved g v s)
+    → IsBack past n (answers.Moved h w t) → g ≡ h
+back-page past n g h v w s t one other =
+    moved-page one.told ∙ some-page (sym one.ends.loads ∙ ap (λ (x : Start). x.loads) (some-start (sym one.ends.opened ∙ other.ends.opened))
+    ∙ other.ends.loads) ∙ sym (moved-page other.told)
+
+write-out-version : (o : Option Start) (v w : ℕ) → EndsWriteOut o v → EndsWriteOut o w → v ≡ w
+write-out-version o v w one other = ap (λ (x : Start). x.version) (some-start (sym one.opened ∙ other.opened))
+
+module _ (j : JobView) (past : List Entry) (actor : Actor) (f : Frame) where
+  abbrev out : Answer → Entry
+  out answer = record { actor = actor; event = Did (Ewb f) answer }
+
+  abbrev back : Answer → Entry
+  back answer = record { actor = actor; event = Did (Eld f) answer }
+
+  -- ---- a write-out
+
+  module _ (g : Page) (v : ℕ) (t : List ℕ) (keeps : KeepsMachines j past (out (answers.Moved g v t))) where
+    ends : EndsOut past f.0 (answers.Moved g v t)
+    ends = (keeps.each rules.Refusal refl).1
+
+    own-page : (version : ℕ) (tag : List ℕ) → EndsOut past f.0 (answers.Moved g version tag)
+    own-page version tag = record {
+      page = g;
+      kind = ends.kind;
+      perm = ends.perm;
+      held = ends.held ∙ ap (λ (x : Page). Holds x ends.kind ends.perm) (sym (moved-page ends.told));
+      start = ends.start;
+      opened = ends.opened;
+      writes = ends.writes;
+      version = version;
+      tag = tag;
+      told = refl;
+    }
+
+    of-version : (version : ℕ) (tag : List ℕ) → ScriptRule j past (out (answers.Moved g version tag)) → (version ≡ v → ⊥)
+        → FailsHere j past (Some (out (answers.Moved g version tag))) rules.Evict
+    of-version version tag script other =
+        evict_fails j past (out (answers.Moved g version tag)) script (refl, own-page version tag) (λ seen. absurd cc) (keeps.each rules.Fits refl)
+        (keeps.each rules.Stale refl) (λ h. other (write-out-version (open_start past f.0) version v h (keeps.each rules.Evict refl)))
+
+    of-tag : (tag : List ℕ) → ScriptRule j past (out (answers.Moved g v tag)) → (tag ≡ t → ⊥)
+        → FailsHere j past (Some (out (answers.Moved g v tag))) rules.Sealed
+    of-tag tag script other =
+        sealed_fails j past (out (answers.Moved g v tag)) script (refl, own-page v tag) (λ seen. absurd cc) (keeps.each rules.Fits refl)
+        (keeps.each rules.Stale refl) (keeps.each rules.Evict refl) (record { rising = tt; reload = tt })
+        (λ h. other (told h))
+      where
+        mine : IsSealed j.key (flat past) g v t
+        mine = keeps.each rules.Sealed refl
+
+        told : IsSealed j.key (flat past) g v tag → tag ≡ t
+        told h = h.told ∙ ap (λ (x : Sealed). x.tag) (some-sealed (sym h.made ∙ mine.made)) ∙ sym mine.told
+
+    of-page : (page : Page) (version : ℕ) (tag : List ℕ) → ScriptRule j past (out (answers.Moved page version tag)) → (page ≡ g → ⊥)
+        → FailsHere j past (Some (out (answers.Moved page version tag))) rules.Refusal
+    of-page page version tag script other =
+        refusal_fails j past (out (answers.Moved page version tag)) script (λ h. other (out-page past f.0 page g version v tag t h.1 ends))
+
+    at-version : (version : ℕ) (tag : List ℕ) → version ≡ v → ScriptRule j past (out (answers.Moved g version tag))
+        → (answers.Moved g version tag ≡ answers.Moved g v t → ⊥) → FailsHere j past (Some (out (answers.Moved g version tag))) rules.Sealed
+    at-version version tag same = subst Says_of (sym same) (λ script other. of-tag tag script (λ e. other (ap (answers.Moved g v) e)))
+      where
+        Says_of : ℕ → Type 0
+        Says_of w = ScriptRule j past (out (answers.Moved g w tag)) → (answers.Moved g w tag ≡ answers.Moved g v t → ⊥)
+            → FailsHere j past (Some (out (answers.Moved g w tag))) rules.Sealed
+
+    at-page : (version : ℕ) (tag : List ℕ) → ScriptRule j past (out (answers.Moved g version tag))
+        → (answers.Moved g version tag ≡ answers.Moved g v t → ⊥)
+        → FailsHere j past (Some (out (answers.Moved g version tag))) (rule_out (answers.Moved g version tag) (answers.Moved g v t))
+    at-page version tag script other = rw (same_page-refl g) (by_test (tested (version == v)))
+      where
+        by_test : ((version == v) ≡ true) ⊎ ((version == v) ≡ false)
+            → FailsHere j past (Some (out (answers.Moved g version tag))) (if version == v then rules.Sealed else rules.Evict)
+        by_test (inl same) = rw same (at-version version tag (eqb-true version v same) script other)
+        by_test (inr differs) =
+            rw differs (of-version version tag script (λ e. clash differs (eq-eqb version v e)))
+
+    moved-out : (page : Page) (version : ℕ) (tag : List ℕ) → ScriptRule j past (out (answers.Moved page version tag))
+        → (answers.Moved page version tag ≡ answers.Moved g v t → ⊥)
+        → FailsHere j past (Some (out (answers.Moved page version tag))) (rule_out (answers.Moved page version tag) (answers.Moved g v t))
+    moved-out page version tag script other = by_test (tested (same_page page g))
+      where
+        Says_of : Page → Type 0
+        Says_of p = ScriptRule j past (out (answers.Moved p version tag)) → (answers.Moved p version tag ≡ answers.Moved g v t → ⊥)
+            → FailsHere j past (Some (out (answers.Moved p version tag))) (rule_out (answers.Moved p version tag) (answers.Moved g v t))
+
+        by_test : (same_page page g ≡ true) ⊎ (same_page page g ≡ false)
+            → FailsHere j past (Some (out (answers.Moved page version tag))) (rule_out (answers.Moved page version tag) (answers.Moved g v t))
+        by_test (inl same) = subst Says_of (sym (same_pages page g same)) (at-page version tag) script other
+        by_test (inr differs) =
+            rw differs (of-page page version tag script (λ e. clash differs (subst (λ x. same_page page x ≡ true) e (same_page-refl page))))
+
+    -- an end that names nothing
+    bare-out : (answer : Answer) → ScriptRule j past (out answer) → (EndsOut past f.0 answer → ⊥)
+        → FailsHere j past (Some (out answer)) rules.Refusal
+    bare-out answer script none = refusal_fails j past (out answer) script (λ h. none h.1)
+
+    out-other : (answer : Answer) → ScriptRule j past (out answer) → (answer ≡ answers.Moved g v t → ⊥)
+        → FailsHere j past (Some (out answer)) (rule_out answer (answers.Moved g v t))
+    out-other (answers.Moved page version tag) script other = moved-out page version tag script other
+    out-other answer script other = bare-out answer script (λ h. let e = h.told in cc)
+
+  -- a write-out that the machine ends otherwise
+  pub other_out : (answer right : Answer) → KeepsMachines j past (out right) → ScriptRule j past (out answer) → (answer ≡ right → ⊥)
+      → FailsHere j past (Some (out answer)) (rule_out answer right)
+  other_out answer (answers.Moved g v t) keeps script other = out-other g v t keeps answer script other
+  other_out answer right keeps script other = absurd (let e = (keeps.each rules.Refusal refl).1.told in cc)
+
+  -- ---- a load
+
+  module _ (g : Page) (v : ℕ) (t : List ℕ) (keeps : KeepsMachines j past (back (answers.Moved g v t))) where
+    is-back : IsBack past f.0 (answers.Moved g v t)
+    is-back = (keeps.each rules.Refusal refl).1
+
+    -- the page, with another version or another tag
+    back-at-page : (version : ℕ) (tag : List ℕ) → ScriptRule j past (back (answers.Moved g version tag))
+        → (answers.Moved g version tag ≡ answers.Moved g v t → ⊥) → FailsHere j past (Some (back (answers.Moved g version tag))) rules.Fresh
+    back-at-page version tag script other =
+        fresh_fails j past (back (answers.Moved g version tag)) script (refl, named) (λ seen. absurd cc) (keeps.each rules.Fits refl)
+        (keeps.each rules.Stale refl) tt (λ h. other (same h.reload))
+      where
+        named : IsBack past f.0 (answers.Moved g version tag)
+        named = record {
+          page = g;
+          ends = subst (λ (x : Page). EndsIn past f.0 x) (sym (moved-page is-back.told)) is-back.ends;
+          version = version;
+          tag = tag;
+          told = refl;
+        }
+
+        mine : IsLastOut past f.0 g v t
+        mine = (keeps.each rules.Fresh refl).reload
+
+        same : IsLastOut past f.0 g version tag → answers.Moved g version tag ≡ answers.Moved g v t
+        same h =
+            let e = some-out (sym h.last ∙ mine.last) in
+            λ i. answers.Moved g ((e i).version) ((e i).tag)
+
+    moved-back : (page : Page) (version : ℕ) (tag : List ℕ) → ScriptRule j past (back (answers.Moved page version tag))
+        → (answers.Moved page version tag ≡ answers.Moved g v t → ⊥)
+        → FailsHere j past (Some (back (answers.Moved page version tag))) (rule_back (answers.Moved page version tag) (answers.Moved g v t))
+    moved-back page version tag script other = by_test (tested (same_page page g))
+      where
+        Says_of : Page → Type 0
+        Says_of p = ScriptRule j past (back (answers.Moved p version tag)) → (answers.Moved p version tag ≡ answers.Moved g v t → ⊥)
+            → FailsHere j past (Some (back (answers.Moved p version tag))) (rule_back (answers.Moved p version tag) (answers.Moved g v t))
+
+        at-page : Says_of g
+        at-page held differs = rw (same_page-refl g) (back-at-page version tag held differs)
+
+        by_test : (same_page page g ≡ true) ⊎ (same_page page g ≡ false)
+            → FailsHere j past (Some (back (answers.Moved page version tag))) (rule_back (answers.Moved page version tag) (answers.Moved g v t))
+        by_test (inl same) = subst Says_of (sym (same_pages page g same)) at-page script other
+        by_test (inr differs) =
+            rw differs (refusal_fails j past (back (answers.Moved page version tag)) script (λ h.
+            clash differs (subst (λ x. same_page page x ≡ true) (back-page past f.0 page g version v tag t h.1 is-back) (same_page-refl page))))
+
+    back-other : (answer : Answer) → ScriptRule j past (back answer) → (answer ≡ answers.Moved g v t → ⊥)
+        → FailsHere j past (Some (back answer)) (rule_back answer (answers.Moved g v t))
+    back-other (answers.Moved page version tag) script other = moved-back page version tag script other
+    back-other answer script other = refusal_fails j past (back answer) script (λ h. let e = h.1.told in cc)
+
+  -- a load that the machine ends otherwise
+  pub other_back : (answer right : Answer) → KeepsMachines j past (back right) → ScriptRule j past (back answer) → (answer ≡ right → ⊥)
+      → FailsHere j past (Some (back answer)) (rule_back answer right)
+  other_back answer (answers.Moved g v t) keeps script other = back-other g v t keeps answer script other
+  other_back answer right keeps script other = absurd (let e = (keeps.each rules.Refusal refl).1.told in cc)

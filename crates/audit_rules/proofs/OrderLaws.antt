@@ -1,0 +1,83 @@
+-- A rule fails at an entry, and the rules before it hold there.
+use Rattle.std.proofs.Common.{◌≡◌, ℕ, ◌<◌, List, Some, arith}
+use Rattle.sgx_types.specs.declared.entries.Entry.{Entry}
+use Rattle.sgx_types.specs.Fresh.{FreshRule}
+use Rattle.sgx_types.specs.Rules.{EvictRule, FlatRule, RefusalRule}
+use Rattle.seal_record.specs.Sealing.{SealedRule}
+use Rattle.measure_log.specs.Rule.{MeasureRule}
+use Rattle.job_grammar.specs.Jobs.{JobView}
+use Rattle.turn_rules.specs.Machines.{machine_of}
+use Rattle.driver_rules.specs.Scripts.{ScriptRule}
+use Rattle.run_history.specs.declared.rules.Rule.{Rule}
+use Rattle.run_history.specs.declared.rules.Rule.TheVariants as rules
+use Rattle.run_history.specs.Histories.{FailsHere, Says, rank}
+
+module _ (j : JobView) (past : List Entry) (e : Entry) (script : ScriptRule j past e) where
+  pub refusal_fails : (RefusalRule (machine_of j) past e → ⊥) → FailsHere j past (Some e) rules.Refusal
+  refusal_fails fails = record { earlier = before; fails = fails }
+    where
+      before : (r : Rule) → rank r < 1 → Says j r past (Some e)
+      before rules.Script low = script
+      before r low = absurd (omega (arith, low))
+
+  module _ (refusal : Says j rules.Refusal past (Some e)) where
+    pub flat_fails : (FlatRule past e → ⊥) → FailsHere j past (Some e) rules.Flat
+    flat_fails fails = record { earlier = before; fails = fails }
+      where
+        before : (r : Rule) → rank r < 2 → Says j r past (Some e)
+        before rules.Script low = script
+        before rules.Refusal low = refusal
+        before r low = absurd (omega (arith, low))
+
+    module _ (flat : Says j rules.Flat past (Some e)) (fits : Says j rules.Fits past (Some e)) (stale : Says j rules.Stale past (Some e)) where
+      pub evict_fails : (EvictRule past e → ⊥) → FailsHere j past (Some e) rules.Evict
+      evict_fails fails = record { earlier = before; fails = fails }
+        where
+          before : (r : Rule) → rank r < 5 → Says j r past (Some e)
+          before rules.Script low = script
+          before rules.Refusal low = refusal
+          before rules.Flat low = flat
+          before rules.Fits low = fits
+          before rules.Stale low = stale
+          before r low = absurd (omega (arith, low))
+
+      module _ (evict : Says j rules.Evict past (Some e)) where
+        pub fresh_fails : (FreshRule j.start_version past e → ⊥) → FailsHere j past (Some e) rules.Fresh
+        fresh_fails fails = record { earlier = before; fails = fails }
+          where
+            before : (r : Rule) → rank r < 6 → Says j r past (Some e)
+            before rules.Script low = script
+            before rules.Refusal low = refusal
+            before rules.Flat low = flat
+            before rules.Fits low = fits
+            before rules.Stale low = stale
+            before rules.Evict low = evict
+            before r low = absurd (omega (arith, low))
+
+        module _ (fresh : Says j rules.Fresh past (Some e)) where
+          pub sealed_fails : (SealedRule j.key past e → ⊥) → FailsHere j past (Some e) rules.Sealed
+          sealed_fails fails = record { earlier = before; fails = fails }
+            where
+              before : (r : Rule) → rank r < 7 → Says j r past (Some e)
+              before rules.Script low = script
+              before rules.Refusal low = refusal
+              before rules.Flat low = flat
+              before rules.Fits low = fits
+              before rules.Stale low = stale
+              before rules.Evict low = evict
+              before rules.Fresh low = fresh
+              before r low = absurd (omega (arith, low))
+
+          pub measure_fails : Says j rules.Sealed past (Some e) → (MeasureRule past e → ⊥) → FailsHere j past (Some e) rules.Measure
+          measure_fails sealed fails = record { earlier = before; fails = fails }
+            where
+              before : (r : Rule) → rank r < 8 → Says j r past (Some e)
+              before rules.Script low = script
+              before rules.Refusal low = refusal
+              before rules.Flat low = flat
+              before rules.Fits low = fits
+              before rules.Stale low = stale
+              before rules.Evict low = evict
+              before rules.Fresh low = fresh
+              before rules.Sealed low = sealed
+              before r low = absurd (omega (arith, low))
