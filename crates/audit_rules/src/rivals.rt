@@ -80,15 +80,25 @@ fn rule_of_formed(action: Action) -> Rule
 fn rule_out(answer: Answer, right: Answer) -> Rule
     ensures { result ≡ rule_out answer right }
 {
-    let (Answer::Moved { page, version, .. }, Answer::Moved { page: g, version: v, .. }) = (
-        answer, right,
-    ) else {
+    let (
+        Answer::Moved { page, version, .. },
+        Answer::Moved {
+            page: g,
+            version: v,
+            ..
+        },
+    ) = (answer, right)
+    else {
         return Rule::Refusal;
     };
     if !same_page(page, g) {
         return Rule::Refusal;
     }
-    if version == v { Rule::Sealed } else { Rule::Evict }
+    if version == v {
+        Rule::Sealed
+    } else {
+        Rule::Evict
+    }
 }
 
 // Two ends of one load.
@@ -98,7 +108,11 @@ fn rule_back(answer: Answer, right: Answer) -> Rule
     let (Answer::Moved { page, .. }, Answer::Moved { page: g, .. }) = (answer, right) else {
         return Rule::Refusal;
     };
-    if same_page(page, g) { Rule::Fresh } else { Rule::Refusal }
+    if same_page(page, g) {
+        Rule::Fresh
+    } else {
+        Rule::Refusal
+    }
 }
 
 // It was done where the machine refused.

@@ -1,0 +1,272 @@
+-- The end of a load.
+use Rattle.std.specs.Prelude.{MatchOption, not, bytes_eq, ◌&&◌}
+use Rattle.std.proofs.Common.{◌≡◌, ℕ, zero, suc, ◌==◌, Bool, true, false, if◌then◌else◌, refl, sym, ap, subst, ◌∙◌, ◌⊎◌, inl, inr, List, [], ◌∷◌, Option, Some, None}
+use Rattle.std.proofs.lemmas.Bool.{eqb-true, eq-eqb, and_from}
+use Rattle.std.proofs.lemmas.Slice.Eq.{bytes_eq-Decides}
+use Rattle.sgx_types.specs.declared.entries.Entry.{Entry}
+use Rattle.sgx_types.specs.declared.entries.Event.{Event}
+use Rattle.sgx_types.specs.declared.entries.Event.TheVariants.{Did, Refused}
+use Rattle.sgx_types.specs.declared.entries.Actor.{Actor}
+use Rattle.sgx_types.specs.declared.entries.Action.{Action}
+use Rattle.sgx_types.specs.declared.entries.Action.TheVariants.{Eld}
+use Rattle.sgx_types.specs.declared.entries.Answer.{Answer}
+use Rattle.sgx_types.specs.declared.names.Frame.{Frame}
+use Rattle.sgx_types.specs.declared.names.Page.{Page}
+use Rattle.sgx_types.specs.declared.record.Header.{Header}
+use Rattle.sgx_types.specs.declared.refusals.Refusal.{Refusal}
+use Rattle.sgx_types.specs.declared.refusals.Refusal.TheVariants as why
+use Rattle.sgx_types.specs.Ends.{DoesNotFit, EndsIn, IsBack, IsNotBack}
+use Rattle.sgx_types.specs.Flat.{header_at}
+use Rattle.sgx_types.specs.Frames.{content}
+use Rattle.sgx_types.specs.Making.{Making}
+use Rattle.sgx_types.specs.Rules.{RefusalRule}
+use Rattle.sgx_types.specs.Sealed.{Sealed}
+use Rattle.sgx_types.specs.Starts.{Start, open_start}
+use Rattle.sgx_types.specs.Table.{first_of_row, is_loading}
+use Rattle.sgx_types.proofs.Truths.{both_true, not_false, tested}
+use Rattle.seal_record.specs.Cipher.{tag}
+use Rattle.seal_record.specs.Records.{Made}
+use Rattle.seal_record.specs.Row.{same_header}
+use Rattle.job_grammar.specs.Jobs.{JobView}
+use Rattle.page_history.proofs.StartLaws.{starts_apart}
+use Rattle.turn_rules.specs.Machines.{machine_of}
+use Rattle.turn_rules.specs.Script.{action_of}
+use Rattle.driver_rules.specs.Scripts.{ScriptRule}
+use Rattle.paging_laws.specs.Histories.{BringsBack, BringsIn, StandsWithAllRules}
+use Rattle.paging_laws.specs.Notes.{IsDone}
+use Rattle.paging_laws.specs.State.{State}
+use Rattle.paging_laws.specs.Steps.{IsComing, IsReloaded, commit_row, did_by, refused_by}
+use Rattle.paging_laws.proofs.ColumnLaws.{content_is, start_is}
+use Rattle.paging_laws.proofs.MoveEnds.{coming_header}
+use Rattle.paging_laws.proofs.ReloadLaws.{keeps_moves, row_allows}
+use Rattle.run_history.specs.declared.rules.Rule.{Rule}
+use Rattle.run_history.specs.declared.rules.Rule.TheVariants as rules
+use Rattle.run_history.specs.Histories.{FailsHere}
+use Rattle.audit_rules.proofs.OrderLaws.{refusal_fails}
+use Rattle.audit_rules.proofs.SameLaws.{ends_apart}
+use Rattle.audit_rules.specs.Rivals.{AreRivals, is_load_refused}
+use Rattle.audit_rules.specs.Same.{same_end}
+use Rattle.audit_machine.specs.Asked.{Breaks, IsDoneBack, IsOwnRecord, is_unfit, other_number}
+use Rattle.audit_machine.proofs.AskLaws.{IsMadeOf, Tells, alike, made_of_it}
+use Rattle.audit_machine.proofs.KeptLaws.{last_kept}
+use Rattle.audit_machine.proofs.OtherRefusal.{other_refusal}
+
+action-inj : {x y : Action} → Some x ≡ Some y → x ≡ y
+action-inj e = cc
+
+none-some : {x : Action} → None ≡ Some x → ⊥
+none-some e = cc
+
+some-start : {x y : Start} → Some x ≡ Some y → x ≡ y
+some-start e = cc
+
+some-page : {x y : Page} → Some x ≡ Some y → x ≡ y
+some-page e = cc
+
+some-header : {x y : Header} → Some x ≡ Some y → x ≡ y
+some-header e = cc
+
+clash : {b : Bool} → b ≡ false → b ≡ true → ⊥
+clash is_not is = let e = sym is_not ∙ is in absurd (let f : false ≡ true = e in cc)
+
+-- ---- a frame that waits for no page
+
+no-end : (j : JobView) (past : List Entry) (actor : Actor) (event : Event) (f : Frame) → action_of event ≡ Some (Eld f)
+    → ((page : Page) → EndsIn past f.0 page → ⊥) → RefusalRule (machine_of j) past (record { actor = actor; event = event }) → ⊥
+no-end j past actor (Did action answer) f own none h =
+    let back : IsBack past f.0 answer = (subst (λ a. RefusalRule (machine_of j) past (record { actor = actor; event = Did a answer }))
+    (action-inj own) h).1 in
+    none back.page back.ends
+no-end j past actor (Refused action refusal) f own none h =
+    let back : IsNotBack past f.0 refusal = subst (λ a. RefusalRule (machine_of j) past (record { actor = actor; event = Refused a refusal }))
+    (action-inj own) h in
+    none back.page back.ends
+no-end j past actor event f own none h = absurd (none-some own)
+
+pub none_comes : (s : State) (e : Entry) (f : Frame) → action_of e.event ≡ Some (Eld f) → is_loading (s.content f.0) ≡ false
+    → Breaks s e rules.Refusal
+none_comes s e f own idle j past records h script = refusal_fails j past e script (no-end j past e.actor e.event f own none)
+  where
+    none : (page : Page) → EndsIn past f.0 page → ⊥
+    none page ends =
+        let loading = (starts_apart (machine_of j) past (keeps_moves (machine_of j) s past records h)).loading f.0 ends.start page ends.opened
+        ends.loads in
+        clash idle (ap is_loading (content_is h.shaped.shape.columns f.0 ∙ loading))
+
+-- ---- headers
+
+header-same : (a b : Header) → same_header a b ≡ true → a ≡ b
+header-same a b is =
+    let first = both_true ((a.enclave == b.enclave) && (a.address == b.address)) (a.flags == b.flags) is in
+    let second = both_true (a.enclave == b.enclave) (a.address == b.address) first.0 in
+    λ i. record {
+      enclave = eqb-true a.enclave b.enclave second.0 i;
+      address = eqb-true a.address b.address second.1 i;
+      flags = eqb-true a.flags b.flags first.1 i;
+    }
+
+header-own : (a : Header) → same_header a a ≡ true
+header-own a =
+    and_from _ _ (and_from _ _ (eq-eqb a.enclave a.enclave refl) (eq-eqb a.address a.address refl)) (eq-eqb a.flags a.flags refl)
+
+number-apart : (n : ℕ) → other_number n ≡ n → ⊥
+number-apart n e = by_test (tested (n == 0))
+  where
+    by_test : ((n == 0) ≡ true) ⊎ ((n == 0) ≡ false) → ⊥
+    by_test (inl is) = let f : 1 ≡ n = rw is at e in let g : 1 ≡ 0 = f ∙ eqb-true n 0 is in absurd cc
+    by_test (inr differs) = let f : 0 ≡ n = rw differs at e in clash differs (eq-eqb n 0 (sym f))
+
+-- ---- the page that a frame waits for, and its own record
+
+module _ (k : Making) (s : State) (past : List Entry) (records : List Made) (f : Frame) (rec : Sealed)
+    (h : StandsWithAllRules k s past records) (own : IsOwnRecord k.key past f.0 rec) where
+  own-start : (start : Start) → s.start f.0 ≡ Some start → own.start ≡ start
+  own-start start opened = some-start (sym own.opened ∙ sym (start_is h.shaped.shape.columns f.0) ∙ opened)
+
+  pub brings_in : BringsIn k.key past s f.0 rec
+  brings_in start g opened loads =
+      let same : own.start ≡ start = own-start start opened in
+      let page : own.page ≡ g = some-page (sym own.loads ∙ ap (λ (x : Start). x.loads) same ∙ loads) in
+      subst (λ (x : Start). BringsBack k.key past f.0 g x.version rec) same
+      (subst (λ p. BringsBack k.key past f.0 p own.start.version rec) page own.brings)
+
+  own-page : (coming : IsComing s f.0) → own.page ≡ coming.page
+  own-page coming = some-page (sym own.loads ∙ ap (λ (x : Start). x.loads) (own-start coming.start coming.opened) ∙ coming.loads)
+
+  own-header : (coming : IsComing s f.0) → rec.header ≡ coming.header
+  own-header coming =
+      some-header (sym own.header ∙ ap (header_at past) (own-page coming) ∙ coming_header s past f.0 h.standing.stands coming)
+
+  own-tag : (coming : IsComing s f.0) → rec.tag ≡ tag s.key coming.start.version rec.header rec.cipher
+  own-tag coming =
+      own.tagged ∙ (λ i. tag ((sym (ap (λ (m : Making). m.key) h.shaped.shape.making)) i) ((own-start coming.start coming.opened i).version)
+      rec.header rec.cipher)
+
+  -- its row refuses nothing
+  allows : (coming : IsComing s f.0) → first_of_row (commit_row s f.0 coming rec) ≡ None
+  allows coming =
+      let fits : bytes_eq rec.tag (tag s.key coming.start.version rec.header rec.cipher) ≡ true = (bytes_eq-Decides _ _).1 (own-tag coming) in
+      let headed : same_header rec.header coming.header ≡ true =
+      subst (λ x. same_header rec.header x ≡ true) (own-header coming) (header-own rec.header) in
+      rw (fits, headed) refl
+
+-- ---- a load that is told as done
+
+made-of : (s t : State) (actor : Actor) (f : Frame) (rec : Sealed) (made : Entry) → IsReloaded s actor f rec made t
+    → IsMadeOf actor (Eld f) made
+made-of s t actor f rec made step = by_row _ _ _ (first_of_row (commit_row s f.0 step.coming rec)) step.row
+  where
+    by_row : (answer : Answer) (A B : Type 0) (o : Option Refusal) → MatchOption o ((made ≡ did_by actor (Eld f) answer) × A)
+        (λ refusal. (made ≡ refused_by actor (Eld f) refusal) × B) → IsMadeOf actor (Eld f) made
+    by_row answer A B None row = made_of_it actor (Eld f) made _ refl refl row.0
+    by_row answer A B (Some r) row = made_of_it actor (Eld f) made _ refl refl row.0
+
+done-event : (event : Event) (f : Frame) → IsDoneBack event f → (action_of event ≡ Some (Eld f)) × (is_load_refused event ≡ false)
+done-event (Did action answer) f done = (ap Some done, refl)
+done-event event f done = absurd done
+
+module _ (s t : State) (e made : Entry) (f : Frame) (rec : Sealed) (done : IsDoneBack e.event f) (step : IsReloaded s e.actor f rec made t)
+    (back : (k : Making) (past : List Entry) (records : List Made) → StandsWithAllRules k s past records
+    → (IsDone made.event → BringsIn k.key past s f.0 rec) → StandsWithAllRules k t (made ∷ past) records) where
+  is : IsMadeOf e.actor (Eld f) made
+  is = made-of s t e.actor f rec made step
+
+  goes : (k : Making) (past : List Entry) (records : List Made) → StandsWithAllRules k s past records → IsOwnRecord k.key past f.0 rec
+      → StandsWithAllRules k t (made ∷ past) records
+  goes k past records h own = back k past records h (λ was_done. brings_in k s past records f rec h own)
+
+  pub brought : same_end e.event made.event ≡ true → (k : Making) (past : List Entry) (records : List Made)
+      → StandsWithAllRules k s past records → IsOwnRecord k.key past f.0 rec → StandsWithAllRules k t (e ∷ past) records
+  brought same k past records h own =
+      subst (λ x. StandsWithAllRules k t (x ∷ past) records) (alike (Eld f) e made (done-event e.event f done).0 is same)
+      (goes k past records h own)
+
+  made-done : (k : Making) (past : List Entry) (records : List Made) → StandsWithAllRules k s past records → IsOwnRecord k.key past f.0 rec
+      → is_load_refused made.event ≡ false
+  made-done k past records h own =
+      let row = rw (allows k s past records f rec h own step.coming) at step.row in
+      rw row.0 refl
+
+  pub not_brought : (rule : Rule) → same_end e.event made.event ≡ false → Tells e made rule → (j : JobView) (past : List Entry)
+      (records : List Made) → StandsWithAllRules (machine_of j) s past records → IsOwnRecord j.key past f.0 rec → ScriptRule j past e
+      → FailsHere j past (Some e) rule
+  not_brought rule unlike tells j past records h own script =
+      tells j past rivals script (last_kept j t past made records (goes (machine_of j) past records h own))
+    where
+      rivals : AreRivals e made
+      rivals = record {
+        actor = sym is.actor_is;
+        action = Eld f;
+        own = (done-event e.event f done).0;
+        same = is.action_is;
+        ends = (done-event e.event f done).1;
+        ended = made-done (machine_of j) past records h own;
+        differ = ends_apart e.event made.event (Eld f) (done-event e.event f done).0 unlike;
+      }
+
+-- ---- a load that is told as refused
+
+does-not-fit : (past : List Entry) (g : Page) (own : Header) (reason : Refusal) → header_at past g ≡ Some own → is_unfit own reason ≡ true
+    → DoesNotFit past g reason
+does-not-fit past g own (why.MacFail given computed) headed unfit = λ same.
+    let is : bytes_eq given computed ≡ true = (bytes_eq-Decides given computed).1 same in
+    clash (ap not is) unfit
+does-not-fit past g own (why.BadHeader enclave address flags) headed unfit = λ told.
+    let same : own ≡ record { enclave = enclave; address = address; flags = flags } = some-header (sym headed ∙ told) in
+    let is : same_header own (record { enclave = enclave; address = address; flags = flags }) ≡ true =
+    subst (λ x. same_header own x ≡ true) same (header-own own) in
+    clash (ap not is) unfit
+does-not-fit past g own reason headed unfit = absurd cc
+
+fits : (past : List Entry) (g : Page) (own : Header) (reason : Refusal) → header_at past g ≡ Some own → is_unfit own reason ≡ false
+    → DoesNotFit past g reason → ⊥
+fits past g own (why.MacFail given computed) headed fit unfit = unfit ((bytes_eq-Decides given computed).0 (not_false _ fit))
+fits past g own (why.BadHeader enclave address flags) headed fit unfit = unfit (headed ∙ ap Some (header-same own _ (not_false _ fit)))
+fits past g own reason headed fit unfit = unfit
+
+-- a reason that cannot be so
+pub reason_fits : (s : State) (actor : Actor) (f : Frame) (rec : Sealed) (reason : Refusal) → is_unfit rec.header reason ≡ false
+    → (j : JobView) (past : List Entry) (records : List Made) → StandsWithAllRules (machine_of j) s past records
+    → IsOwnRecord j.key past f.0 rec → ScriptRule j past (refused_by actor (Eld f) reason)
+    → FailsHere j past (Some (refused_by actor (Eld f) reason)) rules.Refusal
+reason_fits s actor f rec reason fit j past records h own script =
+    refusal_fails j past (refused_by actor (Eld f) reason) script (λ (back : IsNotBack past f.0 reason).
+    let start : own.start ≡ back.ends.start = some-start (sym own.opened ∙ back.ends.opened) in
+    let page : back.page ≡ own.page = some-page (sym back.ends.loads ∙ ap (λ (x : Start). x.loads) (sym start) ∙ own.loads) in
+    fits past back.page rec.header reason (ap (header_at past) page ∙ own.header) fit back.unfit)
+
+module _ (s t : State) (actor : Actor) (f : Frame) (rec other : Sealed) (reason : Refusal) (made : Entry)
+    (apart : other.header.enclave ≡ other_number rec.header.enclave) (step : IsReloaded s actor f other made t)
+    (back : (k : Making) (past : List Entry) (records : List Made) → StandsWithAllRules k s past records
+    → (IsDone made.event → BringsIn k.key past s f.0 other) → StandsWithAllRules k t (made ∷ past) records) where
+  pub turned_away : is_unfit rec.header reason ≡ true → (k : Making) (past : List Entry) (records : List Made)
+      → StandsWithAllRules k s past records → IsOwnRecord k.key past f.0 rec
+      → StandsWithAllRules k t (refused_by actor (Eld f) reason ∷ past) records
+  turned_away unfit k past records h own = by_row (first_of_row (commit_row s f.0 step.coming other)) refl
+    where
+      not_back : IsNotBack past f.0 reason
+      not_back = record {
+        page = own.page;
+        ends = record { start = own.start; opened = own.opened; loads = own.loads };
+        unfit = does-not-fit past own.page rec.header reason own.header unfit;
+      }
+
+      by_row : (o : Option Refusal) → first_of_row (commit_row s f.0 step.coming other) ≡ o
+          → StandsWithAllRules k t (refused_by actor (Eld f) reason ∷ past) records
+      by_row None allowed =
+          let headed : other.header ≡ rec.header = (row_allows s f.0 step.coming other allowed).header
+          ∙ sym (own-header k s past records f rec h own step.coming) in
+          absurd (number-apart rec.header.enclave (sym apart ∙ ap (λ (x : Header). x.enclave) headed))
+      by_row (Some found) refused =
+          let row = rw refused at step.row in
+          other_refusal past actor f found reason k t records
+          (subst (λ x. StandsWithAllRules k t (x ∷ past) records) row.0
+          (back k past records h (λ was_done. absurd (subst (λ (x : Entry). IsDone x.event) row.0 was_done)))) not_back
+
+-- the entry that tells of it
+pub refused_entry : (e : Entry) (f : Frame) (action : Action) (reason : Refusal) → e.event ≡ Refused action reason
+    → action_of e.event ≡ Some (Eld f) → refused_by e.actor (Eld f) reason ≡ e
+refused_entry e f action reason is own =
+    let act : action ≡ Eld f = action-inj (sym (ap action_of is) ∙ own) in
+    let event : e.event ≡ Refused (Eld f) reason = is ∙ (λ k. Refused (act k) reason) in
+    λ i. record { actor = e.actor; event = sym event i }

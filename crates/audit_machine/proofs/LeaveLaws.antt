@@ -1,0 +1,188 @@
+-- The end of a write-out.
+use Rattle.std.specs.Prelude.{true, false}
+use Rattle.std.proofs.Common.{◌≡◌, ℕ, ◌==◌, Bool, if◌then◌else◌, refl, sym, ap, subst, ◌∙◌, ◌⊎◌, inl, inr, List, [], ◌∷◌, ◌++◌, Option, Some, None, length}
+use Rattle.sgx_types.specs.declared.entries.Entry.{Entry}
+use Rattle.sgx_types.specs.declared.entries.Event.{Event}
+use Rattle.sgx_types.specs.declared.entries.Event.TheVariants.{Did, Refused}
+use Rattle.sgx_types.specs.declared.entries.Actor.{Actor}
+use Rattle.sgx_types.specs.declared.entries.Action.{Action}
+use Rattle.sgx_types.specs.declared.entries.Action.TheVariants.{EwbStart, Ewb, EldStart, Eld}
+use Rattle.sgx_types.specs.declared.entries.Answer.{Answer}
+use Rattle.sgx_types.specs.declared.entries.Answer.TheVariants.{Moved}
+use Rattle.sgx_types.specs.declared.names.Frame.{Frame}
+use Rattle.sgx_types.specs.declared.record.Header.{Header}
+use Rattle.sgx_types.specs.Making.{Making}
+use Rattle.sgx_types.specs.Sealed.{Sealed}
+use Rattle.sgx_types.specs.declared.refusals.Refusal.{Refusal}
+use Rattle.sgx_types.specs.Ends.{EndsOut}
+use Rattle.sgx_types.specs.declared.names.Page.{Page}
+use Rattle.sgx_types.specs.Frames.{is_sealing, sealing_after}
+use Rattle.sgx_types.specs.Rules.{RefusalRule}
+use Rattle.sgx_types.specs.Starts.{Start, open_start, opened_by, version_told}
+use Rattle.sgx_types.proofs.Truths.{tested}
+use Rattle.seal_record.specs.Cipher.{cipher, sealed, tag}
+use Rattle.seal_record.specs.Records.{Made}
+use Rattle.seal_record.specs.Sealing.{made_with}
+use Rattle.seal_record.specs.declared.unseal.UnsealedWork.{UnsealedWork}
+use Rattle.seal_record.proofs.CipherLaws.{cipher_twice}
+use Rattle.job_grammar.specs.Jobs.{JobView}
+use Rattle.turn_rules.specs.Machines.{machine_of}
+use Rattle.turn_rules.specs.Script.{action_of}
+use Rattle.driver_rules.specs.Scripts.{ScriptRule}
+use Rattle.paging_laws.specs.Histories.{StandsWithAllRules, given_out}
+use Rattle.paging_laws.specs.State.{State}
+use Rattle.paging_laws.specs.Steps.{IsWrittenOut, SealsPage, did_by}
+use Rattle.paging_laws.proofs.ColumnLaws.{sealing_is}
+use Rattle.run_history.specs.declared.rules.Rule.{Rule}
+use Rattle.run_history.specs.declared.rules.Rule.TheVariants as rules
+use Rattle.run_history.specs.Histories.{FailsHere}
+use Rattle.audit_rules.proofs.OrderLaws.{refusal_fails}
+use Rattle.audit_rules.specs.Rivals.{is_load_refused}
+use Rattle.audit_rules.specs.Same.{same_end}
+use Rattle.audit_machine.specs.Asked.{Breaks, GoesOnWith, HasLeft}
+use Rattle.audit_machine.proofs.AskLaws.{IsMadeOf, Tells, alike, broken, made_of_it, taken}
+
+-- ---- a frame with an open start of a write-out is on its way out
+
+abbrev Writes : Option Start → Type 0
+Writes o = (start : Start) × ((o ≡ Some start) × (start.loads ≡ None))
+
+none-start : {x : Start} → None ≡ Some x → ⊥
+none-start e = cc
+
+loads-none : {x start : Start} (page : Page) → x.loads ≡ Some page → Some x ≡ Some start → start.loads ≡ None → ⊥
+loads-none page loads same none = let e = sym loads ∙ ap (λ (o : Option Start). loads_in o) same ∙ none in cc
+  where
+    loads_in : Option Start → Option Page
+    loads_in None = None
+    loads_in (Some x) = x.loads
+
+writes-after : (event : Event) (n : ℕ) (o : Option Start) (b : Bool) → (Writes o → b ≡ true) → Writes (opened_by event n o)
+    → sealing_after event n b ≡ true
+writes-after (Did (EwbStart f slot) answer) n o b before w = by_test (tested (f.0 == n))
+  where
+    by_test : ((f.0 == n) ≡ true) ⊎ ((f.0 == n) ≡ false) → (if f.0 == n then true else b) ≡ true
+    by_test (inl is) = rw is refl
+    by_test (inr differs) = rw differs (before (rw differs at w))
+writes-after (Did (Ewb f) answer) n o b before w = by_test (tested (f.0 == n))
+  where
+    by_test : ((f.0 == n) ≡ true) ⊎ ((f.0 == n) ≡ false) → (if f.0 == n then false else b) ≡ true
+    by_test (inl is) = let v : Writes None = rw is at w in absurd (none-start v.1.0)
+    by_test (inr differs) = rw differs (before (rw differs at w))
+writes-after (Did (EldStart f page slot) answer) n o b before w = by_test (tested (f.0 == n))
+  where
+    by_test : ((f.0 == n) ≡ true) ⊎ ((f.0 == n) ≡ false) → b ≡ true
+    by_test (inl is) =
+        let v : Writes (Some (record { slot = slot; version = version_told answer; loads = Some page })) = rw is at w in
+        absurd (loads-none page refl v.1.0 v.1.1)
+    by_test (inr differs) = before (rw differs at w)
+writes-after (Did (Eld f) answer) n o b before w = by_test (tested (f.0 == n))
+  where
+    by_test : ((f.0 == n) ≡ true) ⊎ ((f.0 == n) ≡ false) → b ≡ true
+    by_test (inl is) = let v : Writes None = rw is at w in absurd (none-start v.1.0)
+    by_test (inr differs) = before (rw differs at w)
+writes-after (Refused (Eld f) refusal) n o b before w = by_test (tested (f.0 == n))
+  where
+    by_test : ((f.0 == n) ≡ true) ⊎ ((f.0 == n) ≡ false) → b ≡ true
+    by_test (inl is) = let v : Writes None = rw is at w in absurd (none-start v.1.0)
+    by_test (inr differs) = before (rw differs at w)
+writes-after event n o b before w = before w
+
+is-leaving : (past : List Entry) (n : ℕ) → Writes (open_start past n) → is_sealing past n ≡ true
+is-leaving [] n w = absurd (none-start w.1.0)
+is-leaving (e ∷ past) n w = writes-after e.event n (open_start past n) (is_sealing past n) (is-leaving past n) w
+
+-- ---- so where none is on its way out there is nothing to end
+
+action-inj : {x y : Action} → Some x ≡ Some y → x ≡ y
+action-inj e = cc
+
+none-some : {x : Action} → None ≡ Some x → ⊥
+none-some e = cc
+
+clash : {b : Bool} → b ≡ false → b ≡ true → ⊥
+clash is_not is = let e = sym is_not ∙ is in absurd (let f : false ≡ true = e in cc)
+
+no-end : (j : JobView) (past : List Entry) (actor : Actor) (event : Event) (f : Frame) → action_of event ≡ Some (Ewb f)
+    → is_sealing past f.0 ≡ false → RefusalRule (machine_of j) past (record { actor = actor; event = event }) → ⊥
+no-end j past actor (Did action answer) f own still h =
+    let ends : EndsOut past f.0 answer = (subst (λ a. RefusalRule (machine_of j) past (record { actor = actor; event = Did a answer }))
+    (action-inj own) h).1 in
+    clash still (is-leaving past f.0 (ends.start, (ends.opened, ends.writes)))
+no-end j past actor (Refused action refusal) f own still h =
+    subst (λ a. RefusalRule (machine_of j) past (record { actor = actor; event = Refused a refusal })) (action-inj own) h
+no-end j past actor event f own still h = absurd (none-some own)
+
+pub none_leaves : (s : State) (e : Entry) (f : Frame) → action_of e.event ≡ Some (Ewb f) → s.is_sealing f.0 ≡ false → Breaks s e rules.Refusal
+none_leaves s e f own still j past records h script =
+    refusal_fails j past e script (no-end j past e.actor e.event f own (sym (sealing_is h.shaped.shape.columns f.0) ∙ still))
+
+-- ---- the end that the machine makes
+
+some-start : {x y : Start} → Some x ≡ Some y → x ≡ y
+some-start e = cc
+
+no-load : (event : Event) (f : Frame) → action_of event ≡ Some (Ewb f) → is_load_refused event ≡ false
+no-load (Did action answer) f own = refl
+no-load (Refused (Eld g) refusal) f own = let same : Eld g ≡ Ewb f = action-inj own in absurd cc
+no-load (Refused action refusal) f own = refl
+no-load event f own = absurd (none-some own)
+
+-- what was sealed, by what was to be sealed
+pub seals_same : (s : State) (f : ℕ) (k key : List ℕ) (v version : ℕ) (header : Header) (p plain : List ℕ) → SealsPage s f k v header p
+    → key ≡ k → version ≡ v → plain ≡ p → SealsPage s f key version header plain
+seals_same s f k key v version header p plain h same_key same_version same_plain = record {
+  leaving = h.leaving;
+  key = same_key ∙ h.key;
+  version = same_version ∙ h.version;
+  header = h.header;
+  plain = same_plain ∙ h.plain;
+}
+
+module _ (s t : State) (e made : Entry) (f : Frame) (rec : Sealed) (own : action_of e.event ≡ Some (Ewb f))
+    (step : IsWrittenOut s e.actor f made rec t)
+    (history : (k : Making) (past : List Entry) (records : List Made) → StandsWithAllRules k s past records
+    → StandsWithAllRules k t (made ∷ past) (records ++ given_out made.event rec)) where
+  is : IsMadeOf e.actor (Ewb f) made
+  is = made_of_it e.actor (Ewb f) made _ refl refl step.entry
+
+  pub out_apart : (rule : Rule) → same_end e.event made.event ≡ false → Tells e made rule → Breaks s e rule
+  out_apart rule unlike tells =
+      broken s t (Ewb f) e made (given_out made.event rec) rule own is (no-load e.event f own) (no-load made.event f is.action_is) unlike history
+      tells
+
+  module _ (key : List ℕ) (version : ℕ) (header : Header) (plain : List ℕ) (seals : SealsPage s f.0 key version header plain) where
+    own-version : step.leaving.start.version ≡ version
+    own-version = ap (λ (x : Start). x.version) (some-start (sym step.leaving.opened ∙ seals.leaving.opened)) ∙ sym seals.version
+
+    own-record : rec ≡ sealed key version step.leaving.header plain
+    own-record = step.sealed ∙ (λ i. sealed (sym seals.key i) (own-version i) step.leaving.header (sym seals.plain i))
+
+    -- the record opens to the page's bytes, and carries its own tag
+    pub out_plain : length plain ≡ 4096 → plain ≡ cipher key version rec.cipher
+    out_plain size =
+        sym (ap (λ (x : Sealed). cipher key version x.cipher) own-record ∙ cipher_twice key version plain size)
+
+    pub out_tag : rec.tag ≡ tag key version rec.header rec.cipher
+    out_tag = ap (λ (x : Sealed). x.tag) own-record ∙ sym (ap (λ (x : Sealed). tag key version x.header x.cipher) own-record)
+
+    pub out_alike : (work : UnsealedWork) → work.key ≡ key → work.version ≡ version → work.rec ≡ rec
+        → same_end e.event made.event ≡ true → HasLeft s e f work t
+    out_alike work same_key same_version same_rec same = record {
+      page = step.leaving.page.page;
+      told = told;
+      key = same_key ∙ seals.key;
+      goes_on = subst (λ more. GoesOnWith s e more t) given
+          (taken s t (Ewb f) e made (given_out made.event rec) own is same history);
+    }
+      where
+        entry : e ≡ did_by e.actor (Ewb f) (Moved step.leaving.page.page step.leaving.start.version rec.tag)
+        entry = sym (alike (Ewb f) e made own is same) ∙ step.entry
+
+        told : e.event ≡ Did (Ewb f) (Moved step.leaving.page.page work.version work.rec.tag)
+        told = ap (λ (x : Entry). x.event) entry
+            ∙ (λ i. Did (Ewb f) (Moved step.leaving.page.page ((own-version ∙ sym same_version) i) ((sym same_rec i).tag)))
+
+        given : given_out made.event rec ≡ made_with work.version work.rec ∷ []
+        given = ap (λ (x : Entry). given_out x.event rec) step.entry
+            ∙ (λ i. made_with ((own-version ∙ sym same_version) i) (sym same_rec i) ∷ [])

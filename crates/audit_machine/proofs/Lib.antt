@@ -1,0 +1,5 @@
+pub mod KeptLaws
+pub mod AskLaws
+pub mod LeaveLaws
+pub mod OtherRefusal
+pub mod ComeLaws

@@ -1,0 +1,73 @@
+//! The end of a write-out.
+
+ghost use Rattle.std.specs.Prelude.{◌≡◌, IfOk, OnErr, Some, length};
+ghost use Rattle.audit_machine.specs.Asked.{TakesOut};
+ghost use Rattle.paging_laws.specs.State.{making_of};
+ghost use Rattle.paging_machine.specs.Parts.{state_of};
+ghost use Rattle.sgx_types.specs.declared.entries.Action.TheVariants as actions;
+ghost use Rattle.turn_rules.specs.Script.{action_of};
+
+use audit_rules::rivals::first_broken;
+use audit_rules::same::same_end;
+use paging_machine::machine::Machine;
+use run_history::rules::Rule;
+use seal_record::seal::{SealWork, seal};
+use seal_record::unseal::UnsealedWork;
+use sgx_types::entries::Entry;
+use sgx_types::names::{Frame, Memory};
+use sgx_types::record::Record;
+use std::alloc::Global;
+
+/// What came of the end of a write-out.
+#[derive(Debug, Drop)]
+pub enum Out {
+    /// The entry breaks this rule first.
+    Broken(Rule),
+
+    /// The page is out, with this record, opened.
+    Gone(UnsealedWork),
+}
+
+/// Asks a machine for the `ewb` of an entry: the page in the frame is sealed, in the time of the SHA-256 of its 4096 bytes. The record is
+/// answered opened, as it is needed when the page comes back. Refused memory leaves the machine as it was.
+pub fn ask_out(
+    alloc: Global,
+    machine: &mut Machine,
+    entry: &Entry,
+    frame: Frame,
+) -> Result<Out, Memory>
+    requires own { action_of entry.now.event ≡ Some (actions.Ewb frame) }
+    ensures takes { IfOk result (TakesOut (state_of machine.old) entry.now frame (state_of machine.new)) }
+    ensures making { making_of (state_of machine.new) ≡ making_of (state_of machine.old) }
+    ensures cpus { length machine.new.cpus ≡ length machine.old.cpus }
+    ensures refused { OnErr result (machine.new ≡ machine.old) }
+{
+    if !machine.is_leaving(frame) {
+        return Ok(Out::Broken(Rule::Refusal));
+    }
+    let room = SealWork::new(alloc)?;
+    let mut plain = vec![in alloc; 0; 4096]?;
+    let work = seal(machine.seal_input(frame, room));
+    plain.copy_from_slice(&work.plain);
+    let key = work.key;
+    let version = work.version;
+    let (made, rec) = machine.ewb_commit(entry.actor, frame, work);
+    if !same_end(&entry.event, &made.event) {
+        return Ok(Out::Broken(first_broken(entry, &made)));
+    }
+    let computed = tag_in(&rec);
+    Ok(Out::Gone(UnsealedWork {
+        key,
+        version,
+        rec,
+        plain,
+        computed,
+    }))
+}
+
+// The tag that a record carries.
+fn tag_in(rec: &Record) -> [u8; 32]
+    ensures { result ≡ rec.now.tag }
+{
+    rec.tag
+}
