@@ -1,0 +1,55 @@
+//! Laws of what an auditor keeps. A law is the contract of a function without arguments.
+
+ghost use Rattle.std.specs.Prelude.{ℕ, ◌≤◌, ◌∷◌, List};
+ghost use Rattle.sgx_types.specs.Making.{Making};
+ghost use Rattle.sgx_types.specs.Rules.{RefusalRule};
+ghost use Rattle.sgx_types.specs.Starts.{LoadsAreApart};
+ghost use Rattle.sgx_types.specs.declared.entries.Entry.{Entry};
+ghost use Rattle.job_grammar.specs.Jobs.{JobView};
+ghost use Rattle.turn_rules.specs.Machines.{machine_of};
+ghost use Rattle.paging_machine.specs.Parts.{Parts};
+ghost use Rattle.driver_laws.specs.Counted.{CountMoves, CountsSlots};
+ghost use Rattle.driver_laws.specs.Kinds.{CanMove};
+ghost use Rattle.driver_laws.specs.Sound.{IsSound};
+ghost use Rattle.driver_laws.specs.Three.{IsApart, TcsAreApart};
+ghost use Rattle.driver_laws.specs.Used.{StartTells};
+ghost use Rattle.driver_steps.specs.Agrees.{Agrees};
+ghost use Rattle.driver_tables.specs.declared.driver.Driver.{Driver};
+ghost use Rattle.run_history.specs.Histories.{GoesOn};
+ghost use Rattle.turn_tables.specs.Ending.{EndsAreTold};
+ghost use Rattle.turn_tables.specs.declared.turns.Turns.{Turns};
+ghost use Rattle.version_array.specs.Keeper.{Keeper, count_out};
+ghost use Rattle.audit_laws.specs.Shown.{ShowsTrace};
+
+/// Driver and machine agree on a trace that kept each rule, where the tables show it: nothing else is asked of who made it.
+pub fn lawful_traces_agree()
+    ensures { (j : JobView) (past : List Entry) (d : Driver) (m : Parts) (t : Turns) → ShowsTrace j past d m t
+        → Agrees (machine_of j) j past d m }
+{}
+
+/// Each entry of a history that goes on could move its page, and what it told of its start is so.
+pub fn lawful_entries_can_move()
+    ensures can { (j : JobView) (past : List Entry) (e : Entry) → 1 ≤ j.start_version → GoesOn j (e ∷ past) → CanMove past e.event }
+    ensures starts { (j : JobView) (past : List Entry) (e : Entry) → 1 ≤ j.start_version → GoesOn j (e ∷ past) → StartTells past e.event }
+{}
+
+/// No frame holds a page that is being loaded, and no page is loaded twice, where places and frames are sound.
+pub fn loads_are_apart()
+    ensures { (past : List Entry) → IsSound past → LoadsAreApart past }
+{}
+
+/// Who was ended was told why: by the rule Refusal a load is refused only for its record, so that its refusal is still to be told.
+pub fn ends_are_told()
+    ensures { (k : Making) (past : List Entry) (e : Entry) → RefusalRule k past e → EndsAreTold past → EndsAreTold (e ∷ past) }
+{}
+
+/// As many slots are out as pages have one, behind an entry by which the keeper of the slots went on.
+pub fn slots_stay_counted()
+    ensures { (j : JobView) (past : List Entry) (e : Entry) (old new : Keeper) → 1 ≤ j.start_version → GoesOn j (e ∷ past)
+        → CountMoves e.event (count_out old) (count_out new) → CountsSlots old past → CountsSlots new (e ∷ past) }
+{}
+
+/// What each processor holds is of three pages.
+pub fn holds_are_apart()
+    ensures { (j : JobView) (past : List Entry) (p : ℕ) → 1 ≤ j.start_version → TcsAreApart j → GoesOn j past → IsApart j past p }
+{}
