@@ -1,5 +1,7 @@
 -- Each step keeps the rule of the gate.
-use Rattle.std.proofs.Common.{◌≡◌, ◌≢◌, ◌⊎◌, inl, inr, ℕ, ◌+◌, ◌-◌, ◌*◌, ◌/◌, ◌%◌, ◌^◌, ◌<◌, ◌≤◌, List, [], ◌∷◌, ◌++◌, get_or, set, Bool, true, false, cond, true≢false, Option, Some, None, refl, sym, ap, ◌∙◌, subst, ⊎_elim, arith, length-set, get_or-set_other, eq-eqb, ne_eqb}
+use Rattle.std.proofs.Common.{◌≡◌, ◌≢◌, ◌⊎◌, inl, inr, ℕ, ◌+◌, ◌-◌, ◌*◌, ◌/◌, ◌%◌, ◌^◌, ◌<◌, ◌≤◌, List, [], ◌∷◌}
+use Rattle.std.proofs.Common.{◌++◌, get_or, set, Bool, true, false, cond, true≢false, Option, Some, None, refl}
+use Rattle.std.proofs.Common.{sym, ap, ◌∙◌, subst, ⊎_elim, arith, length-set, get_or-set_other, eq-eqb, ne_eqb}
 use Rattle.std.specs.Prelude.{◌==◌, is_some}
 use Rattle.std.proofs.lemmas.List.{set-get_or}
 use mathlib.Core.Logic.{dite}
@@ -17,8 +19,11 @@ use Rattle.frame_gate.specs.declared.view.Written.{Written}
 use Rattle.frame_gate.specs.declared.view.Role.{Role}
 use Rattle.frame_gate.specs.declared.view.Role.TheVariants.{Pager, Processor}
 use Rattle.frame_gate.specs.Words.{leave_word, frame_word}
-use Rattle.frame_gate.specs.Views.{view, after_step, after_load, visit, pair, generation_of, put, filled, written_of, role_entered, role_left, role_filled, role_holds}
-use Rattle.frame_gate.specs.Rule.{Shared, Seat, total, one_if, is_at, role_at, inside_at, role_entries, entries_of, role_seats, seats_of, AreCounted, IsMarked, AreWritten, HasEpoch, IsUntil, CanHold, AreHeld, Fits, IsPastDrained, IsKept, Enters, Leaves, Meets, Fills, Touches}
+use Rattle.frame_gate.specs.Views.{view, after_step, after_load, visit, pair, generation_of, put}
+use Rattle.frame_gate.specs.Views.{filled, written_of, role_entered, role_left, role_filled, role_holds}
+use Rattle.frame_gate.specs.Rule.{Shared, Seat, total, one_if, is_at, role_at, inside_at, role_entries, entries_of}
+use Rattle.frame_gate.specs.Rule.{role_seats, seats_of, AreCounted, IsMarked, AreWritten, HasEpoch, IsUntil}
+use Rattle.frame_gate.specs.Rule.{CanHold, AreHeld, Fits, IsPastDrained, IsKept, Enters, Leaves, Meets, Fills, Touches}
 use Rattle.frame_gate.proofs.SumLaws.{each_set, sum_set, sum_below, none_each, one_of}
 use Rattle.frame_gate.proofs.CountLaws.{not_true, at_itself, enter_counts, leave_counts, still_counts}
 

@@ -1,5 +1,6 @@
 -- What contracts see of a gate's seats, and what each call makes of it.
-use Rattle.std.specs.Prelude.{◌≡◌, ◌≢◌, ℕ, ◌+◌, ◌-◌, ◌<◌, ◌≤◌, ◌⊎◌, ◌==◌, Bool, true, false, if◌then◌else◌, List, [], replicate, slice_set, Option, None, Some}
+use Rattle.std.specs.Prelude.{◌≡◌, ◌≢◌, ℕ, ◌+◌, ◌-◌, ◌<◌, ◌≤◌, ◌⊎◌, ◌==◌, Bool, true, false}
+use Rattle.std.specs.Prelude.{if◌then◌else◌, List, [], replicate, slice_set, Option, None, Some}
 use Rattle.frame_gate.specs.declared.view.Counter.{Counter}
 use Rattle.frame_gate.specs.declared.view.Ledger.{Ledger}
 use Rattle.frame_gate.specs.declared.view.Visit.{Visit}
@@ -11,7 +12,8 @@ use Rattle.frame_gate.specs.declared.refusals.TrackRefusal.TheVariants as track
 use Rattle.frame_gate.specs.declared.refusals.EvictRefusal.TheVariants as evict
 use Rattle.frame_gate.specs.declared.limits.TheConstants.{LAST_EPOCH}
 use Rattle.frame_gate.specs.Words.{TableId, leave_word, frame_word, free_word, held_word, generation_in, IsFree, IsBlocked}
-use Rattle.frame_gate.specs.Views.{no_step, after_step, after_load, visit, generation_of, filled, start, emptied, tracked, written, untouched, written_of, IsDrained}
+use Rattle.frame_gate.specs.Views.{no_step, after_step, after_load, visit, generation_of, filled}
+use Rattle.frame_gate.specs.Views.{start, emptied, tracked, written, untouched, written_of, IsDrained}
 use Rattle.frame_gate.specs.Rule.{IsMarked}
 
 -- of a processor's seat: its gate, its visit, the frames that it holds and its steps

@@ -1,6 +1,7 @@
 -- The rule of a gate: how its words and what its seats know fit together between any two steps, and what each kind of step
 -- tells its seat.
-use Rattle.std.specs.Prelude.{◌≡◌, ℕ, ◌+◌, ◌-◌, ◌%◌, ◌^◌, ◌<◌, ◌≤◌, ◌⊎◌, ◌==◌, Bool, true, false, List, [], ◌∷◌, length, slice_index, Option, Some, None}
+use Rattle.std.specs.Prelude.{◌≡◌, ℕ, ◌+◌, ◌-◌, ◌%◌, ◌^◌, ◌<◌, ◌≤◌, ◌⊎◌, ◌==◌, Bool, true}
+use Rattle.std.specs.Prelude.{false, List, [], ◌∷◌, length, slice_index, Option, Some, None}
 use mathlib.Core.Option.{some}
 use lib.ListN.{get_elem?}
 use Rattle.atomic_table.specs.Table.{State, Me, Step}
@@ -13,7 +14,8 @@ use Rattle.frame_gate.specs.declared.view.Role.TheVariants.{Pager, Processor}
 use Rattle.frame_gate.specs.declared.limits.TheConstants.{MOST_ENTRIES}
 use Rattle.sgx_types.specs.declared.names.TheConstants.{PROCESSORS}
 use Rattle.frame_gate.specs.Words.{epoch_word, epoch_in, entries_in, leave_word, frame_word, generation_in, IsBlocked}
-use Rattle.frame_gate.specs.Views.{view, after_step, after_load, generation_of, written_of, IsDrained, role_entered, role_left, role_filled, role_settled, role_set_back, role_tracked, role_wrote, role_holds}
+use Rattle.frame_gate.specs.Views.{view, after_step, after_load, generation_of, written_of, IsDrained, role_entered}
+use Rattle.frame_gate.specs.Views.{role_left, role_filled, role_settled, role_set_back, role_tracked, role_wrote, role_holds}
 
 -- the words and the views of all seats
 abbrev pub Shared : Type 0

@@ -1,6 +1,7 @@
 -- What the seats of a gate know, their views, and what each kind of step makes of a view. The pager is who blocks, tracks and
 -- evicts; E is the present epoch, and E - 1 the one before.
-use Rattle.std.specs.Prelude.{◌≡◌, ℕ, ◌+◌, ◌%◌, ◌<◌, ◌==◌, if◌then◌else◌, List, [], ◌∷◌, ◌++◌, Bool, true, false, replicate, slice_index_or, slice_set, Option, Some, None}
+use Rattle.std.specs.Prelude.{◌≡◌, ℕ, ◌+◌, ◌%◌, ◌<◌, ◌==◌, if◌then◌else◌, List, [], ◌∷◌, ◌++◌, Bool}
+use Rattle.std.specs.Prelude.{true, false, replicate, slice_index_or, slice_set, Option, Some, None}
 use Rattle.frame_gate.specs.declared.view.View.{View}
 use Rattle.frame_gate.specs.declared.view.Counter.{Counter}
 use Rattle.frame_gate.specs.declared.view.Ledger.{Ledger}

@@ -21,9 +21,9 @@ const FRAMES: u32 = 8;
 
 const PROCESSORS: u32 = 4;
 
-/// Runs four processors and a pager at a new gate of eight frames, each so many rounds (at most 100,000), beside one another in threads where
-/// these can be made. Then it gives the number of all entries, and that of stale uses, which is 0: a processor's use of a frame finds the
-/// generation that its seat holds (this project's own).
+/// Runs four processors and a pager at a new gate of eight frames, each so many rounds (at most 100,000), beside one another
+/// in threads where these can be made. Then it gives the number of all entries, and that of stale uses, which is 0: a
+/// processor's use of a frame finds the generation that its seat holds (this project's own).
 pub fn give_counts<R: Threads + Wait + Sync, K: Sink>(
     rt: &R,
     alloc: Global,

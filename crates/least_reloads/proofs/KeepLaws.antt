@@ -1,11 +1,13 @@
 -- The held pages by their next uses: what goes out of such a map and comes into it.
-use Rattle.std.proofs.Common.{◌≡◌, ℕ, zero, suc, ◌+◌, ◌<◌, ◌≤◌, Bool, true, false, not, ◌&&◌, ◌||◌, cond, ◌⊎◌, inl, inr, List, [], ◌∷◌, ◌++◌, length, take, Option, Some, None, is_some, arith, refl, sym, ap, ◌∙◌, ⊎_elim}
+use Rattle.std.proofs.Common.{◌≡◌, ℕ, zero, suc, ◌+◌, ◌<◌, ◌≤◌, Bool, true, false, not, ◌&&◌, ◌||◌, cond, ◌⊎◌, inl, inr}
+use Rattle.std.proofs.Common.{List, [], ◌∷◌, ◌++◌, length, take, Option, Some, None, is_some, arith, refl, sym, ap, ◌∙◌, ⊎_elim}
 use Rattle.std.specs.List.{IsDistinct}
 use Rattle.std.specs.Ordering.{nat_cmp, is_eq, MatchOrdering}
 use Rattle.std.specs.declared.cmp.Ordering.{Ordering}
 use Rattle.std.specs.declared.cmp.Ordering.TheVariants.{Less, Equal, Greater}
 use Rattle.std.specs.BTreeMap.{is_at}
-use Rattle.std.proofs.lemmas.Bool.{false≢true, or_cases, or_parts, and_parts, not-true, false_from_ne_true, cases_eq, le-ltb, eq-eqb, and_from, or_left, or_right}
+use Rattle.std.proofs.lemmas.Bool.{false≢true, or_cases, or_parts, and_parts, not-true}
+use Rattle.std.proofs.lemmas.Bool.{false_from_ne_true, cases_eq, le-ltb, eq-eqb, and_from, or_left, or_right}
 use Rattle.std.proofs.lemmas.Cmp.{ranked}
 use Rattle.std.proofs.lemmas.List.{length-append}
 use Rattle.sgx_types.specs.declared.names.Page.{Page}

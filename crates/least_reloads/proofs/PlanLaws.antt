@@ -1,5 +1,6 @@
 -- The plan that was made so far.
-use Rattle.std.proofs.Common.{◌≡◌, ℕ, ◌+◌, ◌<◌, ◌≤◌, List, [], ◌∷◌, ◌++◌, length, drop, get_or, Some, is_some, cond, arith, refl, sym, subst, append_assoc}
+use Rattle.std.proofs.Common.{◌≡◌, ℕ, ◌+◌, ◌<◌, ◌≤◌, List, [], ◌∷◌, ◌++◌, length, drop}
+use Rattle.std.proofs.Common.{get_or, Some, is_some, cond, arith, refl, sym, subst, append_assoc}
 use Rattle.std.proofs.lemmas.List.{drop_more, drop_all, append-nil, length-append}
 use Rattle.sgx_types.specs.declared.names.Page.{Page}
 use Rattle.least_reloads.specs.Plans.{StepView, PlanView, after, loads_of, IsLawful, IsLeast}
