@@ -52,7 +52,8 @@ pub frames_behind : (past : List Entry) (f : Frame) (answer : Answer) (g : Page)
 frames_behind past f answer g [] s can at apart h = tt
 frames_behind past f answer g (t ∷ ts) s can at apart h = (
   (still past (entry_of actors.Reclaimer (Did (actions.Ewb f) answer)) t.page t.frame.0 s can
-      (frames_apart past g t.page (Leaving f.0) (Leaving t.frame.0) f.0 t.frame.0 s at (eq-eqb f.0 f.0 refl) h.0 (eq-eqb t.frame.0 t.frame.0 refl)
+      (frames_apart past g t.page (Leaving f.0) (Leaving t.frame.0) f.0 t.frame.0 s at (eq-eqb f.0 f.0 refl) h.0
+      (eq-eqb t.frame.0 t.frame.0 refl)
       (same_page-swap g t.page ∙ (neither (same_page t.page g) (is_among (pages_in ts) g) apart).0)) h.0).leaving,
   frames_behind past f answer g ts s can at (neither (same_page t.page g) (is_among (pages_in ts) g) apart).1 h.1,
 )

@@ -1,5 +1,6 @@
 -- What a pass stands for behind an entry.
-use Rattle.std.proofs.Common.{◌≡◌, ℕ, zero, suc, ◌+◌, ◌-◌, ◌≤◌, ◌==◌, ◌||◌, not, Bool, true, false, if◌then◌else◌, refl, sym, ◌∙◌, ap, subst, List, [], ◌∷◌, Option, Some, None, drop, length, min, slice_get, arith}
+use Rattle.std.proofs.Common.{◌≡◌, ℕ, zero, suc, ◌+◌, ◌-◌, ◌≤◌, ◌==◌, ◌||◌, not, Bool, true, false, if◌then◌else◌, refl, sym, ◌∙◌, ap}
+use Rattle.std.proofs.Common.{subst, List, [], ◌∷◌, Option, Some, None, drop, length, min, slice_get, arith}
 use Rattle.std.proofs.lemmas.Bool.{eq-eqb}
 use Rattle.std.proofs.lemmas.List.{drop-drop}
 use Rattle.sgx_types.specs.declared.entries.Action.TheVariants as actions
@@ -51,7 +52,8 @@ use Rattle.audit_pass.proofs.TryLaws.{KeepsIn, kept_in}
 
 -- ---- whether it works
 
-decided_tries : (j : JobView) (free : ℕ) (ts : List Taken) (form : passes.Form) → passes.decided j free (tries_of ts form) ≡ tries_of ts form
+decided_tries : (j : JobView) (free : ℕ) (ts : List Taken) (form : passes.Form)
+    → passes.decided j free (tries_of ts form) ≡ tries_of ts form
 decided_tries j free [] form = refl
 decided_tries j free (t ∷ ts) form = refl
 
@@ -125,10 +127,12 @@ kick_calm first past (Some n) ts = tt
 abbrev own : Event → Entry
 own ev = entry_of actors.Reclaimer ev
 
-module _ (made : Making) (j : JobView) (past : List Entry) (d : Driver) (m : Parts) (a : Agrees made j past d m) (few : j.marks.scan ≤ 64) where
-  first : ℕ
-  first = made.first_epoch
+-- a try that is refused for want of a track
+abbrev again : Frame → SlotAt → ℕ → ℕ → Event
+again f slot e o = Refused (actions.EwbStart f slot) (why.NotTracked e o)
 
+module _ (made : Making) (j : JobView) (past : List Entry) (d : Driver) (m : Parts) (a : Agrees made j past d m)
+    (few : j.marks.scan ≤ 64) where
   abbrev Behind : Event → TraceView → Pass → Type 0
   Behind ev v at = StandsFor made.first_epoch (own ev ∷ past) (gone_on d m ev v) (passes.pass_by j past ev at)
 
@@ -154,7 +158,8 @@ module _ (made : Making) (j : JobView) (past : List Entry) (d : Driver) (m : Par
   scan_goes : (taken : List Taken) (kicks : List ℕ) (left : ℕ) (ev : Event) → AgeRule j past (own ev)
       → HasPages past (passes.Scan left (pages_in taken))
       → InPass past (passes.Scan left (pages_in taken)) ev
-      → StandsFor made.first_epoch past (record { taken = taken; kicks = kicks; stage = stages.Scan left }) (passes.Scan left (pages_in taken))
+      → StandsFor made.first_epoch past (record { taken = taken; kicks = kicks; stage = stages.Scan left })
+      (passes.Scan left (pages_in taken))
       → Behind ev (record { taken = taken; kicks = kicks; stage = stages.Scan left }) (passes.Scan left (pages_in taken))
   scan_goes taken kicks left (Age page look) age has at stands =
       let some = has.some in
@@ -170,9 +175,6 @@ module _ (made : Making) (j : JobView) (past : List Entry) (d : Driver) (m : Par
   block_goes taken kicks next [] is (Did (actions.Block f) answer) at frames = absurd at
   block_goes taken kicks next (t ∷ ts) is (Did (actions.Block f) answer) at frames = by_rest ts (drop_next next taken t ts is)
     where
-      ev : Event
-      ev = Did (actions.Block f) answer
-
       after : AreInFrames (own (Did (actions.Block f) answer) ∷ past) taken
       after = frames_quiet past (own (Did (actions.Block f) answer)) taken refl frames
 
@@ -200,131 +202,126 @@ module _ (made : Making) (j : JobView) (past : List Entry) (d : Driver) (m : Par
 
   -- ---- the tries of a page
 
-  module _ (taken : List Taken) (next : ℕ) (t : Taken) (ts : List Taken) (is : drop next taken ≡ t ∷ ts) (frames : AreInFrames past (t ∷ ts))
-    where
-      abbrev in_tries : List ℕ → Form → TraceView
-      in_tries kicks form = record { taken = taken; kicks = kicks; stage = stages.Tries next form }
+  module _ (taken : List Taken) (next : ℕ) (t : Taken) (ts : List Taken) (is : drop next taken ≡ t ∷ ts)
+      (frames : AreInFrames past (t ∷ ts)) where
+    abbrev in_tries : List ℕ → Form → TraceView
+    in_tries kicks form = record { taken = taken; kicks = kicks; stage = stages.Tries next form }
 
-      stands : (h : List Entry) (kicks : List ℕ) (form : Form) → AreInFrames h (t ∷ ts) → IsForm made.first_epoch h form (t ∷ ts)
-          → StandsFor made.first_epoch h (in_tries kicks form) (Tries t.page (pages_in ts) (form_in kicks form))
-      stands h kicks form at fits = record {
-        same = ap (λ xs. tries_of xs (form_in kicks form)) (sym is);
-        frames = subst (AreInFrames h) (sym is) at;
-        stage = subst (IsForm made.first_epoch h form) (sym is) fits;
-      }
+    stands : (h : List Entry) (kicks : List ℕ) (form : Form) → AreInFrames h (t ∷ ts) → IsForm made.first_epoch h form (t ∷ ts)
+        → StandsFor made.first_epoch h (in_tries kicks form) (Tries t.page (pages_in ts) (form_in kicks form))
+    stands h kicks form at fits = record {
+      same = ap (λ xs. tries_of xs (form_in kicks form)) (sym is);
+      frames = subst (AreInFrames h) (sym is) at;
+      stage = subst (IsForm made.first_epoch h form) (sym is) fits;
+    }
 
-      found : slice_get taken next ≡ Some t
-      found = get_drop taken next ∙ ap head is
+    found : slice_get taken next ≡ Some t
+    found = get_drop taken next ∙ ap head is
 
-      -- an entry by which the page stays in its form
-      stays : (ev : Event) (kicks : List ℕ) (form : Form) → AreInFrames (own ev ∷ past) (t ∷ ts) → ((n : ℕ) → is_track ev n ≡ false)
-          → IsForm made.first_epoch past form (t ∷ ts)
-          → StandsFor made.first_epoch (own ev ∷ past) (in_tries kicks form) (Tries t.page (pages_in ts) (form_in kicks form))
-      stays ev kicks form at calm fits = stands (own ev ∷ past) kicks form at (form_stays made.first_epoch past (own ev) form (t ∷ ts) calm fits)
+    -- an entry by which the page stays in its form
+    stays : (ev : Event) (kicks : List ℕ) (form : Form) → AreInFrames (own ev ∷ past) (t ∷ ts) → ((n : ℕ) → is_track ev n ≡ false)
+        → IsForm made.first_epoch past form (t ∷ ts)
+        → StandsFor made.first_epoch (own ev ∷ past) (in_tries kicks form) (Tries t.page (pages_in ts) (form_in kicks form))
+    stays ev kicks form at calm fits =
+        stands (own ev ∷ past) kicks form at (form_stays made.first_epoch past (own ev) form (t ∷ ts) calm fits)
 
-      -- a refusal for want of a track
-      refused_goes : (kicks : List ℕ) (form : Form) (f : Frame) (slot : SlotAt) (e o : ℕ) → place past t.page ≡ Leaving f.0
-          → RefusalRule made past (own (Refused (actions.EwbStart f slot) (why.NotTracked e o)))
-          → IsForm made.first_epoch past form (t ∷ ts)
-          → Behind (Refused (actions.EwbStart f slot) (why.NotTracked e o)) (in_tries kicks form)
-          (Tries t.page (pages_in ts) (form_in kicks form))
-      refused_goes kicks form f slot e o here refusal fits = by_form form fits
-        where
-          ev : Event
-          ev = Refused (actions.EwbStart f slot) (why.NotTracked e o)
+    -- a refusal for want of a track
+    refused_goes : (kicks : List ℕ) (form : Form) (f : Frame) (slot : SlotAt) (e o : ℕ) → place past t.page ≡ Leaving f.0
+        → RefusalRule made past (own (again f slot e o)) → IsForm made.first_epoch past form (t ∷ ts)
+        → Behind (again f slot e o) (in_tries kicks form) (Tries t.page (pages_in ts) (form_in kicks form))
+    refused_goes kicks form f slot e o here refusal fits = by_form form fits
+      where
+        after : AreInFrames (own (again f slot e o) ∷ past) (t ∷ ts)
+        after = frames_quiet past (own (again f slot e o)) (t ∷ ts) refl frames
 
-          after : AreInFrames (own (Refused (actions.EwbStart f slot) (why.NotTracked e o)) ∷ past) (t ∷ ts)
-          after = frames_quiet past (own (Refused (actions.EwbStart f slot) (why.NotTracked e o))) (t ∷ ts) refl frames
+        told : e ≡ epoch made.first_epoch past t.page.enclave
+        told = told_epoch (sight_at made.frames past f.0) (slot_sight_at made.frames past slot)
+            (drain_sight_at made.first_epoch past f.0) _ e o refusal
+            ∙ ap (epoch_of (epoch made.first_epoch past)) (page_enclave (content past f.0) t.page
+            (holds_here past t.page (Leaving f.0) f.0 a.sound here (eq-eqb f.0 f.0 refl)))
 
-          told : e ≡ epoch made.first_epoch past t.page.enclave
-          told = told_epoch (sight_at made.frames past f.0) (slot_sight_at made.frames past slot) (drain_sight_at made.first_epoch past f.0) _ e
-              o refusal
-              ∙ ap (epoch_of (epoch made.first_epoch past)) (page_enclave (content past f.0) t.page
-              (holds_here past t.page (Leaving f.0) f.0 a.sound here (eq-eqb f.0 f.0 refl)))
+        by_form : (form : Form) → IsForm made.first_epoch past form (t ∷ ts)
+            → Behind (again f slot e o) (in_tries kicks form) (Tries t.page (pages_in ts) (form_in kicks form))
+        by_form forms.First k = stands (own (again f slot e o) ∷ past) kicks forms.Track after tt
+        by_form forms.Second k = stands (own (again f slot e o) ∷ past) kicks (forms.Kick e) after told
+        by_form forms.Track k = stays (again f slot e o) kicks forms.Track after (λ n. refl) tt
+        by_form (forms.Kick n) k = stays (again f slot e o) kicks (forms.Kick n) after (λ n. refl) k
+        by_form (forms.Kicks n) k = stays (again f slot e o) kicks (forms.Kicks n) after (λ n. refl) tt
+        by_form forms.Third k = stays (again f slot e o) kicks forms.Third after (λ n. refl) tt
+        by_form forms.Sealing k = stays (again f slot e o) kicks forms.Sealing after (λ n. refl) tt
 
-          by_form : (form : Form) → IsForm made.first_epoch past form (t ∷ ts)
-              → Behind (Refused (actions.EwbStart f slot) (why.NotTracked e o)) (in_tries kicks form)
-              (Tries t.page (pages_in ts) (form_in kicks form))
-          by_form forms.First k = stands (own (Refused (actions.EwbStart f slot) (why.NotTracked e o)) ∷ past) kicks forms.Track after tt
-          by_form forms.Second k = stands (own (Refused (actions.EwbStart f slot) (why.NotTracked e o)) ∷ past) kicks (forms.Kick e) after told
-          by_form forms.Track k = stays (Refused (actions.EwbStart f slot) (why.NotTracked e o)) kicks forms.Track after (λ n. refl) tt
-          by_form (forms.Kick n) k = stays (Refused (actions.EwbStart f slot) (why.NotTracked e o)) kicks (forms.Kick n) after (λ n. refl) k
-          by_form (forms.Kicks n) k = stays (Refused (actions.EwbStart f slot) (why.NotTracked e o)) kicks (forms.Kicks n) after (λ n. refl) tt
-          by_form forms.Third k = stays (Refused (actions.EwbStart f slot) (why.NotTracked e o)) kicks forms.Third after (λ n. refl) tt
-          by_form forms.Sealing k = stays (Refused (actions.EwbStart f slot) (why.NotTracked e o)) kicks forms.Sealing after (λ n. refl) tt
+    -- a kick
+    kick_goes : (kicks : List ℕ) (form : Form) (cpu : Cpu) → IsForm made.first_epoch past form (t ∷ ts)
+        → KeepsIn m past form (t ∷ ts)
+        → Behind (Kick cpu) (in_tries kicks form) (Tries t.page (pages_in ts) (form_in kicks form))
+    kick_goes kicks form cpu fits keeps =
+        subst (λ o. StandsFor made.first_epoch (own (Kick cpu) ∷ past) (kicked_with m (in_tries kicks form) next form o)
+        (Tries t.page (pages_in ts) (passes.kicked (keepers past t.page) (form_in kicks form)))) (sym found) (by_form form fits keeps)
+      where
+        after : AreInFrames (own (Kick cpu) ∷ past) (t ∷ ts)
+        after = frames_quiet past (own (Kick cpu)) (t ∷ ts) refl frames
 
-      -- a kick
-      kick_goes : (kicks : List ℕ) (form : Form) (cpu : Cpu) → IsForm made.first_epoch past form (t ∷ ts)
-          → KeepsIn m past form (t ∷ ts)
-          → Behind (Kick cpu) (in_tries kicks form) (Tries t.page (pages_in ts) (form_in kicks form))
-      kick_goes kicks form cpu fits keeps =
-          subst (λ o. StandsFor made.first_epoch (own (Kick cpu) ∷ past) (kicked_with m (in_tries kicks form) next form o)
-          (Tries t.page (pages_in ts) (passes.kicked (keepers past t.page) (form_in kicks form)))) (sym found) (by_form form fits keeps)
-        where
-          after : AreInFrames (own (Kick cpu) ∷ past) (t ∷ ts)
-          after = frames_quiet past (own (Kick cpu)) (t ∷ ts) refl frames
+        kicked : (ks : List ℕ) (n : ℕ) (rest : List ℕ) → drop (n + 1) ks ≡ rest
+            → StandsFor made.first_epoch (own (Kick cpu) ∷ past) (in_tries ks (after_kick (behind n (length ks))))
+            (Tries t.page (pages_in ts) (kicks_on rest))
+        kicked ks n rest k =
+            subst (λ x. StandsFor made.first_epoch (own (Kick cpu) ∷ past) (in_tries ks (after_kick (behind n (length ks))))
+            (Tries t.page (pages_in ts) x)) (kick_form ks n rest k)
+            (stands (own (Kick cpu) ∷ past) ks (after_kick (behind n (length ks))) after
+            (kick_calm made.first_epoch (own (Kick cpu) ∷ past) (behind n (length ks)) (t ∷ ts)))
 
-          kicked : (ks : List ℕ) (n : ℕ) (rest : List ℕ) → drop (n + 1) ks ≡ rest
-              → StandsFor made.first_epoch (own (Kick cpu) ∷ past) (in_tries ks (after_kick (behind n (length ks))))
-              (Tries t.page (pages_in ts) (kicks_on rest))
-          kicked ks n rest k =
-              subst (λ x. StandsFor made.first_epoch (own (Kick cpu) ∷ past) (in_tries ks (after_kick (behind n (length ks))))
-              (Tries t.page (pages_in ts) x)) (kick_form ks n rest k)
-              (stands (own (Kick cpu) ∷ past) ks (after_kick (behind n (length ks))) after
-              (kick_calm made.first_epoch (own (Kick cpu) ∷ past) (behind n (length ks)) (t ∷ ts)))
+        by_form : (form : Form) → IsForm made.first_epoch past form (t ∷ ts) → KeepsIn m past form (t ∷ ts)
+            → StandsFor made.first_epoch (own (Kick cpu) ∷ past) (kicked_with m (in_tries kicks form) next form (Some t))
+            (Tries t.page (pages_in ts) (passes.kicked (keepers past t.page) (form_in kicks form)))
+        by_form (forms.Kick e) k keep = kicked (keepers_by m t.page.enclave e) 0 (drop 1 (keepers past t.page)) (ap (drop 1) (sym keep))
+        by_form (forms.Kicks n) k keep = kicked kicks n (drop 1 (drop n kicks)) (sym (drop-drop 1 n kicks))
+        by_form forms.First k keep = stays (Kick cpu) kicks forms.First after (λ n. refl) tt
+        by_form forms.Track k keep = stays (Kick cpu) kicks forms.Track after (λ n. refl) tt
+        by_form forms.Second k keep = stays (Kick cpu) kicks forms.Second after (λ n. refl) tt
+        by_form forms.Third k keep = stays (Kick cpu) kicks forms.Third after (λ n. refl) tt
+        by_form forms.Sealing k keep = stays (Kick cpu) kicks forms.Sealing after (λ n. refl) tt
 
-          by_form : (form : Form) → IsForm made.first_epoch past form (t ∷ ts) → KeepsIn m past form (t ∷ ts)
-              → StandsFor made.first_epoch (own (Kick cpu) ∷ past) (kicked_with m (in_tries kicks form) next form (Some t))
-              (Tries t.page (pages_in ts) (passes.kicked (keepers past t.page) (form_in kicks form)))
-          by_form (forms.Kick e) k keep = kicked (keepers_by m t.page.enclave e) 0 (drop 1 (keepers past t.page)) (ap (drop 1) (sym keep))
-          by_form (forms.Kicks n) k keep = kicked kicks n (drop 1 (drop n kicks)) (sym (drop-drop 1 n kicks))
-          by_form forms.First k keep = stays (Kick cpu) kicks forms.First after (λ n. refl) tt
-          by_form forms.Track k keep = stays (Kick cpu) kicks forms.Track after (λ n. refl) tt
-          by_form forms.Second k keep = stays (Kick cpu) kicks forms.Second after (λ n. refl) tt
-          by_form forms.Third k keep = stays (Kick cpu) kicks forms.Third after (λ n. refl) tt
-          by_form forms.Sealing k keep = stays (Kick cpu) kicks forms.Sealing after (λ n. refl) tt
+    -- the end of a write-out
+    end_goes : (kicks : List ℕ) (form : Form) (f : Frame) (answer : Answer) → place past t.page ≡ Leaving f.0
+        → CanMove past (Did (actions.Ewb f) answer) → HasPages past (Tries t.page (pages_in ts) (form_in kicks form))
+        → Behind (Did (actions.Ewb f) answer) (in_tries kicks form) (Tries t.page (pages_in ts) (form_in kicks form))
+    end_goes kicks form f answer here can has = by_rest ts (drop_next next taken t ts is) after
+      where
+        after : AreInFrames (own (Did (actions.Ewb f) answer) ∷ past) ts
+        after = frames_behind past f answer t.page ts a.sound can here has.apart.0 frames.1
 
-      -- the end of a write-out
-      end_goes : (kicks : List ℕ) (form : Form) (f : Frame) (answer : Answer) → place past t.page ≡ Leaving f.0
-          → CanMove past (Did (actions.Ewb f) answer) → HasPages past (Tries t.page (pages_in ts) (form_in kicks form))
-          → Behind (Did (actions.Ewb f) answer) (in_tries kicks form) (Tries t.page (pages_in ts) (form_in kicks form))
-      end_goes kicks form f answer here can has = by_rest ts (drop_next next taken t ts is) after
-        where
-          after : AreInFrames (own (Did (actions.Ewb f) answer) ∷ past) ts
-          after = frames_behind past f answer t.page ts a.sound can here has.apart.0 frames.1
+        by_rest : (ys : List Taken) → drop (next + 1) taken ≡ ys → AreInFrames (own (Did (actions.Ewb f) answer) ∷ past) ys
+            → StandsFor made.first_epoch (own (Did (actions.Ewb f) answer) ∷ past)
+            (gone_on d m (Did (actions.Ewb f) answer) (in_tries kicks form)) (passes.next_tries (pages_in ys))
+        by_rest [] k h = rw (behind_last next taken k) (record { same = refl; frames = tt; stage = tt })
+        by_rest (y ∷ ys) k h = rw (behind_more next taken y ys k) (record {
+          same = ap (λ zs. tries_of zs passes.First) (sym k);
+          frames = subst (AreInFrames (own (Did (actions.Ewb f) answer) ∷ past)) (sym k) h;
+          stage = tt;
+        })
 
-          by_rest : (ys : List Taken) → drop (next + 1) taken ≡ ys → AreInFrames (own (Did (actions.Ewb f) answer) ∷ past) ys
-              → StandsFor made.first_epoch (own (Did (actions.Ewb f) answer) ∷ past)
-              (gone_on d m (Did (actions.Ewb f) answer) (in_tries kicks form)) (passes.next_tries (pages_in ys))
-          by_rest [] k h = rw (behind_last next taken k) (record { same = refl; frames = tt; stage = tt })
-          by_rest (y ∷ ys) k h = rw (behind_more next taken y ys k) (record {
-            same = ap (λ zs. tries_of zs passes.First) (sym k);
-            frames = subst (AreInFrames (own (Did (actions.Ewb f) answer) ∷ past)) (sym k) h;
-            stage = tt;
-          })
-
-      page_goes : (kicks : List ℕ) (form : Form) (ev : Event) → IsInTries past t.page ev → RefusalRule made past (own ev)
-          → CanMove past ev → HasPages past (Tries t.page (pages_in ts) (form_in kicks form))
-          → IsForm made.first_epoch past form (t ∷ ts) → KeepsIn m past form (t ∷ ts)
-          → Behind ev (in_tries kicks form) (Tries t.page (pages_in ts) (form_in kicks form))
-      page_goes kicks form (Did (actions.EwbStart f slot) answer) at refusal can has fits keeps =
-          stands (own (Did (actions.EwbStart f slot) answer) ∷ past) kicks forms.Sealing
-          (frames_quiet past (own (Did (actions.EwbStart f slot) answer)) (t ∷ ts) refl frames) tt
-      page_goes kicks form (Refused (actions.EwbStart f slot) (why.NotTracked e o)) at refusal can has fits keeps =
-          refused_goes kicks form f slot e o at refusal fits
-      page_goes kicks form (Refused (actions.EwbStart f slot) r) at refusal can has fits keeps =
-          stays (Refused (actions.EwbStart f slot) r) kicks form
-          (frames_quiet past (own (Refused (actions.EwbStart f slot) r)) (t ∷ ts) refl frames) (λ n. refl) fits
-      page_goes kicks form (Did (actions.Ewb f) answer) at refusal can has fits keeps = end_goes kicks form f answer at can has
-      page_goes kicks form (Refused (actions.Ewb f) r) at refusal can has fits keeps = absurd refusal
-      page_goes kicks form (Did (actions.Track n) answer) at refusal can has fits keeps =
-          stands (own (Did (actions.Track n) answer) ∷ past) kicks forms.Second
-          (frames_quiet past (own (Did (actions.Track n) answer)) (t ∷ ts) refl frames) tt
-      page_goes kicks form (Refused (actions.Track n) r) at refusal can has fits keeps =
-          stays (Refused (actions.Track n) r) kicks form (frames_quiet past (own (Refused (actions.Track n) r)) (t ∷ ts) refl frames)
-          (λ n. refl) fits
-      page_goes kicks form (Kick cpu) at refusal can has fits keeps = kick_goes kicks form cpu fits keeps
-      page_goes kicks form ev at refusal can has fits keeps = absurd at
+    page_goes : (kicks : List ℕ) (form : Form) (ev : Event) → IsInTries past t.page ev → RefusalRule made past (own ev)
+        → CanMove past ev → HasPages past (Tries t.page (pages_in ts) (form_in kicks form))
+        → IsForm made.first_epoch past form (t ∷ ts) → KeepsIn m past form (t ∷ ts)
+        → Behind ev (in_tries kicks form) (Tries t.page (pages_in ts) (form_in kicks form))
+    page_goes kicks form (Did (actions.EwbStart f slot) answer) at refusal can has fits keeps =
+        stands (own (Did (actions.EwbStart f slot) answer) ∷ past) kicks forms.Sealing
+        (frames_quiet past (own (Did (actions.EwbStart f slot) answer)) (t ∷ ts) refl frames) tt
+    page_goes kicks form (Refused (actions.EwbStart f slot) (why.NotTracked e o)) at refusal can has fits keeps =
+        refused_goes kicks form f slot e o at refusal fits
+    page_goes kicks form (Refused (actions.EwbStart f slot) r) at refusal can has fits keeps =
+        stays (Refused (actions.EwbStart f slot) r) kicks form
+        (frames_quiet past (own (Refused (actions.EwbStart f slot) r)) (t ∷ ts) refl frames) (λ n. refl) fits
+    page_goes kicks form (Did (actions.Ewb f) answer) at refusal can has fits keeps = end_goes kicks form f answer at can has
+    page_goes kicks form (Refused (actions.Ewb f) r) at refusal can has fits keeps = absurd refusal
+    page_goes kicks form (Did (actions.Track n) answer) at refusal can has fits keeps =
+        stands (own (Did (actions.Track n) answer) ∷ past) kicks forms.Second
+        (frames_quiet past (own (Did (actions.Track n) answer)) (t ∷ ts) refl frames) tt
+    page_goes kicks form (Refused (actions.Track n) r) at refusal can has fits keeps =
+        stays (Refused (actions.Track n) r) kicks form (frames_quiet past (own (Refused (actions.Track n) r)) (t ∷ ts) refl frames)
+        (λ n. refl) fits
+    page_goes kicks form (Kick cpu) at refusal can has fits keeps = kick_goes kicks form cpu fits keeps
+    page_goes kicks form ev at refusal can has fits keeps = absurd at
 
   tries_go : (taken : List Taken) (kicks : List ℕ) (next : ℕ) (form : Form) (ts : List Taken) → drop next taken ≡ ts → (ev : Event)
       → pass j past ≡ tries_of ts (form_in kicks form) → InPass past (tries_of ts (form_in kicks form)) ev

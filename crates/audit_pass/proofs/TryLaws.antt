@@ -1,5 +1,6 @@
 -- What is told of the rule Kick is so.
-use Rattle.std.proofs.Common.{◌≡◌, ℕ, zero, suc, ◌+◌, ◌-◌, ◌≤◌, ◌==◌, ◌&&◌, Bool, true, false, if◌then◌else◌, refl, sym, ◌∙◌, ap, subst, List, [], ◌∷◌, ◌++◌, Option, Some, None, drop, length, nat_le, nat_lt, arith}
+use Rattle.std.proofs.Common.{◌≡◌, ℕ, zero, suc, ◌+◌, ◌-◌, ◌≤◌, ◌==◌, ◌&&◌, Bool, true, false, if◌then◌else◌, refl, sym, ◌∙◌, ap, subst}
+use Rattle.std.proofs.Common.{List, [], ◌∷◌, ◌++◌, Option, Some, None, drop, length, nat_le, nat_lt, arith}
 use Rattle.std.proofs.lemmas.List.{get_or_past}
 use Rattle.paging_laws.proofs.ColumnLaws.{inside_is, noted_is}
 use Rattle.sgx_types.specs.ByEpochs.{IsTrackedBlock, notes}
