@@ -145,6 +145,7 @@ impl TracePass {
         }
     }
 
+    // Outside the tries of a page nothing is asked.
     fn is_kick_kept(&self, machine: &Machine, entry: &Entry) -> bool
         ensures { result ≡ kick_told machine.now self.now entry.now.actor entry.now.event }
     {
@@ -230,7 +231,7 @@ impl TracePass {
         }
     }
 
-    // One look, with so many left.
+    // One look, with so many left. A job's scan is short, so that there is room for each page that it takes.
     fn look_on(&mut self, driver: &Driver, left: u32, look: Look)
         requires { driver.now.states.counts ≡ driver.now.active.counts }
         ensures { self.new ≡ looked_on driver.now left look self.old }
