@@ -1,0 +1,115 @@
+-- What a pass stands for behind a look.
+use Rattle.std.proofs.Common.{◌≡◌, ℕ, zero, suc, ◌+◌, ◌-◌, ◌<◌, ◌≤◌, true, refl, sym, ◌∙◌, ap, subst, List, [], ◌∷◌, ◌++◌, Option, Some}
+use Rattle.std.proofs.Common.{None, length, nat_lt, arith}
+use Rattle.std.specs.Option.{option_to_list}
+use Rattle.std.proofs.lemmas.List.{length-append}
+use Rattle.sgx_types.specs.declared.entries.Actor.TheVariants as actors
+use Rattle.sgx_types.specs.declared.entries.Entry.{Entry}
+use Rattle.sgx_types.specs.declared.entries.Event.TheVariants.{Age}
+use Rattle.sgx_types.specs.declared.entries.Look.{Look}
+use Rattle.sgx_types.specs.declared.entries.Look.TheVariants as looks
+use Rattle.sgx_types.specs.declared.names.Page.{Page}
+use Rattle.job_grammar.specs.Jobs.{JobView}
+use Rattle.active_list.specs.declared.page_states.PageState.{PageState}
+use Rattle.active_list.specs.declared.page_states.PageState.TheVariants as states
+use Rattle.active_list.specs.States.{state_of}
+use Rattle.driver_rules.specs.Ages.{head_of}
+use Rattle.driver_rules.specs.Passes as passes
+use Rattle.driver_rules.specs.Passes.{scan_on}
+use Rattle.driver_rules.specs.Places.{Here, Leaving, active, place}
+use Rattle.driver_laws.proofs.MoveLaws.{place-taken}
+use Rattle.driver_laws.proofs.SoundLaws.{entry_of, head_here}
+use Rattle.driver_laws.specs.Sound.{IsSound, is_absent}
+use Rattle.driver_tables.specs.declared.driver.Driver.{Driver}
+use Rattle.driver_tables.specs.Tables.{ShowsTables, place_in}
+use Rattle.audit_pass.specs.declared.stages.Stage.{Stage}
+use Rattle.audit_pass.specs.declared.stages.Taken.{Taken}
+use Rattle.audit_pass.specs.Noted.{after_look, frame_in, looked_on, taken_by, with_frame, with_taken}
+use Rattle.audit_pass.specs.Standing.{AreInFrames, StandsFor}
+use Rattle.audit_pass.specs.Viewed.{pages_in}
+use Rattle.audit_pass.proofs.FrameLaws.{frames_stay}
+use Rattle.audit_pass.proofs.ListLaws.{heads}
+
+pages_append : (xs ys : List Taken) → pages_in (xs ++ ys) ≡ pages_in xs ++ pages_in ys
+pages_append [] ys = refl
+pages_append (x ∷ xs) ys = ap (λ zs. x.page ∷ zs) (pages_append xs ys)
+
+frames_append : (past : List Entry) (xs ys : List Taken) → AreInFrames past xs → AreInFrames past ys → AreInFrames past (xs ++ ys)
+frames_append past [] ys h k = k
+frames_append past (x ∷ xs) ys h k = (h.0, frames_append past xs ys h.1 k)
+
+-- with so many looks left, and these pages taken
+scan_stands : (first : ℕ) (past : List Entry) (kicks : List ℕ) (left : ℕ) (taken : List Taken) → AreInFrames past taken
+    → length taken + left ≤ 64
+    → StandsFor first past (record { taken = taken; kicks = kicks; stage = after_look left (length taken) }) (scan_on left (pages_in taken))
+scan_stands first past kicks zero [] h room = record { same = refl; frames = tt; stage = tt }
+scan_stands first past kicks zero (t ∷ ts) h room = record { same = refl; frames = h; stage = tt }
+scan_stands first past kicks (suc left) taken h room = record { same = refl; frames = h; stage = room }
+
+here_frame : (state : PageState) (n : ℕ) → place_in state ≡ Here n → (frame_in state).0 ≡ n
+here_frame (states.Here f) n h = cc
+here_frame states.Absent n h = cc
+here_frame (states.Leaving f) n h = cc
+here_frame (states.Loading f slot) n h = cc
+here_frame (states.Away slot) n h = cc
+here_frame (states.Lost slot) n h = cc
+
+-- what a look takes
+record IsTakenBy (past : List Entry) (page : Page) (look : Look) (one : Option Taken) : Type 0 where
+  pub pages : pages_in (option_to_list one) ≡ passes.taken_by look page
+  pub frames : AreInFrames (entry_of actors.Reclaimer (Age page look) ∷ past) (option_to_list one)
+
+module _ (j : JobView) (past : List Entry) (d : Driver) (page : Page) (s : ShowsTables j d past) (sound : IsSound past)
+    (head : head_of (active past) ≡ Some page) where
+  here : (f : ℕ) × (place past page ≡ Here f)
+  here = head_here (active past) (place past) page sound.list head
+
+  frame : (frame_in (state_of d.states page)).0 ≡ here.0
+  frame = here_frame (state_of d.states page) here.0 (s.states page (s.placed page (ap is_absent here.1)) ∙ here.1)
+
+  takes : (look : Look) → IsTakenBy past page look (taken_by d look)
+  takes looks.Taken =
+      subst (λ o. IsTakenBy past page looks.Taken (with_frame d o))
+      (sym (heads past d.active.pages (active past) s.list ∙ head))
+      (record {
+        pages = refl;
+        frames = (place-taken past actors.Reclaimer page here.0 here.1 ∙ ap Leaving (sym frame), tt);
+      })
+  takes looks.Young = record { pages = refl; frames = tt }
+  takes looks.Held = record { pages = refl; frames = tt }
+  takes looks.NoRoom = record { pages = refl; frames = tt }
+
+  -- one look, with so many left
+  pub look_stands : (first : ℕ) (left : ℕ) (look : Look) (taken : List Taken) (kicks : List ℕ) (stage : Stage) → AreInFrames past taken
+      → length taken < 64 → length taken + left ≤ 64
+      → StandsFor first (entry_of actors.Reclaimer (Age page look) ∷ past)
+      (looked_on d left look (record { taken = taken; kicks = kicks; stage = stage }))
+      (scan_on (left - 1) (pages_in taken ++ passes.taken_by look page))
+  look_stands first left look taken kicks stage frames few room =
+      subst (λ ts. StandsFor first after (record { taken = ts; kicks = kicks; stage = after_look (left - 1) (length ts) })
+      (scan_on (left - 1) (pages_in taken ++ passes.taken_by look page))) (sym longer)
+      (subst (λ ps. StandsFor first after
+      (record { taken = taken ++ one; kicks = kicks; stage = after_look (left - 1) (length (taken ++ one)) }) (scan_on (left - 1) ps))
+      (pages_append taken one ∙ ap (λ ps. pages_in taken ++ ps) (takes look).pages)
+      (scan_stands first after kicks (left - 1) (taken ++ one)
+      (frames_append after taken one (frames_stay past (entry_of actors.Reclaimer (Age page look)) taken sound head (λ n. refl) frames)
+      (takes look).frames) within))
+    where
+      after : List Entry
+      after = entry_of actors.Reclaimer (Age page look) ∷ past
+
+      one : List Taken
+      one = option_to_list (taken_by d look)
+
+      there : nat_lt (length taken) 64 ≡ true
+      there = grind (arith, few)
+
+      longer : with_taken taken (taken_by d look) ≡ taken ++ one
+      longer = rw there refl
+
+      short : (o : Option Taken) → length (option_to_list o) ≤ 1
+      short None = omega arith
+      short (Some t) = omega arith
+
+      within : length (taken ++ one) + (left - 1) ≤ 64
+      within = let low = short (taken_by d look) in rw (length-append taken one) (omega (arith, low, few, room))

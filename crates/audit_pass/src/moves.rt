@@ -1,0 +1,124 @@
+//! How far a pass is behind an entry.
+
+ghost use Rattle.std.specs.Prelude.{◌≡◌};
+ghost use Rattle.driver_rules.specs.Passes.{works_with};
+ghost use Rattle.audit_pass.specs.Noted.{after_block, after_done, after_kick, after_look, after_page, after_refused, behind, not_tracked};
+
+use crate::stages::{Form, Stage};
+use job_grammar::jobs::Marks;
+use sgx_types::entries::Action;
+use sgx_types::refusals::Refusal;
+
+/// Behind a look, with so many looks left and so many pages taken.
+pub(crate) fn after_look(left: u32, taken: usize) -> Stage
+    ensures { result ≡ after_look left taken }
+{
+    if left > 0 {
+        return Stage::Scan { left };
+    }
+    if taken > 0 {
+        return Stage::Block { next: 0 };
+    }
+    Stage::Idle { works: true }
+}
+
+/// Behind an instruction that was done, with so many pages taken.
+pub(crate) fn after_done(stage: Stage, taken: usize, action: Action) -> Stage
+    ensures { result ≡ after_done stage taken action }
+{
+    match (stage, action) {
+        (Stage::Block { next }, Action::Block { .. }) => after_block(behind(next, taken)),
+        (Stage::Tries { next, .. }, Action::EwbStart { .. }) => Stage::Tries {
+            next,
+            form: Form::Sealing,
+        },
+        (Stage::Tries { next, .. }, Action::Track { .. }) => Stage::Tries {
+            next,
+            form: Form::Second,
+        },
+        (Stage::Tries { next, .. }, Action::Ewb { .. }) => after_page(behind(next, taken)),
+        _ => stage,
+    }
+}
+
+/// Behind one that was refused: a try for want of a track is answered by a track, and then by kicks.
+pub(crate) fn after_refused(stage: Stage, action: Action, why: Refusal) -> Stage
+    ensures { result ≡ after_refused stage action why }
+{
+    match (stage, action, why) {
+        (Stage::Tries { next, form }, Action::EwbStart { .. }, Refusal::NotTracked { epoch, .. }) =>
+            {
+                let form = not_tracked(form, epoch);
+                Stage::Tries { next, form }
+            }
+        _ => stage,
+    }
+}
+
+fn not_tracked(form: Form, epoch: u64) -> Form
+    ensures { result ≡ not_tracked form epoch }
+{
+    match form {
+        Form::First => Form::Track,
+        Form::Second => Form::Kick { epoch },
+        _ => form,
+    }
+}
+
+/// Behind the kick of this place, of so many.
+pub(crate) fn after_kick(place: usize, kicks: usize) -> Form
+    ensures { result ≡ after_kick (behind place kicks) }
+{
+    match behind(place, kicks) {
+        Some(next) => Form::Kicks { next },
+        None => Form::Third,
+    }
+}
+
+/// Whether the reclaimer works, with so many frames free: it begins below the low mark, stops from the high mark on, and else goes on
+/// as before.
+pub(crate) fn works_with(marks: Marks, free: u32, before: bool) -> bool
+    ensures { result ≡ works_with marks free before }
+{
+    if free < marks.low {
+        return true;
+    }
+    if free >= marks.high {
+        return false;
+    }
+    before
+}
+
+// The next page to block, or the first one to write out.
+fn after_block(next: Option<usize>) -> Stage
+    ensures { result ≡ after_block next }
+{
+    match next {
+        Some(next) => Stage::Block { next },
+        None => Stage::Tries {
+            next: 0,
+            form: Form::First,
+        },
+    }
+}
+
+// The next page to write out, or the end of the pass, which who works began.
+fn after_page(next: Option<usize>) -> Stage
+    ensures { result ≡ after_page next }
+{
+    match next {
+        Some(next) => Stage::Tries {
+            next,
+            form: Form::First,
+        },
+        None => Stage::Idle { works: true },
+    }
+}
+
+// The place behind one, None behind the last of so many.
+fn behind(place: usize, count: usize) -> Option<usize>
+    ensures { result ≡ behind place count }
+{
+    let next = place.saturating_add(1);
+    if next < count { Some(next) } else { None }
+}
