@@ -16,18 +16,20 @@ use std::thread::Threads;
 /// The words of a command that runs a job.
 pub const RUN: &[&str] = &["run", "t"];
 
-/// What a call gave: the texts, how many bytes of the job it left, and how often the source, the output and the trace failed.
+/// What a call gave: the texts, how many bytes it left of the job and of the old trace, and how often these, the output and the
+/// trace failed.
 #[derive(Drop)]
 pub struct Given {
     pub status: Status,
     pub out: Vec<u8>,
     pub trace: Vec<u8>,
     pub left: usize,
-    pub faults: [u64; 3],
+    pub old_left: usize,
+    pub faults: [u64; 4],
 }
 
-/// Calls the program with these words and this job, over a store that does what the job plans. Each edge moves at most `piece` bytes a call,
-/// and fails at its given calls: those of the source, of the output and of the trace.
+/// Calls the program with the words of a command that reads no old trace, as below: the first call of that source would fail. The
+/// edges that fail are the job, the output and the trace.
 pub fn given_by<R: Threads + Wait + Sync>(
     rt: &R,
     alloc: Global,
@@ -38,15 +40,39 @@ pub fn given_by<R: Threads + Wait + Sync>(
 ) -> Result<Given, Memory>
     requires { 1 ≤ piece }
 {
+    given_with(
+        rt,
+        alloc,
+        words,
+        [job, b""],
+        piece,
+        [fails[0], &[1], fails[1], fails[2]],
+    )
+}
+
+/// Calls the program with these words, this job and this old trace, over a store that does what the job plans. Each edge moves at
+/// most `piece` bytes a call, and fails at its given calls: those of the job, of the old trace, of the output and of the trace.
+pub fn given_with<R: Threads + Wait + Sync>(
+    rt: &R,
+    alloc: Global,
+    words: &[&str],
+    texts: [&[u8]; 2],
+    piece: usize,
+    fails: [&[u64]; 4],
+) -> Result<Given, Memory>
+    requires { 1 ≤ piece }
+{
     let words = owned(alloc, words)?;
-    let mut job = MemSource::new(alloc, job, piece, fails[0])?;
-    let mut out = MemSink::new(alloc, piece, fails[1])?;
-    let mut trace = MemSink::new(alloc, piece, fails[2])?;
+    let mut job = MemSource::new(alloc, texts[0], piece, fails[0])?;
+    let mut old = MemSource::new(alloc, texts[1], piece, fails[1])?;
+    let mut out = MemSink::new(alloc, piece, fails[2])?;
+    let mut trace = MemSink::new(alloc, piece, fails[3])?;
     let ended = sgxpage(
         rt,
         alloc,
         &words,
         &mut job,
+        &mut old,
         &mut out,
         &mut trace,
         PlannedStore::new(),
@@ -57,7 +83,8 @@ pub fn given_by<R: Threads + Wait + Sync>(
         out: out.bytes().to_vec(alloc)?,
         trace: trace.bytes().to_vec(alloc)?,
         left: job.left().len(),
-        faults: [job.faults(), out.faults(), trace.faults()],
+        old_left: old.left().len(),
+        faults: [job.faults(), old.faults(), out.faults(), trace.faults()],
     })
 }
 

@@ -8,6 +8,8 @@ mod cut_jobs;
 #[cfg(test)]
 mod fault_tests;
 #[cfg(test)]
+mod least_tests;
+#[cfg(test)]
 mod paged_jobs;
 #[cfg(test)]
 mod reply_tests;

@@ -48,6 +48,10 @@ const NO_COMMANDS: &[&[&str]] = &[
     &["make", "", "200"],
     &["make", "1", "200", "1"],
     &["audit", "t", "x"],
+    &["least"],
+    &["least", ""],
+    &["least", "t", "t"],
+    &["Least", "t"],
     &["gate", "0"],
     &["gate", "100001"],
     &["gate"],
@@ -65,7 +69,7 @@ fn begins(
     let given = given_by(rt, rt.alloc(), words, JOB, 1000, [&[1], fails, &[1]])?;
     assert_eq!(rt; given.status, status);
     assert_eq!(rt; given.left, JOB.len());
-    assert_eq!(rt; given.faults, [0, 0, 0]);
+    assert_eq!(rt; given.faults, [0, 0, 0, 0]);
     let begun = str::from_utf8(&given.out).is_ok_and(|text| text.starts_with(begin));
     assert_eq!(rt; begun, true);
     Ok(())
@@ -105,7 +109,7 @@ impl Eprint for Terminal {
     }
 }
 
-// Each ending, with its number and what is told of it, where the trace failed and where it did not.
+// Each ending, with its number and what is told of it, where the file at the path failed and where it did not.
 const ENDINGS: &[(Status, u8, Option<&str>, Option<&str>)] = &[
     (Status::Done, 0, None, None),
     (Status::BadJob, 1, None, None),
@@ -113,7 +117,15 @@ const ENDINGS: &[(Status, u8, Option<&str>, Option<&str>)] = &[
         Status::BadWords,
         2,
         None,
-        Some("usage: sgxpage run PATH | make NUMBER SIZE | demo NUMBER SIZE | gate ROUNDS"),
+        Some(
+            "usage: sgxpage run PATH | make NUMBER SIZE | demo NUMBER SIZE | least PATH | gate ROUNDS",
+        ),
+    ),
+    (
+        Status::ReadFault,
+        3,
+        Some("a/b.trace"),
+        Some("sgxpage: cannot read the trace: a/b.trace"),
     ),
     (
         Status::ReadFault,
@@ -135,17 +147,18 @@ const ENDINGS: &[(Status, u8, Option<&str>, Option<&str>)] = &[
     ),
     (Status::Memory, 5, None, Some("sgxpage: memory was refused")),
     (Status::Bus, 7, None, None),
+    (Status::BadTrace, 8, None, None),
     (Status::Spent, 9, None, None),
 ];
 
 #[test]
 fn an_ending_has_its_number_and_its_line(rt: HostRuntime) -> Result<(), Fail> {
-    for (status, code, untraced, line) in ENDINGS {
+    for (status, code, failed, line) in ENDINGS {
         let terminal = Terminal {
             alloc: rt.alloc(),
             line: Cell::new(None),
         };
-        complain(&terminal, *status, *untraced)?;
+        complain(&terminal, *status, *failed)?;
         assert_eq!(rt; status.code(), *code);
         assert_eq!(rt; terminal.line.take().as_deref(), *line);
     }

@@ -24,12 +24,15 @@ rounds_of word = do
   n ← count_of word
   if nat_le 1 n && nat_le n 100000 then Some n else None
 
--- `run PATH`, where PATH is any word that is not empty
-abbrev pub with_path : List ℕ → List ℕ → Option Command
-with_path name path =
-    if nat_lt 0 (length path)
-    then if bytes_eq name (codes "run") then Some commands.Run else None
+abbrev pub path_by : List ℕ → Option Command
+path_by name =
+    if bytes_eq name (codes "run") then Some commands.Run
+    else if bytes_eq name (codes "least") then Some commands.Least
     else None
+
+-- `run PATH` and `least PATH`, where PATH is any word that is not empty
+abbrev pub with_path : List ℕ → List ℕ → Option Command
+with_path name path = if nat_lt 0 (length path) then path_by name else None
 
 -- `gate ROUNDS`
 abbrev pub with_rounds : List ℕ → Option Command
@@ -61,6 +64,7 @@ command_in words = None
 -- its size, or its rounds, are as many as those words can say
 abbrev pub IsSized : Command → Type 0
 IsSized commands.Run = Unit {0}
+IsSized commands.Least = Unit {0}
 IsSized (commands.Make number size) = (4 ≤ size) × (size ≤ 2000)
 IsSized (commands.Demo number size) = (4 ≤ size) × (size ≤ 2000)
 IsSized (commands.Gate rounds) = (1 ≤ rounds) × (rounds ≤ 100000)

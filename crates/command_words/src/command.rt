@@ -1,6 +1,6 @@
 //! The command that the words of the command line name.
 
-ghost use Rattle.command_words.specs.Commands.{IsSized, command_in, count_of, is_digit, rounds_of, size_of, sized_by, with_path, with_rounds, with_size, with_word};
+ghost use Rattle.command_words.specs.Commands.{IsSized, command_in, count_of, is_digit, path_by, rounds_of, size_of, sized_by, with_path, with_rounds, with_size, with_word};
 ghost use Rattle.std.specs.List.{list_all};
 ghost use Rattle.std.specs.Prelude.{◌≡◌, ◌≤◌, IfSome, map, string_bytes};
 
@@ -17,6 +17,9 @@ pub enum Command {
 
     /// `demo NUMBER SIZE`: runs that job, and gives a summary.
     Demo { number: u64, size: u32 },
+
+    /// `least PATH`: the fewest loads for what a trace of a job accesses, which is the file at the path, which is not empty.
+    Least,
 
     /// `gate ROUNDS`: from 1 to 100,000 rounds of four processors and a pager at a gate with no lock.
     Gate { rounds: u32 },
@@ -52,8 +55,19 @@ fn path_command(name: &str, path: &str) -> Option<Command>
 {
     if path.is_empty() {
         None
-    } else if name == "run" {
+    } else {
+        path_command_by(name)
+    }
+}
+
+fn path_command_by(name: &str) -> Option<Command>
+    ensures value { result ≡ path_by name.now }
+    ensures sized { IfSome result IsSized }
+{
+    if name == "run" {
         Some(Command::Run)
+    } else if name == "least" {
+        Some(Command::Least)
     } else {
         None
     }

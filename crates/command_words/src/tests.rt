@@ -4,7 +4,7 @@ use std::alloc::Global;
 use std::test::Fail;
 
 // The words, with a space between two, and the command.
-const ROWS: [(&str, Option<Command>); 21] = [
+const ROWS: [(&str, Option<Command>); 25] = [
     ("run t", Some(Command::Run)),
     ("run ", None),
     ("Run t", None),
@@ -40,7 +40,11 @@ const ROWS: [(&str, Option<Command>); 21] = [
     ("gate ", None),
     ("gate", None),
     ("gate 1 2", None),
-    ("least t", None),
+    ("least t", Some(Command::Least)),
+    ("least ", None),
+    ("least", None),
+    ("least t t", None),
+    ("leas t", None),
 ];
 
 // What stands between the spaces of a text.

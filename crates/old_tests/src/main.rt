@@ -1,5 +1,5 @@
 // Reads old traces from sources, and tells their four numbers or the line of their fault: as a whole, and in pieces of 1 and of 7 bytes,
-// which must give the same text. Then one is read whose source fails.
+// which must give the same text. Then one is read whose source fails, one from a file that is opened at its first read, and one from no file.
 #![tactic(auto)]
 
 #[cfg(test)]
@@ -7,10 +7,12 @@ mod endless;
 
 use io_edges::mem_sink::MemSink;
 use io_edges::mem_source::MemSource;
+use io_edges::std_edges::StdSource;
 use job_grammar::jobs::Job;
 use job_text::reader::read_job;
 use least_command::giving::give_least;
 use old_trace::faults::give_fault;
+use old_trace::old_file::OldFile;
 use old_trace::reading::read_old;
 use old_trace::unread::Unread;
 use std::alloc::Global;
@@ -21,7 +23,11 @@ fn main(rt: HostRuntime) -> io::Result<()> {
     for name in env::args(&rt)?.skip(1) {
         tell_trace(&rt, name.as_str())?;
     }
-    tell_failing(&rt)
+    tell_failing(&rt)?;
+    for path in ["short.trace", "none.trace"] {
+        tell_file(&rt, path)?;
+    }
+    Ok(())
 }
 
 // Of which job a trace is: what stands before a dash, where one was changed.
@@ -91,4 +97,21 @@ fn tell_failing(rt: &HostRuntime) -> io::Result<()> {
         told.err() == Some(Unread::Failed),
         source.faults()
     )
+}
+
+// What is read of the file at a path.
+fn tell_file(rt: &HostRuntime, path: &str) -> io::Result<()> {
+    let mut source = StdSource::new(OldFile::new(rt, path));
+    match read_old(rt.alloc(), &mut source) {
+        Ok(entries) => println!(rt;
+            "{path}: {} entries, {} faults",
+            entries.len(),
+            source.faults()
+        ),
+        Err(unread) => println!(rt;
+            "{path}: {}, {} faults",
+            unread == Unread::Failed,
+            source.faults()
+        ),
+    }
 }

@@ -2,5 +2,6 @@
 #![tactic(auto)]
 
 pub mod faults;
+pub mod old_file;
 pub mod reading;
 pub mod unread;

@@ -1,5 +1,7 @@
 -- How a command ends.
-use Rattle.std.specs.Prelude.{ℕ, ◌≡◌}
+use Rattle.std.specs.Prelude.{ℕ, ◌≡◌, ◌⊎◌, Option, Some}
+use Rattle.command_words.specs.declared.command.Command.{Command}
+use Rattle.command_words.specs.declared.command.Command.TheVariants as commands
 use Rattle.io_edges.specs.Faults.{HasRisen}
 use Rattle.run_jobs.specs.declared.ends.End.{End}
 use Rattle.run_jobs.specs.declared.ends.End.TheVariants as ends
@@ -10,6 +12,14 @@ use Rattle.page_commands.specs.declared.status.Status.TheVariants as statuses
 abbrev pub NoFault : ℕ → ℕ → Type 0
 NoFault old new = HasRisen old new → ⊥
 
+-- the command reads an old trace, behind its job
+abbrev pub ReadsOld : Option Command → Type 0
+ReadsOld command = command ≡ Some commands.Least
+
+-- the command reads a job
+abbrev pub ReadsJob : Option Command → Type 0
+ReadsJob command = (command ≡ Some commands.Run) ⊎ ReadsOld command
+
 -- the exit status of the program
 abbrev pub number_of : Status → ℕ
 number_of statuses.Done = 0
@@ -19,6 +29,7 @@ number_of statuses.ReadFault = 3
 number_of statuses.WriteFault = 4
 number_of statuses.Memory = 5
 number_of statuses.Bus = 7
+number_of statuses.BadTrace = 8
 number_of statuses.Spent = 9
 
 -- the status of a run whose texts were given
@@ -43,19 +54,30 @@ abbrev pub IsUnrun : Status → Type 0
 IsUnrun statuses.BadJob = Unit {0}
 IsUnrun status = MayStandIn status
 
+-- how a command may end that has read no old trace
+abbrev pub IsUntraced : Status → Type 0
+IsUntraced statuses.BadTrace = Unit {0}
+IsUntraced status = IsUnrun status
+
 -- a run that ended so: its status, where its texts were given, and else a fault or want of memory
 abbrev pub IsGiven : End → Status → Type 0 → Type 0
 IsGiven end statuses.WriteFault Given = Unit {0}
 IsGiven end statuses.Memory Given = Unit {0}
 IsGiven end status Given = (status ≡ status_of end) × Given
 
--- how `run` may end, and how `demo`
+-- how `run` may end, how `demo`, and how `least`
 abbrev pub IsRunEnd : Status → Type 0
 IsRunEnd statuses.BadWords = ⊥
+IsRunEnd statuses.BadTrace = ⊥
 IsRunEnd status = Unit {0}
 
 abbrev pub IsDemoEnd : Status → Type 0
 IsDemoEnd statuses.BadWords = ⊥
 IsDemoEnd statuses.BadJob = ⊥
+IsDemoEnd statuses.BadTrace = ⊥
 IsDemoEnd statuses.ReadFault = ⊥
 IsDemoEnd status = Unit {0}
+
+abbrev pub IsLeastEnd : Status → Type 0
+IsLeastEnd statuses.Done = Unit {0}
+IsLeastEnd status = IsUntraced status

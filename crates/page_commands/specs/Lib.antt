@@ -1,4 +1,5 @@
 pub mod OutText
 pub mod Ending
 pub mod Runs
+pub mod Traces
 pub mod Commands

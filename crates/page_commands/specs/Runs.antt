@@ -1,5 +1,5 @@
 -- What a run gives: the texts of one trace that keeps the rules, or a line on what is wrong with the job.
-use Rattle.std.specs.Prelude.{ℕ, ◌≡◌, ◌⊎◌, List, ◌++◌, Option, Ok, Err, IfSome, codes, reverse}
+use Rattle.std.specs.Prelude.{ℕ, ◌≡◌, ◌⊎◌, List, ◌++◌, Option, Ok, Err, codes, reverse}
 use Rattle.std.specs.Fmt.{decimal}
 use Rattle.io_edges.specs.Sinks.{followed_by, GivesPart}
 use Rattle.io_edges.specs.declared.plans.PlanLine.{PlanLine}
@@ -11,6 +11,7 @@ use Rattle.job_text.specs.Reading.{read}
 use Rattle.job_grammar.specs.Jobs.{JobView}
 use Rattle.job_make.specs.MadeJob.{made_job}
 use Rattle.backing_store.specs.Calls.{Call}
+use Rattle.old_trace.specs.Reading.{OfRead}
 use Rattle.run_jobs.specs.declared.ends.End.{End}
 use Rattle.run_jobs.specs.Runs.{WholeRun}
 use Rattle.page_commands.specs.declared.jobs.Unread.{Unread}
@@ -21,10 +22,6 @@ use Rattle.page_commands.specs.declared.status.Status.TheVariants as statuses
 use Rattle.trace_text.specs.TraceText.{trace_of}
 
 -- ---- the job's bytes
-
--- a fact of the bytes that a source had, where it tells them, and of some bytes otherwise
-abbrev pub OfRead : Option (List ℕ) → (List ℕ → Type 0) → Type 0
-OfRead left P = (bytes : List ℕ) × IfSome left (λ all. bytes ≡ all) × P bytes
 
 -- some job has this text
 abbrev pub HasJob : List ℕ → Type 0

@@ -10,12 +10,15 @@ ghost use Rattle.io_edges.specs.Sources.{TakesAtMost};
 ghost use Rattle.job_make.specs.MadeJob.{made_job};
 ghost use Rattle.job_print.specs.JobText.{job_text};
 ghost use Rattle.run_summary.specs.Summary.{summary_of};
-ghost use Rattle.page_commands.specs.Commands.{HasEnded, IsDemoEnd, MayStandIn, NoFault, status_of};
-ghost use Rattle.page_commands.specs.Runs.{BothGiven, DemoBy, HalfGiven, HalfTold, HasFault, HasJob, IsTextGiven, OfRead, RanBy, Told};
+ghost use Rattle.old_trace.specs.Reading.{OfRead};
+ghost use Rattle.page_commands.specs.Commands.{HasEnded, IsDemoEnd, IsLeastEnd, MayStandIn, NoFault, ReadsJob, ReadsOld, status_of};
+ghost use Rattle.page_commands.specs.Runs.{BothGiven, DemoBy, HalfGiven, HalfTold, HasFault, HasJob, IsTextGiven, RanBy, Told};
+ghost use Rattle.page_commands.specs.Traces.{HalfLineTold, HasTrace, HasWrongLine, LeastBy, LineTold};
 ghost use Rattle.run_jobs.specs.declared.ends.End.{End};
 
 use crate::ended::{Ended, unrun};
 use crate::gates::rounds_command;
+use crate::least::least_command;
 use crate::making::{demo_command, make_command};
 use crate::running::run_command;
 use crate::status::Status;
@@ -36,11 +39,17 @@ use std::thread::Threads;
 /// job that is made of these to `out`. `demo NUMBER SIZE` runs that job, and gives the summary of the run to `out`. `gate ROUNDS` lets processors
 /// and a pager make so many rounds at a gate with no lock, and gives to `out` how many entries there were.
 ///
+/// `least PATH` reads the job and then, behind a valid one, a trace from `old`, which is the file at that path. It gives to `out` how
+/// many accesses the trace has, how many frames the job leaves for them, the fewest loads for these, and how many reloads the trace
+/// made. Where the text is no trace's, `out` gets its first faulty line. A trace of more than 2^30 bytes is refused as line 0, and is
+/// read no further than one byte past them.
+///
 /// Other words are no command, and then nothing is read or written. `gate`, which is another, is told of each turn of a run. A run whose store
 /// fails for ever may not return.
 pub fn sgxpage<
     R: Threads + Wait + Sync,
     J: Source,
+    O: Source,
     K: Sink,
     L: Sink,
     B: Backing + Send,
@@ -50,6 +59,7 @@ pub fn sgxpage<
     alloc: Global,
     words: &[String],
     job: &mut J,
+    old: &mut O,
     out: &mut K,
     trace: &mut L,
     store: B,
@@ -58,17 +68,30 @@ pub fn sgxpage<
     requires { IfSome (B.told store) (λ calls. calls ≡ []) }
     ensures bad_words { (result.status ≡ Status.BadWords) ↔ (command_in (map string_bytes words.now) ≡ None) }
     ensures no_command { result.status ≡ Status.BadWords →
-        (job.new ≡ job.old) × (out.new ≡ out.old) × (trace.new ≡ trace.old) × (result.store ≡ None) }
+        (job.new ≡ job.old) × (old.new ≡ old.old) × (out.new ≡ out.old) × (trace.new ≡ trace.old) × (result.store ≡ None) }
 
     ensures reads { TakesAtMost (2 ^ 24 + 1) (J.left job.old) (J.left job.new) }
+    ensures reads_old { TakesAtMost (2 ^ 30 + 1) (O.left old.old) (O.left old.new) }
+    // An old trace is read by its commands alone, and behind a job.
+    ensures behind { ReadsOld (command_in (map string_bytes words.now)) × OfRead (J.left job.old) HasJob ⊎ (old.new ≡ old.old) }
     ensures read_fault { result.status ≡ Status.ReadFault →
-        HasRisen (J.faults job.old) (J.faults job.new) × (out.new ≡ out.old) × (trace.new ≡ trace.old) × (result.store ≡ None) }
+        (HasRisen (J.faults job.old) (J.faults job.new) × (old.new ≡ old.old)
+        ⊎ ReadsOld (command_in (map string_bytes words.now)) × OfRead (J.left job.old) HasJob
+        × HasRisen (O.faults old.old) (O.faults old.new))
+        × (out.new ≡ out.old) × (trace.new ≡ trace.old) × (result.store ≡ None) }
 
     ensures bad_job { result.status ≡ Status.BadJob →
         OfRead (J.left job.old) (λ bytes. Told bytes (K.given out.old) (K.given out.new))
-        × (trace.new ≡ trace.old) × (result.store ≡ None) }
-    ensures no_job { command_in (map string_bytes words.now) ≡ Some commands.Run → IsSomeAnd (J.left job.old) HasFault →
+        × (old.new ≡ old.old) × (trace.new ≡ trace.old) × (result.store ≡ None) }
+    ensures no_job { ReadsJob (command_in (map string_bytes words.now)) → IsSomeAnd (J.left job.old) HasFault →
         (result.status ≡ Status.BadJob) ⊎ MayStandIn result.status }
+
+    ensures bad_trace { result.status ≡ Status.BadTrace →
+        ReadsOld (command_in (map string_bytes words.now)) × OfRead (J.left job.old) HasJob
+        × OfRead (O.left old.old) (λ bytes. LineTold bytes (K.given out.old) (K.given out.new))
+        × (trace.new ≡ trace.old) × (result.store ≡ None) }
+    ensures no_trace { ReadsOld (command_in (map string_bytes words.now)) → IsSomeAnd (J.left job.old) HasJob →
+        IsSomeAnd (O.left old.old) HasWrongLine → (result.status ≡ Status.BadTrace) ⊎ MayStandIn result.status }
 
     // Whatever the store gave: a whole run of the job, with its texts, that ended as the status says.
     ensures ran { command_in (map string_bytes words.now) ≡ Some commands.Run → (end : End) → result.status ≡ status_of end →
@@ -97,6 +120,24 @@ pub fn sgxpage<
         IsTextGiven (gate_text rounds) result.status (K.given out.old) (K.given out.new)
         × (job.new ≡ job.old) × (trace.new ≡ trace.old) × (result.store ≡ None) }
 
+    // The numbers of the old trace, for the job.
+    ensures least { command_in (map string_bytes words.now) ≡ Some commands.Least → result.status ≡ Status.Done →
+        OfRead (J.left job.old) (λ bytes. OfRead (O.left old.old) (λ old_bytes.
+        LeastBy bytes old_bytes (λ text. K.given out.new ≡ followed_by (K.given out.old) text))) }
+    ensures least_complete { command_in (map string_bytes words.now) ≡ Some commands.Least →
+        IsSomeAnd (J.left job.old) HasJob → IsSomeAnd (O.left old.old) HasTrace →
+        NoFault (J.faults job.old) (J.faults job.new) →
+        NoFault (O.faults old.old) (O.faults old.new) →
+        NoFault (K.faults out.old) (K.faults out.new) →
+        (result.status ≡ Status.Done) ⊎ (result.status ≡ Status.Memory) }
+    ensures least_broke { command_in (map string_bytes words.now) ≡ Some commands.Least → result.status ≡ Status.WriteFault →
+        OfRead (J.left job.old) (λ bytes. HalfTold bytes (K.given out.old) (K.given out.new)) × (old.new ≡ old.old)
+        ⊎ OfRead (J.left job.old) HasJob × OfRead (O.left old.old) (λ bytes. HalfLineTold bytes (K.given out.old) (K.given out.new))
+        ⊎ OfRead (J.left job.old) (λ bytes. OfRead (O.left old.old) (λ old_bytes.
+        LeastBy bytes old_bytes (λ text. GivesPart (K.given out.old) (K.given out.new) text))) }
+    ensures least_else { command_in (map string_bytes words.now) ≡ Some commands.Least →
+        IsLeastEnd result.status × (trace.new ≡ trace.old) × (result.store ≡ None) }
+
     ensures demo { (number size : ℕ) → command_in (map string_bytes words.now) ≡ Some (commands.Demo number size) →
         (end : End) → result.status ≡ status_of end → IsSomeAnd result.store (λ store.
         DemoBy number size end (B.told store) (B.plans store) (λ entries.
@@ -115,6 +156,7 @@ pub fn sgxpage<
         Some(Command::Demo { number, size }) => demo_command(
             rt, alloc, number, size, out, store, gate,
         ),
+        Some(Command::Least) => unrun(least_command(alloc, job, old, out)),
         Some(Command::Gate { rounds }) => unrun(rounds_command(rt, alloc, rounds, out)),
     }
 }

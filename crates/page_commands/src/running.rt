@@ -3,8 +3,9 @@
 ghost use Rattle.std.specs.Prelude.{◌≡◌, ◌+◌, ◌^◌, ◌⊎◌, [], reverse, IfSome, IsErrOf, IsSomeAnd, None, OnOk, Some};
 ghost use Rattle.io_edges.specs.Faults.{HasRisen};
 ghost use Rattle.io_edges.specs.Sources.{TakesAtMost};
+ghost use Rattle.old_trace.specs.Reading.{OfRead};
 ghost use Rattle.page_commands.specs.Commands.{HasEnded, IsGiven, IsRunEnd, MayStandIn, NoFault, status_of};
-ghost use Rattle.page_commands.specs.Runs.{BothGiven, HalfGiven, HalfTold, HasFault, HasJob, OfRead, RanBy, Told};
+ghost use Rattle.page_commands.specs.Runs.{BothGiven, HalfGiven, HalfTold, HasFault, HasJob, RanBy, Told};
 ghost use Rattle.run_jobs.specs.declared.ends.End.{End};
 
 use crate::ended::{Ended, unrun};

@@ -17,7 +17,7 @@ pub enum Status {
     /// The words of the command line are no command.
     BadWords,
 
-    /// The job could not be read.
+    /// The job or the old trace could not be read.
     ReadFault,
 
     /// A text could not be written.
@@ -28,6 +28,9 @@ pub enum Status {
 
     /// A processor was ended by a page that could not be reloaded.
     Bus,
+
+    /// The old trace is none.
+    BadTrace,
 
     /// An epoch or a version was used up, and the run was stopped.
     Spent,
@@ -46,6 +49,7 @@ impl Status {
             Status::WriteFault => 4,
             Status::Memory => 5,
             Status::Bus => 7,
+            Status::BadTrace => 8,
             Status::Spent => 9,
         }
     }

@@ -5,6 +5,7 @@ use command_words::command::{Command, command_of};
 use crew::gate::OpenGate;
 use io_edges::late_file::LateFile;
 use io_edges::std_edges::{StdSink, StdSource};
+use old_trace::old_file::OldFile;
 use page_commands::command::sgxpage;
 use page_commands::complaints::complain;
 use page_commands::status::Status;
@@ -45,19 +46,25 @@ fn carry_out<R: Threads + Wait + Sync>(rt: &HostRuntime, waits: &R) -> Status {
         Err(error) => return end(rt, unread_words(error.kind()), None),
     };
     let path = trace_path(&words);
+    let mut old = StdSource::new(OldFile::new(rt, path));
     let mut trace = StdSink::new(LateFile::new(rt, path));
     let ended = sgxpage(
         waits,
         rt.alloc(),
         &words,
         &mut StdSource::new(rt.stdin().reader()),
+        &mut old,
         &mut StdSink::new(io::writer(rt)),
         &mut trace,
         PlannedStore::new(),
         &OpenGate,
     );
-    let untraced = if trace.faults() > 0 { Some(path) } else { None };
-    end(rt, ended.status, untraced)
+    let failed = if old.faults() > 0 || trace.faults() > 0 {
+        Some(path)
+    } else {
+        None
+    };
+    end(rt, ended.status, failed)
 }
 
 // The words of the command line, without the program's name.
@@ -77,16 +84,16 @@ fn unread_words(why: ErrorKind) -> Status {
     }
 }
 
-// The path that the words name. A command that gives no trace never opens it.
+// The path that the words name: of the trace that a run gives, or of the old one that is read. Other commands open none.
 fn trace_path(words: &[String]) -> &str {
     match (command_of(words), words.get(1)) {
-        (Some(Command::Run), Some(path)) => path.as_str(),
+        (Some(Command::Run | Command::Least), Some(path)) => path.as_str(),
         _ => "",
     }
 }
 
 // Where nothing can be told on standard error, the status alone tells.
-fn end(rt: &HostRuntime, status: Status, untraced: Option<&str>) -> Status {
-    let _ = complain(rt, status, untraced);
+fn end(rt: &HostRuntime, status: Status, failed: Option<&str>) -> Status {
+    let _ = complain(rt, status, failed);
     status
 }

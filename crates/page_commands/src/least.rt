@@ -1,0 +1,69 @@
+//! The command `least`: how far a trace's reloads were from the fewest.
+
+ghost use Rattle.std.specs.Prelude.{◌≡◌, ◌+◌, ◌^◌, ◌⊎◌, IsSomeAnd};
+ghost use Rattle.io_edges.specs.Faults.{HasRisen};
+ghost use Rattle.io_edges.specs.Sinks.{GivesPart, followed_by};
+ghost use Rattle.io_edges.specs.Sources.{TakesAtMost};
+ghost use Rattle.old_trace.specs.Reading.{OfRead};
+ghost use Rattle.page_commands.specs.Commands.{IsLeastEnd, MayStandIn, NoFault};
+ghost use Rattle.page_commands.specs.Runs.{HalfTold, HasFault, HasJob, Told};
+ghost use Rattle.page_commands.specs.Traces.{HalfLineTold, HasTrace, HasWrongLine, LeastBy, LineTold};
+
+use crate::status::Status;
+use crate::traces::read_traced;
+use io_edges::sinks::Sink;
+use io_edges::sources::Source;
+use least_command::giving::give_least;
+use std::alloc::Global;
+use trace_pieces::ungiven::Ungiven;
+
+/// Reads a job and then an old trace, and gives how many accesses the trace has, how many frames the job leaves for them, the fewest
+/// loads for these, and how many reloads were made. Where either text is none, `out` gets the line on that.
+pub(crate) fn least_command<J: Source, O: Source, K: Sink>(
+    alloc: Global,
+    job: &mut J,
+    old: &mut O,
+    out: &mut K,
+) -> Status
+    ensures kind { IsLeastEnd result }
+    ensures reads_job { TakesAtMost (2 ^ 24 + 1) (J.left job.old) (J.left job.new) }
+    ensures reads_old { TakesAtMost (2 ^ 30 + 1) (O.left old.old) (O.left old.new) }
+    ensures behind { OfRead (J.left job.old) HasJob ⊎ (old.new ≡ old.old) }
+
+    ensures least { result ≡ Status.Done → OfRead (J.left job.old) (λ bytes. OfRead (O.left old.old) (λ old_bytes.
+        LeastBy bytes old_bytes (λ text. K.given out.new ≡ followed_by (K.given out.old) text))) }
+
+    ensures read_fault { result ≡ Status.ReadFault →
+        (HasRisen (J.faults job.old) (J.faults job.new) × (old.new ≡ old.old)
+        ⊎ OfRead (J.left job.old) HasJob × HasRisen (O.faults old.old) (O.faults old.new)) × (out.new ≡ out.old) }
+    ensures bad_job { result ≡ Status.BadJob →
+        OfRead (J.left job.old) (λ bytes. Told bytes (K.given out.old) (K.given out.new)) × (old.new ≡ old.old) }
+    ensures bad_trace { result ≡ Status.BadTrace →
+        OfRead (J.left job.old) HasJob × OfRead (O.left old.old) (λ bytes. LineTold bytes (K.given out.old) (K.given out.new)) }
+    ensures no_job { IsSomeAnd (J.left job.old) HasFault → (result ≡ Status.BadJob) ⊎ MayStandIn result }
+    ensures no_trace { IsSomeAnd (J.left job.old) HasJob → IsSomeAnd (O.left old.old) HasWrongLine →
+        (result ≡ Status.BadTrace) ⊎ MayStandIn result }
+    ensures complete { IsSomeAnd (J.left job.old) HasJob → IsSomeAnd (O.left old.old) HasTrace →
+        NoFault (J.faults job.old) (J.faults job.new) →
+        NoFault (O.faults old.old) (O.faults old.new) →
+        NoFault (K.faults out.old) (K.faults out.new) →
+        (result ≡ Status.Done) ⊎ (result ≡ Status.Memory) }
+
+    ensures write_fault { result ≡ Status.WriteFault → HasRisen (K.faults out.old) (K.faults out.new) }
+    ensures broke { result ≡ Status.WriteFault →
+        OfRead (J.left job.old) (λ bytes. HalfTold bytes (K.given out.old) (K.given out.new)) × (old.new ≡ old.old)
+        ⊎ OfRead (J.left job.old) HasJob × OfRead (O.left old.old) (λ bytes. HalfLineTold bytes (K.given out.old) (K.given out.new))
+        ⊎ OfRead (J.left job.old) (λ bytes. OfRead (O.left old.old) (λ old_bytes.
+        LeastBy bytes old_bytes (λ text. GivesPart (K.given out.old) (K.given out.new) text))) }
+    ensures memory { result ≡ Status.Memory → out.new ≡ out.old }
+{
+    let traced = match read_traced(alloc, job, old, out) {
+        Ok(traced) => traced,
+        Err(status) => return status,
+    };
+    match give_least(alloc, &traced.job, &traced.entries, out) {
+        Ok(()) => Status::Done,
+        Err(Ungiven::Failed) => Status::WriteFault,
+        Err(Ungiven::Memory) => Status::Memory,
+    }
+}
