@@ -1,0 +1,19 @@
+//! Runs of a job over a store that does what the job plans.
+
+use backing_store::planned_store::PlannedStore;
+use epoch_words::words::Words;
+use job_grammar::jobs::Job;
+use machine_book::book::MachineBook;
+use rounds::run::run;
+use run_turns::book::Parts;
+use sgx_types::names::Memory;
+use std::alloc::Global;
+use std::sync::Wait;
+
+/// A run by rounds of turns on one thread. It is the same each time.
+pub fn by_rounds<R: Wait>(rt: &R, alloc: Global, job: Job) -> Result<Parts<PlannedStore>, Memory> {
+    let (words, seat, _) = Words::new(alloc, &job)?;
+    let mut book = MachineBook::start(alloc, job, PlannedStore::new(), seat)?;
+    run(rt, alloc, &mut book, &words)?;
+    Ok(book.into_parts())
+}
