@@ -3,7 +3,6 @@
 ghost use Rattle.std.specs.Prelude.{◌≤◌};
 
 use backing_store::planned_store::PlannedStore;
-use crew::gate::OpenGate;
 use io_edges::mem_sink::MemSink;
 use io_edges::mem_source::MemSource;
 use page_commands::command::sgxpage;
@@ -12,6 +11,7 @@ use sgx_types::names::Memory;
 use std::alloc::Global;
 use std::sync::Wait;
 use std::thread::Threads;
+use turn_gate::gate::OpenGate;
 
 /// The words of a command that runs a job.
 pub const RUN: &[&str] = &["run", "t"];

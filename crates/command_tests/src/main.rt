@@ -2,6 +2,10 @@
 // which follows the same rules. Beside it the tests of the commands, over memory.
 #![tactic(auto)]
 
+#[cfg(test)]
+mod audit_tests;
+#[cfg(test)]
+mod audited_traces;
 mod calls;
 #[cfg(test)]
 mod cut_jobs;

@@ -28,14 +28,14 @@ const NOT_ENTERED: &[&str] = &["A init\ncpu 0\nbus\n"];
 const NOT_STORED: &[&str] = &[ENTERED, "bus\n"];
 
 /// What a store may do to that job: nothing; give an older record; change one, lose it, or give another page's; and fail. Each with how
-/// the run ends, the replies, and what its trace says.
+/// the run ends, the replies, and all that its trace tells of what went wrong.
 pub const STORES: &[(&[u8], Status, &[&str], &str)] = &[
     (b"", Status::Done, ALL, ""),
     (
         b"store replay A 2 2 1\n",
         Status::Bus,
         &[ENTERED, STORED, "bus\n"],
-        " MacFail ",
+        "MacFail\np0 bus A 2 mac\n",
     ),
     (b"store replay A 2 1 1\n", Status::Done, ALL, ""),
     (b"store replay A 2 1 5\n", Status::Done, ALL, ""),
@@ -43,25 +43,25 @@ pub const STORES: &[(&[u8], Status, &[&str], &str)] = &[
         b"store flip A 2 1 192\n",
         Status::Bus,
         NOT_STORED,
-        " MacFail ",
+        "MacFail\np0 bus A 2 mac\n",
     ),
     (
         b"store flip A 2 1 0\n",
         Status::Bus,
         NOT_STORED,
-        " MacFail ",
+        "MacFail\np0 bus A 2 mac\n",
     ),
     (
         b"store flip A 2 1 33215\n",
         Status::Bus,
         NOT_STORED,
-        " MacFail ",
+        "MacFail\np0 bus A 2 mac\n",
     ),
     (
         b"store swap A 2 A 3\n",
         Status::Bus,
         NOT_STORED,
-        "p0 bus A 2 mac\n",
+        "MacFail\np0 bus A 2 mac\n",
     ),
     (
         b"store drop A 2 1\n",
@@ -99,24 +99,30 @@ pub const STORES: &[(&[u8], Status, &[&str], &str)] = &[
         NOT_STORED,
         "p0 bus A 2 put\n",
     ),
-    (b"store fail room 1\n", Status::Done, ALL, " noroom\n"),
+    (b"store fail room 1\n", Status::Done, ALL, "noroom\n"),
     (
         b"store fail room 1\nstore fail room 2\n",
         Status::Done,
         ALL,
-        " noroom\n",
+        "noroom\nnoroom\n",
     ),
 ];
 
-/// First numbers that are soon used up, and what the trace says then.
+/// First numbers that are soon used up, and all that the trace tells of that.
 pub const STARTS: &[(&[u8], &str)] = &[
-    (b"start 1099511627775 1\n", " EpochSpent\n"),
-    (b"start 1 18446744073709551615\n", " VersionSpent\n"),
+    (b"start 1099511627775 1\n", "EpochSpent\n"),
+    (b"start 1 18446744073709551615\n", "VersionSpent\n"),
 ];
 
 /// Behind the same enclave: a second TCS, a store that swaps the records of two pages, and a processor for each of them.
 pub const SWAPPED: &[u8] =
     b"tcs 42 43 1 plain\nreg 43 1 rw 0 plain\nstore swap A 2 A 3\ncpu 0\neenter A 0\nload 0x2000\ncpu 1\neenter A 42\nload 0x3000\n";
+
+/// What the trace of that tells, by which of them comes first.
+pub const SWAPPED_TOLD: &[&str] = &[
+    "MacFail\np0 bus A 2 mac\nMacFail\np1 bus A 3 mac\n",
+    "MacFail\np1 bus A 3 mac\nMacFail\np0 bus A 2 mac\n",
+];
 
 /// An enclave of 48 pages with four TCSs, in 16 frames. Its processors follow.
 pub const MANY_ADDS: &[u8] =

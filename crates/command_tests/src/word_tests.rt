@@ -47,7 +47,10 @@ const NO_COMMANDS: &[&[&str]] = &[
     &["demo", "18446744073709551616", "200"],
     &["make", "", "200"],
     &["make", "1", "200", "1"],
+    &["audit"],
+    &["audit", ""],
     &["audit", "t", "x"],
+    &["audits", "t"],
     &["least"],
     &["least", ""],
     &["least", "t", "t"],
@@ -118,7 +121,7 @@ const ENDINGS: &[(Status, u8, Option<&str>, Option<&str>)] = &[
         2,
         None,
         Some(
-            "usage: sgxpage run PATH | make NUMBER SIZE | demo NUMBER SIZE | least PATH | gate ROUNDS",
+            "usage: sgxpage run PATH | audit PATH | make NUMBER SIZE | demo NUMBER SIZE | least PATH | gate ROUNDS",
         ),
     ),
     (
@@ -146,6 +149,7 @@ const ENDINGS: &[(Status, u8, Option<&str>, Option<&str>)] = &[
         Some("sgxpage: cannot write to standard output"),
     ),
     (Status::Memory, 5, None, Some("sgxpage: memory was refused")),
+    (Status::AuditNo, 6, None, None),
     (Status::Bus, 7, None, None),
     (Status::BadTrace, 8, None, None),
     (Status::Spent, 9, None, None),

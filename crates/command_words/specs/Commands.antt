@@ -28,9 +28,10 @@ abbrev pub path_by : List ℕ → Option Command
 path_by name =
     if bytes_eq name (codes "run") then Some commands.Run
     else if bytes_eq name (codes "least") then Some commands.Least
+    else if bytes_eq name (codes "audit") then Some commands.Audit
     else None
 
--- `run PATH` and `least PATH`, where PATH is any word that is not empty
+-- `run PATH`, `least PATH` and `audit PATH`, where PATH is any word that is not empty
 abbrev pub with_path : List ℕ → List ℕ → Option Command
 with_path name path = if nat_lt 0 (length path) then path_by name else None
 
@@ -65,6 +66,7 @@ command_in words = None
 abbrev pub IsSized : Command → Type 0
 IsSized commands.Run = Unit {0}
 IsSized commands.Least = Unit {0}
+IsSized commands.Audit = Unit {0}
 IsSized (commands.Make number size) = (4 ≤ size) × (size ≤ 2000)
 IsSized (commands.Demo number size) = (4 ≤ size) × (size ≤ 2000)
 IsSized (commands.Gate rounds) = (1 ≤ rounds) × (rounds ≤ 100000)

@@ -21,6 +21,10 @@ pub enum Command {
     /// `least PATH`: the fewest loads for what a trace of a job accesses, which is the file at the path, which is not empty.
     Least,
 
+    /// `audit PATH`: whether a trace of a job, which is the file at the path, which is not empty, is a history of it, and else where it
+    /// fails first.
+    Audit,
+
     /// `gate ROUNDS`: from 1 to 100,000 rounds of four processors and a pager at a gate with no lock.
     Gate { rounds: u32 },
 }
@@ -68,6 +72,8 @@ fn path_command_by(name: &str) -> Option<Command>
         Some(Command::Run)
     } else if name == "least" {
         Some(Command::Least)
+    } else if name == "audit" {
+        Some(Command::Audit)
     } else {
         None
     }

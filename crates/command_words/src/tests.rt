@@ -4,7 +4,7 @@ use std::alloc::Global;
 use std::test::Fail;
 
 // The words, with a space between two, and the command.
-const ROWS: [(&str, Option<Command>); 25] = [
+const ROWS: [(&str, Option<Command>); 30] = [
     ("run t", Some(Command::Run)),
     ("run ", None),
     ("Run t", None),
@@ -45,6 +45,11 @@ const ROWS: [(&str, Option<Command>); 25] = [
     ("least", None),
     ("least t t", None),
     ("leas t", None),
+    ("audit t", Some(Command::Audit)),
+    ("audit ", None),
+    ("audit", None),
+    ("audit t x", None),
+    ("Audit t", None),
 ];
 
 // What stands between the spaces of a text.

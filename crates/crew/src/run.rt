@@ -4,7 +4,6 @@ ghost use Rattle.std.specs.Prelude.{◌≡◌, ◌≤◌, IfOk, length, reverse}
 ghost use Rattle.crew.specs.Tallies.{IsTally};
 ghost use Rattle.driver_rules.specs.Scripts.{IsEnded};
 
-use crate::gate::Gate;
 use crate::locked::{Locked, Run};
 use crate::tally::{Tally, count};
 use crate::waiting::Made;
@@ -20,12 +19,13 @@ use std::marker::Brand;
 use std::sync::{Mutex, Wait};
 use std::thread;
 use std::thread::Threads;
+use turn_gate::gate::Gate;
 
 /// Lets the builder, each processor and the reclaimer work on a book, each in a thread of its own, until nothing is left to anyone or the
 /// run is stopped. Nothing is supposed of the order in which they take the lock. What a worker knew of the book is not known behind the
-/// lock, so rounds of turns on one thread close the run; they call no gate. Where no thread can be made, the caller does that worker's
-/// turns. While a processor keeps a page back, the reclaimer's worker looks at the word of that enclave, with the lock free; the words and
-/// the pass are those of the book's seat. A run whose store fails for ever may not return.
+/// lock, so rounds of turns on one thread close the run; they call no gate. Where a thread can't be made, a worker that has to wait stops,
+/// and those rounds do what is left. While a processor keeps a page back, the reclaimer's worker looks at the word of that enclave, with the
+/// lock free; the words and the pass are those of the book's seat. A run whose store fails for ever may not return.
 pub fn run_crew<R: Threads + Wait + Sync, B: Backing + Send, G: Gate + Sync>(
     rt: &R,
     alloc: Global,
@@ -74,7 +74,8 @@ fn run_named<N: Run + Send + Sync, R: Threads + Wait + Sync, B: Backing + Send, 
     shared.into_inner().into_book()
 }
 
-// A thread for each worker. One lifetime serves all that they borrow.
+// A thread for each worker. Where one can't be made the others are told, since they might wait for it for ever. One lifetime serves all
+// that they borrow.
 fn in_threads<
     'x,
     N: Run + Send + Sync,
@@ -87,7 +88,7 @@ fn in_threads<
     shared: &'x Mutex<Locked<B, N>>,
     made: &'x Made,
     words: &'x Words,
-    mut pass: Pass,
+    pass: Pass,
     gate: &'x G,
     cpus: u8,
 )
@@ -101,12 +102,11 @@ fn in_threads<
         |scope| -> ()
             requires { (cpus ≤ length N.job.scripts) × (words.now ≡ N.words) × (pass.words ≡ words.now) }
         {
-            let other = words.split_pass(&mut pass);
             if scope
                 .spawn(move || work(rt, alloc, shared, made, words, None, gate, Actor::Builder))
                 .is_err()
             {
-                work(rt, alloc, shared, made, words, None, gate, Actor::Builder);
+                made.give_up();
             }
             for number in 0..cpus {
                 if scope
@@ -122,16 +122,7 @@ fn in_threads<
                     ))
                     .is_err()
                 {
-                    work(
-                        rt,
-                        alloc,
-                        shared,
-                        made,
-                        words,
-                        None,
-                        gate,
-                        Actor::Cpu(Cpu(number)),
-                    );
+                    made.give_up();
                 }
             }
             if scope
@@ -141,22 +132,13 @@ fn in_threads<
                     shared,
                     made,
                     words,
-                    Some(other),
+                    Some(pass),
                     gate,
                     Actor::Reclaimer,
                 ))
                 .is_err()
             {
-                work(
-                    rt,
-                    alloc,
-                    shared,
-                    made,
-                    words,
-                    Some(pass),
-                    gate,
-                    Actor::Reclaimer,
-                );
+                made.give_up();
             }
         },
     );

@@ -3,7 +3,7 @@
 ghost use Rattle.std.specs.Prelude.{◌≡◌};
 
 use epoch_words::words::{Pass, Words};
-use std::sync::atomic::{AtomicU64, Ordering};
+use std::sync::atomic::{AtomicBool, AtomicU64, Ordering};
 use std::thread;
 
 // A worker that waits looks so often at most.
@@ -20,13 +20,24 @@ const WORD_LOOKS: u32 = 1000;
 #[derive(Drop)]
 pub(crate) struct Made {
     turns: AtomicU64,
+    given_up: AtomicBool,
 }
 
 impl Made {
     pub(crate) fn new() -> Made {
         Made {
             turns: AtomicU64::new(0),
+            given_up: AtomicBool::new(false),
         }
+    }
+
+    /// Some worker has no thread, so nobody is to wait for it.
+    pub(crate) fn give_up(&self) {
+        self.given_up.store(true, Ordering::SeqCst);
+    }
+
+    pub(crate) fn is_given_up(&self) -> bool {
+        self.given_up.load(Ordering::SeqCst)
     }
 
     /// A turn made something.

@@ -3,7 +3,6 @@
 ghost use Rattle.std.specs.Prelude.{◌≡◌, IfSome};
 ghost use Rattle.crew.specs.Actors.{IsOf};
 
-use crate::gate::Gate;
 use crate::locked::{Locked, Run};
 use crate::waiting::{Made, watch};
 use backing_store::backing::Backing;
@@ -16,9 +15,10 @@ use sgx_types::entries::Actor;
 use sgx_types::names::Memory;
 use std::alloc::Global;
 use std::sync::{Mutex, Wait};
+use turn_gate::gate::Gate;
 
-/// Takes the turns of an actor of the job until nothing is left to it, or the run was stopped. Who has a pass looks at the word of an enclave
-/// while a processor keeps a page of it back.
+/// Takes the turns of an actor of the job until nothing is left to it, or the run was stopped, or it has to wait where some worker has no
+/// thread. Who has a pass looks at the word of an enclave while a processor keeps a page of it back.
 pub(crate) fn work<R: Wait, B: Backing, G: Gate, N: Run>(
     rt: &R,
     alloc: Global,
@@ -37,6 +37,7 @@ pub(crate) fn work<R: Wait, B: Backing, G: Gate, N: Run>(
     for _ in rt.forever() {
         match gated_turn(rt, alloc, shared, words, gate, who) {
             Turn::Finished | Turn::Stopped => return,
+            Turn::Again(_) if made.is_given_up() => return,
             Turn::Again(why) => {
                 vain = vain.saturating_add(1);
                 wait(made, words, &mut pass, vain, why);

@@ -2,10 +2,10 @@
 
 ghost use Rattle.std.specs.Prelude.{◌<◌};
 
-use crew::gate::Gate;
 use sgx_types::entries::Actor;
 use sgx_types::names::Cpu;
 use std::sync::atomic::{AtomicU64, Ordering};
+use turn_gate::gate::Gate;
 
 /// Holds the first turns of processors 0 and 1, each until the other came too.
 #[derive(Drop)]

@@ -5,7 +5,6 @@ ghost use Rattle.epoch_words.specs.Seen.{starting_at};
 use crate::meeting::Meeting;
 use crate::seen_store::SeenStore;
 use backing_store::planned_store::PlannedStore;
-use crew::gate::OpenGate;
 use crew::run::run_crew;
 use epoch_words::words::{HardwareSeat, Words};
 use job_grammar::jobs::Job;
@@ -16,6 +15,7 @@ use sgx_types::names::Memory;
 use std::alloc::Global;
 use std::sync::atomic::{AtomicU64, Ordering};
 use std::test::Fail;
+use turn_gate::gate::OpenGate;
 
 // Four processors add one to a word a hundred times each, in an EPC of 16 frames for 48 pages.
 const ADDS: &[u8] =

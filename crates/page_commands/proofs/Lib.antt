@@ -1,3 +1,4 @@
 pub mod EntryLaws
 pub mod NumberLaws
 pub mod CommandLaws
+pub mod AuditLaws

@@ -14,7 +14,7 @@ NoFault old new = HasRisen old new → ⊥
 
 -- the command reads an old trace, behind its job
 abbrev pub ReadsOld : Option Command → Type 0
-ReadsOld command = command ≡ Some commands.Least
+ReadsOld command = (command ≡ Some commands.Least) ⊎ (command ≡ Some commands.Audit)
 
 -- the command reads a job
 abbrev pub ReadsJob : Option Command → Type 0
@@ -28,6 +28,7 @@ number_of statuses.BadWords = 2
 number_of statuses.ReadFault = 3
 number_of statuses.WriteFault = 4
 number_of statuses.Memory = 5
+number_of statuses.AuditNo = 6
 number_of statuses.Bus = 7
 number_of statuses.BadTrace = 8
 number_of statuses.Spent = 9
@@ -65,19 +66,26 @@ IsGiven end statuses.WriteFault Given = Unit {0}
 IsGiven end statuses.Memory Given = Unit {0}
 IsGiven end status Given = (status ≡ status_of end) × Given
 
--- how `run` may end, how `demo`, and how `least`
+-- how `run` may end, how `demo`, how `least` and how `audit`
 abbrev pub IsRunEnd : Status → Type 0
 IsRunEnd statuses.BadWords = ⊥
 IsRunEnd statuses.BadTrace = ⊥
+IsRunEnd statuses.AuditNo = ⊥
 IsRunEnd status = Unit {0}
 
 abbrev pub IsDemoEnd : Status → Type 0
 IsDemoEnd statuses.BadWords = ⊥
 IsDemoEnd statuses.BadJob = ⊥
 IsDemoEnd statuses.BadTrace = ⊥
+IsDemoEnd statuses.AuditNo = ⊥
 IsDemoEnd statuses.ReadFault = ⊥
 IsDemoEnd status = Unit {0}
 
 abbrev pub IsLeastEnd : Status → Type 0
 IsLeastEnd statuses.Done = Unit {0}
 IsLeastEnd status = IsUntraced status
+
+abbrev pub IsAuditEnd : Status → Type 0
+IsAuditEnd statuses.Done = Unit {0}
+IsAuditEnd statuses.AuditNo = Unit {0}
+IsAuditEnd status = IsUntraced status

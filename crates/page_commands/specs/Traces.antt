@@ -1,10 +1,16 @@
--- What a command says of an old trace: its numbers for a job, or its first faulty line.
+-- What a command says of an old trace: its numbers for a job, the verdict on it, or its first faulty line.
 use Rattle.std.specs.Prelude.{ℕ, ◌≡◌, List, Option, Ok, Err, reverse}
 use Rattle.io_edges.specs.Sinks.{followed_by, GivesPart}
 use Rattle.sgx_types.specs.declared.entries.Entry.{Entry}
 use Rattle.job_grammar.specs.Jobs.{JobView}
 use Rattle.job_text.specs.Reading.{read}
 use Rattle.old_trace.specs.Reading.{Reads, fault_line}
+use Rattle.run_history.specs.declared.rules.Rule.{Rule}
+use Rattle.run_history.specs.Histories.{FailsFirst, History}
+use Rattle.trace_auditor.specs.declared.verdict.Verdict.{Verdict}
+use Rattle.trace_auditor.specs.declared.verdict.Verdict.TheVariants as verdicts
+use Rattle.trace_auditor.specs.Judged.{Judges}
+use Rattle.audit_command.specs.VerdictText.{verdict_text}
 use Rattle.least_command.specs.Fewest.{IsLeastText}
 
 -- some entries have this text
@@ -32,3 +38,40 @@ pub record LeastBy (bytes old_bytes : List ℕ) (Given : List ℕ → Type 0) : 
   pub text : List ℕ
   pub tells : IsLeastText job (reverse entries) text
   pub given : Given text
+
+-- the first bytes spell a job and the others a trace, and this is so of both; the entries stand newest first there
+pub record TracedBy (bytes old_bytes : List ℕ) (Is : JobView → List Entry → Type 0) : Type 0 where
+  pub job : JobView
+  pub spelt : read bytes ≡ Ok job
+  pub entries : List Entry
+  pub reads : Reads old_bytes (Ok entries)
+  pub is : Is job (reverse entries)
+
+-- the trace is a history of the job
+abbrev pub IsRight : List ℕ → List ℕ → Type 0
+IsRight bytes old_bytes = TracedBy bytes old_bytes History
+
+-- .. or this rule fails first, at this place
+abbrev pub IsWrongBy : ℕ → Rule → List ℕ → List ℕ → Type 0
+IsWrongBy place rule bytes old_bytes = TracedBy bytes old_bytes (λ j whole. FailsFirst j whole place rule)
+
+abbrev pub IsWrong : List ℕ → List ℕ → Type 0
+IsWrong bytes old_bytes = (place : ℕ) × (rule : Rule) × IsWrongBy place rule bytes old_bytes
+
+-- a sink got `yes`, of a history
+pub record YesTold (bytes old_bytes : List ℕ) (out out' : Option (List ℕ)) : Type 0 where
+  pub right : IsRight bytes old_bytes
+  pub told : out' ≡ followed_by out (verdict_text verdicts.Yes)
+
+-- .. or `no` with the place and the rule that fails first
+pub record NoTold (bytes old_bytes : List ℕ) (out out' : Option (List ℕ)) : Type 0 where
+  pub place : ℕ
+  pub rule : Rule
+  pub wrong : IsWrongBy place rule bytes old_bytes
+  pub told : out' ≡ followed_by out (verdict_text (verdicts.No place rule))
+
+-- .. or a proper front of the text of the verdict
+pub record HalfJudged (bytes old_bytes : List ℕ) (out out' : Option (List ℕ)) : Type 0 where
+  pub verdict : Verdict
+  pub judged : TracedBy bytes old_bytes (λ j whole. Judges j whole verdict)
+  pub told : GivesPart out out' (verdict_text verdict)

@@ -11,11 +11,12 @@ ghost use Rattle.job_make.specs.MadeJob.{made_job};
 ghost use Rattle.job_print.specs.JobText.{job_text};
 ghost use Rattle.run_summary.specs.Summary.{summary_of};
 ghost use Rattle.old_trace.specs.Reading.{OfRead};
-ghost use Rattle.page_commands.specs.Commands.{HasEnded, IsDemoEnd, IsLeastEnd, MayStandIn, NoFault, ReadsJob, ReadsOld, status_of};
+ghost use Rattle.page_commands.specs.Commands.{HasEnded, IsAuditEnd, IsDemoEnd, IsLeastEnd, MayStandIn, NoFault, ReadsJob, ReadsOld, status_of};
 ghost use Rattle.page_commands.specs.Runs.{BothGiven, DemoBy, HalfGiven, HalfTold, HasFault, HasJob, IsTextGiven, RanBy, Told};
-ghost use Rattle.page_commands.specs.Traces.{HalfLineTold, HasTrace, HasWrongLine, LeastBy, LineTold};
+ghost use Rattle.page_commands.specs.Traces.{HalfJudged, HalfLineTold, HasTrace, HasWrongLine, IsRight, IsWrong, LeastBy, LineTold, NoTold, YesTold};
 ghost use Rattle.run_jobs.specs.declared.ends.End.{End};
 
+use crate::audit::audit_command;
 use crate::ended::{Ended, unrun};
 use crate::gates::rounds_command;
 use crate::least::least_command;
@@ -24,12 +25,12 @@ use crate::running::run_command;
 use crate::status::Status;
 use backing_store::backing::Backing;
 use command_words::command::{Command, command_of};
-use crew::gate::Gate;
 use io_edges::sinks::Sink;
 use io_edges::sources::Source;
 use std::alloc::Global;
 use std::sync::Wait;
 use std::thread::Threads;
+use turn_gate::gate::Gate;
 
 /// Does what the words of the command line say, which stand without the program's name.
 ///
@@ -43,6 +44,9 @@ use std::thread::Threads;
 /// many accesses the trace has, how many frames the job leaves for them, the fewest loads for these, and how many reloads the trace
 /// made. Where the text is no trace's, `out` gets its first faulty line. A trace of more than 2^30 bytes is refused as line 0, and is
 /// read no further than one byte past them.
+///
+/// `audit PATH` reads the same two, whoever made the trace, and gives to `out` the verdict: `yes` where the trace is a history of the job,
+/// and else the first place at which a rule fails, and that rule.
 ///
 /// Other words are no command, and then nothing is read or written. `gate`, which is another, is told of each turn of a run. A run whose store
 /// fails for ever may not return.
@@ -138,6 +142,33 @@ pub fn sgxpage<
     ensures least_else { command_in (map string_bytes words.now) ≡ Some commands.Least →
         IsLeastEnd result.status × (trace.new ≡ trace.old) × (result.store ≡ None) }
 
+    // The verdict on the old trace: it is a history of the job, or some rule fails.
+    ensures audit { command_in (map string_bytes words.now) ≡ Some commands.Audit → result.status ≡ Status.Done →
+        OfRead (J.left job.old) (λ bytes. OfRead (O.left old.old) (λ old_bytes.
+        YesTold bytes old_bytes (K.given out.old) (K.given out.new))) }
+    ensures audit_no { result.status ≡ Status.AuditNo →
+        (command_in (map string_bytes words.now) ≡ Some commands.Audit)
+        × OfRead (J.left job.old) (λ bytes. OfRead (O.left old.old) (λ old_bytes.
+        NoTold bytes old_bytes (K.given out.old) (K.given out.new))) }
+    // A history is never refused, and no other trace is taken for one.
+    ensures audit_right { IsSomeAnd (J.left job.old) (λ bytes. IsSomeAnd (O.left old.old) (IsRight bytes)) →
+        result.status ≡ Status.AuditNo → ⊥ }
+    ensures audit_wrong { command_in (map string_bytes words.now) ≡ Some commands.Audit →
+        IsSomeAnd (J.left job.old) (λ bytes. IsSomeAnd (O.left old.old) (IsWrong bytes)) → result.status ≡ Status.Done → ⊥ }
+    ensures audit_complete { command_in (map string_bytes words.now) ≡ Some commands.Audit →
+        IsSomeAnd (J.left job.old) HasJob → IsSomeAnd (O.left old.old) HasTrace →
+        NoFault (J.faults job.old) (J.faults job.new) →
+        NoFault (O.faults old.old) (O.faults old.new) →
+        NoFault (K.faults out.old) (K.faults out.new) →
+        (result.status ≡ Status.Done) ⊎ (result.status ≡ Status.AuditNo) ⊎ (result.status ≡ Status.Memory) }
+    ensures audit_broke { command_in (map string_bytes words.now) ≡ Some commands.Audit → result.status ≡ Status.WriteFault →
+        OfRead (J.left job.old) (λ bytes. HalfTold bytes (K.given out.old) (K.given out.new)) × (old.new ≡ old.old)
+        ⊎ OfRead (J.left job.old) HasJob × OfRead (O.left old.old) (λ bytes. HalfLineTold bytes (K.given out.old) (K.given out.new))
+        ⊎ OfRead (J.left job.old) (λ bytes. OfRead (O.left old.old) (λ old_bytes.
+        HalfJudged bytes old_bytes (K.given out.old) (K.given out.new))) }
+    ensures audit_else { command_in (map string_bytes words.now) ≡ Some commands.Audit →
+        IsAuditEnd result.status × (trace.new ≡ trace.old) × (result.store ≡ None) }
+
     ensures demo { (number size : ℕ) → command_in (map string_bytes words.now) ≡ Some (commands.Demo number size) →
         (end : End) → result.status ≡ status_of end → IsSomeAnd result.store (λ store.
         DemoBy number size end (B.told store) (B.plans store) (λ entries.
@@ -157,6 +188,7 @@ pub fn sgxpage<
             rt, alloc, number, size, out, store, gate,
         ),
         Some(Command::Least) => unrun(least_command(alloc, job, old, out)),
+        Some(Command::Audit) => unrun(audit_command(alloc, job, old, out)),
         Some(Command::Gate { rounds }) => unrun(rounds_command(rt, alloc, rounds, out)),
     }
 }

@@ -13,7 +13,6 @@ ghost use Rattle.run_jobs.specs.declared.ends.End.{End};
 use crate::ended::{Ended, unrun};
 use crate::status::Status;
 use backing_store::backing::Backing;
-use crew::gate::Gate;
 use io_edges::giving::give_all;
 use io_edges::sinks::Sink;
 use job_make::maker::make_job;
@@ -26,6 +25,7 @@ use std::alloc::Global;
 use std::sync::Wait;
 use std::thread::Threads;
 use trace_pieces::ungiven::Ungiven;
+use turn_gate::gate::Gate;
 
 /// Gives the text of the job that is made of a number and a size.
 pub(crate) fn make_command<K: Sink>(alloc: Global, number: u64, size: u32, out: &mut K) -> Status

@@ -13,7 +13,6 @@ use crate::jobs::{read, tell};
 use crate::replies::print_out;
 use crate::status::Status;
 use backing_store::backing::Backing;
-use crew::gate::Gate;
 use io_edges::giving::give_all;
 use io_edges::sinks::Sink;
 use io_edges::sources::Source;
@@ -26,6 +25,7 @@ use std::sync::Wait;
 use std::thread::Threads;
 use trace_pieces::pieces::give_trace;
 use trace_pieces::ungiven::Ungiven;
+use turn_gate::gate::Gate;
 
 /// Runs the job that `job` gives, over this store, which has told no calls yet. The text of its trace goes to `trace`, and then its replies go
 /// to `out`. Where the text is no job's, `out` gets its first faulty line and what is wrong there.

@@ -26,6 +26,9 @@ pub enum Status {
     /// Memory was refused.
     Memory,
 
+    /// The old trace is no history of the job.
+    AuditNo,
+
     /// A processor was ended by a page that could not be reloaded.
     Bus,
 
@@ -48,6 +51,7 @@ impl Status {
             Status::ReadFault => 3,
             Status::WriteFault => 4,
             Status::Memory => 5,
+            Status::AuditNo => 6,
             Status::Bus => 7,
             Status::BadTrace => 8,
             Status::Spent => 9,

@@ -5,7 +5,6 @@ ghost use Rattle.std.specs.Prelude.{◌≡◌, [], IfOk, IfSome, reverse};
 
 use crate::ends::{End, end_of};
 use backing_store::backing::Backing;
-use crew::gate::Gate;
 use crew::run::run_crew;
 use epoch_words::words::Words;
 use job_grammar::jobs::Job;
@@ -16,6 +15,7 @@ use sgx_types::names::Memory;
 use std::alloc::Global;
 use std::sync::Wait;
 use std::thread::Threads;
+use turn_gate::gate::Gate;
 
 /// A run that has ended.
 #[derive(Drop)]

@@ -2,7 +2,6 @@
 
 use backing_store::planned_store::PlannedStore;
 use command_words::command::{Command, command_of};
-use crew::gate::OpenGate;
 use io_edges::late_file::LateFile;
 use io_edges::std_edges::{StdSink, StdSource};
 use old_trace::old_file::OldFile;
@@ -16,6 +15,7 @@ use std::os::fd::AsRawFd;
 use std::process::ExitCode;
 use std::sync::Wait;
 use std::thread::Threads;
+use turn_gate::gate::OpenGate;
 
 fn main(rt: HostRuntime) -> ExitCode {
     let status = match fill_streams(&rt) {
@@ -87,7 +87,7 @@ fn unread_words(why: ErrorKind) -> Status {
 // The path that the words name: of the trace that a run gives, or of the old one that is read. Other commands open none.
 fn trace_path(words: &[String]) -> &str {
     match (command_of(words), words.get(1)) {
-        (Some(Command::Run | Command::Least), Some(path)) => path.as_str(),
+        (Some(Command::Run | Command::Audit | Command::Least), Some(path)) => path.as_str(),
         _ => "",
     }
 }

@@ -1,0 +1,197 @@
+//! Verdicts on old traces, traces that are none, and edges that fail.
+
+use crate::audited_traces::{BEFORE_ELD, BEHIND_ELD, CUT_ELD, ELD, OLDER_ELD, RELOAD_JOB};
+use crate::calls::{RUN, given_by, given_with};
+use crate::paged_jobs::{ENCLAVE, EPC, SCRIPT};
+use crate::run_tests::{JOB, TRACE};
+use page_commands::status::Status;
+use sgx_types::names::Memory;
+use std::alloc::Global;
+use std::test::Fail;
+
+const AUDIT: &[&str] = &["audit", "t"];
+
+const MAKE: &[&str] = &["make", "1", "200"];
+
+/// The trace of the first job without its last entry.
+const INSIDE: &[u8] =
+    b"trace 1\nb epa 0\nb create A 1 0x10000 0x10000\nb add A 0 2 tcs - tcs 1 1\nb add A 1 3 reg rw words 0\nb add A 2 4 reg rw words 7\nb init A - 006d518bbd8825da4a0e7d35d418aaf16b7749c62854a6f40d8d58db415a8c31\np0 enter A 0 2 3 0\np0 fill 2 4\np0 load 0x2000 7\nend 9\n";
+
+// A job and the parts of an old trace, how many bytes a call moves, which calls of the job, of the trace and of the output fail, how that
+// ends, what is told, and whether the trace is left as it was.
+struct Row {
+    job: &'static [u8],
+    old: &'static [&'static [u8]],
+    piece: usize,
+    fails: [&'static [u64]; 3],
+    status: Status,
+    told: &'static [u8],
+    unread: bool,
+}
+
+const NO_FAULT: [&[u64]; 3] = [&[], &[], &[]];
+
+const ROWS: &[Row] = &[
+    Row {
+        job: JOB,
+        old: &[TRACE],
+        piece: 1000,
+        fails: NO_FAULT,
+        status: Status::Done,
+        told: b"yes\n",
+        unread: false,
+    },
+    // Something is missing at the end.
+    Row {
+        job: JOB,
+        old: &[INSIDE],
+        piece: 7,
+        fails: NO_FAULT,
+        status: Status::AuditNo,
+        told: b"no 9 Script\n",
+        unread: false,
+    },
+    Row {
+        job: RELOAD_JOB,
+        old: &[BEFORE_ELD, ELD, BEHIND_ELD],
+        piece: 100,
+        fails: NO_FAULT,
+        status: Status::Done,
+        told: b"yes\n",
+        unread: false,
+    },
+    Row {
+        job: RELOAD_JOB,
+        old: &[BEFORE_ELD, OLDER_ELD, BEHIND_ELD],
+        piece: 1,
+        fails: NO_FAULT,
+        status: Status::AuditNo,
+        told: b"no 36 Fresh\n",
+        unread: false,
+    },
+    Row {
+        job: RELOAD_JOB,
+        old: &[BEFORE_ELD, CUT_ELD],
+        piece: 1,
+        fails: NO_FAULT,
+        status: Status::BadTrace,
+        told: b"trace line 38\n",
+        unread: false,
+    },
+    // No job, or none that can be read, and no trace that can be read.
+    Row {
+        job: b"",
+        old: &[TRACE],
+        piece: 7,
+        fails: [&[], &[1], &[]],
+        status: Status::BadJob,
+        told: b"job line 1: Missing\n",
+        unread: true,
+    },
+    Row {
+        job: JOB,
+        old: &[TRACE],
+        piece: 7,
+        fails: [&[3], &[], &[]],
+        status: Status::ReadFault,
+        told: b"",
+        unread: true,
+    },
+    Row {
+        job: JOB,
+        old: &[TRACE],
+        piece: 7,
+        fails: [&[], &[1], &[]],
+        status: Status::ReadFault,
+        told: b"",
+        unread: true,
+    },
+    Row {
+        job: JOB,
+        old: &[TRACE],
+        piece: 7,
+        fails: [&[], &[2], &[]],
+        status: Status::ReadFault,
+        told: b"",
+        unread: false,
+    },
+    // The output fails, at once or behind a front of its text.
+    Row {
+        job: JOB,
+        old: &[TRACE],
+        piece: 3,
+        fails: [&[], &[], &[1]],
+        status: Status::WriteFault,
+        told: b"",
+        unread: false,
+    },
+    Row {
+        job: JOB,
+        old: &[TRACE],
+        piece: 3,
+        fails: [&[], &[], &[2]],
+        status: Status::WriteFault,
+        told: b"yes",
+        unread: false,
+    },
+    Row {
+        job: JOB,
+        old: &[INSIDE],
+        piece: 7,
+        fails: [&[], &[], &[2]],
+        status: Status::WriteFault,
+        told: b"no 9 Sc",
+        unread: false,
+    },
+];
+
+#[test]
+fn an_old_trace_gets_its_verdict_or_its_first_faulty_line(rt: HostRuntime) -> Result<(), Fail> {
+    let alloc = rt.alloc();
+    for row in ROWS {
+        let old = joined(alloc, row.old)?;
+        let fails = [row.fails[0], row.fails[1], row.fails[2], &[1]];
+        let given = given_with(&rt, alloc, AUDIT, [row.job, &old], row.piece.max(1), fails)?;
+        assert_eq!(rt; given.status, row.status);
+        assert_eq!(rt; given.out.as_slice(), row.told);
+        assert_eq!(rt; given.old_left == old.len(), row.unread);
+        assert_eq!(rt; given.trace.is_empty(), true);
+    }
+    Ok(())
+}
+
+// Whatever the order of the threads.
+#[test]
+fn a_run_is_a_history(rt: HostRuntime) -> Result<(), Fail> {
+    let alloc = rt.alloc();
+    let job = joined(alloc, &[EPC, ENCLAVE, SCRIPT])?;
+    let run = given_by(&rt, alloc, RUN, &job, 1000, [&[], &[], &[]])?;
+    let fails: [&[u64]; 4] = [&[], &[], &[], &[1]];
+    let given = given_with(&rt, alloc, AUDIT, [&job, &run.trace], 1000, fails)?;
+    assert_eq!(rt; given.status, Status::Done);
+    assert_eq!(rt; given.out.as_slice(), b"yes\n".as_slice());
+    Ok(())
+}
+
+// .. of a job that was made.
+#[test]
+fn a_run_of_a_made_job_is_a_history(rt: HostRuntime) -> Result<(), Fail> {
+    let alloc = rt.alloc();
+    let made = given_by(&rt, alloc, MAKE, b"", 1000, [&[], &[], &[]])?;
+    let run = given_by(&rt, alloc, RUN, &made.out, 1000, [&[], &[], &[]])?;
+    let fails: [&[u64]; 4] = [&[], &[], &[], &[1]];
+    let given = given_with(&rt, alloc, AUDIT, [&made.out, &run.trace], 1000, fails)?;
+    assert_eq!(rt; made.status, Status::Done);
+    assert_eq!(rt; run.status, Status::Done);
+    assert_eq!(rt; given.status, Status::Done);
+    assert_eq!(rt; given.out.as_slice(), b"yes\n".as_slice());
+    Ok(())
+}
+
+fn joined(alloc: Global, parts: &[&[u8]]) -> Result<Vec<u8>, Memory> {
+    let mut text = Vec::new(alloc);
+    for part in parts {
+        text.extend_from_slice(part)?;
+    }
+    Ok(text)
+}
