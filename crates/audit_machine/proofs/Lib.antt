@@ -3,3 +3,4 @@ pub mod AskLaws
 pub mod LeaveLaws
 pub mod OtherRefusal
 pub mod ComeLaws
+pub mod OutsideLaws

@@ -73,20 +73,21 @@ pub record IsOwnRecord (key : List ℕ) (past : List Entry) (n : ℕ) (rec : Sea
   pub header : header_at past page ≡ Some rec.header
   pub tagged : rec.tag ≡ tag key start.version rec.header rec.cipher
 
--- where a frame waits for the page of this record, the entry is taken, or breaks this rule first
-abbrev pub TakesBack : State → Entry → Frame → Sealed → State → Back → Type 0
-TakesBack s e f rec t (backs.Broken rule) = (j : JobView) (past : List Entry) (records : List Made)
-    → StandsWithAllRules (machine_of j) s past records → IsOwnRecord j.key past f.0 rec → ScriptRule j past e → FailsHere j past (Some e) rule
-TakesBack s e f rec t backs.Here = (k : Making) (past : List Entry) (records : List Made)
-    → StandsWithAllRules k s past records → IsOwnRecord k.key past f.0 rec → StandsWithAllRules k t (e ∷ past) records
-TakesBack s e f rec t (backs.Away work) = ((k : Making) (past : List Entry) (records : List Made)
-    → StandsWithAllRules k s past records → IsOwnRecord k.key past f.0 rec → StandsWithAllRules k t (e ∷ past) records)
-    × (work.rec ≡ rec)
-
 -- an entry that tells that the load was done
 abbrev pub IsDoneBack : Event → Frame → Type 0
 IsDoneBack (Did action answer) f = action ≡ Eld f
 IsDoneBack _ f = ⊥
+
+-- where a frame waits for the page of this record, the entry is taken, or breaks this rule first
+abbrev pub TakesBack : State → Entry → Frame → Sealed → State → Back → Type 0
+TakesBack s e f rec t (backs.Broken rule) = (j : JobView) (past : List Entry) (records : List Made)
+    → StandsWithAllRules (machine_of j) s past records → IsOwnRecord j.key past f.0 rec → ScriptRule j past e → FailsHere j past (Some e) rule
+TakesBack s e f rec t backs.Here = ((k : Making) (past : List Entry) (records : List Made)
+    → StandsWithAllRules k s past records → IsOwnRecord k.key past f.0 rec → StandsWithAllRules k t (e ∷ past) records)
+    × IsDoneBack e.event f
+TakesBack s e f rec t (backs.Away work) = ((k : Making) (past : List Entry) (records : List Made)
+    → StandsWithAllRules k s past records → IsOwnRecord k.key past f.0 rec → StandsWithAllRules k t (e ∷ past) records)
+    × (work.rec ≡ rec)
 
 -- why a record can have been refused, where the page's header is this one
 abbrev pub is_unfit : Header → Refusal → Bool

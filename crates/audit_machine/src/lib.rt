@@ -5,3 +5,4 @@
 pub mod asking;
 pub mod coming;
 pub mod leaving;
+pub mod outside;

@@ -3,6 +3,7 @@
 #![tactic(auto)]
 
 mod keepers;
+pub mod laws;
 mod looks;
 mod moves;
 mod stages;

@@ -1,20 +1,15 @@
 //! How far the reclaimer is along a trace.
 
-ghost use Rattle.std.specs.Prelude.{ℕ, ◌≡◌, ◌∷◌, ◌≤◌, [], List, IfOk, None, slice_get};
+ghost use Rattle.std.specs.Prelude.{ℕ, ◌≡◌, [], List, IfOk, None, slice_get};
 ghost use Rattle.sgx_types.specs.declared.entries.Entry.{Entry};
 ghost use Rattle.sgx_types.specs.Making.{Making};
-ghost use Rattle.sgx_types.specs.Rules.{RefusalRule};
 ghost use Rattle.job_grammar.specs.Jobs.{JobView};
 ghost use Rattle.paging_machine.specs.Parts.{Parts};
-ghost use Rattle.driver_rules.specs.Ages.{AgeRule};
 ghost use Rattle.driver_rules.specs.Decided.{keeps_age, keeps_kick};
-ghost use Rattle.driver_rules.specs.Passes.{free_count};
-ghost use Rattle.driver_laws.specs.Kinds.{CanMove};
-ghost use Rattle.driver_laws.specs.Tracks.{OwnRule};
 ghost use Rattle.driver_tables.specs.declared.driver.Driver.{Driver};
 ghost use Rattle.driver_tables.specs.Held.{ShowsHolds};
 ghost use Rattle.driver_steps.specs.Agrees.{Agrees};
-ghost use Rattle.audit_pass.specs.Noted.{decided, gone_on, kicked, looked, looked_on, noted};
+ghost use Rattle.audit_pass.specs.Noted.{decided, gone_by, gone_on, kicked, looked, looked_on};
 ghost use Rattle.audit_pass.specs.Standing.{StandsAt};
 ghost use Rattle.audit_pass.specs.Told.{age_told, in_form, in_pass, kick_told};
 ghost use Rattle.audit_pass.specs.Viewed.{new_view};
@@ -27,6 +22,7 @@ use crate::tries::{
     is_end, is_in_tries, is_kick_of, is_kick_or_try, is_last_try, is_track_of, is_try,
 };
 use driver_tables::driver::Driver;
+use job_grammar::jobs::Marks;
 use paging_machine::machine::Machine;
 use sgx_types::entries::{Action, Actor, Entry, Event, Look};
 use sgx_types::names::{Cpu, Memory};
@@ -97,16 +93,25 @@ impl TracePass {
         self.is_kick_kept(machine, entry)
     }
 
-    /// Goes on with an entry that keeps all rules, of any actor. Driver and machine are as they stand before it, and so many frames are
-    /// free behind it.
-    pub fn note(&mut self, driver: &Driver, machine: &Machine, entry: &Entry, free: u32)
+    /// Goes on with an entry of any actor. Driver and machine are as they stand before it. Behind it, it has to be settled whether the
+    /// reclaimer works.
+    pub fn note(&mut self, driver: &Driver, machine: &Machine, entry: &Entry)
         requires { driver.now.states.counts ≡ driver.now.active.counts }
-        ensures { (made : Making) (j : JobView) (past : List Entry) → Agrees made j past driver.now machine.now → j.marks.scan ≤ 64
-            → free ≡ free_count j.epc (entry.now ∷ past) → AgeRule j past entry.now → RefusalRule made past entry.now
-            → OwnRule past entry.now → CanMove past entry.now.event → StandsAt made.first_epoch j past self.old
-            → StandsAt made.first_epoch j (entry.now ∷ past) self.new }
+        ensures { self.new ≡ gone_by driver.now machine.now entry.now.actor entry.now.event self.old }
     {
-        self.go_with(driver, machine, entry, free);
+        if let Actor::Reclaimer = entry.actor {
+            self.go_on(driver, machine, entry.event);
+        }
+    }
+
+    /// Settles whether the reclaimer works, where it is between two passes, by the job's marks and by how many frames are free.
+    pub fn settle(&mut self, marks: Marks, free: u32)
+        ensures { self.new ≡ decided marks free self.old }
+    {
+        if let Stage::Idle { works } = self.stage {
+            let works = works_with(marks, free, works);
+            self.stage = Stage::Idle { works };
+        }
     }
 
     // ---- tests
@@ -178,26 +183,6 @@ impl TracePass {
     }
 
     // ---- moves
-
-    fn go_with(&mut self, driver: &Driver, machine: &Machine, entry: &Entry, free: u32)
-        requires { driver.now.states.counts ≡ driver.now.active.counts }
-        ensures { self.new ≡ noted driver.now machine.now free entry.now.actor entry.now.event self.old }
-    {
-        if let Actor::Reclaimer = entry.actor {
-            self.go_on(driver, machine, entry.event);
-        }
-        self.decide(driver, free);
-    }
-
-    // Between two passes it is decided anew whether the reclaimer works.
-    fn decide(&mut self, driver: &Driver, free: u32)
-        ensures { self.new ≡ decided driver.now.marks free self.old }
-    {
-        if let Stage::Idle { works } = self.stage {
-            let works = works_with(driver.marks, free, works);
-            self.stage = Stage::Idle { works };
-        }
-    }
 
     // Behind an event of the reclaimer.
     fn go_on(&mut self, driver: &Driver, machine: &Machine, event: Event)

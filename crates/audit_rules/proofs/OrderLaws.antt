@@ -1,5 +1,5 @@
 -- A rule fails at an entry, and the rules before it hold there.
-use Rattle.std.proofs.Common.{◌≡◌, ℕ, ◌<◌, List, Some, arith}
+use Rattle.std.proofs.Common.{◌≡◌, ℕ, ◌<◌, List, Some, arith, refl}
 use Rattle.sgx_types.specs.declared.entries.Entry.{Entry}
 use Rattle.sgx_types.specs.Fresh.{FreshRule}
 use Rattle.sgx_types.specs.Rules.{EvictRule, FlatRule, RefusalRule}
@@ -7,10 +7,12 @@ use Rattle.seal_record.specs.Sealing.{SealedRule}
 use Rattle.measure_log.specs.Rule.{MeasureRule}
 use Rattle.job_grammar.specs.Jobs.{JobView}
 use Rattle.turn_rules.specs.Machines.{machine_of}
+use Rattle.driver_rules.specs.Ages.{AgeRule, KickRule}
 use Rattle.driver_rules.specs.Scripts.{ScriptRule}
 use Rattle.run_history.specs.declared.rules.Rule.{Rule}
 use Rattle.run_history.specs.declared.rules.Rule.TheVariants as rules
 use Rattle.run_history.specs.Histories.{FailsHere, Says, rank}
+use Rattle.audit_rules.specs.Rivals.{KeepsMachines}
 
 module _ (j : JobView) (past : List Entry) (e : Entry) (script : ScriptRule j past e) where
   pub refusal_fails : (RefusalRule (machine_of j) past e → ⊥) → FailsHere j past (Some e) rules.Refusal
@@ -81,3 +83,39 @@ module _ (j : JobView) (past : List Entry) (e : Entry) (script : ScriptRule j pa
               before rules.Fresh low = fresh
               before rules.Sealed low = sealed
               before r low = absurd (omega (arith, low))
+
+-- ---- of an entry that keeps each rule of the machine
+
+machines_before : (j : JobView) (past : List Entry) (e : Entry) → ScriptRule j past e → KeepsMachines j past e → (r : Rule) → rank r < 9
+    → Says j r past (Some e)
+machines_before j past e script keeps rules.Script low = script
+machines_before j past e script keeps rules.Refusal low = keeps.each rules.Refusal refl
+machines_before j past e script keeps rules.Flat low = keeps.each rules.Flat refl
+machines_before j past e script keeps rules.Fits low = keeps.each rules.Fits refl
+machines_before j past e script keeps rules.Stale low = keeps.each rules.Stale refl
+machines_before j past e script keeps rules.Evict low = keeps.each rules.Evict refl
+machines_before j past e script keeps rules.Fresh low = keeps.each rules.Fresh refl
+machines_before j past e script keeps rules.Sealed low = keeps.each rules.Sealed refl
+machines_before j past e script keeps rules.Measure low = keeps.each rules.Measure refl
+machines_before j past e script keeps r low = absurd (omega (arith, low))
+
+pub age_fails : (j : JobView) (past : List Entry) (e : Entry) → ScriptRule j past e → KeepsMachines j past e → (AgeRule j past e → ⊥)
+    → FailsHere j past (Some e) rules.Age
+age_fails j past e script keeps fails = record { earlier = machines_before j past e script keeps; fails = fails }
+
+pub kick_fails : (j : JobView) (past : List Entry) (e : Entry) → ScriptRule j past e → KeepsMachines j past e → AgeRule j past e
+    → (KickRule j past e → ⊥) → FailsHere j past (Some e) rules.Kick
+kick_fails j past e script keeps age fails = record { earlier = before; fails = fails }
+  where
+    before : (r : Rule) → rank r < 10 → Says j r past (Some e)
+    before rules.Age low = age
+    before rules.Kick low = absurd (omega (arith, low))
+    before rules.Script low = script
+    before rules.Refusal low = keeps.each rules.Refusal refl
+    before rules.Flat low = keeps.each rules.Flat refl
+    before rules.Fits low = keeps.each rules.Fits refl
+    before rules.Stale low = keeps.each rules.Stale refl
+    before rules.Evict low = keeps.each rules.Evict refl
+    before rules.Fresh low = keeps.each rules.Fresh refl
+    before rules.Sealed low = keeps.each rules.Sealed refl
+    before rules.Measure low = keeps.each rules.Measure refl

@@ -7,7 +7,7 @@ use sgx_types::entries::{Action, Answer};
 
 /// Whether an answer has the form that the row of an instruction gives: of one that its row alone decides, which the ends of starts and
 /// the start of ELDU are not.
-pub(crate) fn has_form(action: Action, answer: Answer) -> bool
+pub fn has_form(action: Action, answer: Answer) -> bool
     ensures { result ≡ has_form action answer }
 {
     match action {

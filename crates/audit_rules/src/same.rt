@@ -59,7 +59,8 @@ fn same_fault(one: PfWhy, other: PfWhy) -> bool
     }
 }
 
-fn same_refusal(one: Refusal, other: Refusal) -> bool
+/// Whether two refusals are one, with their numbers.
+pub fn same_refusal(one: Refusal, other: Refusal) -> bool
     ensures { result ≡ same_refusal one other }
 {
     if is_bare(one) {

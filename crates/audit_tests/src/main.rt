@@ -1,15 +1,14 @@
-// Asks machines for the entries of given traces, each right or wrong. Says of each right trace that a machine makes it, and how many of its
-// wrong traces a machine finds out by the rules that it keeps: each has to break the rule, and at the place, that another program tells.
+// Audits given traces, each right or wrong. Says of each right trace that it is a history of its job, and of its wrong ones that each
+// fails first at the place, and by the rule, that is told of it.
 #![tactic(auto)]
 
-mod asked;
 mod comparing;
-mod judging;
 mod verdicts;
 mod wrong;
 
 use comparing::{Report, compare};
 use std::{env, fs, io};
+use verdicts::Shown;
 
 fn main(rt: HostRuntime) -> io::Result<()> {
     for name in env::args(&rt)?.skip(1) {
@@ -35,20 +34,20 @@ fn read(rt: &HostRuntime, name: &str, end: &str) -> io::Result<Vec<u8>> {
 fn print(rt: &HostRuntime, name: &str, report: &Report) -> io::Result<()> {
     for other in &report.others {
         let what = other.what.as_str();
-        println!(rt; "{name}: {what}: {} and not {}", other.found, other.told)?;
+        println!(rt;
+            "{name}: {what}: {} and not {}",
+            Shown(other.found),
+            Shown(other.told)
+        )?;
     }
-    let Report {
-        right,
-        own,
-        all,
-        ..
-    } = report;
     let each = if report.others.is_empty() {
         ", each as told"
     } else {
         ""
     };
     println!(rt;
-        "{name}: {right}, {own} of {all} wrong traces fail a rule of the machine first{each}"
+        "{name}: {}; {} wrong traces{each}",
+        Shown(report.right),
+        report.all
     )
 }

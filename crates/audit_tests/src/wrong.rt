@@ -1,17 +1,17 @@
 //! Wrong traces, each told by an edit of a right one.
 
-use crate::verdicts::Fault;
 use run_history::rules::Rule;
 use sgx_types::entries::Entry;
 use sgx_types::names::Memory;
 use std::alloc::Global;
+use trace_auditor::verdict::Verdict;
 use trace_lines::lines::read_line;
 
-/// A wrong trace: what it is, what another program tells of it, and where other entries stand in it in place of so many of the right ones.
+/// A wrong trace: what it is, what is told of it, and where other entries stand in it in place of so many of the right ones.
 #[derive(Drop)]
 pub struct Wrong {
     pub what: String,
-    pub told: Fault,
+    pub told: Verdict,
     place: usize,
     dropped: usize,
     others: Vec<Entry>,
@@ -27,7 +27,7 @@ impl Wrong {
         };
         let (Some(what), Some(told), Some((place, dropped))) = (
             first.strip_prefix("# "),
-            fault_in(second),
+            verdict_in(second),
             cut_in(third),
         ) else {
             return Ok(None);
@@ -62,9 +62,9 @@ impl Wrong {
     }
 }
 
-fn fault_in(line: &str) -> Option<Fault> {
+fn verdict_in(line: &str) -> Option<Verdict> {
     let (place, rule) = line.strip_prefix("no ")?.split_once(' ')?;
-    Some(Fault {
+    Some(Verdict::No {
         place: place.parse().ok()?,
         rule: rule_in(rule)?,
     })

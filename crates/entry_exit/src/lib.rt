@@ -5,4 +5,4 @@
 pub mod enter;
 pub mod exit;
 mod tcs;
-mod way_in;
+pub mod way_in;

@@ -1,5 +1,5 @@
 -- Each page that was added has one live copy, and frames and slots hold nothing else.
-use Rattle.std.proofs.Common.{◌≡◌, ℕ, ◌<◌, ◌≤◌, ◌==◌, Bool, true, false, cond, refl, sym, ap, ◌∙◌, arith, Option, Some, None, option_map, is_some, List, [], ◌∷◌, Any}
+use Rattle.std.proofs.Common.{◌≡◌, ℕ, ◌<◌, ◌≤◌, ◌==◌, Bool, true, false, cond, refl, sym, ap, subst, ◌∙◌, arith, Option, Some, None, option_map, is_some, List, [], ◌∷◌, Any}
 use Rattle.std.proofs.lemmas.Bool.{cond_both, false≢true, eqb-true, eq-eqb}
 use Rattle.sgx_types.specs.declared.entries.Entry.{Entry}
 use Rattle.sgx_types.specs.declared.entries.Event.{Event}
@@ -522,3 +522,27 @@ all_live k (e ∷ past) low keeps =
 -- .. of which the contract tells the first
 pub live_copies : (k : Making) (past : List Entry) → 1 ≤ k.first_version → KeepsMoves k past → OneLiveCopy past
 live_copies k past low keeps = (all_live k past low keeps).one
+
+-- ---- versions in slots
+
+-- a copy in a slot is of a version that was drawn
+pub version_above : (k : Making) (past : List Entry) → 1 ≤ k.first_version → KeepsMoves k past → (s : SlotAt) (v : ℕ) (g : Page)
+    → copy past g ≡ Some (InSlot s v) → 1 ≤ v
+version_above k past low keeps s v g there =
+    let drawn = (drawn_once k past keeps).ended _ (went_out past g s v there) in
+    let first = drawn.0 in
+    omega (arith, low, first)
+
+-- .. once, so no two slots have it
+pub version_apart : (k : Making) (past : List Entry) → 1 ≤ k.first_version → KeepsMoves k past → (s t : SlotAt) → 0 < version_in past s
+    → version_in past s ≡ version_in past t → s ≡ t
+version_apart k past low keeps s t more same =
+    let live = live_copies k past low keeps in
+    let one = live.filled s more in
+    let other = live.filled t (subst (λ n. 0 < n) same more) in
+    let page = (drawn_once k past keeps).once _ _ (went_out past one.0 s (version_in past s) one.1)
+    (went_out past other.0 t (version_in past t) other.1) same in
+    same_slot_of (sym one.1 ∙ ap (λ (x : Gone). copy past x.page) page ∙ other.1)
+  where
+    same_slot_of : {v w : ℕ} → Some (InSlot s v) ≡ Some (InSlot t w) → s ≡ t
+    same_slot_of e = cc

@@ -1,9 +1,12 @@
 //! Laws of the definitions. Each is the contract of a function without arguments, and so holds for every list of entries.
 
-ghost use Rattle.std.specs.Prelude.{ℕ, ◌≤◌, List};
+ghost use Rattle.std.specs.Prelude.{ℕ, ◌≡◌, ◌≤◌, ◌<◌, List, Some};
 ghost use Rattle.sgx_types.specs.declared.entries.Entry.{Entry};
 ghost use Rattle.sgx_types.specs.Rules.{Along};
-ghost use Rattle.page_history.specs.Copies.{OneLiveCopy};
+ghost use Rattle.sgx_types.specs.Slots.{version_in};
+ghost use Rattle.sgx_types.specs.declared.names.Page.{Page};
+ghost use Rattle.sgx_types.specs.declared.names.SlotAt.{SlotAt};
+ghost use Rattle.page_history.specs.Copies.{InSlot, OneLiveCopy, copy};
 ghost use Rattle.sgx_types.specs.Making.{Making};
 ghost use Rattle.page_history.specs.Once.{DrawnOnce, KeepsMoves, MadeOnce, StartsApart};
 ghost use Rattle.seal_record.specs.Sealing.{SealedRule};
@@ -22,4 +25,12 @@ pub fn one_live_copy()
 /// Where the rules are kept, each record that was made is one page's, and no two have one version.
 pub fn records_are_made_once()
     ensures { (k : Making) (key : List ℕ) (past : List Entry) → KeepsMoves k past → Along (SealedRule key) past → MadeOnce key past }
+{}
+
+/// Where the rules are kept, a version that stands in a slot for a page is above 0, and no two slots have one version.
+pub fn versions_stand_in_one_slot()
+    ensures above { (k : Making) (past : List Entry) → 1 ≤ k.first_version → KeepsMoves k past → (slot : SlotAt) (v : ℕ) (g : Page)
+        → copy past g ≡ Some (InSlot slot v) → 1 ≤ v }
+    ensures apart { (k : Making) (past : List Entry) → 1 ≤ k.first_version → KeepsMoves k past → (one other : SlotAt)
+        → 0 < version_in past one → version_in past one ≡ version_in past other → one ≡ other }
 {}

@@ -25,7 +25,7 @@ use Rattle.sgx_types.specs.Rules.{case_of, RefusalRule, NamesFrames, TakesFree}
 use Rattle.measure_log.specs.Rule.{MeasureRule}
 use Rattle.sgx_types.specs.declared.entries.AccessOp.{AccessOp}
 use Rattle.sgx_types.specs.declared.entries.Answer.TheVariants as answers
-use Rattle.paging_laws.specs.State.{State, making_of, enter_sight, seat_enclave, is_closed, row_of, translation, sight}
+use Rattle.paging_laws.specs.State.{State, making_of, enter_sight, seat_enclave, is_closed, row_of, row_outside, translation, sight}
 use Rattle.paging_laws.specs.Stands.{Stands, IsSound}
 use Rattle.paging_laws.proofs.BuildLaws.{is_some-added_as, is_free_frame, adds}
 use Rattle.paging_laws.proofs.Contents.{tcs_there}
@@ -34,7 +34,7 @@ use Rattle.paging_laws.proofs.EntryLaws.{by_fields, enter_saves, enter_saved, re
 use Rattle.paging_laws.proofs.AccessLaws.{found_translation, fill_within}
 use Rattle.paging_laws.proofs.RegisterLaws.{added_by_entries}
 use Rattle.paging_laws.proofs.MoveSights.{block_agrees, eldstart_agrees, ewbstart_agrees, track_agrees}
-use Rattle.paging_laws.specs.Steps.{CanApply, refused_by, IsStep, IsDone, did_by, answer_of}
+use Rattle.paging_laws.specs.Steps.{CanApply, is_of_cpus, refused_by, IsStep, IsDone, did_by, answer_of}
 use Rattle.paging_laws.proofs.MeasureLaws.{quiet}
 use Rattle.paging_laws.proofs.ColumnLaws.{added_flat, busy_flat, content_is, enclave_flat, inside_is, sight_is}
 use Rattle.paging_laws.specs.Columns.{HasColumns}
@@ -141,21 +141,22 @@ entry_otherwise : (saves : TcsSight → Case) (saved : TcsSight → ℕ) (enclav
     → first_of_row (by_fields saves saved enclave tcs v) ≡ first_of_row (by_fields saves saved enclave tcs (record v { fields = fields }))
 entry_otherwise saves saved enclave tcs v fields other = rw other refl
 
--- a row by a TCS page, in the state and by the entries
-entry_agrees : (saves : TcsSight → Case) (saved : TcsSight → ℕ) (s : State) (past : List Entry) (p enclave tcs tf sf : ℕ) → Stands s past
-    → first_of_row (by_fields saves saved enclave tcs (enter_sight s p (seat_of enclave tcs tf sf))) ≡ first_of_row
-    (by_fields saves saved enclave tcs (enter_sight_at s.frames past (stay past p) (seat_of enclave tcs tf sf)))
-entry_agrees saves saved s past p enclave tcs tf sf stands =
+-- a row by a TCS page, in the state and by the entries, for who is inside as they say
+entry_agrees_by : (saves : TcsSight → Case) (saved : TcsSight → ℕ) (s : State) (past : List Entry) (b b' : Bool) (enclave tcs tf sf : ℕ)
+    → b ≡ b' → Stands s past
+    → first_of_row (by_fields saves saved enclave tcs (record (enter_sight s 0 (seat_of enclave tcs tf sf)) { is_inside = b })) ≡ first_of_row
+    (by_fields saves saved enclave tcs (record (enter_sight_at s.frames past None (seat_of enclave tcs tf sf)) { is_inside = b' }))
+entry_agrees_by saves saved s past b b' enclave tcs tf sf same stands =
     by_page (tested (is_page v.tcs.content g)) (tested (is_tcs v.tcs.content))
     ∙ ap (λ x. first_of_row (by_fields saves saved enclave tcs x))
-    (enter_sight_of _ _ _ _ _ _ _ _ _ _ _ _ (mode_by_entries s past stands p) (ap enclave_sight_of (enclave_flat stands enclave))
+    (enter_sight_of _ _ _ _ _ _ _ _ _ _ _ _ same (ap enclave_sight_of (enclave_flat stands enclave))
     (sight_is stands.columns tf) (busy_flat stands g) refl (sight_is stands.columns sf))
   where
     g : Page
     g = page_at enclave tcs
 
     v : EnterSight
-    v = enter_sight s p (seat_of enclave tcs tf sf)
+    v = record (enter_sight s 0 (seat_of enclave tcs tf sf)) { is_inside = b }
 
     fields : TcsSight
     fields = tcs_fields (words_of (flat past) g)
@@ -170,6 +171,33 @@ entry_agrees saves saved s past p enclave tcs tf sf stands =
         let k = tcs_there (s.content tf) g here is in
         let there = stands.memory.words tf g kinds.Tcs k.perm k.holds in
         ap (λ x. first_of_row (by_fields saves saved enclave tcs (record v { fields = tcs_fields (page_words x) }))) (sym there)
+
+-- .. for a processor
+entry_agrees : (saves : TcsSight → Case) (saved : TcsSight → ℕ) (s : State) (past : List Entry) (p enclave tcs tf sf : ℕ) → Stands s past
+    → first_of_row (by_fields saves saved enclave tcs (enter_sight s p (seat_of enclave tcs tf sf))) ≡ first_of_row
+    (by_fields saves saved enclave tcs (enter_sight_at s.frames past (stay past p) (seat_of enclave tcs tf sf)))
+entry_agrees saves saved s past p enclave tcs tf sf stands =
+    entry_agrees_by saves saved s past _ _ enclave tcs tf sf (mode_by_entries s past stands p) stands
+
+-- the row of a processor's instruction for the reclaimer, which is inside no enclave
+pub row_outside_agrees : (s : State) (past : List Entry) (action : Action) → is_of_cpus action ≡ true → Stands s past
+    → first_of_row (row_outside s action) ≡ first_of_row (row_at (making_of s) past actors.Reclaimer action)
+row_outside_agrees s past (Enter enclave tcs tf sf) own stands =
+    entry_agrees_by enter_saves enter_saved s past false false enclave tcs tf.0 sf.0 refl stands
+row_outside_agrees s past (Resume enclave tcs tf sf) own stands =
+    entry_agrees_by resume_saves resume_saved s past false false enclave tcs tf.0 sf.0 refl stands
+row_outside_agrees s past Exit own stands = refl
+row_outside_agrees s past (Aex cause) own stands = refl
+row_outside_agrees s past (Fill number f) own stands = refl
+row_outside_agrees s past (Load off) own stands = refl
+row_outside_agrees s past (Store off value) own stands = refl
+row_outside_agrees s past (Xadd off value) own stands = refl
+row_outside_agrees s past (Set value) own stands = refl
+row_outside_agrees s past (Plus value) own stands = refl
+row_outside_agrees s past (Pf op off) own stands = refl
+row_outside_agrees s past (OutLoad enclave off) own stands = refl
+row_outside_agrees s past (OutStore enclave off value) own stands = refl
+row_outside_agrees s past action own stands = cc
 
 -- ---- every row
 

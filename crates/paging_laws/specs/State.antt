@@ -183,6 +183,14 @@ cpu_row_of s p (OutLoad enclave off) = outload_row (is_some (s.inside p))
 cpu_row_of s p (OutStore enclave off value) = outstore_row (is_some (s.inside p))
 cpu_row_of s p _ = allowed
 
+-- the state as it is with nobody inside an enclave
+abbrev pub from_outside : State → State
+from_outside s = record s { inside = λ p. None }
+
+-- the row of a processor's instruction for who is inside no enclave
+abbrev pub row_outside : State → Action → List Case
+row_outside s action = cpu_row_of (from_outside s) 0 action
+
 -- whether the enclave of the page in a frame is initialised
 abbrev pub is_closed : State → Option ℕ → Bool
 is_closed s None = false

@@ -1,5 +1,5 @@
 -- One instruction of the machine, or the commit of one: its entry and the state after it, exactly by its row.
-use Rattle.std.specs.Prelude.{ℕ, ◌≡◌, ◌<◌, ◌+◌, ◌*◌, ◌/◌, ◌⊎◌, false, List, Option, Some, MatchOption, unwrap_or}
+use Rattle.std.specs.Prelude.{ℕ, ◌≡◌, ◌<◌, ◌+◌, ◌*◌, ◌/◌, ◌⊎◌, Bool, true, false, List, Option, Some, MatchOption, unwrap_or}
 use Rattle.std.specs.Option.{IsSomeAnd}
 use Rattle.sgx_types.specs.declared.entries.Entry.{Entry}
 use Rattle.sgx_types.specs.declared.entries.Event.TheVariants.{Did, Refused}
@@ -19,7 +19,7 @@ use Rattle.sgx_types.specs.declared.names.Perm.{Perm}
 use Rattle.sgx_types.specs.Frames.{Holds, page_at, page_of, no_perm}
 use Rattle.sgx_types.specs.declared.record.Header.{Header}
 use Rattle.sgx_types.specs.Table.{Case, first_of_row, perm_in, fault_of}
-use Rattle.sgx_types.specs.Flat.{FlatEnclave, all_ones, sum_of}
+use Rattle.sgx_types.specs.Flat.{FlatEnclave, all_ones, is_processors, sum_of}
 use Rattle.sgx_types.specs.Sights.{seat_of}
 use Rattle.sgx_types.specs.Layouts.{flags_of, bytes_of}
 use Rattle.sgx_types.specs.Sealed.{Sealed, header_of}
@@ -64,6 +64,11 @@ CanApply cpus (actors.Cpu p) (Pf op off) = p.0 < cpus
 CanApply cpus (actors.Cpu p) (OutLoad enclave off) = p.0 < cpus
 CanApply cpus (actors.Cpu p) (OutStore enclave off value) = p.0 < cpus
 CanApply cpus _ _ = ⊥
+
+-- the instructions of processors alone: those that programs see, and the fill of a translation
+abbrev pub is_of_cpus : Action → Bool
+is_of_cpus (Fill number f) = true
+is_of_cpus action = is_processors action
 
 -- the instructions that may need memory
 abbrev pub MayNeedMemory : Action → Type 0

@@ -7,7 +7,7 @@ use Rattle.sgx_types.specs.declared.names.Frame.{Frame}
 use Rattle.sgx_types.specs.Frames.{page_at}
 use Rattle.sgx_types.specs.Processors.{Seat}
 use Rattle.sgx_types.specs.Sights.{seat_of}
-use Rattle.sgx_types.specs.Table.{TcsSight, enter_row, resume_row, inside_row, first_of_row}
+use Rattle.sgx_types.specs.Table.{EnterSight, TcsSight, enter_row, resume_row, inside_row, first_of_row}
 use Rattle.sgx_types.specs.Flat.{enclave_sight_of, with_cssa}
 use Rattle.sgx_types.proofs.Truths.{not_false}
 use Rattle.epcm_entry.specs.Epc.{EpcFrame, word_at, with_word}
@@ -24,9 +24,10 @@ use Rattle.track_epoch.specs.Tracks.{track_of, with_track}
 use Rattle.track_epoch.proofs.TracksLaws.{length-with_track}
 use Rattle.enclave_access.specs.Access.{LeadsBelow}
 use Rattle.entry_exit.specs.Entry.{IsItsEnclave, HasItsTcs, CountsIt, HasItsFrames, fields_at, with_entered, with_resumed, with_saved, with_its_saved, with_tcs_left, with_left, outside}
-use Rattle.entry_exit.specs.Entry.{enter_sight as seen_sight}
+use Rattle.entry_exit.specs.Entry.{enter_sight as seen_sight, row_of as way_row}
+use Rattle.entry_exit.specs.declared.way_in.WayIn.{WayIn}
 use Rattle.paging_machine.specs.declared.machine.Machine.TheInside.{Inside}
-use Rattle.paging_laws.specs.State.{State, enter_sight, with_inside, rewritten, cssa_in, after_enter, after_resume, after_exit, after_aex}
+use Rattle.paging_laws.specs.State.{State, enter_sight, from_outside, with_inside, rewritten, cssa_in, after_enter, after_resume, after_exit, after_aex}
 use Rattle.paging_laws.specs.State.{with_saved as state_saved}
 use Rattle.evict_reload.specs.Sights.{AreVaPages}
 use Rattle.evict_reload.proofs.PageLaws.{pages-with_words}
@@ -311,3 +312,24 @@ module _ (m : Inside) (h : IsWhole m) (p e : ℕ) (x : SecsState) (t : Tracking)
         (rw epc_is (pages-with_words mid.epc d.va tf _ (pages-with_words d.epc d.va sf _ h.pages))) (kept_aex s p mine is (kept_of m h))
         k.is (seat_tcs m h p e x k found) (new_secs ∙ ap (with_tcs_left x) mode)
         (new_track ∙ ap (with_left t) mode) (new_cpu ∙ ap outside there))
+
+-- ---- for who is inside no enclave
+
+-- what a way into an enclave that was created sees of the parts is what it sees of the state
+pub entry_row_outside : (d : Parts) (way : WayIn) (e tcs : ℕ) (tf sf : Frame) (x : SecsState) → enclave_at d.secs e ≡ Some x → x.enclave ≡ e
+    → first_of_row (way_row way e tcs (enter_sight (from_outside (state_of d)) 0 (seat_of e tcs tf.0 sf.0))) ≡ first_of_row
+    (way_row way x.enclave tcs (seen_sight d.epc x modes.Outside tcs tf.0 sf.0))
+entry_row_outside d way e tcs tf sf x found ours = λ i. first_of_row (way_row way (sym ours i) tcs (seen i))
+  where
+    v : EnterSight
+    v = enter_sight (from_outside (state_of d)) 0 (seat_of e tcs tf.0 sf.0)
+
+    seen : v ≡ seen_sight d.epc x modes.Outside tcs tf.0 sf.0
+    seen = λ i. record {
+      is_inside = false;
+      enclave = ap (λ o. enclave_sight_of (enclave_of o)) found i;
+      tcs = v.tcs;
+      tcs_busy = ap (λ o. is_busy_in o tcs) found i;
+      fields = fields_at d.epc tf.0;
+      ssa = v.ssa;
+    }

@@ -145,6 +145,16 @@ impl Machine {
         }
     }
 
+    /// The start of a frame that is open: of the write-out of its page, or of a load into it. None where none is.
+    pub fn open_start(&self, frame: Frame) -> Option<Start>
+        ensures { start_of result ≡ (state_of self.now).start frame.0 }
+    {
+        match self.starts.get(frame.0 as usize) {
+            Some(start) => *start,
+            None => None,
+        }
+    }
+
     // The open start of a frame.
     fn start(&self, frame: Frame) -> Start
         requires { is_some ((state_of self.now).start frame.0) ≡ true }

@@ -134,7 +134,7 @@ impl Machine {
 }
 
 // The first case that holds of the rows of `enter` and `resume` where the enclave was not created.
-fn absent(epc: &Epc, mode: Mode, tcs_frame: Frame, ssa_frame: Frame) -> Refusal
+pub(crate) fn absent(epc: &Epc, mode: Mode, tcs_frame: Frame, ssa_frame: Frame) -> Refusal
     ensures { Some result
         ≡ first_of_row (when (is_inside mode) why.WrongMode
         otherwise when ((sight_in epc.now tcs_frame.0).is_beyond || (sight_in epc.now ssa_frame.0).is_beyond) why.BadRange

@@ -10,6 +10,7 @@ mod extend;
 pub mod machine;
 mod making;
 mod noting;
+mod outside;
 mod paging;
 mod register;
 pub mod starts;

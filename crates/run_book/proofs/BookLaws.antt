@@ -29,7 +29,7 @@ use Rattle.run_history.proofs.HonestLaws.{gifts_more, honest_before}
 
 -- ---- holds change nothing else of the tables
 
-shows_with : (j : JobView) (d : Driver) (past : List Entry) (own : List (List Page)) → ShowsTables j d past
+pub shows_with : (j : JobView) (d : Driver) (past : List Entry) (own : List (List Page)) → ShowsTables j d past
     → ShowsTables j (with_own d own) past
 shows_with j d past own t = record {
   list = t.list;

@@ -28,13 +28,13 @@ use Rattle.run_steps.specs.Behind.{CanHoldBehind}
 
 -- ---- how the processor stood
 
-stood_so : (past : List Entry) (m : Parts) (a : Actor) (before : Mode) → HasColumns (state_of m) past → before ≡ mode_of m a
+pub stood_so : (past : List Entry) (m : Parts) (a : Actor) (before : Mode) → HasColumns (state_of m) past → before ≡ mode_of m a
     → StoodSo past a before
 stood_so past m (actors.Cpu p) before columns is = ap seat_of_mode is ∙ inside_is columns p.0
 stood_so past m actors.Builder before columns is = tt
 stood_so past m actors.Reclaimer before columns is = tt
 
-is_among : (j : JobView) (past : List Entry) (t : Turns) (a : Actor) (event : Event) → length t.cpus ≡ length j.scripts
+pub is_among : (j : JobView) (past : List Entry) (t : Turns) (a : Actor) (event : Event) → length t.cpus ≡ length j.scripts
     → IsActors j past a event → IsAmong (length t.cpus) a
 is_among j past t (actors.Cpu p) event each next = let low = next.0 in omega (arith, each, low)
 is_among j past t actors.Builder event each next = tt

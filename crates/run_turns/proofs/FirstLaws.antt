@@ -70,7 +70,7 @@ made_same j m frames cpus key epoch version is same_frames same_cpus same_key sa
     is ∙ (λ i. made (same_frames i) (same_cpus i) (same_key i) (same_epoch i) (same_version i))
 
 -- it is the job's machine
-fresh_making : (j : JobView) (m : Parts) → IsFresh j m → making_of (state_of m) ≡ machine_of j
+pub fresh_making : (j : JobView) (m : Parts) → IsFresh j m → making_of (state_of m) ≡ machine_of j
 fresh_making j m fresh = ap (λ (x : Parts). making_of (state_of x)) fresh.value ∙ (λ i. record {
   frames = length-replicate j.epc free_frame i;
   cpus = length-replicate (length j.scripts) idle i;
@@ -80,7 +80,7 @@ fresh_making j m fresh = ap (λ (x : Parts). making_of (state_of x)) fresh.value
 })
 
 -- .. with a processor for each script
-fresh_cpus : (j : JobView) (m : Parts) → IsFresh j m → length m.cpus ≡ length j.scripts
+pub fresh_cpus : (j : JobView) (m : Parts) → IsFresh j m → length m.cpus ≡ length j.scripts
 fresh_cpus j m fresh = ap (λ (x : Parts). length x.cpus) fresh.value ∙ length-replicate (length j.scripts) idle
 
 -- no frame holds a page, and none is loading one

@@ -106,10 +106,12 @@ fn a_late_file_is_a_sink(rt: HostRuntime) {
     assert_eq!(rt; sink.faults(), 0);
     let mut full = StdSink::new(LateFile::new(&rt, "/dev/full"));
     assert_eq!(rt; full.give(b"abcd"), Err(Failed));
-    let mut unmade = StdSink::new(LateFile::new(&rt, "/no/such/folder"));
-    for calls in 1..=3 {
-        assert_eq!(rt; unmade.give(b"abcd"), Err(Failed));
-        assert_eq!(rt; unmade.faults(), calls);
+    for path in ["/no/such/folder", "/", ""] {
+        let mut unmade = StdSink::new(LateFile::new(&rt, path));
+        for calls in 1..=3 {
+            assert_eq!(rt; unmade.give(b"abcd"), Err(Failed));
+            assert_eq!(rt; unmade.faults(), calls);
+        }
     }
 }
 

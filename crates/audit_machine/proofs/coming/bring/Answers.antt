@@ -3,9 +3,11 @@ use Rattle.audit_machine.proofs.ComeLaws.{brought, not_brought}
 use Rattle.audit_machine.proofs.coming.bring.Goals as goal
 
 pub returns-then-same_end-clause-takes : goal.returns-then-same_end-clause-takes
-returns-then-same_end-clause-takes c =
-    brought _ _ c.args.entry.now _ c.args.frame _ c.requires.done c.eld_commit-made.ensures.step c.eld_commit-made.ensures.back
-    (sym c.same_end.ensures ∙ c.if-same_end.true)
+returns-then-same_end-clause-takes c = (
+  brought _ _ c.args.entry.now _ c.args.frame _ c.requires.done c.eld_commit-made.ensures.step c.eld_commit-made.ensures.back
+      (sym c.same_end.ensures ∙ c.if-same_end.true),
+  c.requires.done,
+)
 
 pub returns-clause-takes : goal.returns-clause-takes
 returns-clause-takes c =

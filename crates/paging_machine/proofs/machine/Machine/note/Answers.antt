@@ -1,4 +1,3 @@
-use Rattle.std.proofs.Common.{◌≡◌}
 use Rattle.paging_laws.proofs.NoteLaws.{noted_fits, noted_shaped}
 use Rattle.paging_laws.proofs.WholeLaws.{noted_all}
 use Rattle.paging_machine.proofs.machine.Machine.note.Goals as goal

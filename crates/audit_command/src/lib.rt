@@ -1,0 +1,7 @@
+// The command that audits a trace of a job, and gives the verdict on it.
+#![tactic(auto)]
+
+pub mod giving;
+#[cfg(test)]
+mod tests;
+pub mod verdicts;

@@ -1,0 +1,3 @@
+pub mod MapLaws
+pub mod OwnLaws
+pub mod StayLaws

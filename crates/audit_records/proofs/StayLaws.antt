@@ -1,0 +1,210 @@
+-- What each entry leaves of the records that are kept, and of those that were made.
+use Rattle.std.proofs.Common.{◌≡◌, ℕ, Bool, true, false, cond, refl, sym, ap, subst, ◌∙◌, List, [], ◌∷◌, ◌++◌, Option, Some, None}
+use Rattle.std.specs.List.{Any}
+use Rattle.std.proofs.lemmas.List.Quantifiers.{Any-push}
+use Rattle.sgx_types.specs.declared.entries.Action.{Action}
+use Rattle.sgx_types.specs.declared.entries.Action.TheVariants.{Add, Ewb, Eld}
+use Rattle.sgx_types.specs.declared.entries.Answer.{Answer}
+use Rattle.sgx_types.specs.declared.entries.Answer.TheVariants.{Moved}
+use Rattle.sgx_types.specs.declared.entries.Actor.{Actor}
+use Rattle.sgx_types.specs.declared.entries.Entry.{Entry}
+use Rattle.sgx_types.specs.declared.entries.Event.{Event}
+use Rattle.sgx_types.specs.declared.entries.Event.TheVariants.{Did, Refused}
+use Rattle.sgx_types.specs.declared.names.Frame.{Frame}
+use Rattle.sgx_types.specs.declared.names.Page.{Page}
+use Rattle.sgx_types.specs.declared.names.SlotAt.{SlotAt}
+use Rattle.sgx_types.specs.Ends.{IsBack}
+use Rattle.sgx_types.specs.Frames.{page_at, same_page}
+use Rattle.sgx_types.specs.Making.{Making}
+use Rattle.sgx_types.specs.Rules.{RefusalRule}
+use Rattle.sgx_types.specs.Sealed.{Sealed}
+use Rattle.sgx_types.specs.Starts.{Start, open_start}
+use Rattle.sgx_types.proofs.Pages.{same_pages}
+use Rattle.seal_record.specs.Records.{Made}
+use Rattle.seal_record.specs.Sealing.{made_by, made_with}
+use Rattle.seal_record.specs.declared.unseal.UnsealedWork.{UnsealedWork}
+use Rattle.page_history.specs.Copies.{Copy, InFrame, InSlot, copy, copy_after, in_slot}
+use Rattle.page_history.specs.Once.{IsMade}
+use Rattle.page_history.proofs.OpenStarts.{any_front}
+use Rattle.job_grammar.specs.Jobs.{JobView}
+use Rattle.turn_rules.specs.Machines.{machine_of}
+use Rattle.turn_rules.specs.Script.{action_of}
+use Rattle.paging_laws.specs.Histories.{StandsWithAllRules}
+use Rattle.paging_laws.specs.State.{State}
+use Rattle.run_history.specs.Histories.{GoesOn}
+use Rattle.audit_machine.specs.Asked.{GoesOnWith, HasLeft, IsDoneBack}
+use Rattle.audit_records.specs.Kept.{HasRecord, KeepsRecords, Records, is_done_ewb, is_ewb, with_record, without_record}
+
+-- ---- the records that were made
+
+pub own_records : (k : Making) (s : State) (past : List Entry) (records : List Made) → StandsWithAllRules k s past records
+    → StandsWithAllRules k s past (made_by k.key past)
+own_records k s past records h = subst (StandsWithAllRules k s past) h.records h
+
+pub goes_on : (k : Making) (s t : State) (past : List Entry) (e : Entry) (more : List Made) → GoesOnWith s e more t
+    → StandsWithAllRules k s past (made_by k.key past) → StandsWithAllRules k t (e ∷ past) (made_by k.key (e ∷ past))
+goes_on k s t past e more goes h = own_records k t (e ∷ past) _ (goes k past (made_by k.key past) h)
+
+pub made_left : (k : Making) (s t : State) (past : List Entry) (e : Entry) (f : Frame) (work : UnsealedWork) → HasLeft s e f work t
+    → StandsWithAllRules k s past (made_by k.key past)
+    → made_by k.key (e ∷ past) ≡ made_by k.key past ++ made_with work.version work.rec ∷ []
+made_left k s t past e f work left h = sym (left.goes_on k past (made_by k.key past) h).records
+
+event_made : (key : List ℕ) (past : List Entry) (actor : Actor) (event : Event) → is_done_ewb event ≡ false
+    → made_by key (record { actor = actor; event = event } ∷ past) ≡ made_by key past
+event_made key past actor (Did (Ewb f) answer) other = cc
+event_made key past actor event other = refl
+
+pub none_made : (key : List ℕ) (past : List Entry) (e : Entry) → is_done_ewb e.event ≡ false → made_by key (e ∷ past) ≡ made_by key past
+none_made key past e other = event_made key past e.actor e.event other
+
+-- ---- no record at first
+
+pub none_out : (key : List ℕ) (kept : Records) → KeepsRecords key [] kept
+none_out key kept g slot v there = cc
+
+-- ---- an entry that puts no page out
+
+not_framed : (b : Bool) (n : ℕ) (o : Option Copy) (slot : SlotAt) (v : ℕ) → cond b (Some (InFrame n)) o ≡ Some (InSlot slot v)
+    → o ≡ Some (InSlot slot v)
+not_framed true n o slot v there = cc
+not_framed false n o slot v there = there
+
+event_stays : (opened : ℕ → Option Start) (g : Page) (o : Option Copy) (slot : SlotAt) (v : ℕ) (event : Event) → is_done_ewb event ≡ false
+    → copy_after event opened g o ≡ Some (InSlot slot v) → o ≡ Some (InSlot slot v)
+event_stays opened g o slot v (Did (Ewb f) answer) other there = cc
+event_stays opened g o slot v (Did (Add enclave number f kind perm init) answer) other there =
+    not_framed (same_page (page_at enclave number) g) f.0 o slot v there
+event_stays opened g o slot v (Did (Eld f) (Moved page version tag)) other there = not_framed (same_page page g) f.0 o slot v there
+event_stays opened g o slot v event other there = there
+
+still_made : (key : List ℕ) (past : List Entry) (e : Entry) (one : Made) → is_done_ewb e.event ≡ false → IsMade key past one
+    → IsMade key (e ∷ past) one
+still_made key past e one other made = subst (λ all. Any (λ x. x ≡ one) all) (sym (none_made key past e other)) made
+
+still_has : (key : List ℕ) (past : List Entry) (e : Entry) (v : ℕ) (o : Option Sealed) → is_done_ewb e.event ≡ false
+    → HasRecord key past v o → HasRecord key (e ∷ past) v o
+still_has key past e v o other has = record {
+  rec = has.rec;
+  is_kept = has.is_kept;
+  made = still_made key past e (made_with v has.rec) other has.made;
+}
+
+pub records_stay : (key : List ℕ) (past : List Entry) (e : Entry) (kept : Records) → is_done_ewb e.event ≡ false
+    → KeepsRecords key past kept → KeepsRecords key (e ∷ past) kept
+records_stay key past e kept other keeps g slot v there =
+    still_has key past e v (kept g) other (keeps g slot v (event_stays (open_start past) g (copy past g) slot v e.event other there))
+
+-- ---- a page that goes out
+
+pub record_put : (key : List ℕ) (past : List Entry) (e : Entry) (f : Frame) (page : Page) (version : ℕ) (tag : List ℕ) (rec : Sealed)
+    (kept : Records)
+    → e.event ≡ Did (Ewb f) (Moved page version tag) → made_by key (e ∷ past) ≡ made_by key past ++ made_with version rec ∷ []
+    → KeepsRecords key past kept → KeepsRecords key (e ∷ past) (with_record kept page rec)
+record_put key past e f page version tag rec kept told more keeps g slot v there =
+    by_page (same_page page g) (rw told at there)
+  where
+    by_slot : (o : Option Start) → in_slot o version ≡ Some (InSlot slot v) → version ≡ v
+    by_slot None is = cc
+    by_slot (Some start) is = cc
+
+    new : IsMade key (e ∷ past) (made_with version rec)
+    new = subst (Any (λ x. x ≡ made_with version rec)) (sym more) (Any-push (λ x. x ≡ made_with version rec) (made_by key past)
+        (made_with version rec) refl)
+
+    old : (one : Made) → IsMade key past one → IsMade key (e ∷ past) one
+    old one made = subst (Any (λ x. x ≡ one)) (sym more) (any_front (λ x. x ≡ one) (made_by key past) (made_with version rec ∷ []) made)
+
+    by_page : (b : Bool) → cond b (in_slot (open_start past f.0) version) (copy past g) ≡ Some (InSlot slot v)
+        → HasRecord key (e ∷ past) v (cond b (Some rec) (kept g))
+    by_page true is = record {
+      rec = rec;
+      is_kept = refl;
+      made = subst (λ w. IsMade key (e ∷ past) (made_with w rec)) (by_slot (open_start past f.0) is) new;
+    }
+    by_page false is =
+        let has = keeps g slot v is in
+        record { rec = has.rec; is_kept = has.is_kept; made = old (made_with v has.rec) has.made }
+
+-- .. which the entry names
+page_in : (x : Event) (f : Frame) (action : Action) (g page : Page) (v version : ℕ) (told tag : List ℕ) → x ≡ Did (Ewb f) (Moved g v told)
+    → x ≡ Did action (Moved page version tag) → g ≡ page
+page_in x f action g page v version told tag is was =
+    let same : Did (Ewb f) (Moved g v told) ≡ Did action (Moved page version tag) = sym is ∙ was in cc
+
+pub record_left : (j : JobView) (s t : State) (past : List Entry) (e : Entry) (f : Frame) (work : UnsealedWork) (action : Action)
+    (page : Page) (version : ℕ) (tag : List ℕ) (kept : Records) → HasLeft s e f work t
+    → e.event ≡ Did action (Moved page version tag)
+    → StandsWithAllRules (machine_of j) s past (made_by j.key past) → KeepsRecords j.key past kept
+    → KeepsRecords j.key (e ∷ past) (with_record kept page work.rec)
+record_left j s t past e f work action page version tag kept left told h keeps =
+    let same : left.page ≡ page =
+    page_in e.event f action left.page page work.version version work.rec.tag tag left.told told in
+    subst (λ g. KeepsRecords j.key (e ∷ past) (with_record kept g work.rec)) same
+    (record_put j.key past e f left.page work.version work.rec.tag work.rec kept left.told
+    (made_left (machine_of j) s t past e f work left h) keeps)
+
+-- ---- a page that comes back
+
+some-start : {x y : Start} → Some x ≡ Some y → x ≡ y
+some-start e = cc
+
+some-page : {x y : Page} → Some x ≡ Some y → x ≡ y
+some-page e = cc
+
+-- its copy is in the frame, and those of the others stay
+module _ (key : List ℕ) (past : List Entry) (actor : Actor) (f : Frame) (page : Page) (version : ℕ) (tag : List ℕ) (kept : Records)
+    (keeps : KeepsRecords key past kept) where
+  abbrev entry : Entry
+  entry = record { actor = actor; event = Did (Eld f) (Moved page version tag) }
+
+  record_dropped : KeepsRecords key (entry ∷ past) (without_record kept page)
+  record_dropped g slot v there = by_page (same_page page g) there
+    where
+      by_page : (b : Bool) → cond b (Some (InFrame f.0)) (copy past g) ≡ Some (InSlot slot v)
+          → HasRecord key (entry ∷ past) v (cond b None (kept g))
+      by_page true is = cc
+      by_page false is = still_has key past entry v (kept g) refl (keeps g slot v is)
+
+pub record_back : (j : JobView) (past : List Entry) (e : Entry) (f : Frame) (start : Start) (page : Page) (kept : Records)
+    → GoesOn j (e ∷ past) → IsDoneBack e.event f → open_start past f.0 ≡ Some start → start.loads ≡ Some page
+    → KeepsRecords j.key past kept → KeepsRecords j.key (e ∷ past) (without_record kept page)
+record_back j past e f start page kept goes done opened loads keeps = by_event e.event done goes.refusal.1.0
+  where
+    by_back : (answer : Answer) → IsBack past f.0 answer
+        → KeepsRecords j.key (record { actor = e.actor; event = Did (Eld f) answer } ∷ past) (without_record kept page)
+    by_back answer back =
+        let same : back.ends.start ≡ start = some-start (sym back.ends.opened ∙ opened) in
+        let its : back.page ≡ page = some-page (sym back.ends.loads ∙ ap (λ (x : Start). x.loads) same ∙ loads) in
+        rw (back.told, its) (record_dropped j.key past e.actor f page back.version back.tag kept keeps)
+
+    by_event : (event : Event) → IsDoneBack event f → RefusalRule (machine_of j) past (record { actor = e.actor; event = event })
+        → KeepsRecords j.key (record { actor = e.actor; event = event } ∷ past) (without_record kept page)
+    by_event (Did action answer) is rule =
+        subst (λ a. RefusalRule (machine_of j) past (record { actor = e.actor; event = Did a answer })
+        → KeepsRecords j.key (record { actor = e.actor; event = Did a answer } ∷ past) (without_record kept page)) (sym is)
+        (λ r. by_back answer r.1) rule
+    by_event event is rule = absurd is
+
+-- ---- a record that was taken out and is kept again
+
+pub record_again : (key : List ℕ) (past : List Entry) (page : Page) (rec : Sealed) (kept : Records) → kept page ≡ Some rec
+    → KeepsRecords key past kept → KeepsRecords key past (with_record (without_record kept page) page rec)
+record_again key past page rec kept was keeps g slot v there = by_page (same_page page g) refl (keeps g slot v there)
+  where
+    by_page : (b : Bool) → same_page page g ≡ b → HasRecord key past v (kept g)
+        → HasRecord key past v (cond b (Some rec) (cond b None (kept g)))
+    by_page true is has =
+        subst (HasRecord key past v) (ap kept (sym (same_pages page g is)) ∙ was) has
+    by_page false is has = has
+
+-- ---- the other entries
+
+pub not_ewb : (event : Event) (action : Action) → action_of event ≡ Some action → is_ewb action ≡ false → is_done_ewb event ≡ false
+not_ewb (Did a answer) action own other = let same : a ≡ action = cc in rw same other
+not_ewb (Refused a why) action own other = refl
+not_ewb event action own other = refl
+
+pub no_action : (event : Event) → action_of event ≡ None → is_done_ewb event ≡ false
+no_action (Did a answer) none = cc
+no_action event none = refl

@@ -1,0 +1,78 @@
+//! Laws of the records that are kept. Each is the contract of a function without arguments, and so holds for every trace.
+
+ghost use Rattle.std.specs.Prelude.{ℕ, ◌≡◌, false, List, [], ◌∷◌, ◌++◌, None, Some};
+ghost use Rattle.sgx_types.specs.Making.{Making};
+ghost use Rattle.sgx_types.specs.Sealed.{Sealed};
+ghost use Rattle.sgx_types.specs.Starts.{Start, open_start};
+ghost use Rattle.sgx_types.specs.declared.entries.Action.TheVariants as actions;
+ghost use Rattle.sgx_types.specs.declared.entries.Action.{Action};
+ghost use Rattle.sgx_types.specs.declared.entries.Answer.TheVariants as answers;
+ghost use Rattle.sgx_types.specs.declared.entries.Entry.{Entry};
+ghost use Rattle.sgx_types.specs.declared.entries.Event.TheVariants as events;
+ghost use Rattle.sgx_types.specs.declared.entries.Event.{Event};
+ghost use Rattle.sgx_types.specs.declared.names.Frame.{Frame};
+ghost use Rattle.sgx_types.specs.declared.names.Page.{Page};
+ghost use Rattle.seal_record.specs.Records.{Made};
+ghost use Rattle.seal_record.specs.Sealing.{made_by, made_with};
+ghost use Rattle.seal_record.specs.declared.unseal.UnsealedWork.{UnsealedWork};
+ghost use Rattle.job_grammar.specs.Jobs.{JobView};
+ghost use Rattle.turn_rules.specs.Machines.{machine_of};
+ghost use Rattle.turn_rules.specs.Script.{action_of};
+ghost use Rattle.paging_laws.specs.Histories.{StandsWithAllRules};
+ghost use Rattle.paging_laws.specs.State.{State};
+ghost use Rattle.run_history.specs.Histories.{GoesOn};
+ghost use Rattle.audit_machine.specs.Asked.{GoesOnWith, HasLeft, IsDoneBack};
+ghost use Rattle.audit_records.specs.Kept.{HasOwnRecord, KeepsRecords, Records, is_done_ewb, is_ewb, with_record, without_record};
+
+/// Nothing is outside before the first entry, so that no record is asked for.
+pub fn nothing_is_out_at_first()
+    ensures { (key : List ℕ) (kept : Records) → KeepsRecords key [] kept }
+{}
+
+/// Of a page that a frame waits for a record is kept, and it is the one that the end of the load asks for.
+pub fn kept_records_are_own()
+    ensures { (j : JobView) (s : State) (past : List Entry) (records : List Made) (kept : Records) → GoesOn j past
+        → StandsWithAllRules (machine_of j) s past records → KeepsRecords j.key past kept → (n : ℕ) (start : Start) (page : Page)
+        → open_start past n ≡ Some start → start.loads ≡ Some page → HasOwnRecord j.key past n (kept page) }
+{}
+
+/// A page that goes out has its record kept in place of the one that was. That of a page that came back is kept no more. Every other entry,
+/// also a load that is refused, leaves the records as they are; one that was taken out for it is kept again.
+pub fn records_stay_kept()
+    ensures gone { (key : List ℕ) (past : List Entry) (e : Entry) (f : Frame) (page : Page) (version : ℕ) (tag : List ℕ) (rec : Sealed)
+        (kept : Records) → e.event ≡ events.Did (actions.Ewb f) (answers.Moved page version tag)
+        → made_by key (e ∷ past) ≡ made_by key past ++ made_with version rec ∷ [] → KeepsRecords key past kept
+        → KeepsRecords key (e ∷ past) (with_record kept page rec) }
+    ensures left { (j : JobView) (s t : State) (past : List Entry) (e : Entry) (f : Frame) (work : UnsealedWork) (action : Action)
+        (page : Page) (version : ℕ) (tag : List ℕ) (kept : Records) → HasLeft s e f work t
+        → e.event ≡ events.Did action (answers.Moved page version tag) → StandsWithAllRules (machine_of j) s past (made_by j.key past)
+        → KeepsRecords j.key past kept → KeepsRecords j.key (e ∷ past) (with_record kept page work.rec) }
+    ensures back { (j : JobView) (past : List Entry) (e : Entry) (f : Frame) (start : Start) (page : Page) (kept : Records)
+        → GoesOn j (e ∷ past) → IsDoneBack e.event f → open_start past f.0 ≡ Some start → start.loads ≡ Some page
+        → KeepsRecords j.key past kept → KeepsRecords j.key (e ∷ past) (without_record kept page) }
+    ensures stays { (key : List ℕ) (past : List Entry) (e : Entry) (kept : Records) → is_done_ewb e.event ≡ false
+        → KeepsRecords key past kept → KeepsRecords key (e ∷ past) kept }
+    ensures again { (key : List ℕ) (past : List Entry) (page : Page) (rec : Sealed) (kept : Records) → kept page ≡ Some rec
+        → KeepsRecords key past kept → KeepsRecords key past (with_record (without_record kept page) page rec) }
+{}
+
+/// The records that a machine stands for are those that its entries made. So it goes on with those that they made then, whatever the entry
+/// gave: a done `ewb` the record with which the page went out, and every other entry none.
+pub fn records_are_those_made()
+    ensures own { (k : Making) (s : State) (past : List Entry) (records : List Made) → StandsWithAllRules k s past records
+        → StandsWithAllRules k s past (made_by k.key past) }
+    ensures goes_on { (k : Making) (s t : State) (past : List Entry) (e : Entry) (more : List Made) → GoesOnWith s e more t
+        → StandsWithAllRules k s past (made_by k.key past) → StandsWithAllRules k t (e ∷ past) (made_by k.key (e ∷ past)) }
+    ensures left { (k : Making) (s t : State) (past : List Entry) (e : Entry) (f : Frame) (work : UnsealedWork) → HasLeft s e f work t
+        → StandsWithAllRules k s past (made_by k.key past)
+        → made_by k.key (e ∷ past) ≡ made_by k.key past ++ made_with work.version work.rec ∷ [] }
+    ensures others { (key : List ℕ) (past : List Entry) (e : Entry) → is_done_ewb e.event ≡ false
+        → made_by key (e ∷ past) ≡ made_by key past }
+{}
+
+/// An entry of another instruction than `ewb`, or of none, tells of no `ewb` that was done.
+pub fn other_entries_put_nothing_out()
+    ensures asked { (event : Event) (action : Action) → action_of event ≡ Some action → is_ewb action ≡ false
+        → is_done_ewb event ≡ false }
+    ensures none { (event : Event) → action_of event ≡ None → is_done_ewb event ≡ false }
+{}

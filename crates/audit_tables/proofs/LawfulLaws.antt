@@ -1,0 +1,143 @@
+-- What is known of an entry that keeps each rule, by who made it.
+use Rattle.std.proofs.Common.{◌≡◌, true, false, List, Option, Some, refl, sym, ◌∙◌}
+use Rattle.std.proofs.lemmas.Bool.{false≢true}
+use Rattle.sgx_types.specs.declared.entries.Action.{Action}
+use Rattle.sgx_types.specs.declared.entries.Action.TheVariants as actions
+use Rattle.sgx_types.specs.declared.entries.Actor.{Actor}
+use Rattle.sgx_types.specs.declared.entries.Actor.TheVariants as actors
+use Rattle.sgx_types.specs.declared.entries.Entry.{Entry}
+use Rattle.sgx_types.specs.declared.entries.Event.{Event}
+use Rattle.sgx_types.specs.declared.entries.Event.TheVariants.{Did, Refused, Age, Kick, Bus}
+use Rattle.sgx_types.specs.declared.names.Frame.{Frame}
+use Rattle.sgx_types.specs.Rules.{RefusalRule}
+use Rattle.sgx_types.specs.Starts.{open_start}
+use Rattle.cached_translations.specs.declared.processor.Mode.{Mode}
+use Rattle.job_grammar.specs.Jobs.{JobView}
+use Rattle.turn_rules.specs.Machines.{machine_of}
+use Rattle.turn_rules.specs.Script.{action_of}
+use Rattle.paging_machine.specs.declared.starts.Start as starts
+use Rattle.paging_machine.specs.Parts.{start_of}
+use Rattle.driver_rules.specs.Ages.{AgeRule, InPass, PassOf}
+use Rattle.driver_rules.specs.Passes.{Between, Blocking, Pass, Scan, Tries, pass}
+use Rattle.driver_rules.specs.Scripts.{ScriptRule, is_load}
+use Rattle.driver_laws.specs.Kinds.{CanMove}
+use Rattle.driver_laws.specs.Used.{StartTells}
+use Rattle.driver_laws.specs.Tracks.{is_reclaimers}
+use Rattle.driver_laws.proofs.EndLaws.{their_rule}
+use Rattle.driver_laws.proofs.OwnLaws.{script_own}
+use Rattle.driver_tables.specs.declared.driver.Driver.{Driver}
+use Rattle.turn_tables.specs.declared.turns.Turns.{Turns}
+use Rattle.table_notes.specs.Noted.{AreNoted, CanNoteTables}
+use Rattle.table_notes.specs.Plain.{is_plain, is_reclaimer}
+use Rattle.audit_laws.proofs.AgreeLaws.{agrees_by_rules, lawful_can, lawful_starts}
+use Rattle.audit_tables.specs.Followed.{CanFollow, IsFollowed, frame_ended}
+use Rattle.audit_tables.specs.Following.{is_plain_event}
+
+-- ---- what the rules say of it
+
+pub record IsLawful (j : JobView) (past : List Entry) (start : Option starts.Start) (e : Entry) : Type 0 where
+  pub script : ScriptRule j past e
+  pub age : AgeRule j past e
+  pub refusal : RefusalRule (machine_of j) past e
+  pub can : CanMove past e.event
+  pub starts : StartTells past e.event
+  pub opened : (f : Frame) → frame_ended e.event ≡ Some f → start_of start ≡ open_start past f.0
+
+pub lawful : (t : Turns) (d : Driver) (before : Mode) (start : Option starts.Start) (e : Entry) (can : CanFollow t d before start e)
+    → IsLawful can.j can.past start e
+lawful t d before start e can = record {
+  script = can.goes_on.script.0;
+  age = can.goes_on.age.1.0;
+  refusal = can.goes_on.refusal.1.0;
+  can = lawful_can can.j can.past e can.trace.stands.positive can.goes_on;
+  starts = lawful_starts can.j can.past e can.trace.stands.positive can.goes_on;
+  opened = can.opened;
+}
+
+-- ---- who makes it
+
+-- a look, a kick, a block, a track or a write-out is the reclaimer's
+pub not_builders : (j : JobView) (past : List Entry) (ev : Event) → ScriptRule j past (record { actor = actors.Builder; event = ev })
+    → is_reclaimers ev ≡ true → ⊥
+not_builders j past ev script own =
+    let bad : actors.Builder ≡ actors.Reclaimer = script_own j past (record { actor = actors.Builder; event = ev }) script own in absurd cc
+
+-- a load, its end, or why a page did not come back, is a processor's
+pub no_builders_load : (j : JobView) (past : List Entry) (ev : Event) → ScriptRule j past (record { actor = actors.Builder; event = ev })
+    → is_load ev ≡ true → ⊥
+no_builders_load j past ev script load =
+    false≢true (sym (their_rule j past (record { actor = actors.Builder; event = ev }) script) ∙ load)
+
+-- no pass has a plain instruction
+no_pass : (past : List Entry) (at : Pass) (ev : Event) → is_plain_event ev ≡ true → InPass past at ev → ⊥
+no_pass past at (Age page look) plain h = false≢true plain
+no_pass past at (Kick cpu) plain h = false≢true plain
+no_pass past at (Bus page why) plain h = false≢true plain
+no_pass past (Between works) (Did action answer) plain h = h
+no_pass past (Scan left taken) (Did action answer) plain h = h
+no_pass past (Blocking due taken) (Did (actions.Block f) answer) plain h = false≢true plain
+no_pass past (Blocking due taken) (Did action answer) plain h = h
+no_pass past (Tries g rest form) (Did (actions.EwbStart f slot) answer) plain h = false≢true plain
+no_pass past (Tries g rest form) (Did (actions.Ewb f) answer) plain h = false≢true plain
+no_pass past (Tries g rest form) (Did (actions.Track enclave) answer) plain h = false≢true plain
+no_pass past (Tries g rest form) (Did action answer) plain h = h
+no_pass past (Between works) (Refused action refusal) plain h = h
+no_pass past (Scan left taken) (Refused action refusal) plain h = h
+no_pass past (Blocking due taken) (Refused action refusal) plain h = h
+no_pass past (Tries g rest form) (Refused (actions.EwbStart f slot) refusal) plain h = false≢true plain
+no_pass past (Tries g rest form) (Refused (actions.Ewb f) refusal) plain h = false≢true plain
+no_pass past (Tries g rest form) (Refused (actions.Track enclave) refusal) plain h = false≢true plain
+no_pass past (Tries g rest form) (Refused action refusal) plain h = h
+
+no_reclaimers : (j : JobView) (past : List Entry) (a : Actor) (ev : Event) → is_plain_event ev ≡ true
+    → PassOf past (pass j past) a ev → is_reclaimer a ≡ false
+no_reclaimers j past actors.Builder ev plain h = refl
+no_reclaimers j past (actors.Cpu c) ev plain h = refl
+no_reclaimers j past actors.Reclaimer ev plain h = absurd (no_pass past (pass j past) ev plain h)
+
+-- ---- a plain instruction can be noted
+
+record IsPlain (ev : Event) : Type 0 where
+  action : Action
+  is : action_of ev ≡ Some action
+  plain : is_plain action ≡ true
+
+plain_of : (ev : Event) → is_plain_event ev ≡ true → IsPlain ev
+plain_of (Did action answer) plain = record { action = action; is = refl; plain = plain }
+plain_of (Refused action refusal) plain = record { action = action; is = refl; plain = plain }
+plain_of (Age page look) plain = absurd (false≢true plain)
+plain_of (Kick cpu) plain = absurd (false≢true plain)
+plain_of (Bus page why) plain = absurd (false≢true plain)
+
+pub can_note : (t : Turns) (d : Driver) (before : Mode) (start : Option starts.Start) (e : Entry) (can : CanFollow t d before start e)
+    → is_plain_event e.event ≡ true → CanNoteTables t d before e
+can_note t d before start e can is =
+    let x = plain_of e.event is in
+    let law = lawful t d before start e can in
+    record {
+      made = machine_of can.j;
+      j = can.j;
+      past = can.past;
+      m = can.m;
+      m' = can.m';
+      actor = e.actor;
+      action = x.action;
+      plain = x.plain;
+      other = no_reclaimers can.j can.past e.actor e.event is law.age.in_pass;
+      step = can.step x.action x.is x.plain;
+      script = law.script;
+      stood = can.stood;
+      agrees = agrees_by_rules can.j can.past d can.m t can.trace;
+      shows = can.trace.turns;
+      orderly = can.trace.orderly;
+      arrays = can.arrays;
+    }
+
+-- .. and the tables have followed it then
+pub noted_followed : (t : Turns) (d new : Driver) (before : Mode) (start : Option starts.Start) (e : Entry)
+    (can : CanFollow t d before start e) (plain : is_plain_event e.event ≡ true)
+    → ((note : CanNoteTables t d before e) → AreNoted note.j note.past d e new) → IsFollowed can.j can.past d e new
+unfolding can_note
+noted_followed t d new before start e can plain notes =
+    let k = notes (can_note t d before start e can plain) in
+    record { shows = k.shows; counts = k.counts; own = k.own; arrays = k.arrays }

@@ -1,0 +1,5 @@
+mod ListLaws
+mod StartLaws
+mod LawfulLaws
+mod FitLaws
+mod FollowLaws

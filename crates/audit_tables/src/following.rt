@@ -1,0 +1,172 @@
+//! Tells an entry of a trace to the driver's tables.
+
+ghost use Rattle.std.specs.Prelude.{◌≡◌};
+ghost use Rattle.audit_tables.specs.Followed.{CanFollow, IsFollowed};
+ghost use Rattle.audit_tables.specs.Following.{DoesEvent, DoesMove, FitsBegun, FitsEnded, FitsEvent, FitsGone, FitsMove, FitsRefused};
+ghost use Rattle.audit_tables.specs.Following.{HasEnded, IsStarted, is_plain_event, with_begun, with_gone, with_refused};
+ghost use Rattle.audit_tables.specs.Naming.{IsLeft};
+
+use crate::naming::take_named;
+use active_list::page_states::PageState;
+use cached_translations::processor::Mode;
+use driver_tables::driver::Driver;
+use paging_machine::starts::Start;
+use sgx_types::entries::{Action, Actor, Answer, Entry, Event};
+use sgx_types::names::{Frame, Page, SlotAt};
+use sgx_types::record::Record;
+use table_notes::notes::note_tables;
+use turn_tables::turns::Turns;
+
+/// Brings the driver's tables to an entry of a trace, which keeps each rule with it. `before` is how the entry's processor stood before it,
+/// and `start` the open start that it ends. `rec` is kept for a load that starts: of it the rules say nothing. The holds, and the tables of
+/// what is due, are told the entry afterwards. Constant time, but that a slot is found by its name: among those that are not out.
+pub fn follow(
+    turns: &Turns,
+    driver: &mut Driver,
+    before: Mode,
+    start: Option<Start>,
+    rec: &Record,
+    entry: &Entry,
+)
+    requires { CanFollow turns.now driver.old before start entry.now }
+    ensures { (can : CanFollow turns.now driver.old before start entry.now)
+        → IsFollowed can.j can.past driver.old entry.now driver.new }
+{
+    if is_plain(&entry.event) {
+        note_tables(turns, driver, before, entry);
+    } else {
+        follow_event(driver, start, rec, entry.actor, &entry.event);
+    }
+}
+
+// An instruction that moves no page out or back, done or refused.
+fn is_plain(event: &Event) -> bool
+    ensures { result ≡ is_plain_event event.now }
+{
+    match event {
+        Event::Did { action, .. } | Event::Refused { action, .. } => !matches!(
+            action,
+            Action::Block { .. }
+                | Action::Track { .. }
+                | Action::EwbStart { .. }
+                | Action::Ewb { .. }
+                | Action::EldStart { .. }
+                | Action::Eld { .. }
+        ),
+        _ => false,
+    }
+}
+
+// Any other entry.
+fn follow_event(
+    driver: &mut Driver,
+    start: Option<Start>,
+    rec: &Record,
+    actor: Actor,
+    event: &Event,
+)
+    requires { FitsEvent start actor event.now driver.old }
+    ensures { DoesEvent start rec.now actor event.now driver.old driver.new }
+{
+    match *event {
+        Event::Age { page, look } => driver.look(page, look),
+        Event::Did { action, answer } => follow_done(driver, start, rec, actor, action, answer),
+        Event::Refused {
+            action: Action::Eld { .. },
+            ..
+        } => refuse_load(driver, actor, start),
+        _ => {}
+    }
+}
+
+// An instruction was done.
+fn follow_done(
+    driver: &mut Driver,
+    start: Option<Start>,
+    rec: &Record,
+    actor: Actor,
+    action: Action,
+    answer: Answer,
+)
+    requires { FitsMove start actor action answer driver.old }
+    ensures { DoesMove start rec.now actor action answer driver.old driver.new }
+{
+    match action {
+        Action::EwbStart { slot, .. } => note_start(driver, slot),
+        Action::Ewb { .. } => note_gone(driver, start, answer),
+        Action::EldStart { frame, page, slot } => begin_load(driver, actor, frame, page, slot, rec),
+        Action::Eld { frame } => end_load(driver, actor, frame, start, answer),
+        _ => {}
+    }
+}
+
+// A write-out started into a slot, which is out from then on.
+fn note_start(driver: &mut Driver, slot: SlotAt)
+    requires { IsLeft driver.old.slots slot }
+    ensures { IsStarted driver.old slot driver.new }
+{
+    if !take_named(&mut driver.slots, slot) {
+        unreachable!();
+    }
+}
+
+// A page has gone out into the slot of the start that ended.
+fn note_gone(driver: &mut Driver, start: Option<Start>, answer: Answer)
+    requires { FitsGone start answer driver.old }
+    ensures { driver.new ≡ with_gone start answer driver.old }
+{
+    if let (Some(start), Answer::Moved { page, .. }) = (start, answer) {
+        driver.states.set_state(page, PageState::Away(start.slot));
+    }
+}
+
+// A load started: its record is kept for the processor.
+fn begin_load(
+    driver: &mut Driver,
+    actor: Actor,
+    frame: Frame,
+    page: Page,
+    slot: SlotAt,
+    rec: &Record,
+)
+    requires { FitsBegun actor page driver.old }
+    ensures { driver.new ≡ with_begun actor frame page slot rec.now driver.old }
+{
+    if let Actor::Cpu(cpu) = actor {
+        driver
+            .states
+            .set_state(page, PageState::Loading(frame, slot));
+        driver.kept.keep(cpu, page, rec);
+    }
+}
+
+// A load has ended: its page is here again.
+fn end_load(driver: &mut Driver, actor: Actor, frame: Frame, start: Option<Start>, answer: Answer)
+    requires { FitsEnded actor start answer driver.old }
+    ensures { HasEnded actor frame start answer driver.old driver.new }
+{
+    if let (Actor::Cpu(cpu), Some(start), Answer::Moved { page, .. }) = (actor, start, answer) {
+        driver.kept.forget(cpu);
+        driver.load(page, frame, start.slot);
+    }
+}
+
+// A load was refused: its page is away again.
+fn refuse_load(driver: &mut Driver, actor: Actor, start: Option<Start>)
+    requires { FitsRefused actor start driver.old }
+    ensures { driver.new ≡ with_refused actor start driver.old }
+{
+    if let (
+        Actor::Cpu(cpu),
+        Some(
+            Start {
+                loads: Some(page),
+                ..
+            },
+        ),
+    ) = (actor, start)
+    {
+        driver.kept.forget(cpu);
+        driver.load_refused(page);
+    }
+}

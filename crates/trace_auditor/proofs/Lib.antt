@@ -1,0 +1,6 @@
+pub mod RuleLaws
+pub mod FollowLaws
+pub mod AskLaws
+pub mod JudgeLaws
+pub mod LoopLaws
+pub mod NewLaws

@@ -1,0 +1,62 @@
+-- What an auditor keeps before the first entry.
+use Rattle.std.proofs.Common.{sym, subst, ◌∙◌, []}
+use Rattle.std.proofs.lemmas.Bool.{false≢true}
+use Rattle.sgx_types.specs.Making.{Making}
+use Rattle.job_grammar.specs.Jobs.{JobView, va_pages}
+use Rattle.paging_laws.specs.Histories.{StandsWithAllRules}
+use Rattle.paging_machine.specs.Parts.{state_of}
+use Rattle.driver_laws.specs.Counted.{CountsSlots}
+use Rattle.driver_tables.specs.Tables.{IsNew}
+use Rattle.run_history.specs.Histories.{GoesOn}
+use Rattle.turn_tables.specs.Holding.{KeepsHolds}
+use Rattle.turn_tables.specs.Shown.{ShowsTurns}
+use Rattle.run_turns.proofs.FirstLaws.{IsFresh, fresh_cpus, fresh_making}
+use Rattle.run_turns.proofs.TcsLaws.{tcs_apart}
+use Rattle.audit_pass.specs.Standing.{StandsAt}
+use Rattle.audit_records.proofs.StayLaws.{none_out}
+use Rattle.audit_records.specs.Kept.{records_of}
+use Rattle.trace_auditor.specs.declared.auditing.Auditing.{Auditing}
+use Rattle.trace_auditor.specs.Audits.{KeepsAudit}
+use Rattle.driver_tables.proofs.FirstLaws.{shows_first}
+use Rattle.driver_laws.proofs.CountLaws.{first_counts}
+use Rattle.turn_tables.proofs.FirstLaws.{holds_first}
+use Rattle.turn_tables.proofs.OrderLaws.{orderly_first}
+use Rattle.turn_tables.proofs.EndLaws.{ends_first}
+use Rattle.table_notes.proofs.ArrayLaws.{arrays_begin}
+
+-- no entry breaks a rule
+goes-on-first : (j : JobView) → GoesOn j []
+goes-on-first j = record {
+  script = tt;
+  refusal = (tt, tt);
+  flat = (tt, tt);
+  fits = ((tt, λ m n g one other. absurd (false≢true one)), tt);
+  stale = ((tt, λ p. tt), tt);
+  evict = (tt, tt);
+  fresh = (tt, tt);
+  sealed = (tt, tt);
+  measure = (tt, tt);
+  age = (tt, tt);
+  kick = (tt, tt);
+}
+
+-- machine, driver, tables and pass are new
+pub keeps_first : (j : JobView) (a : Auditing) → IsFresh j a.machine → IsNew j a.driver → ShowsTurns j [] a.turns
+    → StandsAt j.start_epoch j [] a.pass → KeepsAudit j [] a
+keeps_first j a fresh new turns pass = record {
+  trace = record {
+    tcs = tcs_apart j turns.valid;
+    goes_on = goes-on-first j;
+    stands = subst (λ (k : Making). StandsWithAllRules k (state_of a.machine) [] []) (fresh_making j a.machine fresh) fresh.history;
+    cpus = fresh_cpus j a.machine fresh ∙ sym new.cpus;
+    shows = shows_first j a.driver turns.valid new;
+    counted = subst (λ k. CountsSlots k []) (sym new.slots) (first_counts (va_pages j));
+    holds = subst (λ x. KeepsHolds j x.own []) (sym new.active) (holds_first j);
+    turns = turns;
+    orderly = orderly_first j;
+    ends = ends_first;
+  };
+  arrays = arrays_begin j a.driver new;
+  pass = pass;
+  records = none_out j.key (records_of a.records);
+}

@@ -1,0 +1,12 @@
+use Rattle.trace_auditor.proofs.AskLaws.{breaks, gone}
+use Rattle.trace_auditor.proofs.auditing.Auditing.ask_out.Goals as goal
+
+pub returns-in-Broken-clause-answer : goal.returns-in-Broken-clause-answer
+returns-in-Broken-clause-answer c =
+    λ can. breaks c.args.self.now c.args.entry.now can c.in-Broken.rule (rw c.in-Broken.is at c.in_ok-rule.ensures.takes)
+
+pub returns-in_ok-keep-in-Gone-clause-answer : goal.returns-in_ok-keep-in-Gone-clause-answer
+returns-in_ok-keep-in-Gone-clause-answer c =
+    λ can. gone c.args.self.now c.args.entry.now can c.args.frame c.requires.own c.in-Gone.work _
+    (rw c.in-Gone.is at c.in_ok-rule.ensures.takes) c.in_ok-rule.ensures.cpus c.in-Some.page c.in-Some.ensures
+    c.in_ok-keep-in-Gone.ensures.kept

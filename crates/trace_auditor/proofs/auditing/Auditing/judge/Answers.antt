@@ -1,0 +1,80 @@
+use Rattle.std.proofs.Common.{◌∙◌, sym}
+use Rattle.trace_auditor.proofs.JudgeLaws.{age_broken, among, answered_by, asked_by, broken_judged, can_ask, can_follow, judged, kick_broken, ready, script_broken, script_kept}
+use Rattle.trace_auditor.proofs.auditing.Auditing.judge.Goals as goal
+
+pub keeps_script-requires : goal.keeps_script-requires
+keeps_script-requires c = record { ready = ready c.args.job.now c.args.self.now c.requires }
+
+pub returns-then-not-keeps_script : goal.returns-then-not-keeps_script
+returns-then-not-keeps_script c =
+    λ at. script_broken c.args.job.now c.args.self.now c.args.entry.now at c.keeps_script.result c.keeps_script.ensures
+    c.if-not-keeps_script.true
+
+pub mode_of-before-requires : goal.mode_of-before-requires
+mode_of-before-requires c =
+    among c.args.job.now c.args.self.now c.args.entry.now c.requires
+    (script_kept c.args.job.now c.args.self.now c.args.entry.now c.requires c.keeps_script.result c.keeps_script.ensures
+    c.if-not-keeps_script.false)
+
+pub ask-requires : goal.ask-requires
+ask-requires c =
+    can_ask c.args.job.now c.args.self.now c.args.entry.now c.requires
+    (script_kept c.args.job.now c.args.self.now c.args.entry.now c.requires c.keeps_script.result c.keeps_script.ensures
+    c.if-not-keeps_script.false) c.note.new.self
+
+pub returns-then-is_some : goal.returns-then-is_some
+returns-then-is_some c = λ at.
+    (let j = c.args.job.now in
+    let a = c.args.self.now in
+    let e = c.args.entry.now in
+    let script = script_kept j a e at c.keeps_script.result c.keeps_script.ensures c.if-not-keeps_script.false in
+    broken_judged j a e at script c.note.new.self c.ask.new.self c.in_ok-broken.broken (sym c.is_some.ensures ∙ c.if-is_some.true)
+    (answered_by j a e at script c.note.new.self c.ask.new.self c.in_ok-broken.broken c.in_ok-broken.ensures.answer))
+
+pub returns-then-not-keeps_age : goal.returns-then-not-keeps_age
+returns-then-not-keeps_age c = λ at.
+    (let j = c.args.job.now in
+    let a = c.args.self.now in
+    let e = c.args.entry.now in
+    let script = script_kept j a e at c.keeps_script.result c.keeps_script.ensures c.if-not-keeps_script.false in
+    let asked = asked_by j a e at script c.note.new.self c.ask.new.self c.in_ok-broken.broken (sym c.is_some.ensures ∙ c.if-is_some.false)
+    (answered_by j a e at script c.note.new.self c.ask.new.self c.in_ok-broken.broken c.in_ok-broken.ensures.answer) in
+    age_broken j a e at script c.note.new.self c.ask.new.self asked c.keeps_age-keeps_age.result c.keeps_age-keeps_age.ensures
+    c.if-not-keeps_age.true)
+
+pub returns-then-not-keeps_kick : goal.returns-then-not-keeps_kick
+returns-then-not-keeps_kick c = λ at.
+    (let j = c.args.job.now in
+    let a = c.args.self.now in
+    let e = c.args.entry.now in
+    let script = script_kept j a e at c.keeps_script.result c.keeps_script.ensures c.if-not-keeps_script.false in
+    let asked = asked_by j a e at script c.note.new.self c.ask.new.self c.in_ok-broken.broken (sym c.is_some.ensures ∙ c.if-is_some.false)
+    (answered_by j a e at script c.note.new.self c.ask.new.self c.in_ok-broken.broken c.in_ok-broken.ensures.answer) in
+    kick_broken j a e at script c.note.new.self c.ask.new.self asked c.keeps_age-keeps_age.result c.keeps_age-keeps_age.ensures
+    c.if-not-keeps_age.false c.keeps_kick-keeps_kick.result c.keeps_kick-keeps_kick.ensures c.if-not-keeps_kick.true)
+
+pub follow-requires : goal.follow-requires
+follow-requires c =
+    let j = c.args.job.now in
+    let a = c.args.self.now in
+    let e = c.args.entry.now in
+    let at = c.requires in
+    let script = script_kept j a e at c.keeps_script.result c.keeps_script.ensures c.if-not-keeps_script.false in
+    let asked = asked_by j a e at script c.note.new.self c.ask.new.self c.in_ok-broken.broken (sym c.is_some.ensures ∙ c.if-is_some.false)
+    (answered_by j a e at script c.note.new.self c.ask.new.self c.in_ok-broken.broken c.in_ok-broken.ensures.answer) in
+    can_follow j a e at script c.note.new.self c.ask.new.self asked c.keeps_age-keeps_age.result c.keeps_age-keeps_age.ensures
+    c.if-not-keeps_age.false c.keeps_kick-keeps_kick.result c.keeps_kick-keeps_kick.ensures c.if-not-keeps_kick.false c.mode_of-before.result
+    c.start_ended-start.result c.mode_of-before.ensures c.start_ended-start.ensures c.note.ensures c.in_ok-broken.ensures.others
+
+pub returns : goal.returns
+returns c = λ at.
+    (let j = c.args.job.now in
+    let a = c.args.self.now in
+    let e = c.args.entry.now in
+    let script = script_kept j a e at c.keeps_script.result c.keeps_script.ensures c.if-not-keeps_script.false in
+    let asked = asked_by j a e at script c.note.new.self c.ask.new.self c.in_ok-broken.broken (sym c.is_some.ensures ∙ c.if-is_some.false)
+    (answered_by j a e at script c.note.new.self c.ask.new.self c.in_ok-broken.broken c.in_ok-broken.ensures.answer) in
+    judged j a e at script c.note.new.self c.ask.new.self asked c.keeps_age-keeps_age.result c.keeps_age-keeps_age.ensures
+    c.if-not-keeps_age.false c.keeps_kick-keeps_kick.result c.keeps_kick-keeps_kick.ensures c.if-not-keeps_kick.false c.mode_of-before.result
+    c.start_ended-start.result c.mode_of-before.ensures c.start_ended-start.ensures c.note.ensures c.in_ok-broken.ensures.others
+    c.follow.new.self c.follow.ensures)

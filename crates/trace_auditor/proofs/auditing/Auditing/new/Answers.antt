@@ -1,0 +1,18 @@
+use Rattle.std.proofs.Common.{length, sym, ap, ◌∙◌}
+use Rattle.std.proofs.lemmas.List.{length-map}
+use Rattle.run_turns.proofs.FirstLaws.{made_same}
+use Rattle.trace_auditor.proofs.NewLaws.{keeps_first}
+use Rattle.trace_auditor.proofs.auditing.Auditing.new.Goals as goal
+
+pub returns : goal.returns
+returns c =
+    keeps_first c.args.job.now _
+    (record {
+      value = made_same c.args.job.now c.in_ok-machine.machine c.epc.result (length c.scripts.result.now) c.key.result.now
+          c.start_epoch.result c.start_version.result c.in_ok-machine.ensures.value c.epc.ensures.value
+          (sym (length-map c.scripts.result.now (λ script. script.items)) ∙ ap length c.scripts.ensures) c.key.ensures
+          c.start_epoch.ensures.value c.start_version.ensures.value;
+      shape = c.in_ok-machine.ensures.shape;
+      history = c.in_ok-machine.ensures.history;
+    })
+    c.in_ok-driver.ensures c.in_ok-turns.ensures (c.in_ok-pass.ensures c.args.job.now.start_epoch c.args.job.now)

@@ -1,0 +1,11 @@
+-- What a verdict on a trace says. Entries stand newest first.
+use Rattle.std.specs.Prelude.{List}
+use Rattle.sgx_types.specs.declared.entries.Entry.{Entry}
+use Rattle.job_grammar.specs.Jobs.{JobView}
+use Rattle.run_history.specs.Histories.{FailsFirst, History}
+use Rattle.trace_auditor.specs.declared.verdict.Verdict.{Verdict}
+use Rattle.trace_auditor.specs.declared.verdict.Verdict.TheVariants as verdicts
+
+abbrev pub Judges : JobView → List Entry → Verdict → Type 0
+Judges j whole verdicts.Yes = History j whole
+Judges j whole (verdicts.No place rule) = FailsFirst j whole place rule

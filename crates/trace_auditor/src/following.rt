@@ -1,0 +1,33 @@
+//! An entry that keeps each rule is told to the tables.
+
+ghost use Rattle.std.specs.Prelude.{◌∷◌};
+ghost use Rattle.trace_auditor.specs.Audits.{CanFollow, KeepsAudit};
+
+use crate::auditing::Auditing;
+use audit_tables::following::follow;
+use cached_translations::processor::Mode;
+use job_grammar::jobs::Job;
+use paging_machine::starts::Start;
+use sgx_types::entries::Entry;
+
+impl Auditing {
+    /// Brings the tables to an entry that keeps each rule, with which the machine, the pass and the records have gone on. `before` is how its
+    /// processor stood before it, `start` the open start that it ends.
+    pub(crate) fn follow(&mut self, job: &Job, before: Mode, start: Option<Start>, entry: &Entry)
+        requires { CanFollow job.now self.old before start entry.now }
+        ensures { (can : CanFollow job.now self.old before start entry.now)
+            → KeepsAudit job.now (entry.now ∷ can.past) self.new }
+    {
+        follow(
+            &self.turns,
+            &mut self.driver,
+            before,
+            start,
+            &self.blank,
+            entry,
+        );
+        self.turns.hold(job, &mut self.driver.active, before, entry);
+        self.turns.note(job, before, entry);
+        self.pass.settle(job.marks(), self.machine.free_count());
+    }
+}

@@ -1,0 +1,89 @@
+//! One entry of a trace is judged.
+
+ghost use Rattle.std.specs.Prelude.{◌≡◌, IfOk, Some};
+ghost use Rattle.sgx_types.specs.declared.names.Frame.{Frame};
+ghost use Rattle.paging_machine.specs.Parts.{start_of, state_of};
+ghost use Rattle.driver_rules.specs.Decided.{is_ended};
+ghost use Rattle.audit_tables.specs.Followed.{frame_ended};
+ghost use Rattle.trace_auditor.specs.Audits.{IsAuditing, IsJudged};
+
+use crate::auditing::Auditing;
+use audit_dues::ending::is_ended;
+use audit_dues::script::keeps_script;
+use job_grammar::jobs::Job;
+use paging_machine::starts::Start;
+use run_history::rules::Rule;
+use sgx_types::entries::{Action, Entry, Event};
+use sgx_types::names::{Frame, Memory};
+use std::alloc::Global;
+use turn_tables::holding::mode_of;
+
+impl Auditing {
+    /// The first rule that the next entry breaks, in the order in which rules are named. None where it keeps each rule; then all stands for
+    /// the entries with it. Constant time, but for the SHA-256 of a page that goes out, and of an enclave's measurement.
+    pub(crate) fn judge(
+        &mut self,
+        alloc: Global,
+        job: &Job,
+        entry: &Entry,
+    ) -> Result<Option<Rule>, Memory>
+        requires { IsAuditing job.now self.old }
+        ensures { IfOk result (λ broken. (at : IsAuditing job.now self.old) → IsJudged job.now at.past entry.now self.new broken) }
+    {
+        if !keeps_script(job, &self.turns, &self.driver, &self.machine, entry) {
+            return Ok(Some(Rule::Script));
+        }
+        let before = mode_of(&self.machine, entry.actor);
+        let start = self.start_ended(&entry.event);
+        let keeps_age = self.pass.keeps_age(&self.driver, entry);
+        let keeps_kick = self.pass.keeps_kick(&self.machine, entry);
+        self.pass.note(&self.driver, &self.machine, entry);
+        let broken = self.ask(alloc, entry)?;
+        if broken.is_some() {
+            return Ok(broken);
+        }
+        if !keeps_age {
+            return Ok(Some(Rule::Age));
+        }
+        if !keeps_kick {
+            return Ok(Some(Rule::Kick));
+        }
+        self.follow(job, before, start, entry);
+        Ok(None)
+    }
+
+    /// Whether the trace may end here.
+    pub(crate) fn may_end(&self, job: &Job) -> bool
+        requires { IsAuditing job.now self.now }
+        ensures { (at : IsAuditing job.now self.now) → result ≡ is_ended job.now at.past }
+    {
+        is_ended(job, &self.turns, &self.driver, &self.machine)
+    }
+
+    // The open start that an event ends.
+    fn start_ended(&self, event: &Event) -> Option<Start>
+        ensures { (f : Frame) → frame_ended event.now ≡ Some f → start_of result ≡ (state_of self.now.machine).start f.0 }
+    {
+        match frame_ended(event) {
+            Some(frame) => self.machine.open_start(frame),
+            None => None,
+        }
+    }
+}
+
+// The frame of the start that an event ends.
+fn frame_ended(event: &Event) -> Option<Frame>
+    ensures { result ≡ frame_ended event.now }
+{
+    match *event {
+        Event::Did {
+            action: Action::Ewb { frame } | Action::Eld { frame },
+            ..
+        } => Some(frame),
+        Event::Refused {
+            action: Action::Eld { frame },
+            ..
+        } => Some(frame),
+        _ => None,
+    }
+}
