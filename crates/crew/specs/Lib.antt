@@ -1,2 +1,3 @@
+pub use Rattle.rounds.specs.Views
 pub mod Actors
 pub mod Tallies

@@ -5,8 +5,7 @@ ghost use Rattle.crew.specs.Actors.{IsOf};
 
 use backing_store::backing::Backing;
 use epoch_words::words::Words;
-use machine_book::book::MachineBook;
-use run_turns::turn::Turn;
+use rounds::run::{MachineBook, Turn};
 use seal_record::seal::SealedWork;
 use seal_record::unseal::UnsealedWork;
 use sgx_types::entries::Actor;

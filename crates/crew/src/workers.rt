@@ -8,7 +8,7 @@ use crate::waiting::{Made, watch};
 use backing_store::backing::Backing;
 use driver_rules::waits::Why;
 use epoch_words::words::{Pass, Words};
-use run_turns::turn::Turn;
+use rounds::run::Turn;
 use seal_record::seal::seal;
 use seal_record::unseal::unseal;
 use sgx_types::entries::Actor;

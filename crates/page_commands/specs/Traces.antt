@@ -7,9 +7,9 @@ use Rattle.job_text.specs.Reading.{read}
 use Rattle.old_trace.specs.Reading.{Reads, fault_line}
 use Rattle.run_history.specs.declared.rules.Rule.{Rule}
 use Rattle.run_history.specs.Histories.{FailsFirst, History}
-use Rattle.trace_auditor.specs.declared.verdict.Verdict.{Verdict}
-use Rattle.trace_auditor.specs.declared.verdict.Verdict.TheVariants as verdicts
-use Rattle.trace_auditor.specs.Judged.{Judges}
+use Rattle.audit_command.specs.Verdict.{Verdict}
+use Rattle.audit_command.specs.Verdict.TheVariants as verdicts
+use Rattle.audit_command.specs.Judged.{Judges}
 use Rattle.audit_command.specs.VerdictText.{verdict_text}
 use Rattle.least_command.specs.Fewest.{IsLeastText}
 

@@ -11,10 +11,10 @@ ghost use Rattle.page_commands.specs.Traces.{HalfJudged, HalfLineTold, HasTrace,
 use crate::status::Status;
 use crate::traces::read_traced;
 use audit_command::giving::give_audit;
+use audit_command::verdicts::Verdict;
 use io_edges::sinks::Sink;
 use io_edges::sources::Source;
 use std::alloc::Global;
-use trace_auditor::verdict::Verdict;
 use trace_pieces::ungiven::Ungiven;
 
 /// Reads a job and then an old trace, whoever made it, and gives the verdict: `yes` where the trace is a history of the job, and else the

@@ -3,9 +3,7 @@
 use backing_store::planned_store::PlannedStore;
 use epoch_words::words::Words;
 use job_grammar::jobs::Job;
-use machine_book::book::MachineBook;
-use rounds::run::run;
-use run_turns::book::Parts;
+use rounds::run::{MachineBook, Parts, run};
 use sgx_types::names::Memory;
 use std::alloc::Global;
 use std::sync::Wait;

@@ -1,6 +1,6 @@
 -- When nothing is left to the processors.
 use Rattle.std.proofs.Common.{◌≡◌, ℕ, ◌+◌, ◌<◌, ◌==◌, Bool, true, false, arith, refl, sym, subst, ◌∙◌}
-use Rattle.run_turns.specs.Views.{BookView}
+use Rattle.machine_book.specs.Views.{BookView}
 use Rattle.rounds.specs.Rests.{CpuRests, CpusRest}
 
 -- one processor more

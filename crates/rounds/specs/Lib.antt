@@ -1,1 +1,2 @@
+pub use Rattle.machine_book.specs.Views
 pub mod Rests

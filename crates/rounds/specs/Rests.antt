@@ -3,7 +3,7 @@ use Rattle.std.specs.Prelude.{ℕ, ◌≡◌, ◌<◌, false}
 use Rattle.driver_rules.specs.Dues.{Finished}
 use Rattle.driver_rules.specs.Stops.{is_spent}
 use Rattle.driver_rules.specs.Turns.{builder_due, cpu_due}
-use Rattle.run_turns.specs.Views.{BookView}
+use Rattle.machine_book.specs.Views.{BookView}
 use Rattle.machine_book.specs.Words.{MachineView}
 
 -- a book of the same job and of the same words, to which no want of memory was noted

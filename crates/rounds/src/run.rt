@@ -7,7 +7,7 @@ ghost use Rattle.std.specs.Prelude.{◌≡◌, OnOk, IfOk, false, length, true};
 use crate::turns::{build, cpus_of, reclaim, run_cpu};
 use backing_store::backing::Backing;
 use epoch_words::words::Words;
-use machine_book::book::MachineBook;
+pub use machine_book::book::{MachineBook, Parts, Turn};
 use sgx_types::names::{Cpu, Memory};
 use std::alloc::Global;
 use std::sync::Wait;

@@ -6,8 +6,7 @@ ghost use Rattle.std.specs.Prelude.{◌≡◌, ◌<◌, IfOk, false, length, tru
 use backing_store::backing::Backing;
 use epoch_words::words::Words;
 use job_grammar::jobs::Job;
-use machine_book::book::MachineBook;
-use run_turns::turn::Turn;
+use machine_book::book::{MachineBook, Turn};
 use seal_record::seal::seal;
 use seal_record::unseal::unseal;
 use sgx_types::names::{Cpu, Memory};

@@ -13,7 +13,7 @@ use Rattle.run_history.specs.Given.{UnforgedRun}
 use Rattle.run_history.specs.Histories.{GoesOn, History}
 use Rattle.run_history.specs.Honest.{IsHonest}
 use Rattle.run_history.specs.Stored.{PutsAreFlat}
-use Rattle.run_turns.specs.Views.{BookView, Holds}
+use Rattle.crew.specs.Views.{BookView, Holds}
 use Rattle.run_jobs.specs.Ends.{IsEndOf}
 use Rattle.run_jobs.specs.Runs.{WholeRun}
 use Rattle.run_jobs.specs.declared.ends.End.{End}

@@ -5,11 +5,9 @@ ghost use Rattle.std.specs.Prelude.{◌≡◌, [], IfOk, IfSome, reverse};
 
 use crate::ends::{End, end_of};
 use backing_store::backing::Backing;
-use crew::run::run_crew;
+use crew::run::{MachineBook, Parts, run_crew};
 use epoch_words::words::Words;
 use job_grammar::jobs::Job;
-use machine_book::book::MachineBook;
-use run_turns::book::Parts;
 use sgx_types::entries::Entry;
 use sgx_types::names::Memory;
 use std::alloc::Global;

@@ -3,3 +3,5 @@ pub mod MakeLaws
 pub mod StayLaws
 pub mod EntryLaws
 pub mod KickLaws
+pub mod TcsLaws
+pub mod FreshLaws

@@ -1,17 +1,14 @@
 -- What holds before the first entry.
 use Rattle.std.proofs.Common.{◌≡◌, ℕ, suc, ◌≤◌, ◌<◌, false, cond, List, [], ◌∷◌, Option, Some, None, IfSome, length, reverse, count_by, vec_len, if◌then◌else◌, refl, sym, ap, subst, ◌∙◌, arith}
 use Rattle.std.proofs.lemmas.Bool.{false≢true}
-use Rattle.std.proofs.lemmas.List.{length-replicate}
 use Rattle.std.proofs.lemmas.List.Sums.{sum_by-cons}
 use Rattle.sgx_types.specs.Making.{Making}
 use Rattle.job_grammar.specs.Jobs.{JobView, va_pages}
 use Rattle.job_grammar.specs.Valid.{IsValid}
 use Rattle.backing_store.specs.Calls.{Call}
-use Rattle.epcm_entry.specs.Epc.{free_frame}
 use Rattle.paging_laws.specs.Histories.{StandsWithAllRules}
 use Rattle.paging_laws.specs.Shape.{FitsApart, ShapeWithRules}
-use Rattle.paging_laws.specs.State.{making_of}
-use Rattle.paging_machine.specs.Parts.{Parts, idle, made, state_of}
+use Rattle.paging_machine.specs.Parts.{Parts, state_of}
 use Rattle.turn_rules.specs.Machines.{machine_of}
 use Rattle.driver_rules.specs.Passes.{pass}
 use Rattle.driver_rules.specs.Turns as dues
@@ -49,39 +46,13 @@ use Rattle.book_laws.specs.Stores.{TellsStore}
 use Rattle.book_laws.proofs.StoreLaws.{tells_first}
 use Rattle.run_book.specs.Books.{KeepsBook, KeepsBytes, KeepsHonest}
 use Rattle.run_records.proofs.FlatSteps.{flat_first}
+use Rattle.run_steps.proofs.FreshLaws.{IsFresh, fresh_cpus, fresh_making}
+use Rattle.run_steps.proofs.TcsLaws.{tcs_apart}
 use Rattle.run_turns.specs.declared.course.Course.{Course}
 use Rattle.run_turns.specs.Courses.{KeepsCourse, is_load, is_loading, open_starts, past_of}
-use Rattle.run_turns.proofs.TcsLaws.{tcs_apart}
 use Rattle.run_history.specs.Honest.{GiftsAreLast}
 
 -- ---- the machine
-
--- a new machine, which was made for the job and stands for no entry
-pub record IsFresh (j : JobView) (m : Parts) : Type 0 where
-  pub value : m ≡ made j.epc (length j.scripts) j.key j.start_epoch j.start_version
-  pub shape : ShapeWithRules (making_of (state_of m)) (state_of m) []
-  pub history : StandsWithAllRules (making_of (state_of m)) (state_of m) [] []
-
--- with the numbers of the job it was made for the job
-pub made_same : (j : JobView) (m : Parts) (frames cpus : ℕ) (key : List ℕ) (epoch version : ℕ) → m ≡ made frames cpus key epoch version
-    → frames ≡ j.epc → cpus ≡ length j.scripts → key ≡ j.key → epoch ≡ j.start_epoch → version ≡ j.start_version
-    → m ≡ made j.epc (length j.scripts) j.key j.start_epoch j.start_version
-made_same j m frames cpus key epoch version is same_frames same_cpus same_key same_epoch same_version =
-    is ∙ (λ i. made (same_frames i) (same_cpus i) (same_key i) (same_epoch i) (same_version i))
-
--- it is the job's machine
-pub fresh_making : (j : JobView) (m : Parts) → IsFresh j m → making_of (state_of m) ≡ machine_of j
-fresh_making j m fresh = ap (λ (x : Parts). making_of (state_of x)) fresh.value ∙ (λ i. record {
-  frames = length-replicate j.epc free_frame i;
-  cpus = length-replicate (length j.scripts) idle i;
-  key = j.key;
-  first_epoch = j.start_epoch;
-  first_version = j.start_version;
-})
-
--- .. with a processor for each script
-pub fresh_cpus : (j : JobView) (m : Parts) → IsFresh j m → length m.cpus ≡ length j.scripts
-fresh_cpus j m fresh = ap (λ (x : Parts). length x.cpus) fresh.value ∙ length-replicate (length j.scripts) idle
 
 -- no frame holds a page, and none is loading one
 fits_first : (frames : ℕ) → FitsApart frames []

@@ -20,7 +20,6 @@ pub mod LoadEnds
 pub mod LoadPair
 pub mod LoadFetch
 pub mod LoadTurn
-pub mod TcsLaws
 pub mod FirstLaws
 pub mod SameLaws
 pub mod ViewLaws

@@ -10,8 +10,8 @@ use Rattle.driver_tables.specs.Tables.{IsNew}
 use Rattle.run_history.specs.Histories.{GoesOn}
 use Rattle.turn_tables.specs.Holding.{KeepsHolds}
 use Rattle.turn_tables.specs.Shown.{ShowsTurns}
-use Rattle.run_turns.proofs.FirstLaws.{IsFresh, fresh_cpus, fresh_making}
-use Rattle.run_turns.proofs.TcsLaws.{tcs_apart}
+use Rattle.run_steps.proofs.FreshLaws.{IsFresh, fresh_cpus, fresh_making}
+use Rattle.run_steps.proofs.TcsLaws.{tcs_apart}
 use Rattle.audit_pass.specs.Standing.{StandsAt}
 use Rattle.audit_records.proofs.StayLaws.{none_out}
 use Rattle.audit_records.specs.Kept.{records_of}

@@ -1,5 +1,5 @@
 use crate::worlds::{World, made};
-use run_turns::turn::Turn;
+use machine_book::book::Turn;
 use seal_record::unseal::unseal;
 use sgx_types::entries::{Action, Answer, Event};
 use std::test::Fail;

@@ -1,5 +1,5 @@
 use crate::worlds::{World, made};
-use run_turns::turn::Turn;
+use machine_book::book::Turn;
 use seal_record::seal::seal;
 use sgx_types::entries::{Action, Actor, Entry, Event};
 use std::test::Fail;

@@ -1,6 +1,7 @@
 use Rattle.std.proofs.Common.{length, sym, ap, ◌∙◌}
 use Rattle.std.proofs.lemmas.List.{length-map}
-use Rattle.run_turns.proofs.FirstLaws.{course_first, made_same}
+use Rattle.run_steps.proofs.FreshLaws.{made_same}
+use Rattle.run_turns.proofs.FirstLaws.{course_first}
 use Rattle.run_turns.proofs.course.Course.new.Goals as goal
 
 -- machine, driver, tables and pass are new

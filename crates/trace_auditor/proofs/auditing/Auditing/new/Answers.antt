@@ -1,6 +1,6 @@
 use Rattle.std.proofs.Common.{length, sym, ap, ◌∙◌}
 use Rattle.std.proofs.lemmas.List.{length-map}
-use Rattle.run_turns.proofs.FirstLaws.{made_same}
+use Rattle.run_steps.proofs.FreshLaws.{made_same}
 use Rattle.trace_auditor.proofs.NewLaws.{keeps_first}
 use Rattle.trace_auditor.proofs.auditing.Auditing.new.Goals as goal
 
