@@ -3,14 +3,25 @@
 ghost use Rattle.std.specs.Prelude.{◌≡◌};
 
 use epoch_words::words::{Pass, Words};
+use std::sync::Wait;
 use std::sync::atomic::{AtomicBool, AtomicU64, Ordering};
 use std::thread;
+use std::time::Duration;
 
 // A worker that waits looks so often at most.
 const LOOKS: u32 = 64;
 
 // It waits for 2 to the power of this many turns at most.
 const MOST: u32 = 6;
+
+// Who had nothing to do so many times one after another sleeps between its looks, so that it takes neither a processor nor the line of the
+// count from those who work.
+const AWAKE: u32 = 8;
+
+// It looks so often at most, and sleeps so long, in microseconds, between two looks.
+const NAPS: u32 = 8;
+
+const NAP: u64 = 50;
 
 // Who waits for processors to leave an enclave looks at its word so often at most.
 const WORD_LOOKS: u32 = 1000;
@@ -46,15 +57,27 @@ impl Made {
     }
 
     /// Waits until others made some turns, the more the more turns were in vain one after another, and a short while at most.
-    pub(crate) fn wait(&self, vain: u32) {
+    pub(crate) fn wait<R: Wait>(&self, rt: &R, vain: u32) {
         let first = self.turns.load(Ordering::SeqCst);
         let wanted = 1u64 << vain.min(MOST);
-        for _ in 0..LOOKS {
-            if self.turns.load(Ordering::SeqCst).wrapping_sub(first) >= wanted {
+        let looks = if vain > AWAKE { NAPS } else { LOOKS };
+        for _ in 0..looks {
+            let turns = self.turns.load(Ordering::SeqCst);
+            if turns.wrapping_sub(first) >= wanted {
                 return;
             }
-            thread::yield_now();
+            if vain > AWAKE {
+                self.nap(rt, turns);
+            } else {
+                thread::yield_now();
+            }
         }
+    }
+
+    // Sleeps a short while, where the count is still this one.
+    fn nap<R: Wait>(&self, rt: &R, turns: u64) {
+        self.turns
+            .park_timeout(rt, (turns % (1 << 32)) as u32, Duration::from_micros(NAP));
     }
 }
 

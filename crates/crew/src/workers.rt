@@ -40,7 +40,7 @@ pub(crate) fn work<R: Wait, B: Backing, G: Gate, N: Run>(
             Turn::Again(_) if made.is_given_up() => return,
             Turn::Again(why) => {
                 vain = vain.saturating_add(1);
-                wait(made, words, &mut pass, vain, why);
+                wait(rt, made, words, &mut pass, vain, why);
             }
             Turn::Did { .. } | Turn::Seal(_) | Turn::Unseal(_) => {
                 vain = 0;
@@ -51,13 +51,13 @@ pub(crate) fn work<R: Wait, B: Backing, G: Gate, N: Run>(
 }
 
 // Waits for what a turn was answered to wait for.
-fn wait(made: &Made, words: &Words, pass: &mut Option<Pass>, vain: u32, why: Why)
+fn wait<R: Wait>(rt: &R, made: &Made, words: &Words, pass: &mut Option<Pass>, vain: u32, why: Why)
     requires { IfSome pass.old (λ pass. pass.words ≡ words.now) }
     ensures { IfSome pass.new (λ pass. pass.words ≡ words.now) }
 {
     match (pass, why) {
         (Some(pass), Why::Older { enclave, .. }) => watch(words, pass, enclave),
-        _ => made.wait(vain),
+        _ => made.wait(rt, vain),
     }
 }
 
