@@ -1,2 +1,6 @@
+mod asked;
+mod bits;
+mod failing;
+mod lies;
 mod plans;
-mod rows;
+mod several;

@@ -1,6 +1,10 @@
-use super::rows::Ask::{AsksRoom, Gets, Keeps};
-use super::rows::Outcome::{Fails, Flips, Gives, HasRoom, Kept, NoRoom, NotKept, Nothing};
-use super::rows::{A, Ask, BITS, Outcome, ROWS};
+use super::asked::Ask::{AsksRoom, Gets, Keeps};
+use super::asked::Outcome::{Fails, Flips, Gives, HasRoom, Kept, NoRoom, NotKept, Nothing};
+use super::asked::{A, Ask, Outcome, Row};
+use super::bits::BITS;
+use super::failing::FAILING;
+use super::lies::LIES;
+use super::several::SEVERAL;
 use backing_store::backing::{Backing, StoreFault};
 use backing_store::calls::{GetAnswer, StoreCall};
 use backing_store::planned_store::PlannedStore;
@@ -140,17 +144,25 @@ fn play<B: Backing>(
 #[test]
 fn plans_are_followed(rt: HostRuntime) -> Result<(), Fail> {
     let alloc = rt.alloc();
-    for row in ROWS {
-        let mut store = Box::new(alloc, PlannedStore::new())?;
-        store.plan(alloc, row.plans)?;
-        let told = play(&rt, alloc, &mut *store, row.asked, row.comes)?;
-        assert_eq!(rt; store.plans(), row.plans);
-        assert_eq!(rt; store.calls(), told.as_slice());
-        let mut number = 1u64;
-        for rec in store.puts() {
-            assert_eq!(rt; rec.header.enclave, number);
-            number = number.saturating_add(1);
+    for rows in [FAILING, LIES, SEVERAL] {
+        for row in rows {
+            follow(&rt, alloc, row)?;
         }
+    }
+    Ok(())
+}
+
+// One plan, with what is asked under it.
+fn follow(rt: &impl Abort, alloc: Global, row: &Row) -> Result<(), Fail> {
+    let mut store = Box::new(alloc, PlannedStore::new())?;
+    store.plan(alloc, row.plans)?;
+    let told = play(rt, alloc, &mut *store, row.asked, row.comes)?;
+    assert_eq!(rt; store.plans(), row.plans);
+    assert_eq!(rt; store.calls(), told.as_slice());
+    let mut number = 1u64;
+    for rec in store.puts() {
+        assert_eq!(rt; rec.header.enclave, number);
+        number = number.saturating_add(1);
     }
     Ok(())
 }
