@@ -31,7 +31,7 @@ use Rattle.sgx_types.specs.Slots.{slot_of as starts_slot}
 use Rattle.driver_laws.specs.Sound.{IsSound, is_loading, load_slot, slot_at, slot_loading, slot_of, stands_in}
 use Rattle.driver_laws.proofs.PlaceLaws.{load_slot_is, same_page-refl}
 use Rattle.driver_laws.proofs.SlotLaws.{same_slot-refl}
-use Rattle.driver_laws.proofs.ThreeLaws.{or_left, or_right}
+use Rattle.driver_laws.proofs.ThreeEntryLaws.{or_left, or_right}
 use Rattle.driver_laws.proofs.SoundLaws.{entry_of, load_start, named}
 use Rattle.driver_laws.proofs.SlotMoves.{SameSlots, same_add, same_age, same_eldstart, same_ewb, same_refused, slot_back, slot_back_other, slot_started, slot_started_other}
 

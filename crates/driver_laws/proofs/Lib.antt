@@ -9,6 +9,7 @@ pub mod PassLaws
 pub mod EpochLaws
 pub mod OwnLaws
 pub mod HistoryLaws
+pub mod ThreeEntryLaws
 pub mod ThreeLaws
 pub mod TcsLaws
 pub mod SlotMoves

@@ -48,7 +48,8 @@ use Rattle.driver_rules.specs.Turns.{Fails, Last, Loads, Other, WasEnded, access
 use Rattle.driver_laws.proofs.HistoryLaws.{driven_before, driven_sound}
 use Rattle.driver_laws.proofs.PlaceLaws.{same_page-refl}
 use Rattle.driver_laws.proofs.SoundLaws.{entry_of}
-use Rattle.driver_laws.proofs.ThreeLaws.{three_first, three_others, three_own}
+use Rattle.driver_laws.proofs.ThreeEntryLaws.{three_others}
+use Rattle.driver_laws.proofs.ThreeLaws.{three_first, three_own}
 
 -- ---- an operation of a script names its page
 
