@@ -1,3 +1,4 @@
+pub mod Busy
 pub mod Chunks
 pub mod CountLaws
 pub mod Goings

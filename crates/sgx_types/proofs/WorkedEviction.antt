@@ -16,11 +16,12 @@ use Rattle.sgx_types.specs.declared.names.Frame.{Frame}
 use Rattle.sgx_types.specs.declared.names.Kind.TheVariants as kinds
 use Rattle.sgx_types.specs.declared.names.Perm.{Perm}
 use Rattle.sgx_types.specs.declared.names.SlotAt.{SlotAt}
-use Rattle.sgx_types.specs.Counts.{count_below}
+use Rattle.sgx_types.specs.Counts.{any_below, count_below}
 use Rattle.sgx_types.specs.Frames.{Free, IsLoading, Holds, content, is_sealing, page_at}
 use Rattle.sgx_types.specs.Epochs.{epoch, older_at, newer_at, block_epoch}
 use Rattle.sgx_types.specs.Eviction.{is_drained, kept_back}
 use Rattle.sgx_types.specs.Slots.{version_in, is_slot_busy, next_version}
+use Rattle.sgx_types.specs.Starts.{open_start}
 
 abbrev frame : ℕ → Frame
 frame n = record { 0 = n }
@@ -103,7 +104,8 @@ started = did Reclaimer (actions.EwbStart (frame 4) first_slot) (answers.Version
 abbrev out : List Entry
 out = did Reclaimer (actions.Ewb (frame 4)) (answers.Moved (page_at 1 2) 1 []) ∷ started
 
-busy_slot : is_slot_busy started first_slot ≡ true
+busy_slot : is_slot_busy 6 started first_slot ≡ true
+unfolding any_below
 busy_slot = refl
 
 sealing : is_sealing started 4 ≡ true
@@ -112,7 +114,8 @@ sealing = refl
 filled_slot : version_in out first_slot ≡ 1
 filled_slot = refl
 
-free_slot : is_slot_busy out first_slot ≡ false
+free_slot : is_slot_busy 6 out first_slot ≡ false
+unfolding any_below
 free_slot = refl
 
 free_frame : content out 4 ≡ Free
@@ -140,8 +143,30 @@ keeps_version = refl
 free_again : content refused 5 ≡ Free
 free_again = refl
 
-not_busy_again : is_slot_busy refused first_slot ≡ false
+not_busy_again : is_slot_busy 6 refused first_slot ≡ false
+unfolding any_below
 not_busy_again = refl
+
+-- where the starts of two frames named one slot, the commit of one leaves it busy by the other
+abbrev two_named : List Entry
+two_named =
+    did Reclaimer (actions.Ewb (frame 4)) (answers.Moved (page_at 1 2) 1 [])
+    ∷ did Reclaimer (actions.EwbStart (frame 5) first_slot) (answers.Version 2)
+    ∷ started
+
+busy_by_other : is_slot_busy 6 two_named first_slot ≡ true
+unfolding any_below
+busy_by_other = refl
+
+-- .. of a frame that is one of so many
+not_busy_below : is_slot_busy 5 two_named first_slot ≡ false
+unfolding any_below
+not_busy_below = refl
+
+-- a start knows the place of its entry and its actor
+knows_place : open_start two_named 5
+    ≡ Some (record { slot = first_slot; version = 2; loads = None; place = 11; actor = Reclaimer })
+knows_place = refl
 
 emptied : version_in reloaded first_slot ≡ 0
 emptied = refl

@@ -19,7 +19,6 @@ use Rattle.sgx_types.specs.Ends.{EndsOut, IsBack, IsNotBack}
 use Rattle.sgx_types.specs.Frames.{Content, Free, IsVa, SecsOf, Holds, IsLoading, content, is_sealing, is_page, page_at}
 use Rattle.sgx_types.specs.Making.{Making}
 use Rattle.sgx_types.specs.Processors.{Stay, stay, BareTranslation, holds_number, translations}
-use Rattle.sgx_types.specs.declared.names.SlotAt.{SlotAt}
 use Rattle.sgx_types.specs.Table.{first_of_row}
 use Rattle.sgx_types.specs.Eviction.{is_drained}
 use Rattle.sgx_types.specs.Slots.{next_version, version_in}
@@ -187,8 +186,10 @@ pub record Stale (past : List Entry) : Type 0 where
 
 -- the open start of a frame is one of EWB with this version
 pub record EndsWriteOut (o : Option Start) (version : ℕ) : Type 0 where
-  pub slot : SlotAt
-  pub opened : o ≡ Some (record { slot = slot; version = version; loads = None })
+  pub start : Start
+  pub opened : o ≡ Some start
+  pub writes : start.loads ≡ None
+  pub told : start.version ≡ version
 
 -- what may start to go out of a frame, by what the frame holds: a TCS or REG page that is drained, and nothing else
 abbrev pub GoesOut : List Entry → ℕ → Content → Type 0

@@ -98,7 +98,7 @@ abbrev pub slot_sight_at : ℕ → List Entry → SlotAt → SlotSight
 slot_sight_at frames past slot = record {
   frame = sight_at frames past slot.frame.0;
   is_beyond = nat_lt 511 slot.index;
-  is_busy = is_slot_busy past slot;
+  is_busy = is_slot_busy frames past slot;
   version = version_in past slot;
 }
 

@@ -1,11 +1,12 @@
 -- The slots of version array pages by the entries before a place: which open starts name them, and which version each holds.
-use Rattle.std.specs.Prelude.{ℕ, ◌==◌, ◌+◌, ◌&&◌, Bool, true, false, if◌then◌else◌, List, [], ◌∷◌, Option, Some, None}
+use Rattle.std.specs.Prelude.{ℕ, ◌≡◌, ◌==◌, ◌+◌, ◌&&◌, Bool, true, false, if◌then◌else◌, List, [], ◌∷◌, Option, Some, None}
 use Rattle.sgx_types.specs.declared.entries.Entry.{Entry}
 use Rattle.sgx_types.specs.declared.entries.Event.{Event}
-use Rattle.sgx_types.specs.declared.entries.Event.TheVariants.{Did, Refused}
+use Rattle.sgx_types.specs.declared.entries.Event.TheVariants.{Did}
 use Rattle.sgx_types.specs.declared.entries.Action.TheVariants.{EwbStart, Ewb, EldStart, Eld}
 use Rattle.sgx_types.specs.declared.entries.Answer.TheVariants.{Moved}
 use Rattle.sgx_types.specs.declared.names.SlotAt.{SlotAt}
+use Rattle.sgx_types.specs.Counts.{any_below}
 use Rattle.sgx_types.specs.Starts.{Start, open_start}
 
 abbrev pub same_slot : SlotAt → SlotAt → Bool
@@ -24,18 +25,13 @@ abbrev pub names_slot : Option SlotAt → SlotAt → Bool
 names_slot None s = false
 names_slot (Some slot) s = same_slot slot s
 
-abbrev pub busy_after : Event → (ℕ → Option SlotAt) → SlotAt → Bool → Bool
-busy_after (Did (EwbStart f slot) answer) opened s before = if same_slot slot s then true else before
-busy_after (Did (EldStart f page slot) answer) opened s before = if same_slot slot s then true else before
-busy_after (Did (Ewb f) answer) opened s before = if names_slot (opened f.0) s then false else before
-busy_after (Did (Eld f) answer) opened s before = if names_slot (opened f.0) s then false else before
-busy_after (Refused (Eld f) why) opened s before = if names_slot (opened f.0) s then false else before
-busy_after _ opened s before = before
+-- an open start of one of so many frames names the slot
+abbrev pub is_slot_busy : ℕ → List Entry → SlotAt → Bool
+is_slot_busy frames past s = any_below (λ n. names_slot (open_slot past n) s) frames
 
--- whether a start that named the slot is open. A start that names a busy slot is refused, so that one commit ends it.
-abbrev pub is_slot_busy : List Entry → SlotAt → Bool
-is_slot_busy [] s = false
-is_slot_busy (e ∷ past) s = busy_after e.event (open_slot past) s (is_slot_busy past s)
+-- no open start names the slot
+abbrev pub IsIdle : List Entry → SlotAt → Type 0
+IsIdle past s = (n : ℕ) → names_slot (open_slot past n) s ≡ false
 
 abbrev pub version_after : Event → (ℕ → Option SlotAt) → SlotAt → ℕ → ℕ
 version_after (Did (Ewb f) (Moved page version tag)) opened s before = if names_slot (opened f.0) s then version else before

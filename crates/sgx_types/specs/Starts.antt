@@ -1,5 +1,6 @@
 -- The starts of EWB and ELDU that have not ended, by the entries before a place.
-use Rattle.std.specs.Prelude.{ℕ, ◌≡◌, ◌==◌, Bool, true, false, if◌then◌else◌, List, [], ◌∷◌, Option, Some, None}
+use Rattle.std.specs.Prelude.{ℕ, ◌≡◌, ◌==◌, Bool, true, false, if◌then◌else◌, List, [], ◌∷◌, length, Option, Some, None, option_map}
+use Rattle.sgx_types.specs.declared.entries.Actor.{Actor}
 use Rattle.sgx_types.specs.declared.entries.Answer.{Answer}
 use Rattle.sgx_types.specs.declared.entries.Answer.TheVariants.{Version}
 use Rattle.sgx_types.specs.declared.entries.Entry.{Entry}
@@ -10,32 +11,49 @@ use Rattle.sgx_types.specs.declared.names.Page.{Page}
 use Rattle.sgx_types.specs.declared.names.SlotAt.{SlotAt}
 use Rattle.sgx_types.specs.Frames.{content, is_page, same_page}
 
--- the slot that a start named, the version that an EWB drew or an ELDU found in the slot, and the page that an ELDU loads;
--- an EWB takes the page in its frame
+-- the slot that a start named, the version that an EWB drew or an ELDU found in the slot, the page that an ELDU loads (an EWB takes
+-- the page in its frame), the place of the entry that started it, which is the number of entries before that one, and its actor
 pub record Start : Type 0 where
   pub slot : SlotAt
   pub version : ℕ
   pub loads : Option Page
+  pub place : ℕ
+  pub actor : Actor
+
+-- a start without its place and its actor, which a machine does not note
+pub record BareStart : Type 0 where
+  pub slot : SlotAt
+  pub version : ℕ
+  pub loads : Option Page
+
+abbrev pub without_place : Start → BareStart
+without_place x = record { slot = x.slot; version = x.version; loads = x.loads }
+
+abbrev pub bare_start : Option Start → Option BareStart
+bare_start o = option_map without_place o
 
 -- the version that a start answers
 abbrev pub version_told : Answer → ℕ
 version_told (Version version) = version
 version_told _ = 0
 
-abbrev pub opened_by : Event → ℕ → Option Start → Option Start
-opened_by (Did (EwbStart f slot) answer) n before =
-    if f.0 == n then Some (record { slot = slot; version = version_told answer; loads = None }) else before
-opened_by (Did (EldStart f page slot) answer) n before =
-    if f.0 == n then Some (record { slot = slot; version = version_told answer; loads = Some page }) else before
-opened_by (Did (Ewb f) answer) n before = if f.0 == n then None else before
-opened_by (Did (Eld f) answer) n before = if f.0 == n then None else before
-opened_by (Refused (Eld f) why) n before = if f.0 == n then None else before
-opened_by _ n before = before
+-- what an event of an actor at a place leaves of a frame's start
+abbrev pub opened_by : Actor → ℕ → Event → ℕ → Option Start → Option Start
+opened_by actor place (Did (EwbStart f slot) answer) n before =
+    if f.0 == n then Some (record { slot = slot; version = version_told answer; loads = None; place = place; actor = actor }) else before
+opened_by actor place (Did (EldStart f page slot) answer) n before =
+    if f.0 == n
+    then Some (record { slot = slot; version = version_told answer; loads = Some page; place = place; actor = actor })
+    else before
+opened_by actor place (Did (Ewb f) answer) n before = if f.0 == n then None else before
+opened_by actor place (Did (Eld f) answer) n before = if f.0 == n then None else before
+opened_by actor place (Refused (Eld f) why) n before = if f.0 == n then None else before
+opened_by actor place _ n before = before
 
 -- the open start of a frame
 abbrev pub open_start : List Entry → ℕ → Option Start
 open_start [] n = None
-open_start (e ∷ past) n = opened_by e.event n (open_start past n)
+open_start (e ∷ past) n = opened_by e.actor (length past) e.event n (open_start past n)
 
 abbrev pub loads_page : Option Page → Page → Bool
 loads_page None g = false

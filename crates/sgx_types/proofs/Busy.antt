@@ -1,0 +1,60 @@
+-- Slots that open starts name: by how many frames a slot is busy, and when none names it.
+use Rattle.std.proofs.Common.{◌≡◌, ℕ, ◌<◌, ◌==◌, Bool, true, false, refl, sym, ap, ◌∙◌, subst, Option, Some, None, List}
+use Rattle.std.proofs.lemmas.Bool.{eq-eqb, false≢true}
+use Rattle.sgx_types.specs.declared.entries.Entry.{Entry}
+use Rattle.sgx_types.specs.declared.names.SlotAt.{SlotAt}
+use Rattle.sgx_types.specs.Slots.{IsIdle, is_slot_busy, names_slot, open_slot, same_slot, slot_of}
+use Rattle.sgx_types.specs.Starts.{Start, open_start}
+use Rattle.sgx_types.proofs.CountLaws.{any_below-found, any_below-none, any_below-some}
+use Rattle.sgx_types.proofs.Pages.{same_slots}
+
+-- a slot is the same as itself
+pub same_slot-refl : (s : SlotAt) → same_slot s s ≡ true
+same_slot-refl s = rw (eq-eqb s.frame.0 s.frame.0 refl, eq-eqb s.index s.index refl) refl
+
+-- a slot that no open start names is not busy, whatever number of frames there is
+pub idle_free : (frames : ℕ) (past : List Entry) (slot : SlotAt) → IsIdle past slot → is_slot_busy frames past slot ≡ false
+idle_free frames past slot idle = any_below-none (λ n. names_slot (open_slot past n) slot) frames (λ n low. idle n)
+
+-- an open start of one of the frames makes its slot busy
+pub open_busy : (frames : ℕ) (past : List Entry) (n : ℕ) (x : Start) → n < frames → open_start past n ≡ Some x
+    → is_slot_busy frames past x.slot ≡ true
+open_busy frames past n x low is =
+    any_below-some (λ m. names_slot (open_slot past m) x.slot) frames n low
+    (ap (λ o. names_slot (slot_of o) x.slot) is ∙ same_slot-refl x.slot)
+
+-- the open start of a frame names a slot
+pub record IsNamedBy (past : List Entry) (slot : SlotAt) (n : ℕ) : Type 0 where
+  pub start : Start
+  pub opened : open_start past n ≡ Some start
+  pub names : start.slot ≡ slot
+
+-- .. where it passes the test
+pub named_by : (past : List Entry) (slot : SlotAt) (n : ℕ) → names_slot (open_slot past n) slot ≡ true → IsNamedBy past slot n
+named_by past slot n names = by_start (open_start past n) refl names
+  where
+    by_start : (o : Option Start) → open_start past n ≡ o → names_slot (slot_of o) slot ≡ true → IsNamedBy past slot n
+    by_start None is h = cc
+    by_start (Some x) is h = record { start = x; opened = is; names = same_slots x.slot slot h }
+
+-- a busy slot is named by the open start of one of the frames
+pub busy_named : (frames : ℕ) (past : List Entry) (slot : SlotAt) → is_slot_busy frames past slot ≡ true
+    → (n : ℕ) × (n < frames) × IsNamedBy past slot n
+busy_named frames past slot busy =
+    let found = any_below-found (λ n. names_slot (open_slot past n) slot) frames busy in
+    (found.0, found.1, named_by past slot found.0 found.2)
+
+-- a slot that names each open start otherwise is idle
+pub idle_by : (past : List Entry) (slot : SlotAt) → ((n : ℕ) (x : Start) → open_start past n ≡ Some x → x.slot ≡ slot → ⊥)
+    → IsIdle past slot
+idle_by past slot other n = by_test (names_slot (open_slot past n) slot) refl
+  where
+    by_test : (b : Bool) → names_slot (open_slot past n) slot ≡ b → b ≡ false
+    by_test true e = let k = named_by past slot n e in absurd (other n k.start k.opened k.names)
+    by_test false e = refl
+
+-- .. and no open start names an idle slot
+pub idle_apart : (past : List Entry) (slot : SlotAt) (n : ℕ) (x : Start) → IsIdle past slot → open_start past n ≡ Some x
+    → x.slot ≡ slot → ⊥
+idle_apart past slot n x idle is same =
+    false≢true (sym (idle n) ∙ ap (λ o. names_slot (slot_of o) slot) is ∙ ap (same_slot x.slot) (sym same) ∙ same_slot-refl x.slot)
