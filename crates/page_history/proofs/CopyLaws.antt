@@ -436,7 +436,7 @@ live_more k past e low keeps refusal fresh live = by_event e.event refusal fresh
     drawn : DrawnOnce k.first_version past
     drawn = drawn_once k past keeps
 
-    apart : StartsApart past
+    apart : StartsApart k.frames past
     apart = starts_apart k past keeps
 
     above : (t : SlotAt) (w : ℕ) (h : Page) → copy past h ≡ Some (InSlot t w) → 0 < w

@@ -1,5 +1,5 @@
 -- Each version is drawn once, and is below the next.
-use Rattle.std.proofs.Common.{◌≡◌, ℕ, ◌+◌, ◌<◌, ◌≤◌, ◌==◌, Bool, true, false, cond, refl, sym, ap, ◌∙◌, subst, Option, Some, None, List, [], ◌∷◌, ◌⊎◌, inl, inr, ⊎_elim, arith}
+use Rattle.std.proofs.Common.{◌≡◌, ℕ, ◌+◌, ◌<◌, ◌≤◌, ◌==◌, Bool, true, false, cond, refl, sym, ap, ◌∙◌, subst, Option, Some, None, List, [], ◌∷◌, length, ◌⊎◌, inl, inr, ⊎_elim, arith}
 use Rattle.std.proofs.lemmas.Bool.{eqb-true}
 use Rattle.sgx_types.specs.declared.entries.Action.TheVariants.{EwbStart, Ewb, EldStart, Eld}
 use Rattle.sgx_types.specs.declared.entries.Actor.{Actor}
@@ -11,7 +11,7 @@ use Rattle.sgx_types.specs.declared.entries.Event.TheVariants.{Did, Refused}
 use Rattle.sgx_types.specs.declared.names.Frame.{Frame}
 use Rattle.sgx_types.specs.declared.names.Page.{Page}
 use Rattle.sgx_types.specs.declared.names.SlotAt.{SlotAt}
-use Rattle.sgx_types.specs.Rules.{EvictRule, RisingRule}
+use Rattle.sgx_types.specs.Rules.{EndsWriteOut, EvictRule, RisingRule}
 use Rattle.sgx_types.specs.Slots.{is_draw, next_version}
 use Rattle.sgx_types.specs.Starts.{Start, open_start, version_told}
 use Rattle.sgx_types.specs.Making.{Making}
@@ -42,16 +42,16 @@ fewer_drawn first past e opens goes next h = record {
 }
 
 -- a load that starts ends the start of a write-out, if any
-load_opened : (b : Bool) (slot : SlotAt) (v : ℕ) (page : Page) (old : Option Start) (x : Start)
-    → cond b (Some (record { slot = slot; version = v; loads = Some page })) old ≡ Some x → x.loads ≡ None → old ≡ Some x
-load_opened true slot v page old x is writes = cc
-load_opened false slot v page old x is writes = is
+load_opened : (b : Bool) (new : Start) (page : Page) (old : Option Start) (x : Start) → new.loads ≡ Some page
+    → cond b (Some new) old ≡ Some x → x.loads ≡ None → old ≡ Some x
+load_opened true new page old x loads is writes = cc
+load_opened false new page old x loads is writes = is
 
 -- a write-out starts with the next version
 module _ (first : ℕ) (past : List Entry) (actor : Actor) (f : Frame) (slot : SlotAt) (answer : Answer)
     (told : answer ≡ Version (next_version first past)) (h : DrawnOnce first past) where
   abbrev drawn : Start
-  drawn = record { slot = slot; version = version_told answer; loads = None }
+  drawn = record { slot = slot; version = version_told answer; loads = None; place = length past; actor = actor }
 
   abbrev later : List Entry
   later = entry_of actor (Did (EwbStart f slot) answer) ∷ past
@@ -92,11 +92,8 @@ module _ (first : ℕ) (past : List Entry) (actor : Actor) (f : Frame) (slot : S
   }
 
 -- a page is out with the version that its start drew
-module _ (first : ℕ) (past : List Entry) (actor : Actor) (f : Frame) (page : Page) (version : ℕ) (tag : List ℕ) (slot : SlotAt)
-    (opened : open_start past f.0 ≡ Some (record { slot = slot; version = version; loads = None })) (h : DrawnOnce first past) where
-  abbrev its_start : Start
-  its_start = record { slot = slot; version = version; loads = None }
-
+module _ (first : ℕ) (past : List Entry) (actor : Actor) (f : Frame) (page : Page) (version : ℕ) (tag : List ℕ)
+    (ends : EndsWriteOut (open_start past f.0) version) (h : DrawnOnce first past) where
   abbrev out : Gone
   out = record { page = page; version = version }
 
@@ -113,7 +110,7 @@ module _ (first : ℕ) (past : List Entry) (actor : Actor) (f : Frame) (page : P
 
   -- no page from before went out with the version of an open start
   not_before : (x : Gone) → IsGone past x → version ≡ x.version → ⊥
-  not_before x went same = h.not_open f.0 its_start x opened refl went same
+  not_before x went same = h.not_open f.0 ends.start x ends.opened ends.writes went (ends.told ∙ same)
 
   -- no page went out with the version of an open start
   not_open_still : (n : ℕ) (x : Start) (y : Gone) → open_start after n ≡ Some x → x.loads ≡ None → IsGone after y → x.version ≡ y.version
@@ -123,7 +120,8 @@ module _ (first : ℕ) (past : List Entry) (actor : Actor) (f : Frame) (page : P
       this : out ≡ y → ⊥
       this is_this =
           let k = still_open n x is in
-          let frame : f.0 ≡ n = h.apart f.0 n its_start x opened k.1 refl writes (ap (λ (z : Gone). z.version) is_this ∙ sym same) in
+          let frame : f.0 ≡ n = h.apart f.0 n ends.start x ends.opened k.1 ends.writes writes
+          (ends.told ∙ ap (λ (z : Gone). z.version) is_this ∙ sym same) in
           apart_frames f.0 n k.0 frame
 
       before : IsGone past y → ⊥
@@ -147,7 +145,8 @@ module _ (first : ℕ) (past : List Entry) (actor : Actor) (f : Frame) (page : P
     apart = λ m n x y is too writes also same. h.apart m n x y (still_open m x is).1 (still_open n y too).1 writes also same;
     ended = λ x is.
         ⊎_elim (λ this. subst (λ (z : Gone). (first ≤ z.version) × (z.version < next_version first past)) this
-        (h.from f.0 its_start opened refl, h.started f.0 its_start opened refl)) (h.ended x)
+        (subst (λ (v : ℕ). (first ≤ v) × (v < next_version first past)) ends.told
+        (h.from f.0 ends.start ends.opened ends.writes, h.started f.0 ends.start ends.opened ends.writes))) (h.ended x)
         (out_or_before x is);
     not_open = not_open_still;
     once = once_still;
@@ -158,13 +157,15 @@ drawn_still : (first : ℕ) (past : List Entry) (actor : Actor) (event : Event) 
     → EvictRule past (entry_of actor event) → DrawnOnce first past → DrawnOnce first (entry_of actor event ∷ past)
 drawn_still first past actor (Did (EwbStart f slot) answer) rising evict h = ewbstart_drawn first past actor f slot answer rising h
 drawn_still first past actor (Did (Ewb f) (Moved page version tag)) rising evict h =
-    ewb_drawn first past actor f page version tag evict.slot evict.opened h
+    ewb_drawn first past actor f page version tag evict h
 drawn_still first past actor (Did (Ewb f) answer) rising evict h =
     fewer_drawn first past (entry_of actor (Did (Ewb f) answer)) (λ n x is writes. (ended_cases (f.0 == n) x (open_start past n) is).1)
     (λ x is. is) refl h
 drawn_still first past actor (Did (EldStart f page slot) answer) rising evict h =
     fewer_drawn first past (entry_of actor (Did (EldStart f page slot) answer))
-    (λ n x is writes. load_opened (f.0 == n) slot (version_told answer) page (open_start past n) x is writes) (λ x is. is) refl h
+    (λ n x is writes. load_opened (f.0 == n)
+    (record { slot = slot; version = version_told answer; loads = Some page; place = length past; actor = actor }) page
+    (open_start past n) x refl is writes) (λ x is. is) refl h
 drawn_still first past actor (Did (Eld f) answer) rising evict h =
     fewer_drawn first past (entry_of actor (Did (Eld f) answer)) (λ n x is writes. (ended_cases (f.0 == n) x (open_start past n) is).1)
     (λ x is. is) refl h

@@ -9,10 +9,9 @@ use Rattle.sgx_types.specs.declared.entries.Event.{Event}
 use Rattle.sgx_types.specs.declared.entries.Event.TheVariants.{Did}
 use Rattle.sgx_types.specs.declared.names.Frame.{Frame}
 use Rattle.sgx_types.specs.declared.names.Page.{Page}
-use Rattle.sgx_types.specs.declared.names.SlotAt.{SlotAt}
 use Rattle.sgx_types.specs.Flat.{FlatMemory, flat, header_in, words_of}
 use Rattle.sgx_types.specs.Frames.{same_page}
-use Rattle.sgx_types.specs.Rules.{Along, EvictRule}
+use Rattle.sgx_types.specs.Rules.{Along, EndsWriteOut, EvictRule}
 use Rattle.sgx_types.specs.Layouts.{bytes_of}
 use Rattle.sgx_types.specs.declared.record.Header.{Header}
 use Rattle.sgx_types.specs.Sealed.{Sealed}
@@ -72,8 +71,7 @@ sealed_of key version m g rec = by_header (header_in m g) refl
 
 -- a page is out, and its record is made
 module _ (first : ℕ) (key : List ℕ) (past : List Entry) (actor : Actor) (f : Frame) (page : Page) (version : ℕ) (digest : List ℕ)
-    (slot : SlotAt)
-    (opened : open_start past f.0 ≡ Some (record { slot = slot; version = version; loads = None })) (drawn : DrawnOnce first past)
+    (ends : EndsWriteOut (open_start past f.0) version) (drawn : DrawnOnce first past)
     (its : IsSealed key (flat past) page version digest) (h : MadeOnce key past) where
   abbrev event_out : Event
   event_out = Did (Ewb f) (Moved page version digest)
@@ -120,8 +118,8 @@ module _ (first : ℕ) (key : List ℕ) (past : List Entry) (actor : Actor) (f :
   other_version : (one : Made) → IsMade key past one → version ≡ one.version → ⊥
   other_version one is same =
       let own = h.own one is in
-      drawn.not_open f.0 (record { slot = slot; version = version; loads = None }) (record { page = own.page; version = one.version })
-      opened refl own.gone same
+      drawn.not_open f.0 ends.start (record { page = own.page; version = one.version }) ends.opened ends.writes own.gone
+      (ends.told ∙ same)
 
   -- no two records have one version
   once_still : (one other : Made) → IsMade key after one → IsMade key after other → one.version ≡ other.version → one ≡ other
@@ -161,7 +159,7 @@ records_still : (first : ℕ) (key : List ℕ) (past : List Entry) (actor : Acto
     → SealedRule key past (entry_of actor event) → DrawnOnce first past → MadeOnce key past
     → MadeOnce key (entry_of actor event ∷ past)
 records_still first key past actor (Did (Ewb f) (Moved page version digest)) evict its drawn h =
-    ewb_made first key past actor f page version digest evict.slot evict.opened drawn its h
+    ewb_made first key past actor f page version digest evict drawn its h
 records_still first key past actor (Did (Ewb f) answer) evict its drawn h = absurd its
 records_still first key past actor (Did (Eld f) (Moved page version digest)) evict its drawn h =
     kept_records key past actor (Did (Eld f) (Moved page version digest)) (λ x is. is) (λ one is. is) (λ one is. is)

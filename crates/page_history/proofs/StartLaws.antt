@@ -1,6 +1,6 @@
 -- Each open start has its slot for itself.
-use Rattle.std.proofs.Common.{◌≡◌, ℕ, zero, suc, ◌<◌, ◌==◌, Bool, true, false, cond, refl, sym, ap, ◌∙◌, subst, Option, Some, None, option_map, is_some, List, [], ◌∷◌, ◌⊎◌, inl, inr, ⊎_elim, arith}
-use Rattle.std.proofs.lemmas.Bool.{cond_both, eqb-true, eq-eqb, false≢true}
+use Rattle.std.proofs.Common.{◌≡◌, ℕ, zero, suc, ◌<◌, ◌==◌, Bool, true, false, cond, refl, sym, ap, ◌∙◌, subst, Option, Some, None, option_map, is_some, List, [], ◌∷◌, length, ◌||◌, nat_le, nat_lt, ◌⊎◌, inl, inr, ⊎_elim, arith}
+use Rattle.std.proofs.lemmas.Bool.{cond_both, eqb-true, eq-eqb, false≢true, leb-false}
 use Rattle.sgx_types.specs.declared.entries.Action.TheVariants.{Epa, Create, Add, EwbStart, Ewb, EldStart, Eld}
 use Rattle.sgx_types.specs.declared.entries.Actor.{Actor}
 use Rattle.sgx_types.specs.declared.entries.Answer.TheVariants.{Moved}
@@ -15,14 +15,15 @@ use Rattle.sgx_types.specs.declared.names.SlotAt.{SlotAt}
 use Rattle.sgx_types.specs.Flat.{FlatPage, added_as, enclave_sight, flat}
 use Rattle.sgx_types.specs.Frames.{Content, Holds, IsLoading, IsVa, SecsOf, added, content, page_at, same_page}
 use Rattle.sgx_types.specs.Rules.{Along, FlatRule, RefusalRule}
-use Rattle.sgx_types.specs.Sights.{row_at, sight_at}
-use Rattle.sgx_types.specs.Slots.{busy_after, is_slot_busy, names_slot, open_slot, same_slot, slot_of, version_after, version_in}
+use Rattle.sgx_types.specs.Sights.{row_at, sight_at, slot_sight_at}
+use Rattle.sgx_types.specs.Slots.{is_slot_busy, names_slot, open_slot, same_slot, slot_of, version_after, version_in}
 use Rattle.sgx_types.specs.Starts.{Start, open_start, opened_by, version_told}
-use Rattle.sgx_types.specs.Table.{EnclaveSight, FrameSight, add_row, is_busy, is_loading}
+use Rattle.sgx_types.specs.Table.{EnclaveSight, FrameSight, add_row, is_busy, is_loading, is_out_of_range}
 use Rattle.sgx_types.specs.Making.{Making}
 use Rattle.page_history.specs.Once.{KeepsMoves, StartsApart}
 use Rattle.page_history.proofs.DrawnLaws.{keeps_before}
 use Rattle.page_history.proofs.FlatLaws.{added_flat}
+use Rattle.sgx_types.proofs.Busy.{open_busy}
 use Rattle.sgx_types.proofs.Pages.{same_slots}
 use Rattle.sgx_types.proofs.Rows.{NoneHolds, none_holds}
 use Rattle.sgx_types.proofs.Truths.{neither, not_false}
@@ -32,16 +33,17 @@ use Rattle.page_history.proofs.OpenStarts.{apart_frames, ended_cases, entry_of, 
 
 -- an event that leaves each open start, and each slot
 pub record LeavesStarts (e : Event) : Type 0 where
-  pub opens : (n : ℕ) (o : Option Start) → opened_by e n o ≡ o
-  pub busies : (opened : ℕ → Option SlotAt) (slot : SlotAt) (b : Bool) → busy_after e opened slot b ≡ b
+  pub opens : (actor : Actor) (place n : ℕ) (o : Option Start) → opened_by actor place e n o ≡ o
   pub versions : (opened : ℕ → Option SlotAt) (slot : SlotAt) (v : ℕ) → version_after e opened slot v ≡ v
 
 -- .. leaves each start apart, where it takes no page that is added nor a frame that is being loaded
-kept_apart : (past : List Entry) (e : Entry) → LeavesStarts e.event
+kept_apart : (frames : ℕ) (past : List Entry) (e : Entry) → LeavesStarts e.event
     → ((g : Page) → is_some (added past g) ≡ true → is_some (added (e ∷ past) g) ≡ true)
-    → ((n : ℕ) (g : Page) → content past n ≡ IsLoading g → content (e ∷ past) n ≡ IsLoading g) → StartsApart past → StartsApart (e ∷ past)
-kept_apart past e q adds puts h = record {
-  busy = λ n x is. rw (q.busies (open_slot past) x.slot (is_slot_busy past x.slot)) (h.busy n x (before n x is));
+    → ((n : ℕ) (g : Page) → content past n ≡ IsLoading g → content (e ∷ past) n ≡ IsLoading g) → StartsApart frames past
+    → StartsApart frames (e ∷ past)
+kept_apart frames past e q adds puts h = record {
+  below = λ n x is. h.below n x (before n x is);
+  busy = λ n x is. open_busy frames (e ∷ past) n x (h.below n x (before n x is)) is;
   alone = λ m n x y is too same. h.alone m n x y (before m x is) (before n y too) same;
   found = λ n x g is loads. rw (q.versions (open_slot past) x.slot (version_in past x.slot)) (h.found n x g (before n x is) loads);
   added = λ n x g is loads. adds g (h.added n x g (before n x is) loads);
@@ -50,7 +52,7 @@ kept_apart past e q adds puts h = record {
 }
   where
     before : (n : ℕ) (x : Start) → open_start (e ∷ past) n ≡ Some x → open_start past n ≡ Some x
-    before n x is = sym (q.opens n (open_start past n)) ∙ is
+    before n x is = sym (q.opens e.actor (length past) n (open_start past n)) ∙ is
 
 -- what takes a frame that is not busy takes none that is being loaded
 kept_loading : (s : FrameSight) (g : Page) → is_busy s ≡ false → s.content ≡ IsLoading g → ⊥
@@ -71,11 +73,10 @@ more_added false x o h = h
 -- ---- entries that end a start
 
 -- where a frame's start ends, and no slot but its own changes, the others are apart still
-module _ (past : List Entry) (e : Entry) (f : ℕ) (h : StartsApart past) where
+module _ (frames : ℕ) (past : List Entry) (e : Entry) (f : ℕ) (h : StartsApart frames past) where
   -- what the end leaves
   record Ends : Type 0 where
     pub opens : (n : ℕ) → open_start (e ∷ past) n ≡ cond (f == n) None (open_start past n)
-    pub busies : (slot : SlotAt) → names_slot (open_slot past f) slot ≡ false → is_slot_busy (e ∷ past) slot ≡ is_slot_busy past slot
     pub versions : (slot : SlotAt) → names_slot (open_slot past f) slot ≡ false → version_in (e ∷ past) slot ≡ version_in past slot
     pub adds : (g : Page) → added (e ∷ past) g ≡ added past g
     pub puts : (n : ℕ) → (f == n) ≡ false → content (e ∷ past) n ≡ content past n
@@ -93,9 +94,10 @@ module _ (past : List Entry) (e : Entry) (f : ℕ) (h : StartsApart past) where
       by_start (Some y) there = by_test y (same_slot y.slot x.slot) there refl
 
   -- and so the others are apart
-  ended_apart : Ends → StartsApart (e ∷ past)
+  ended_apart : Ends → StartsApart frames (e ∷ past)
   ended_apart q = record {
-    busy = λ n x is. let k = before n x is in q.busies x.slot (other_slot n x k.0 k.1) ∙ h.busy n x k.1;
+    below = λ n x is. h.below n x (before n x is).1;
+    busy = λ n x is. open_busy frames (e ∷ past) n x (h.below n x (before n x is).1) is;
     alone = λ m n x y is too same. h.alone m n x y (before m x is).1 (before n y too).1 same;
     found = λ n x g is loads. let k = before n x is in let was = h.found n x g k.1 loads in
         (q.versions x.slot (other_slot n x k.0 k.1) ∙ was.0, was.1);
@@ -109,28 +111,15 @@ module _ (past : List Entry) (e : Entry) (f : ℕ) (h : StartsApart past) where
 
 -- ---- entries that start
 
--- one more slot is busy
-more_busy : (b c : Bool) → c ≡ true → cond b true c ≡ true
-more_busy true c h = refl
-more_busy false c h = h
-
--- .. where it is this one
-cond_same : (b c : Bool) → b ≡ true → cond b true c ≡ true
-cond_same b c h = rw h refl
-
--- a slot is the same as itself
-slot_itself : (s : SlotAt) → same_slot s s ≡ true
-slot_itself s = rw (eq-eqb s.frame.0 s.frame.0 refl, eq-eqb s.index s.index refl) refl
-
 -- where a frame starts with a slot that is not busy, the starts are apart still
-module _ (past : List Entry) (e : Entry) (f : ℕ) (new : Start) (h : StartsApart past) where
+module _ (frames : ℕ) (past : List Entry) (e : Entry) (f : ℕ) (new : Start) (h : StartsApart frames past) where
   -- what the start changes
   record Starts : Type 0 where
     pub opens : (n : ℕ) → open_start (e ∷ past) n ≡ cond (f == n) (Some new) (open_start past n)
-    pub busies : (slot : SlotAt) → is_slot_busy (e ∷ past) slot ≡ cond (same_slot new.slot slot) true (is_slot_busy past slot)
     pub versions : (slot : SlotAt) → version_in (e ∷ past) slot ≡ version_in past slot
     pub adds : (g : Page) → added (e ∷ past) g ≡ added past g
-    pub idle : is_slot_busy past new.slot ≡ false
+    pub low : f < frames
+    pub idle : is_slot_busy frames past new.slot ≡ false
     pub found : (g : Page) → new.loads ≡ Some g → (version_in past new.slot ≡ new.version) × (0 < new.version)
     pub there : (g : Page) → new.loads ≡ Some g → is_some (added past g) ≡ true
     pub loading : (g : Page) → new.loads ≡ Some g → content (e ∷ past) f ≡ IsLoading g
@@ -138,16 +127,14 @@ module _ (past : List Entry) (e : Entry) (f : ℕ) (new : Start) (h : StartsApar
     pub empty : new.loads ≡ None → version_in past new.slot ≡ 0
 
   -- no start from before has its slot
-  other_slots : (n : ℕ) (x : Start) → is_slot_busy past new.slot ≡ false → open_start past n ≡ Some x → new.slot ≡ x.slot → ⊥
-  other_slots n x idle is same = false≢true (sym idle ∙ ap (is_slot_busy past) same ∙ h.busy n x is)
+  other_slots : (n : ℕ) (x : Start) → is_slot_busy frames past new.slot ≡ false → open_start past n ≡ Some x → new.slot ≡ x.slot → ⊥
+  other_slots n x idle is same = false≢true (sym idle ∙ ap (is_slot_busy frames past) same ∙ h.busy n x is)
 
   -- and so it is apart from the others
-  started_apart : Starts → StartsApart (e ∷ past)
+  started_apart : Starts → StartsApart frames (e ∷ past)
   started_apart q = record {
-    busy = λ n x is. q.busies x.slot ∙ ⊎_elim (λ k.
-        cond_same (same_slot new.slot x.slot) (is_slot_busy past x.slot)
-        (ap (λ (z : Start). same_slot new.slot z.slot) (sym k.1) ∙ slot_itself new.slot))
-        (λ k. more_busy (same_slot new.slot x.slot) (is_slot_busy past x.slot) (h.busy n x k.1)) (new_or_old n x is);
+    below = low_still;
+    busy = λ n x is. open_busy frames (e ∷ past) n x (low_still n x is) is;
     alone = alone_still;
     found = λ n x g is loads.
         ⊎_elim (λ k. subst (λ (z : Start). (version_in (e ∷ past) z.slot ≡ z.version) × (0 < z.version)) k.1
@@ -166,6 +153,9 @@ module _ (past : List Entry) (e : Entry) (f : ℕ) (new : Start) (h : StartsApar
       new_or_old : (n : ℕ) (x : Start) → open_start (e ∷ past) n ≡ Some x
           → (((f == n) ≡ true) × (new ≡ x)) ⊎ (((f == n) ≡ false) × (open_start past n ≡ Some x))
       new_or_old n x is = opened_cases (f == n) new x (open_start past n) (sym (q.opens n) ∙ is)
+
+      low_still : (n : ℕ) (x : Start) → open_start (e ∷ past) n ≡ Some x → n < frames
+      low_still n x is = ⊎_elim (λ k. subst (λ (m : ℕ). m < frames) (eqb-true f n k.0) q.low) (λ k. h.below n x k.1) (new_or_old n x is)
 
       alone_still : (m n : ℕ) (x y : Start) → open_start (e ∷ past) m ≡ Some x → open_start (e ∷ past) n ≡ Some y
           → same_slot x.slot y.slot ≡ true → m ≡ n
@@ -200,38 +190,45 @@ above_zero : (n : ℕ) → (n == 0) ≡ false → 0 < n
 above_zero zero h = let no : true ≡ false = h in absurd (false≢true (sym no))
 above_zero (suc n) h = omega arith
 
+-- a start that is not out of range is of a frame of the EPC
+in_epc : (k : Making) (past : List Entry) (f : ℕ) (slot : SlotAt)
+    → is_out_of_range (sight_at k.frames past f) (slot_sight_at k.frames past slot) ≡ false → f < k.frames
+in_epc k past f slot within =
+    let inner = neither (nat_le k.frames f || nat_le k.frames slot.frame.0) (nat_lt 511 slot.index) within in
+    let low = (neither (nat_le k.frames f) (nat_le k.frames slot.frame.0) inner.0).0 in
+    leb-false k.frames f low
+
 -- an entry that keeps the rules leaves the starts apart
 starts_still : (k : Making) (past : List Entry) (actor : Actor) (event : Event) → RefusalRule k past (entry_of actor event)
-    → Along FlatRule past → StartsApart past
-    → StartsApart (entry_of actor event ∷ past)
+    → Along FlatRule past → StartsApart k.frames past → StartsApart k.frames (entry_of actor event ∷ past)
 starts_still k past actor (Did (Epa f) answer) refusal answers h =
     let row = none_holds (row_at k past actor (Epa f)) refusal.0 in
-    kept_apart past (entry_of actor (Did (Epa f) answer))
-    (record { opens = λ n o. refl; busies = λ opened slot b. refl; versions = λ opened slot v. refl }) (λ g is. is)
+    kept_apart k.frames past (entry_of actor (Did (Epa f) answer))
+    (record { opens = λ actor place n o. refl; versions = λ opened slot v. refl }) (λ g is. is)
     (λ n g loads. taken_idle k past f.0 n g IsVa row.1.0 loads) h
 starts_still k past actor (Did (Create enclave f base size) answer) refusal answers h =
     let row = none_holds (row_at k past actor (Create enclave f base size)) refusal.0 in
-    kept_apart past (entry_of actor (Did (Create enclave f base size) answer))
-    (record { opens = λ n o. refl; busies = λ opened slot b. refl; versions = λ opened slot v. refl }) (λ g is. is)
+    kept_apart k.frames past (entry_of actor (Did (Create enclave f base size) answer))
+    (record { opens = λ actor place n o. refl; versions = λ opened slot v. refl }) (λ g is. is)
     (λ n g loads. taken_idle k past f.0 n g (SecsOf enclave) row.1.1.0 loads) h
 starts_still k past actor (Did (Add enclave number f kind perm init) answer) refusal answers h =
     let row = none_holds (row_at k past actor (Add enclave number f kind perm init)) refusal.0 in
     let idle = add_idle number kind perm init (enclave_sight (flat past) enclave) (is_some ((flat past).pages (page_at enclave number)))
     (sight_at k.frames past f.0) row in
-    kept_apart past (entry_of actor (Did (Add enclave number f kind perm init) answer))
-    (record { opens = λ n o. refl; busies = λ opened slot b. refl; versions = λ opened slot v. refl })
+    kept_apart k.frames past (entry_of actor (Did (Add enclave number f kind perm init) answer))
+    (record { opens = λ actor place n o. refl; versions = λ opened slot v. refl })
     (λ g is. more_added (same_page (page_at enclave number) g) (kind, perm) (added past g) is)
     (λ n g loads. taken_idle k past f.0 n g (Holds (page_at enclave number) kind perm) idle loads) h
 starts_still k past actor (Did (EwbStart f slot) answer) refusal answers h =
     let row = none_holds (row_at k past actor (EwbStart f slot)) refusal.0 in
-    started_apart past (entry_of actor (Did (EwbStart f slot) answer)) f.0
-    (record { slot = slot; version = version_told answer; loads = None }) h
+    started_apart k.frames past (entry_of actor (Did (EwbStart f slot) answer)) f.0
+    (record { slot = slot; version = version_told answer; loads = None; place = length past; actor = actor }) h
     (record {
       opens = λ n. refl;
-      busies = λ at. refl;
       versions = λ at. refl;
       adds = λ g. refl;
-      idle = (neither (is_busy (sight_at k.frames past f.0)) (is_slot_busy past slot) row.1.0).1;
+      low = in_epc k past f.0 slot row.0;
+      idle = (neither (is_busy (sight_at k.frames past f.0)) (is_slot_busy k.frames past slot) row.1.0).1;
       found = λ g loads. cc;
       there = λ g loads. cc;
       loading = λ g loads. cc;
@@ -242,14 +239,14 @@ starts_still k past actor (Did (EldStart f page slot) answer) refusal answers h 
     let row = none_holds (row_at k past actor (EldStart f page slot)) refusal.0 in
     let told : version_in past slot ≡ version_told answer = sym (ap version_told refusal.1) in
     let low : 0 < version_in past slot = above_zero (version_in past slot) row.1.1.1.1.1.1.0 in
-    started_apart past (entry_of actor (Did (EldStart f page slot) answer)) f.0
-    (record { slot = slot; version = version_told answer; loads = Some page }) h
+    started_apart k.frames past (entry_of actor (Did (EldStart f page slot) answer)) f.0
+    (record { slot = slot; version = version_told answer; loads = Some page; place = length past; actor = actor }) h
     (record {
       opens = λ n. refl;
-      busies = λ at. refl;
       versions = λ at. refl;
       adds = λ g. refl;
-      idle = (neither (is_busy (sight_at k.frames past f.0)) (is_slot_busy past slot) row.1.1.1.0).1;
+      low = in_epc k past f.0 slot row.0;
+      idle = (neither (is_busy (sight_at k.frames past f.0)) (is_slot_busy k.frames past slot) row.1.1.1.0).1;
       found = λ g loads. (told, subst (λ v. 0 < v) told low);
       there = λ g loads. let same : page ≡ g = cc in
           subst (λ q. is_some (added past q) ≡ true) same
@@ -259,57 +256,53 @@ starts_still k past actor (Did (EldStart f page slot) answer) refusal answers h 
       empty = λ writes. cc;
     })
 starts_still k past actor (Did (Ewb f) (Moved page version tag)) refusal answers h =
-    ended_apart past (entry_of actor (Did (Ewb f) (Moved page version tag))) f.0 h
+    ended_apart k.frames past (entry_of actor (Did (Ewb f) (Moved page version tag))) f.0 h
     (record {
       opens = λ n. refl;
-      busies = λ slot isnt. rw isnt refl;
       versions = λ slot isnt. rw isnt refl;
       adds = λ g. refl;
       puts = λ n isnt. rw isnt refl;
     })
 starts_still k past actor (Did (Ewb f) answer) refusal answers h =
-    ended_apart past (entry_of actor (Did (Ewb f) answer)) f.0 h
+    ended_apart k.frames past (entry_of actor (Did (Ewb f) answer)) f.0 h
     (record {
       opens = λ n. refl;
-      busies = λ slot isnt. rw isnt refl;
       versions = λ slot isnt. refl;
       adds = λ g. refl;
       puts = λ n isnt. rw isnt refl;
     })
 starts_still k past actor (Did (Eld f) (Moved page version tag)) refusal answers h =
-    ended_apart past (entry_of actor (Did (Eld f) (Moved page version tag))) f.0 h
+    ended_apart k.frames past (entry_of actor (Did (Eld f) (Moved page version tag))) f.0 h
     (record {
       opens = λ n. refl;
-      busies = λ slot isnt. rw isnt refl;
       versions = λ slot isnt. rw isnt refl;
       adds = λ g. refl;
       puts = λ n isnt. rw isnt refl;
     })
 starts_still k past actor (Did (Eld f) answer) refusal answers h =
-    ended_apart past (entry_of actor (Did (Eld f) answer)) f.0 h
+    ended_apart k.frames past (entry_of actor (Did (Eld f) answer)) f.0 h
     (record {
       opens = λ n. refl;
-      busies = λ slot isnt. rw isnt refl;
       versions = λ slot isnt. rw isnt refl;
       adds = λ g. refl;
       puts = λ n isnt. refl;
     })
 starts_still k past actor (Refused (Eld f) why) refusal answers h =
-    ended_apart past (entry_of actor (Refused (Eld f) why)) f.0 h
+    ended_apart k.frames past (entry_of actor (Refused (Eld f) why)) f.0 h
     (record {
       opens = λ n. refl;
-      busies = λ slot isnt. rw isnt refl;
       versions = λ slot isnt. refl;
       adds = λ g. refl;
       puts = λ n isnt. rw isnt refl;
     })
 starts_still k past actor event refusal answers h =
-    kept_apart past (entry_of actor event) (record
-    { opens = λ n o. refl; busies = λ opened slot b. refl; versions = λ opened slot v. refl }) (λ g is. is) (λ n g is. is) h
+    kept_apart k.frames past (entry_of actor event) (record
+    { opens = λ actor place n o. refl; versions = λ opened slot v. refl }) (λ g is. is) (λ n g is. is) h
 
 -- where the rules are kept, each open start has its slot for itself
-pub starts_apart : (k : Making) (past : List Entry) → KeepsMoves k past → StartsApart past
+pub starts_apart : (k : Making) (past : List Entry) → KeepsMoves k past → StartsApart k.frames past
 starts_apart k [] h = record {
+  below = λ n x is. cc;
   busy = λ n x is. cc;
   alone = λ m n x y is too same. cc;
   found = λ n x g is loads. cc;

@@ -59,9 +59,11 @@ pub record DrawnOnce (first : ℕ) (past : List Entry) : Type 0 where
 
 -- ---- starts
 
--- an open start has its slot for itself: of a load the slot has its version and the page was added, of a write-out it is empty
-pub record StartsApart (past : List Entry) : Type 0 where
-  pub busy : (n : ℕ) (x : Start) → open_start past n ≡ Some x → is_slot_busy past x.slot ≡ true
+-- an open start, of one of so many frames, has its slot for itself: of a load the slot has its version and the page was added, of a
+-- write-out it is empty
+pub record StartsApart (frames : ℕ) (past : List Entry) : Type 0 where
+  pub below : (n : ℕ) (x : Start) → open_start past n ≡ Some x → n < frames
+  pub busy : (n : ℕ) (x : Start) → open_start past n ≡ Some x → is_slot_busy frames past x.slot ≡ true
   pub alone : (m n : ℕ) (x y : Start) → open_start past m ≡ Some x → open_start past n ≡ Some y → same_slot x.slot y.slot ≡ true → m ≡ n
   pub found : (n : ℕ) (x : Start) (g : Page) → open_start past n ≡ Some x → x.loads ≡ Some g
       → (version_in past x.slot ≡ x.version) × (0 < x.version)

@@ -14,7 +14,7 @@ ghost use Rattle.seal_record.specs.Sealing.{SealedRule};
 /// Where the rules are kept, each version is drawn once, and each open start has its slot for itself.
 pub fn versions_are_drawn_once()
     ensures drawn { (k : Making) (past : List Entry) → KeepsMoves k past → DrawnOnce k.first_version past }
-    ensures apart { (k : Making) (past : List Entry) → KeepsMoves k past → StartsApart past }
+    ensures apart { (k : Making) (past : List Entry) → KeepsMoves k past → StartsApart k.frames past }
 {}
 
 /// Where the rules are kept, each page that was added has exactly one live copy: one frame, or one slot with its version.

@@ -36,11 +36,12 @@ any_below-none p (suc n) h = rw (h n (omega arith)) (any_below-none p n (λ k lo
 pub any_below-found : (p : ℕ → Bool) (n : ℕ) → any_below p n ≡ true → (k : ℕ) × (k < n) × (p k ≡ true)
 unfolding any_below
 any_below-found p zero is = cc
-any_below-found p (suc n) is = by_test (p n) refl is
+any_below-found p (suc n) is = by_test (p n) refl (any_below p n) is (any_below-found p n)
   where
-    by_test : (b : Bool) → p n ≡ b → (b || any_below p n) ≡ true → (k : ℕ) × (k < suc n) × (p k ≡ true)
-    by_test true here h = (n, omega arith, here)
-    by_test false here h = let k = any_below-found p n h in (k.0, omega (arith, k.1), k.2)
+    by_test : (b : Bool) → p n ≡ b → (c : Bool) → (b || c) ≡ true → (c ≡ true → (k : ℕ) × (k < n) × (p k ≡ true))
+        → (k : ℕ) × (k < suc n) × (p k ≡ true)
+    by_test true here c h below = (n, omega arith, here)
+    by_test false here c h below = let k = below h in (k.0, omega (arith, k.1), k.2)
 
 -- tests that agree find the same
 pub any_below-agrees : (p q : ℕ → Bool) → ((k : ℕ) → p k ≡ q k) → (n : ℕ) → any_below p n ≡ any_below q n
