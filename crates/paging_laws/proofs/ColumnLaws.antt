@@ -8,8 +8,8 @@ use Rattle.sgx_types.specs.Flat.{added_as, flat}
 use Rattle.sgx_types.specs.Frames.{added, content, is_block, is_blocked, is_put, is_sealing, put_by}
 use Rattle.sgx_types.specs.Processors.{stay, translations}
 use Rattle.sgx_types.specs.Sights.{sight_at}
-use Rattle.sgx_types.specs.Slots.{is_slot_busy, next_version, version_in}
-use Rattle.sgx_types.specs.Starts.{open_start}
+use Rattle.sgx_types.specs.Slots.{next_version, version_in}
+use Rattle.sgx_types.specs.Starts.{bare_start, open_start}
 use Rattle.paging_laws.specs.Columns.{HasColumns, noted_inside, without_perm, seat_of_stay}
 use Rattle.paging_laws.specs.Stands.{Stands, inside_of_stay}
 use Rattle.paging_laws.specs.State.{State, sight}
@@ -25,7 +25,7 @@ blocked_is h n i = (h.frames i).blocked n
 pub sealing_is : {s : State} {past : List Entry} → HasColumns s past → (n : ℕ) → s.is_sealing n ≡ is_sealing past n
 sealing_is h n i = (h.frames i).is_sealing n
 
-pub start_is : {s : State} {past : List Entry} → HasColumns s past → (n : ℕ) → s.start n ≡ open_start past n
+pub start_is : {s : State} {past : List Entry} → HasColumns s past → (n : ℕ) → s.start n ≡ bare_start (open_start past n)
 start_is h n i = (h.frames i).start n
 
 pub inside_is : {s : State} {past : List Entry} → HasColumns s past → (p : ℕ) → s.inside p ≡ seat_of_stay (stay past p)
@@ -40,9 +40,6 @@ translations_are h p i = (h.cpus i).translations p
 
 pub version_is : {s : State} {past : List Entry} → HasColumns s past → (slot : SlotAt) → s.version_in slot ≡ version_in past slot
 version_is h slot i = (h.slots i).version_in slot
-
-pub slot_busy_is : {s : State} {past : List Entry} → HasColumns s past → (slot : SlotAt) → s.is_slot_busy slot ≡ is_slot_busy past slot
-slot_busy_is h slot i = (h.slots i).is_slot_busy slot
 
 pub next_version_is : {s : State} {past : List Entry} → HasColumns s past → s.next_version ≡ next_version s.first_version past
 next_version_is h i = (h.slots i).next_version

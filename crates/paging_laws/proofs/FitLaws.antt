@@ -1,5 +1,5 @@
 -- No page comes to stand in two frames, as long as each load is of a page that is away.
-use Rattle.std.proofs.Common.{◌≡◌, ℕ, ◌<◌, ◌≤◌, ◌==◌, inl, inr, Bool, true, false, cond, refl, sym, ap, subst, ◌∙◌, Option, Some, None, IfSome, List, [], ◌∷◌, MatchOption, is_some}
+use Rattle.std.proofs.Common.{◌≡◌, ℕ, ◌<◌, ◌≤◌, ◌==◌, inl, inr, Bool, true, false, cond, refl, sym, ap, subst, ◌∙◌, Option, Some, None, IfSome, List, [], ◌∷◌, MatchOption, is_some, length}
 use Rattle.std.proofs.lemmas.Bool.{cond_both, false≢true, eqb-true, eq-eqb}
 use Rattle.sgx_types.specs.declared.entries.Entry.{Entry}
 use Rattle.sgx_types.specs.declared.entries.Event.{Event}
@@ -17,7 +17,7 @@ use Rattle.sgx_types.specs.declared.names.Perm.{Perm}
 use Rattle.sgx_types.specs.declared.names.SlotAt.{SlotAt}
 use Rattle.sgx_types.specs.declared.refusals.Refusal.{Refusal}
 use Rattle.sgx_types.specs.Frames.{Content, Free, IsVa, SecsOf, Holds, IsLoading, added, content, is_page, page_at, reloaded, same_page}
-use Rattle.sgx_types.specs.Starts.{Start, open_start, opened_by, is_load_of, loads_page, version_told}
+use Rattle.sgx_types.specs.Starts.{BareStart, Start, bare_start, open_start, opened_by, is_load_of, loads_page, version_told}
 use Rattle.sgx_types.specs.Rules.{Along, FitsRule, LoadsAwayRule, NoPageTwice}
 use Rattle.sgx_types.specs.Table.{is_loading, first_of_row}
 use Rattle.sgx_types.specs.Sealed.{Sealed}
@@ -32,6 +32,7 @@ use Rattle.paging_laws.proofs.TestLaws.{last_place}
 use Rattle.paging_laws.specs.Columns.{HasColumns}
 use Rattle.paging_laws.proofs.BuildLaws.{adds}
 use Rattle.paging_laws.proofs.ColumnLaws.{added_is, content_is, start_is}
+use Rattle.paging_laws.proofs.SlotLaws.{start_of}
 use Rattle.paging_laws.proofs.RowLaws.{row_fits, step_entry, IsEntryOf}
 use Rattle.paging_laws.proofs.MoveEnds.{is_end, no_end}
 use Rattle.sgx_types.specs.Flat.{enclave_sight_of}
@@ -127,8 +128,12 @@ fits_same frames past e held starts rule h =
     h
 
 -- a page that was not added is away
-unadded_away : (s : State) → IsGuarded s → IsFramed s → (g : Page) → is_some (s.added g) ≡ false → IsAway s.content s.start g
-unadded_away s guarded framed g new n = (by_content (s.content n) refl, by_start (s.start n) (guarded.opened n))
+unadded_away : (s : State) (past : List Entry) → HasColumns s past → IsGuarded s → IsFramed s → (g : Page) → is_some (s.added g) ≡ false
+    → IsAway (content past) (open_start past) g
+unadded_away s past columns guarded framed g new n = (
+  ap (λ c. is_page c g) (sym (content_is columns n)) ∙ by_content (s.content n) refl,
+  by_start (open_start past n) (subst (λ o. IfSome o (IsOpen s.content s.added)) (start_is columns n) (guarded.opened n)),
+)
   where
     other : (page : Page) → is_some (s.added page) ≡ true → same_page page g ≡ false
     other page added = never (same_page page g) (λ same. false≢true (sym new ∙ rw (same_pages page g same) at added))
@@ -144,15 +149,9 @@ unadded_away s guarded framed g new n = (by_content (s.content n) refl, by_start
     by_load None h = refl
     by_load (Some page) h = other page h
 
-    by_start : (o : Option Start) → IfSome o (IsOpen s.content s.added) → is_load_of o g ≡ false
+    by_start : (o : Option Start) → IfSome (bare_start o) (IsOpen s.content s.added) → is_load_of o g ≡ false
     by_start None h = refl
     by_start (Some start) h = by_load start.loads h.loads
-
--- .. by the entries too
-away_in : (s : State) (past : List Entry) → HasColumns s past → (g : Page) → IsAway s.content s.start g
-    → IsAway (content past) (open_start past) g
-away_in s past columns g away n =
-    (ap (λ c. is_page c g) (sym (content_is columns n)) ∙ (away n).0, ap (λ o. is_load_of o g) (sym (start_is columns n)) ∙ (away n).1)
 
 -- ---- the rows that put a frame or start
 
@@ -166,8 +165,8 @@ module _ (s : State) (past : List Entry) (a : Actor) (guarded : IsGuarded s) (fr
   add_fits enclave number f kind perm init answer allowed rule =
       let g = page_at enclave number in
       let away : IsAway (content past) (open_start past) g =
-      away_in s past columns g (unadded_away s guarded framed g
-      (adds number kind perm init (enclave_sight_of (s.enclaves enclave)) (is_some (s.added g)) (sight s f.0) allowed).new) in
+      unadded_away s past columns guarded framed g
+      (adds number kind perm init (enclave_sight_of (s.enclaves enclave)) (is_some (s.added g)) (sight s f.0) allowed).new in
       fits_more s.frames past _ rule (put_apart (content past) (open_start past) f.0 (Holds g kind perm)
       (λ q here. rw (← same_pages g q here) away) (apart_in s.frames past h)) h
 
@@ -177,7 +176,8 @@ module _ (s : State) (past : List Entry) (a : Actor) (guarded : IsGuarded s) (fr
       → FitsApart s.frames (did_by a (EldStart f page slot) answer ∷ past)
   eldstart_fits f page slot answer rule away =
       let started = start_apart (content past) (open_start past) f.0
-      (Some (record { slot = slot; version = version_told answer; loads = Some page })) (λ g loads. rw (← same_pages page g loads) away)
+      (Some (record { slot = slot; version = version_told answer; loads = Some page; place = length past; actor = a }))
+      (λ g loads. rw (← same_pages page g loads) away)
       (apart_in s.frames past h) in
       fits_more s.frames past _ rule (put_apart (content past) _ f.0 (IsLoading page) (λ g held. cc) started) h
 
@@ -276,8 +276,9 @@ written_fits s t made past a f e rec sound guarded sealing below k shaped =
 coming_in : (s : State) (past : List Entry) → HasColumns s past → (f : ℕ) (coming : IsComing s f)
     → is_load_of (open_start past f) coming.page ≡ true
 coming_in s past columns f coming =
-    ap (λ o. is_load_of o coming.page) (sym (start_is columns f) ∙ coming.opened) ∙ ap (λ o. loads_page o coming.page) coming.loads
-    ∙ same_page-itself coming.page
+    let x = start_of s past columns f coming.start coming.opened in
+    ap (λ o. is_load_of o coming.page) x.opened ∙ ap (λ (y : BareStart). loads_page y.loads coming.page) x.same
+    ∙ ap (λ o. loads_page o coming.page) coming.loads ∙ same_page-itself coming.page
   where
     same_page-itself : (g : Page) → same_page g g ≡ true
     same_page-itself g = rw (eq-eqb g.enclave g.enclave refl, eq-eqb g.number g.number refl) refl

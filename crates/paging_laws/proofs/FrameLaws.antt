@@ -1,5 +1,5 @@
 -- The frames that a done instruction names are of the EPC, and what takes a frame takes a free one, whatever a driver loads.
-use Rattle.std.proofs.Common.{◌≡◌, ℕ, ◌<◌, ◌==◌, inl, inr, true, cond, refl, sym, ap, ◌∙◌, Option, Some, None, MatchOption, is_some, List, [], ◌∷◌}
+use Rattle.std.proofs.Common.{◌≡◌, ℕ, ◌<◌, ◌==◌, inl, inr, true, cond, refl, sym, ap, ◌∙◌, Option, Some, None, MatchOption, is_some, List, [], ◌∷◌, length}
 use Rattle.std.proofs.lemmas.Bool.{cond_both, false≢true, eqb-true}
 use Rattle.sgx_types.specs.declared.entries.Entry.{Entry}
 use Rattle.sgx_types.specs.declared.entries.Event.{Event}
@@ -12,7 +12,7 @@ use Rattle.sgx_types.specs.declared.names.Frame.{Frame}
 use Rattle.sgx_types.specs.declared.refusals.Refusal.{Refusal}
 use Rattle.sgx_types.specs.Rules.{Along, FitsRule}
 use Rattle.sgx_types.specs.Sealed.{Sealed}
-use Rattle.sgx_types.specs.Starts.{Start, open_start, opened_by}
+use Rattle.sgx_types.specs.Starts.{BareStart, Start, open_start, opened_by}
 use Rattle.sgx_types.specs.Table.{first_of_row}
 use Rattle.epcm_entry.specs.Words.{words_of}
 use Rattle.seal_record.specs.Cipher.{cipher}
@@ -20,6 +20,7 @@ use Rattle.paging_laws.specs.Columns.{HasColumns}
 use Rattle.paging_laws.specs.State.{State, row_of, after_eld, after_failed_eld}
 use Rattle.paging_laws.specs.Steps.{CanApply, IsDone, IsReloaded, IsStep, IsWrittenOut, commit_row, did_by, refused_by}
 use Rattle.paging_laws.proofs.ColumnLaws.{start_is}
+use Rattle.paging_laws.proofs.SlotLaws.{start_of}
 use Rattle.paging_laws.proofs.RowLaws.{row_fits, step_entry, IsEntryOf}
 
 -- an instruction
@@ -49,7 +50,7 @@ open_below frames (e ∷ past) n rules is = by_event e.event rules.0 (open_below
         (λ here is. rw (← eqb-true f n here) below) (λ _ is. before is)
 
     by_event : (v : Event) → FitsRule frames past (record { actor = e.actor; event = v })
-        → (is_some (open_start past n) ≡ true → n < frames) → is_some (opened_by v n (open_start past n)) ≡ true → n < frames
+        → (is_some (open_start past n) ≡ true → n < frames) → is_some (opened_by e.actor (length past) v n (open_start past n)) ≡ true → n < frames
     by_event (Did (EwbStart f slot) answer) rule before is = by_start f.0 _ rule.0.0 before is
     by_event (Did (EldStart f page slot) answer) rule before is = by_start f.0 _ rule.0.0 before is
     by_event (Did (Ewb f) answer) rule before is = by_start f.0 _ rule.0 before is
@@ -60,9 +61,10 @@ open_below frames (e ∷ past) n rules is = by_event e.event rules.0 (open_below
     by_event _ rule before is = before is
 
 -- a frame whose start is open is one of the EPC
-below : (s : State) (past : List Entry) (f : ℕ) (start : Start) → Along (FitsRule s.frames) past → HasColumns s past
+below : (s : State) (past : List Entry) (f : ℕ) (start : BareStart) → Along (FitsRule s.frames) past → HasColumns s past
     → s.start f ≡ Some start → f < s.frames
-below s past f start rules columns opened = open_below s.frames past f rules (ap is_some (sym (start_is columns f) ∙ opened))
+below s past f start rules columns opened =
+    open_below s.frames past f rules (ap is_some (start_of s past columns f start opened).opened)
 
 -- a write-out that ends
 pub written_frames : (s t : State) (past : List Entry) (a : Actor) (f : Frame) (e : Entry) (rec : Sealed) → Along (FitsRule s.frames) past

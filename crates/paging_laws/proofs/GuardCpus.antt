@@ -71,6 +71,8 @@ guarded_inside s p seat acc words h low outside tcs ssa = record {
   opened = h.opened;
   written = h.written;
   loaded = h.loaded;
+  held = h.held;
+  apart = h.apart;
   kinds = h.kinds;
   goes_out = h.goes_out;
 }
@@ -125,6 +127,8 @@ guarded_left s p words h = record {
   opened = h.opened;
   written = h.written;
   loaded = h.loaded;
+  held = h.held;
+  apart = h.apart;
   kinds = h.kinds;
   goes_out = h.goes_out;
 }
@@ -186,6 +190,8 @@ guarded_fill s p t allowed h = record {
   opened = h.opened;
   written = h.written;
   loaded = h.loaded;
+  held = h.held;
+  apart = h.apart;
   kinds = h.kinds;
   goes_out = h.goes_out;
 }

@@ -1,5 +1,5 @@
 -- What the rows that build leave of a guarded state is guarded, and what holds of any that touches one frame alone.
-use Rattle.std.proofs.Common.{◌≡◌, ℕ, ◌≤◌, ◌==◌, Bool, true, false, cond, refl, sym, ap, subst, ◌∙◌, Option, Some, None, IfSome, IsSomeAnd, List, is_some}
+use Rattle.std.proofs.Common.{◌≡◌, ℕ, ◌≤◌, ◌==◌, ◌||◌, Bool, true, false, cond, refl, sym, ap, subst, ◌∙◌, Option, Some, None, IfSome, IsSomeAnd, List, is_some}
 use Rattle.std.proofs.lemmas.Bool.{cond_both, false≢true, eqb-true}
 use Rattle.std.proofs.lemmas.List.Elements.{All-weaker}
 use Rattle.std.proofs.lemmas.Option.{IfSome_then}
@@ -12,29 +12,29 @@ use Rattle.sgx_types.specs.Epochs.{epoch_of}
 use Rattle.sgx_types.specs.Flat.{FlatEnclave}
 use Rattle.sgx_types.specs.Frames.{Content, Free, IsVa, SecsOf, Holds, IsLoading, enclave_in, same_page}
 use Rattle.sgx_types.specs.Processors.{Seat}
-use Rattle.sgx_types.specs.Starts.{Start}
+use Rattle.sgx_types.specs.Starts.{BareStart}
+use Rattle.sgx_types.specs.Table.{is_loading}
 use Rattle.sgx_types.proofs.Truths.{apart}
 use Rattle.measure_log.specs.declared.measure.Measure.{Measure}
 use Rattle.cached_translations.specs.declared.cache.Translation.{Translation}
 use Rattle.paging_laws.specs.State.{State, with_content, with_acc, after_create, after_add, after_extend, after_init}
-use Rattle.paging_laws.specs.Guarded.{IsNoEarlier, HasNoted, IsDrainedAt, IsPaged, IsOpen, WritesOut, Loads, IsGuarded}
+use Rattle.paging_laws.specs.Guarded.{IsNoEarlier, HasNoted, IsDrainedAt, IsPaged, IsOpen, AreApart, WritesOut, Loads, IsGuarded}
 use Rattle.paging_laws.proofs.TestLaws.{equal}
 
 -- ---- the columns on which no guard depends
 
--- any change of the words, the ranges, the measurements, the accumulators, the slots and the next version
+-- any change of the words, the ranges, the measurements, the accumulators, the versions in slots and the next one
 pub guarded_beside : (s : State) (words : ℕ → List ℕ) (enclaves : ℕ → Option FlatEnclave) (measure : ℕ → Option Measure) (acc : ℕ → ℕ)
-    (version_in : SlotAt → ℕ) (is_slot_busy : SlotAt → Bool) (next_version : ℕ) → IsGuarded s
+    (version_in : SlotAt → ℕ) (next_version : ℕ) → IsGuarded s
     → IsGuarded (record s {
       words = words;
       enclaves = enclaves;
       measure = measure;
       acc = acc;
       version_in = version_in;
-      is_slot_busy = is_slot_busy;
       next_version = next_version;
     })
-guarded_beside s words enclaves measure acc version_in is_slot_busy next_version h = record {
+guarded_beside s words enclaves measure acc version_in next_version h = record {
   few = h.few;
   noted = h.noted;
   blocks = h.blocks;
@@ -43,27 +43,29 @@ guarded_beside s words enclaves measure acc version_in is_slot_busy next_version
   opened = h.opened;
   written = h.written;
   loaded = h.loaded;
+  held = h.held;
+  apart = h.apart;
   kinds = h.kinds;
   goes_out = h.goes_out;
 }
 
 -- any change of the words alone
 pub guarded_words : (s : State) (words : ℕ → List ℕ) → IsGuarded s → IsGuarded (record s { words = words })
-guarded_words s words h = guarded_beside s words s.enclaves s.measure s.acc s.version_in s.is_slot_busy s.next_version h
+guarded_words s words h = guarded_beside s words s.enclaves s.measure s.acc s.version_in s.next_version h
 
 -- .. and of an accumulator
 pub guarded_acc : (s : State) (p acc : ℕ) → IsGuarded s → IsGuarded (with_acc s p acc)
-guarded_acc s p acc h = guarded_beside s s.words s.enclaves s.measure (with_acc s p acc).acc s.version_in s.is_slot_busy s.next_version h
+guarded_acc s p acc h = guarded_beside s s.words s.enclaves s.measure (with_acc s p acc).acc s.version_in s.next_version h
 
 -- .. and of a measurement
 pub guarded_extend : (s : State) (enclave : ℕ) (longer : Measure) → IsGuarded s → IsGuarded (after_extend s enclave longer)
 guarded_extend s enclave longer h =
-    guarded_beside s s.words s.enclaves (after_extend s enclave longer).measure s.acc s.version_in s.is_slot_busy s.next_version h
+    guarded_beside s s.words s.enclaves (after_extend s enclave longer).measure s.acc s.version_in s.next_version h
 
 -- .. and whether an enclave is initialised
 pub guarded_init : (s : State) (enclave : ℕ) → IsGuarded s → IsGuarded (after_init s enclave)
 guarded_init s enclave h =
-    guarded_beside s s.words (after_init s enclave).enclaves s.measure s.acc s.version_in s.is_slot_busy s.next_version h
+    guarded_beside s s.words (after_init s enclave).enclaves s.measure s.acc s.version_in s.next_version h
 
 -- ---- one frame that is put, or whose start begins or ends
 
@@ -96,7 +98,16 @@ stays_in s f h none = by_test (s.is_sealing f) refl
     by_test true e = absurd (false≢true (sym none ∙ h.goes_out f e))
     by_test false e = refl
 
-module _ (s : State) (f : ℕ) (content : ℕ → Content) (blocked : ℕ → Option ℕ) (is_sealing : ℕ → Bool) (start : ℕ → Option Start) where
+-- a frame that is not busy has no open start
+pub no_start : (s : State) (f : ℕ) → IsGuarded s → s.is_sealing f ≡ false → is_loading (s.content f) ≡ false → s.start f ≡ None
+no_start s f h settled still = by_start (s.start f) (h.held f)
+  where
+    by_start : (o : Option BareStart) → (is_some o ≡ true → (s.is_sealing f || is_loading (s.content f)) ≡ true) → o ≡ None
+    by_start None held = refl
+    by_start (Some x) held = let busy : false ≡ true = rw (settled, still) at (held refl) in absurd (false≢true busy)
+
+module _ (s : State) (f : ℕ) (content : ℕ → Content) (blocked : ℕ → Option ℕ) (is_sealing : ℕ → Bool)
+    (start : ℕ → Option BareStart) (is_slot_busy : SlotAt → Bool) where
   -- a frame of which nothing is changed
   pub record IsSame (n : ℕ) : Type 0 where
     pub held : content n ≡ s.content n
@@ -112,9 +123,11 @@ module _ (s : State) (f : ℕ) (content : ℕ → Content) (blocked : ℕ → Op
     pub settled : is_sealing f ≡ false
     pub opened : IfSome (start f) (IsOpen s.content s.added)
     pub loaded : (g : Page) → content f ≡ IsLoading g → IsSomeAnd (start f) (Loads g)
+    pub held : is_some (start f) ≡ true → is_loading (content f) ≡ true
+    pub apart : AreApart s.frames start is_slot_busy
 
   pub guarded_frame : IsGuarded s → IsPut → IsGuarded
-      (record s { content = content; blocked = blocked; is_sealing = is_sealing; start = start })
+      (record s { content = content; blocked = blocked; is_sealing = is_sealing; start = start; is_slot_busy = is_slot_busy })
   guarded_frame h k = record {
     few = h.few;
     noted = λ p.
@@ -137,6 +150,11 @@ module _ (s : State) (f : ℕ) (content : ℕ → Content) (blocked : ℕ → Op
         (λ n e. let same = k.same n e in rw (same.sealing, same.start_of) (h.written n));
     loaded = λ n g. each_frame f (λ m. content m ≡ IsLoading g → IsSomeAnd (start m) (Loads g)) (k.loaded g)
         (λ m e. let same = k.same m e in rw (same.held, same.start_of) (h.loaded m g)) n;
+    held =
+        each_frame f (λ n. is_some (start n) ≡ true → (is_sealing n || is_loading (content n)) ≡ true)
+        (λ is. rw k.settled (k.held is))
+        (λ n e. let same = k.same n e in rw (same.start_of, same.sealing, same.held) (h.held n));
+    apart = k.apart;
     kinds = h.kinds;
     goes_out =
         each_frame f (λ n. is_sealing n ≡ true → is_some (enclave_in (content n)) ≡ true)
@@ -144,7 +162,7 @@ module _ (s : State) (f : ℕ) (content : ℕ → Content) (blocked : ℕ → Op
         (λ n e. let same = k.same n e in rw (same.sealing, same.held) (h.goes_out n));
   }
     where
-      still_open : (x : Start) → IsOpen s.content s.added x → IsOpen content s.added x
+      still_open : (x : BareStart) → IsOpen s.content s.added x → IsOpen content s.added x
       still_open x o = record {
         paged = (k.same x.slot.frame.0 (apart f x.slot.frame.0 (λ same. k.unpaged (ap s.content same ∙ o.paged)))).held ∙ o.paged;
         within = o.within;
@@ -160,13 +178,15 @@ pub guarded_put : (s : State) (f : ℕ) (c : Content) (words : ℕ → List ℕ)
 guarded_put s f c words h free settled =
     let t = with_content s f c in
     guarded_words t words
-    (guarded_frame s f t.content t.blocked s.is_sealing s.start h (record {
+    (guarded_frame s f t.content t.blocked s.is_sealing s.start s.is_slot_busy h (record {
       same = λ n e. record { held = rw e refl; blocked_at = rw e refl; sealing = refl; start_of = refl };
       unpaged = λ va. cc (free, va);
       unblocked = rw (equal f f refl) refl;
       settled = stays_in s f h (rw free refl);
       opened = h.opened f;
       loaded = λ g waits. absurd (settled g (rw (equal f f refl) at waits));
+      held = λ is. absurd (cc (is, ap is_some (no_start s f h (stays_in s f h (rw free refl)) (rw free refl))));
+      apart = h.apart;
     }))
 
 -- a free frame that comes to hold an SECS page
@@ -174,7 +194,7 @@ pub guarded_create : (s : State) (enclave f base size : ℕ) (begun : Measure) �
     → IsGuarded (after_create s enclave f base size begun)
 guarded_create s enclave f base size begun h free =
     let t = after_create s enclave f base size begun in
-    guarded_beside (with_content s f (SecsOf enclave)) s.words t.enclaves t.measure s.acc s.version_in s.is_slot_busy s.next_version
+    guarded_beside (with_content s f (SecsOf enclave)) s.words t.enclaves t.measure s.acc s.version_in s.next_version
     (guarded_put s f (SecsOf enclave) s.words h free (λ g waits. cc waits))
 
 -- a page more that was added, of a kind for pages
@@ -195,6 +215,8 @@ guarded_added s g kind perm h paged = record {
       });
   written = h.written;
   loaded = h.loaded;
+  held = h.held;
+  apart = h.apart;
   kinds = λ q. cond_both (same_page q g) (Some (kind, perm)) (s.added q) (λ v. IfSome v (λ x. IsPaged x.0)) (λ _. paged) (λ _. h.kinds q);
   goes_out = h.goes_out;
 }
@@ -205,6 +227,6 @@ pub guarded_add : (s : State) (g : Page) (f : ℕ) (kind : Kind) (perm : Perm) (
 guarded_add s g f kind perm init longer h free paged =
     let t = after_add s g f kind perm init longer in
     guarded_beside (record (with_content s f (Holds g kind perm)) { added = t.added }) t.words s.enclaves t.measure s.acc s.version_in
-    s.is_slot_busy s.next_version
+    s.next_version
     (guarded_added (with_content s f (Holds g kind perm)) g kind perm
     (guarded_put s f (Holds g kind perm) s.words h free (λ g waits. cc waits)) paged)

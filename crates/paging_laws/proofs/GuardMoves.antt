@@ -1,5 +1,5 @@
 -- What blocks, tracks, write-out and reload leave of a guarded state is guarded.
-use Rattle.std.proofs.Common.{◌≡◌, ℕ, zero, suc, ◌+◌, ◌<◌, ◌≤◌, ◌==◌, ◌⊎◌, inl, inr, not, Bool, true, false, cond, ltb, leb, refl, sym, ap, ◌∙◌, arith, below_more, Option, Some, None, IfSome, IsSomeAnd, List, is_some}
+use Rattle.std.proofs.Common.{◌≡◌, ℕ, zero, suc, ◌+◌, ◌<◌, ◌≤◌, ◌==◌, ◌||◌, ◌⊎◌, inl, inr, not, Bool, true, false, cond, ltb, leb, refl, sym, ap, ◌∙◌, arith, below_more, Option, Some, None, IfSome, IsSomeAnd, List, is_some}
 use Rattle.std.specs.List.{All}
 use Rattle.std.proofs.lemmas.Bool.{cond_both, false≢true, eqb-true, eq-eqb, ltb-true, ltb-false, leb-false, cases_lt}
 use Rattle.std.proofs.lemmas.Option.{IfSome_then}
@@ -12,8 +12,9 @@ use Rattle.sgx_types.specs.Counts.{count_below}
 use Rattle.sgx_types.specs.Epochs.{epoch_of}
 use Rattle.sgx_types.specs.Frames.{Content, Free, IsVa, SecsOf, Holds, IsLoading, enclave_in, is_free}
 use Rattle.sgx_types.specs.Processors.{Seat}
-use Rattle.sgx_types.specs.Starts.{Start}
-use Rattle.sgx_types.specs.Table.{is_loading, is_secs, is_va, block_row, track_row, ewbstart_row, eldstart_row, first_of_row}
+use Rattle.sgx_types.specs.Slots.{same_slot}
+use Rattle.sgx_types.specs.Starts.{BareStart}
+use Rattle.sgx_types.specs.Table.{is_loading, is_out_of_range, is_secs, is_va, block_row, track_row, ewbstart_row, eldstart_row, first_of_row}
 use Rattle.sgx_types.proofs.Rows.{none_holds}
 use Rattle.sgx_types.proofs.Truths.{both_true, neither, not_false}
 use Rattle.cached_translations.specs.declared.cache.Translation.{Translation}
@@ -24,7 +25,8 @@ use Rattle.paging_laws.proofs.TestLaws.{there_at, there_then, equal, each_there,
 use Rattle.paging_laws.proofs.BuildLaws.{is_free_frame}
 use Rattle.paging_laws.proofs.SoundLaws.{seat_at}
 use Rattle.paging_laws.proofs.GuardCpus.{noted_at, unblocked}
-use Rattle.paging_laws.proofs.GuardLaws.{each_frame, stays_in, guarded_beside, guarded_frame}
+use Rattle.paging_laws.proofs.GuardLaws.{each_frame, no_start, stays_in, guarded_beside, guarded_frame}
+use Rattle.paging_laws.proofs.ApartLaws.{ended_apart, started_apart}
 
 -- ---- block and track
 
@@ -50,6 +52,8 @@ guarded_block s f allowed sound h = record {
   opened = h.opened;
   written = h.written;
   loaded = h.loaded;
+  held = h.held;
+  apart = h.apart;
   kinds = h.kinds;
   goes_out = h.goes_out;
 }
@@ -113,6 +117,8 @@ guarded_track s enclave allowed h = record {
   opened = h.opened;
   written = h.written;
   loaded = h.loaded;
+  held = h.held;
+  apart = h.apart;
   kinds = h.kinds;
   goes_out = h.goes_out;
 }
@@ -144,7 +150,10 @@ guarded_track s enclave allowed h = record {
 
 -- what the start of EWB shows
 pub record StartsOut (s : State) (f : ℕ) (slot : SlotAt) : Type 0 where
+  pub low : f < s.frames
+  pub slot_idle : s.is_slot_busy slot ≡ false
   pub idle : s.is_sealing f ≡ false
+  pub still : is_loading (s.content f) ≡ false
   pub ours : is_some (enclave_in (s.content f)) ≡ true
   pub paged : s.content slot.frame.0 ≡ IsVa
   pub within : slot.index < 512
@@ -167,6 +176,12 @@ page_there IsVa waits free secs va = cc va
 page_there (SecsOf enclave) waits free secs va = cc secs
 page_there (IsLoading page) waits free secs va = cc waits
 
+-- a start that is not out of range is of a frame of the EPC
+in_epc : (s : State) (f : ℕ) (slot : SlotAt) → is_out_of_range (sight s f) (slot_sight s slot) ≡ false → f < s.frames
+in_epc s f slot within =
+    let inner = neither (leb s.frames f || leb s.frames slot.frame.0) (ltb 511 slot.index) within in
+    leb-false s.frames f (neither (leb s.frames f) (leb s.frames slot.frame.0) inner.0).0
+
 pub starts_out : (s : State) (f : ℕ) (slot : SlotAt)
     → first_of_row (ewbstart_row (sight s f) (slot_sight s slot) (drain_sight s f) (is_version_spent s)) ≡ None → StartsOut s f slot
 starts_out s f slot allowed =
@@ -175,7 +190,10 @@ starts_out s f slot allowed =
     let of_kind = neither _ (not (is_va (s.content slot.frame.0))) none.1.1.1.0 in
     let own = neither (is_secs (s.content f)) (is_va (s.content f)) of_kind.0 in
     record {
+      low = in_epc s f slot none.0;
+      slot_idle = (neither _ (s.is_slot_busy slot) none.1.0).1;
       idle = idle.0;
+      still = idle.1;
       ours = page_there (s.content f) idle.1 none.1.1.0 own.0 own.1;
       paged = va_there (s.content slot.frame.0) (not_false _ of_kind.1);
       within = let low = ltb-false 511 slot.index (neither _ (ltb 511 slot.index) none.0).1 in omega (arith, low);
@@ -185,16 +203,23 @@ starts_out s f slot allowed =
 
 -- what the start of ELDU shows
 pub record StartsIn (s : State) (f : ℕ) (page : Page) (slot : SlotAt) : Type 0 where
+  pub low : f < s.frames
+  pub slot_idle : s.is_slot_busy slot ≡ false
   pub free : s.content f ≡ Free
   pub added : is_some (s.added page) ≡ true
   pub paged : s.content slot.frame.0 ≡ IsVa
   pub within : slot.index < 512
 
 pub starts_in : (s : State) (f : ℕ) (page : Page) (slot : SlotAt)
-    → first_of_row (eldstart_row (sight s f) (enclave_sight_of (s.enclaves page.enclave)) (is_some (s.added page)) (slot_sight s slot)) ≡ None → StartsIn s f page slot
+    → first_of_row (eldstart_row (sight s f) (enclave_sight_of (s.enclaves page.enclave)) (is_some (s.added page)) (slot_sight s slot))
+    ≡ None
+    → StartsIn s f page slot
 starts_in s f page slot allowed =
-    let none = none_holds (eldstart_row (sight s f) (enclave_sight_of (s.enclaves page.enclave)) (is_some (s.added page)) (slot_sight s slot)) allowed in
+    let none = none_holds
+    (eldstart_row (sight s f) (enclave_sight_of (s.enclaves page.enclave)) (is_some (s.added page)) (slot_sight s slot)) allowed in
     record {
+      low = in_epc s f slot none.0;
+      slot_idle = (neither _ (s.is_slot_busy slot) none.1.1.1.0).1;
       free = is_free_frame (s.content f) (s.is_sealing f) (neither _ (s.is_slot_busy slot) none.1.1.1.0).0 none.1.1.1.1.0;
       added = not_false _ none.1.1.0;
       paged = va_there (s.content slot.frame.0) (not_false _ none.1.1.1.1.1.0);
@@ -244,6 +269,10 @@ guarded_ewbstart s f slot allowed h =
       loaded = λ n g.
           each_frame f (λ m. s.content m ≡ IsLoading g → IsSomeAnd (t.start m) (Loads g)) (λ waits. absurd (false≢true (rw waits at k.ours)))
           (λ m e. rw e (h.loaded m g)) n;
+      held = each_frame f (λ n. is_some (t.start n) ≡ true → (t.is_sealing n || is_loading (s.content n)) ≡ true) (λ _. rw here refl)
+          (λ n e. rw e (h.held n));
+      apart = started_apart s.frames s.start s.is_slot_busy f (record { slot = slot; version = s.next_version; loads = None }) k.low
+          (no_start s f h k.idle k.still) k.slot_idle h.apart;
       kinds = h.kinds;
       goes_out = each_frame f (λ n. t.is_sealing n ≡ true → is_some (enclave_in (s.content n)) ≡ true) (λ _. k.ours)
           (λ n e. rw e (h.goes_out n));
@@ -251,15 +280,16 @@ guarded_ewbstart s f slot allowed h =
 
 -- a free frame starts to wait for a page
 pub guarded_eldstart : (s : State) (f : ℕ) (page : Page) (slot : SlotAt)
-    → first_of_row (eldstart_row (sight s f) (enclave_sight_of (s.enclaves page.enclave)) (is_some (s.added page)) (slot_sight s slot)) ≡ None → IsGuarded s
-    → IsGuarded (after_eldstart s f page slot)
+    → first_of_row (eldstart_row (sight s f) (enclave_sight_of (s.enclaves page.enclave)) (is_some (s.added page)) (slot_sight s slot))
+    ≡ None
+    → IsGuarded s → IsGuarded (after_eldstart s f page slot)
 guarded_eldstart s f page slot allowed h =
     let t = after_eldstart s f page slot in
     let k = starts_in s f page slot allowed in
     let here : (f == f) ≡ true = equal f f refl in
-    guarded_beside (record s { content = t.content; blocked = t.blocked; start = t.start }) s.words s.enclaves s.measure s.acc s.version_in
-    t.is_slot_busy s.next_version
-    (guarded_frame s f t.content t.blocked s.is_sealing t.start h (record {
+    guarded_beside (record s { content = t.content; blocked = t.blocked; start = t.start; is_slot_busy = t.is_slot_busy }) s.words
+    s.enclaves s.measure s.acc s.version_in s.next_version
+    (guarded_frame s f t.content t.blocked s.is_sealing t.start t.is_slot_busy h (record {
       same = λ n e. record { held = rw e refl; blocked_at = rw e refl; sealing = refl; start_of = rw e refl };
       unpaged = λ va. let free = k.free in cc (free, va);
       unblocked = rw here refl;
@@ -267,15 +297,26 @@ guarded_eldstart s f page slot allowed h =
       opened = rw here (record { paged = k.paged; within = k.within; loads = k.added });
       loaded = λ g waits. let is : IsLoading page ≡ IsLoading g = rw here at waits in let same : page ≡ g = cc in
           rw here (ap Some same);
+      held = λ _. rw here refl;
+      apart = started_apart s.frames s.start s.is_slot_busy f (record { slot = slot; version = s.version_in slot; loads = Some page })
+          k.low (no_start s f h (stays_in s f h (rw k.free refl)) (rw k.free refl)) k.slot_idle h.apart;
     }))
 
 -- a frame whose start has ended
-ended : (s : State) (f : ℕ) (content : ℕ → Content) (blocked : ℕ → Option ℕ) (is_sealing : ℕ → Bool) → IsGuarded s
+ended : (s : State) (f : ℕ) (content : ℕ → Content) (blocked : ℕ → Option ℕ) (is_sealing : ℕ → Bool) (start : BareStart)
+    → s.start f ≡ Some start → IsGuarded s
     → ((n : ℕ) → (f == n) ≡ false → (content n ≡ s.content n) × (blocked n ≡ s.blocked n) × (is_sealing n ≡ s.is_sealing n))
     → (s.content f ≡ IsVa → ⊥) → blocked f ≡ None → is_sealing f ≡ false → ((g : Page) → content f ≡ IsLoading g → ⊥)
-    → IsGuarded (record s { content = content; blocked = blocked; is_sealing = is_sealing; start = λ n. cond (f == n) None (s.start n) })
-ended s f content blocked is_sealing h same unpaged unblocked settled done =
-    guarded_frame s f content blocked is_sealing (λ n. cond (f == n) None (s.start n)) h
+    → IsGuarded (record s {
+      content = content;
+      blocked = blocked;
+      is_sealing = is_sealing;
+      start = λ n. cond (f == n) None (s.start n);
+      is_slot_busy = λ slot. cond (same_slot start.slot slot) false (s.is_slot_busy slot);
+    })
+ended s f content blocked is_sealing start is h same unpaged unblocked settled done =
+    guarded_frame s f content blocked is_sealing (λ n. cond (f == n) None (s.start n))
+    (λ slot. cond (same_slot start.slot slot) false (s.is_slot_busy slot)) h
     (record {
       same = λ n e. let k = same n e in record { held = k.0; blocked_at = k.1; sealing = k.2; start_of = rw e refl };
       unpaged = unpaged;
@@ -283,38 +324,49 @@ ended s f content blocked is_sealing h same unpaged unblocked settled done =
       settled = settled;
       opened = rw (equal f f refl) tt;
       loaded = λ g waits. absurd (done g waits);
+      held = λ some. let no : false ≡ true = rw (equal f f refl) at some in absurd (false≢true no);
+      apart = ended_apart s.frames s.start s.is_slot_busy f start is h.apart;
     })
 
 -- .. which is free then
-freed : (s : State) (f : ℕ) (start : Start) → (s.content f ≡ IsVa → ⊥) → IsGuarded s → IsGuarded (after_failed_eld s f start)
-freed s f start unpaged h =
+freed : (s : State) (f : ℕ) (start : BareStart) → s.start f ≡ Some start → (s.content f ≡ IsVa → ⊥) → IsGuarded s
+    → IsGuarded (after_failed_eld s f start)
+freed s f start is unpaged h =
     let t = after_failed_eld s f start in
     let here : (f == f) ≡ true = equal f f refl in
-    guarded_beside (record s { content = t.content; blocked = t.blocked; is_sealing = t.is_sealing; start = t.start }) t.words s.enclaves
-    s.measure s.acc s.version_in t.is_slot_busy s.next_version
-    (ended s f t.content t.blocked t.is_sealing h (λ n e. (rw e refl, rw e refl, rw e refl)) unpaged (rw here refl) (rw here refl)
+    guarded_beside
+    (record s {
+      content = t.content;
+      blocked = t.blocked;
+      is_sealing = t.is_sealing;
+      start = t.start;
+      is_slot_busy = t.is_slot_busy;
+    }) t.words s.enclaves s.measure s.acc s.version_in s.next_version
+    (ended s f t.content t.blocked t.is_sealing start is h (λ n e. (rw e refl, rw e refl, rw e refl)) unpaged (rw here refl) (rw here refl)
     (λ g waits. let free : Free ≡ IsLoading g = rw here at waits in cc free))
 
 -- a page is out
-pub guarded_ewb : (s : State) (f : ℕ) (start : Start) → s.is_sealing f ≡ true → IsGuarded s → IsGuarded (after_ewb s f start)
-guarded_ewb s f start leaving h =
+pub guarded_ewb : (s : State) (f : ℕ) (start : BareStart) → s.start f ≡ Some start → s.is_sealing f ≡ true → IsGuarded s
+    → IsGuarded (after_ewb s f start)
+guarded_ewb s f start is leaving h =
     let t = after_failed_eld s f start in
-    guarded_beside t t.words t.enclaves t.measure t.acc (after_ewb s f start).version_in t.is_slot_busy t.next_version
-    (freed s f start (λ va. false≢true (rw va at (h.goes_out f leaving))) h)
+    guarded_beside t t.words t.enclaves t.measure t.acc (after_ewb s f start).version_in t.next_version
+    (freed s f start is (λ va. false≢true (rw va at (h.goes_out f leaving))) h)
 
 -- a load is refused
-pub guarded_failed_eld : (s : State) (f : ℕ) (start : Start) (g : Page) → s.content f ≡ IsLoading g → IsGuarded s
+pub guarded_failed_eld : (s : State) (f : ℕ) (start : BareStart) (g : Page) → s.start f ≡ Some start → s.content f ≡ IsLoading g
+    → IsGuarded s
     → IsGuarded (after_failed_eld s f start)
-guarded_failed_eld s f start g waits h = freed s f start (λ va. cc (waits, va)) h
+guarded_failed_eld s f start g is waits h = freed s f start is (λ va. cc (waits, va)) h
 
 -- a page is back
-pub guarded_eld : (s : State) (f : ℕ) (start : Start) (page : Page) (kind : Kind) (perm : Perm) (words : List ℕ) (g : Page)
-    → s.content f ≡ IsLoading g
+pub guarded_eld : (s : State) (f : ℕ) (start : BareStart) (page : Page) (kind : Kind) (perm : Perm) (words : List ℕ) (g : Page)
+    → s.start f ≡ Some start → s.content f ≡ IsLoading g
     → IsGuarded s → IsGuarded (after_eld s f start page kind perm words)
-guarded_eld s f start page kind perm words g waits h =
+guarded_eld s f start page kind perm words g is waits h =
     let t = after_eld s f start page kind perm words in
     let here : (f == f) ≡ true = equal f f refl in
-    guarded_beside (record s { content = t.content; blocked = t.blocked; start = t.start }) t.words s.enclaves s.measure s.acc t.version_in
-    t.is_slot_busy s.next_version
-    (ended s f t.content t.blocked s.is_sealing h (λ n e. (rw e refl, rw e refl, refl)) (λ va. cc (waits, va)) (rw here refl)
+    guarded_beside (record s { content = t.content; blocked = t.blocked; start = t.start; is_slot_busy = t.is_slot_busy }) t.words
+    s.enclaves s.measure s.acc t.version_in s.next_version
+    (ended s f t.content t.blocked s.is_sealing start is h (λ n e. (rw e refl, rw e refl, refl)) (λ va. cc (waits, va)) (rw here refl)
     (stays_in s f h (rw waits refl)) (λ w again. let page_is : Holds page kind perm ≡ IsLoading w = rw here at again in cc page_is))

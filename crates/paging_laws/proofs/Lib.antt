@@ -1,6 +1,7 @@
 pub mod TestLaws
 pub mod MeasureLaws
 pub mod ColumnLaws
+pub mod SlotLaws
 pub mod TranslationLaws
 pub mod Contents
 pub mod SoundLaws
@@ -16,6 +17,7 @@ pub mod RegisterLaws
 pub mod ExtendLaws
 pub mod MoveSights
 pub mod RowLaws
+pub mod ApartLaws
 pub mod GuardLaws
 pub mod GuardCpus
 pub mod GuardMoves

@@ -20,6 +20,7 @@ use Rattle.sgx_types.specs.Ends.{DoesNotFit, EndsIn, EndsOut, IsBack, IsNotBack}
 use Rattle.sgx_types.specs.Flat.{FlatEnclave, FlatPage, added_as, flat, header_at, header_by}
 use Rattle.sgx_types.specs.Sealed.{Sealed, header_of}
 use Rattle.sgx_types.specs.Table.{first_of_row}
+use Rattle.sgx_types.specs.Starts.{BareStart}
 use Rattle.epcm_entry.specs.Words.{words_of}
 use Rattle.seal_record.specs.Cipher.{cipher, tag}
 use Rattle.seal_record.specs.Row.{same_header}
@@ -29,6 +30,7 @@ use Rattle.paging_laws.specs.Stands.{Stands}
 use Rattle.paging_laws.specs.State.{State, after_eld, after_failed_eld}
 use Rattle.paging_laws.specs.Steps.{CanApply, IsComing, IsWrittenOut, commit_row, did_by, refused_by}
 use Rattle.paging_laws.proofs.ColumnLaws.{added_flat, content_is, enclave_flat, start_is}
+use Rattle.paging_laws.proofs.SlotLaws.{start_of}
 
 -- the ends of starts
 abbrev pub is_end : Action → Bool
@@ -52,14 +54,15 @@ pub ends_out : (s t : State) (past : List Entry) (a : Actor) (f : Frame) (e : En
     → (out : IsWrittenOut s a f e rec t) → EndsOut past f.0 (answers.Moved out.leaving.page.page out.leaving.start.version rec.tag)
 ends_out s t past a f e rec guarded sealing h out =
     let writes : WritesOut out.leaving.start = rw out.leaving.opened at (guarded.written f.0 sealing) in
+    let x = start_of s past h f.0 out.leaving.start out.leaving.opened in
     record {
       page = out.leaving.page.page;
       kind = out.leaving.page.kind;
       perm = out.leaving.page.perm;
       held = sym (content_is h f.0) ∙ out.leaving.page.held;
-      start = out.leaving.start;
-      opened = sym (start_is h f.0) ∙ out.leaving.opened;
-      writes = writes;
+      start = x.start;
+      opened = x.opened;
+      writes = ap (λ (y : BareStart). y.loads) x.same ∙ writes;
       version = out.leaving.start.version;
       tag = rec.tag;
       told = refl;
@@ -67,7 +70,9 @@ ends_out s t past a f e rec guarded sealing h out =
 
 -- what a frame waits for is what its start loads
 ends_in : (s : State) (past : List Entry) (f : ℕ) → HasColumns s past → (coming : IsComing s f) → EndsIn past f coming.page
-ends_in s past f h coming = record { start = coming.start; opened = sym (start_is h f) ∙ coming.opened; loads = coming.loads }
+ends_in s past f h coming =
+    let x = start_of s past h f coming.start coming.opened in
+    record { start = x.start; opened = x.opened; loads = ap (λ (y : BareStart). y.loads) x.same ∙ coming.loads }
 
 -- a page that is back ends the start of its load
 pub ends_back : (s : State) (past : List Entry) (f : ℕ) (coming : IsComing s f) (version : ℕ) (tag : List ℕ) → HasColumns s past

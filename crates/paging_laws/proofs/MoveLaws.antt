@@ -16,7 +16,7 @@ use Rattle.sgx_types.specs.Flat.{FlatEnclave, FlatMemory, FlatPage, added_as, fl
 use Rattle.sgx_types.specs.Flat as flats
 use Rattle.sgx_types.specs.Frames.{Content, Free, Holds, IsLoading}
 use Rattle.sgx_types.specs.Sealed.{Sealed}
-use Rattle.sgx_types.specs.Starts.{Start}
+use Rattle.sgx_types.specs.Starts.{BareStart}
 use Rattle.sgx_types.specs.Table.{first_of_row}
 use Rattle.epcm_entry.specs.Words.{words_of, zero_words}
 use Rattle.seal_record.specs.Cipher.{cipher}
@@ -29,6 +29,7 @@ use Rattle.paging_laws.proofs.MoveEnds.{IsDoneBack, IsRefusedBack, ends_back, en
 use Rattle.paging_laws.proofs.BuildLaws.{words_put}
 use Rattle.paging_laws.proofs.NextEntry.{Brings, BringsDone, done_brings, brings_as}
 use Rattle.paging_laws.proofs.ColumnLaws.{added_flat, start_is, version_is}
+use Rattle.paging_laws.proofs.SlotLaws.{start_of}
 use Rattle.sgx_types.specs.declared.names.SlotAt.{SlotAt}
 
 -- ---- what flat memory does not see
@@ -144,8 +145,9 @@ freed_words s past f stands = put_words s.content s.words (flat past) f Free zer
 -- ---- the commits
 
 -- a frame whose start is open is one of the EPC
-below : (s : State) (past : List Entry) (f : ℕ) (start : Start) → StandsWithRules s past → s.start f ≡ Some start → f < s.frames
-below s past f start h opened = open_below s.frames past f h.rules.fits.entries (ap is_some (sym (start_is h.stands.columns f) ∙ opened))
+below : (s : State) (past : List Entry) (f : ℕ) (start : BareStart) → StandsWithRules s past → s.start f ≡ Some start → f < s.frames
+below s past f start h opened =
+    open_below s.frames past f h.rules.fits.entries (ap is_some (start_of s past h.stands.columns f start opened).opened)
 
 -- a page is out
 pub written_brings : (s t : State) (past : List Entry) (a : Actor) (f : Frame) (e : Entry) (rec : Sealed) → IsGuarded s

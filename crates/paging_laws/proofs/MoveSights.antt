@@ -41,7 +41,8 @@ use Rattle.paging_laws.specs.Steps.{CanApply, IsComing, IsDone, IsReloaded, IsSt
 use Rattle.paging_laws.proofs.BuildLaws.{is_some-added_as}
 use Rattle.paging_laws.proofs.ShapeLaws.{drained_by, noting_agrees, older_agrees}
 use Rattle.paging_laws.specs.Columns.{HasColumns}
-use Rattle.paging_laws.proofs.ColumnLaws.{added_flat, blocked_is, content_is, enclave_flat, epoch_is, next_version_is, sight_is, slot_busy_is, start_is, version_is}
+use Rattle.paging_laws.proofs.ColumnLaws.{added_flat, blocked_is, content_is, enclave_flat, epoch_is, next_version_is, sight_is, start_is, version_is}
+use Rattle.paging_laws.proofs.SlotLaws.{slot_busy_is}
 
 -- ---- what the rows see
 
@@ -55,9 +56,9 @@ track_sees s past h stands enclave i = record {
 }
 
 -- what a row sees of a slot
-slot_sees : (s : State) (past : List Entry) → HasColumns s past → (slot : SlotAt)
+pub slot_sees : (s : State) (past : List Entry) → HasColumns s past → IsGuarded s → (slot : SlotAt)
     → slot_sight s slot ≡ slot_sight_at s.frames past slot
-slot_sees s past h slot = rw (sight_is h slot.frame.0, slot_busy_is h slot, version_is h slot) refl
+slot_sees s past h guarded slot = rw (sight_is h slot.frame.0, slot_busy_is s past h guarded slot, version_is h slot) refl
 
 -- how many processors keep a page back
 kept_back_by : (s : State) (past : List Entry) → HasColumns s past → (n : ℕ)
@@ -105,14 +106,15 @@ pub track_agrees : (s : State) (past : List Entry) (a : Actor) (enclave : ℕ) �
     → first_of_row (row_of s a (Track enclave)) ≡ first_of_row (row_at (making_of s) past a (Track enclave))
 track_agrees s past a enclave stands = ap (λ v. first_of_row (track_row v)) (track_sees s past stands.columns stands enclave)
 
-pub ewbstart_agrees : (s : State) (past : List Entry) (a : Actor) (f : Frame) (slot : SlotAt) → HasColumns s past
+pub ewbstart_agrees : (s : State) (past : List Entry) (a : Actor) (f : Frame) (slot : SlotAt) → HasColumns s past → IsGuarded s
     → first_of_row (row_of s a (EwbStart f slot)) ≡ first_of_row (row_at (making_of s) past a (EwbStart f slot))
-ewbstart_agrees s past a f slot h =
-    ewbstart_same _ _ _ _ _ _ _ _ (sight_is h f.0) (slot_sees s past h slot) (drain_sees s past h f.0)
+ewbstart_agrees s past a f slot h guarded =
+    ewbstart_same _ _ _ _ _ _ _ _ (sight_is h f.0) (slot_sees s past h guarded slot) (drain_sees s past h f.0)
     (ap (λ (n : ℕ). n == 2 ^ 64) (next_version_is h))
 
-pub eldstart_agrees : (s : State) (past : List Entry) (a : Actor) (f : Frame) (page : Page) (slot : SlotAt) → Stands s past
+pub eldstart_agrees : (s : State) (past : List Entry) (a : Actor) (f : Frame) (page : Page) (slot : SlotAt) → IsGuarded s
+    → Stands s past
     → first_of_row (row_of s a (EldStart f page slot)) ≡ first_of_row (row_at (making_of s) past a (EldStart f page slot))
-eldstart_agrees s past a f page slot stands =
+eldstart_agrees s past a f page slot guarded stands =
     eldstart_same _ _ _ _ _ _ _ _ (sight_is stands.columns f.0) (ap enclave_sight_of (enclave_flat stands page.enclave))
-    (ap is_some (added_flat stands page) ∙ is_some-added_as ((flat past).pages page)) (slot_sees s past stands.columns slot)
+    (ap is_some (added_flat stands page) ∙ is_some-added_as ((flat past).pages page)) (slot_sees s past stands.columns guarded slot)

@@ -9,6 +9,7 @@ use Rattle.sgx_types.specs.declared.names.SlotAt.{SlotAt}
 use Rattle.sgx_types.specs.Fresh.{ReloadRule}
 use Rattle.sgx_types.specs.Making.{Making}
 use Rattle.sgx_types.specs.Rules.{EvictRule, FitsRule, RisingRule, StaleRule}
+use Rattle.sgx_types.specs.Starts.{open_start}
 use Rattle.seal_record.specs.Sealing.{SealedRule, made_by}
 use Rattle.paging_laws.specs.Guarded.{IsGuarded}
 use Rattle.paging_laws.specs.Histories.{OutsideBytes}
@@ -34,6 +35,13 @@ noted_quiet first_epoch first_version past a (Refused action why) note = absurd 
 noted_quiet first_epoch first_version past a _ note =
     record { frames = refl; cpus = refl; slots = refl; enclaves = refl; stays = λ p. refl }
 
+-- nor any start
+noted_opens : (past : List Entry) (a : Actor) (event : Event) → IsNote event → (n : ℕ)
+    → open_start (entry_of a event ∷ past) n ≡ open_start past n
+noted_opens past a (Did action answer) note n = absurd note
+noted_opens past a (Refused action why) note n = absurd note
+noted_opens past a _ note n = refl
+
 -- and the rules that ask what was done have nothing to say of it
 record SaysNothing (past : List Entry) (e : Entry) : Type 0 where
   frames : (frames : ℕ) → FitsRule frames past e
@@ -57,7 +65,7 @@ noted_shaped s made past e note sound guarded h =
 pub noted_fits : (frames : ℕ) (past : List Entry) (e : Entry) → IsNote e.event → FitsApart frames past → FitsApart frames (e ∷ past)
 noted_fits frames past e note h =
     let quiet = noted_quiet 0 0 past e.actor e.event note in
-    fits_same frames past e (λ n i. (quiet.frames i).content n) (λ n i. (quiet.frames i).start n)
+    fits_same frames past e (λ n i. (quiet.frames i).content n) (noted_opens past e.actor e.event note)
     ((noted_nothing past e.actor e.event note).frames frames) h
 
 pub noted_reload : (past : List Entry) (e : Entry) → IsNote e.event → ReloadRule past e

@@ -12,7 +12,7 @@ use Rattle.sgx_types.specs.declared.names.Perm.{Perm}
 use Rattle.sgx_types.specs.declared.names.SlotAt.{SlotAt}
 use Rattle.sgx_types.specs.Frames.{Content, IsLoading, enclave_in}
 use Rattle.sgx_types.specs.Processors.{Seat}
-use Rattle.sgx_types.specs.Starts.{Start}
+use Rattle.sgx_types.specs.Starts.{BareStart}
 use Rattle.sgx_types.specs.Table.{ewbstart_row, eldstart_row, first_of_row}
 use Rattle.sgx_types.proofs.Truths.{apart}
 use Rattle.epcm_entry.specs.Words.{zero_words}
@@ -28,7 +28,7 @@ use Rattle.paging_laws.proofs.GuardCpus.{noted_at}
 -- ---- the columns on which no seat depends
 
 -- any change of the blocks, the epochs, the starts, the slots and the next version
-sound_beside : (s : State) (blocked : ℕ → Option ℕ) (epoch : ℕ → ℕ) (start : ℕ → Option Start) (version_in : SlotAt → ℕ)
+sound_beside : (s : State) (blocked : ℕ → Option ℕ) (epoch : ℕ → ℕ) (start : ℕ → Option BareStart) (version_in : SlotAt → ℕ)
     (is_slot_busy : SlotAt → Bool) (next_version : ℕ) → IsSound s
     → IsSound (record s {
       blocked = blocked;
@@ -164,7 +164,7 @@ unfolding zero_words
 zero_sized = length-replicate {A = ℕ} 512 0
 
 -- a frame that is freed
-freed : (s : State) (f : ℕ) (start : Start) → NobodyUses s f → IsSound s → IsSound (after_failed_eld s f start)
+freed : (s : State) (f : ℕ) (start : BareStart) → NobodyUses s f → IsSound s → IsSound (after_failed_eld s f start)
 freed s f start unused sound =
     let t = after_failed_eld s f start in
     sound_beside (record s { content = t.content; is_sealing = t.is_sealing; words = t.words }) t.blocked s.epoch t.start s.version_in
@@ -173,18 +173,18 @@ freed s f start unused sound =
     (λ n. cond_both (f == n) zero_words (s.words n) (λ ws. length ws ≡ 512) (λ _. zero_sized) (λ _. sound.sized n)))
 
 -- a page is out
-pub sound_ewb : (s : State) (f : ℕ) (start : Start) → s.is_sealing f ≡ true → IsSound s → IsSound (after_ewb s f start)
+pub sound_ewb : (s : State) (f : ℕ) (start : BareStart) → s.is_sealing f ≡ true → IsSound s → IsSound (after_ewb s f start)
 sound_ewb s f start leaving sound =
     let t = after_failed_eld s f start in
     sound_beside t t.blocked t.epoch t.start (after_ewb s f start).version_in t.is_slot_busy t.next_version
     (freed s f start (unusable s f sound (λ enclave u. false≢true (sym u.settled ∙ leaving))) sound)
 
 -- a load is refused
-pub sound_failed_eld : (s : State) (f : ℕ) (start : Start) (g : Page) → s.content f ≡ IsLoading g → IsSound s → IsSound (after_failed_eld s f start)
+pub sound_failed_eld : (s : State) (f : ℕ) (start : BareStart) (g : Page) → s.content f ≡ IsLoading g → IsSound s → IsSound (after_failed_eld s f start)
 sound_failed_eld s f start g waits sound = freed s f start (unusable_empty s f sound (rw waits refl)) sound
 
 -- a page is back, with its words
-pub sound_eld : (s : State) (f : ℕ) (start : Start) (page : Page) (kind : Kind) (perm : Perm) (words : List ℕ) (g : Page)
+pub sound_eld : (s : State) (f : ℕ) (start : BareStart) (page : Page) (kind : Kind) (perm : Perm) (words : List ℕ) (g : Page)
     → s.content f ≡ IsLoading g
     → length words ≡ 512 → IsSound s → IsSound (after_eld s f start page kind perm words)
 sound_eld s f start page kind perm words g waits long sound =

@@ -17,7 +17,7 @@ use Rattle.sgx_types.specs.Flat as memory
 use Rattle.sgx_types.specs.Rules.{Along, RefusalRule}
 use Rattle.sgx_types.specs.Sealed.{Sealed, header_of}
 use Rattle.sgx_types.specs.Slots.{version_in}
-use Rattle.sgx_types.specs.Starts.{Start, open_start}
+use Rattle.sgx_types.specs.Starts.{BareStart, Start, open_start}
 use Rattle.sgx_types.specs.Table.{first_of_row}
 use Rattle.sgx_types.proofs.Rows.{none_holds}
 use Rattle.sgx_types.proofs.Truths.{both_true, not_false}
@@ -31,6 +31,7 @@ use Rattle.seal_record.proofs.CipherLaws.{cipher_twice}
 use Rattle.seal_record.proofs.RecordLaws.{fitting_made}
 use Rattle.page_history.specs.Copies.{InSlot, copy}
 use Rattle.sgx_types.specs.Fresh.{IsLastOut, ReloadRule}
+use Rattle.sgx_types.proofs.Busy.{IsBareOf}
 use Rattle.page_history.specs.Once.{Gone, IsMade, IsOfPage, KeepsMoves, MadeOnce}
 use Rattle.seal_record.specs.Sealing.{SealedRule, made_by}
 use Rattle.page_history.proofs.CopyLaws.{copy_is_last, live_copies, went_out}
@@ -41,6 +42,7 @@ use Rattle.paging_laws.specs.Histories.{BringsBack, OutsideBytes, StandsWithAllR
 use Rattle.paging_laws.specs.State.{State, after_eld, making_of}
 use Rattle.paging_laws.specs.Steps.{IsComing, IsReloaded, commit_row, did_by}
 use Rattle.paging_laws.proofs.ColumnLaws.{enclave_flat, start_is}
+use Rattle.paging_laws.proofs.SlotLaws.{start_of}
 
 -- ---- the page of a header
 
@@ -93,16 +95,22 @@ module _ (k : Making) (key : List ℕ) (past : List Entry) (positive : 1 ≤ k.f
       (once.own _ (i, _, low, get_or_default (made_by key past) i _ _ low, refl)).tagged
 
   -- a record that fits a page whose start found its version is the record of the page's last write-out
-  pub brought_back : (n : ℕ) (start : Start) (g : Page) (rec : Sealed) (given : List Given) → open_start past n ≡ Some start
-      → start.loads ≡ Some g
-      → HasHeader past g rec.header → rec.tag ≡ tag key start.version rec.header rec.cipher
-      → Unforged key (made_by key past) (given ++ given_with (length (made_by key past)) start.version rec ∷ [])
-      → BringsBack key past n g start.version rec
-  brought_back n start g rec given opened loads headed fits unforged =
+  pub brought_back : (n : ℕ) (bare : BareStart) (g : Page) (rec : Sealed) (given : List Given) → IsBareOf (open_start past n) bare
+      → bare.loads ≡ Some g
+      → HasHeader past g rec.header → rec.tag ≡ tag key bare.version rec.header rec.cipher
+      → Unforged key (made_by key past) (given ++ given_with (length (made_by key past)) bare.version rec ∷ [])
+      → BringsBack key past n g bare.version rec
+  brought_back n bare g rec given is loads headed fits unforged =
       by_made (fitting_made key (made_by key past) given last own_tags refl unforged fits)
     where
       version : ℕ
-      version = start.version
+      version = bare.version
+
+      start : Start
+      start = is.start
+
+      opened : open_start past n ≡ Some start
+      opened = is.opened
 
       last : Given
       last = given_with (length (made_by key past)) version rec
@@ -111,7 +119,9 @@ module _ (k : Making) (key : List ℕ) (past : List Entry) (positive : 1 ≤ k.f
       once = made_once k key past rules sealed
 
       found : (version_in past start.slot ≡ version) × (0 < version)
-      found = (starts_apart k past rules).found n start g opened loads
+      found =
+          let k = (starts_apart k past rules).found n start g opened (ap (λ (x : BareStart). x.loads) is.same ∙ loads) in
+          subst (λ v. (version_in past start.slot ≡ v) × (0 < v)) (ap (λ (x : BareStart). x.version) is.same) k
 
       by_made : Any (λ one. made_of one ≡ given_of last) (made_by key past) → BringsBack key past n g version rec
       by_made (i, one, low, here, same) =
@@ -194,7 +204,7 @@ pub reload_back : (made : Making) (s : State) (past : List Entry) (records : Lis
 reload_back made s past records given f coming rec allowed h unforged =
     let allows = row_allows s f coming rec allowed in
     let key : s.key ≡ made.key = ap (λ (m : Making). m.key) h.shaped.shape.making in
-    let opened : open_start past f ≡ Some coming.start = sym (start_is h.shaped.shape.columns f) ∙ coming.opened in
+    let opened = start_of s past h.shaped.shape.columns f coming.start coming.opened in
     let headed : HasHeader past coming.page rec.header = record {
       enclave = coming.enclave;
       made = sym (enclave_flat h.standing.stands coming.page.enclave) ∙ coming.made;

@@ -38,6 +38,7 @@ use Rattle.paging_laws.specs.Steps.{CanApply, is_of_cpus, refused_by, IsStep, Is
 use Rattle.paging_laws.proofs.MeasureLaws.{quiet}
 use Rattle.paging_laws.proofs.ColumnLaws.{added_flat, busy_flat, content_is, enclave_flat, inside_is, sight_is}
 use Rattle.paging_laws.specs.Columns.{HasColumns}
+use Rattle.paging_laws.specs.Guarded.{IsGuarded}
 use Rattle.std.proofs.lemmas.Bool.{leb-false}
 use Rattle.sgx_types.specs.declared.entries.Answer.{Answer}
 use Rattle.sgx_types.proofs.Rows.{none_holds}
@@ -203,39 +204,40 @@ row_outside_agrees s past action own stands = cc
 
 -- the row of an instruction, by the state and by the entries
 row_agrees : (s : State) (past : List Entry) (cpus : ℕ) (a : Actor) (action : Action) → CanApply cpus a action
-    → IsSound s → Stands s past
+    → IsSound s → IsGuarded s → Stands s past
     → first_of_row (row_of s a action) ≡ first_of_row (row_at (making_of s) past a action)
-row_agrees s past cpus a (Epa f) can sound stands = epa_agrees s past a f stands
-row_agrees s past cpus a (Create enclave f base size) can sound stands = create_agrees s past a enclave f base size stands
-row_agrees s past cpus a (Add enclave number f kind perm init) can sound stands =
+row_agrees s past cpus a (Epa f) can sound guarded stands = epa_agrees s past a f stands
+row_agrees s past cpus a (Create enclave f base size) can sound guarded stands = create_agrees s past a enclave f base size stands
+row_agrees s past cpus a (Add enclave number f kind perm init) can sound guarded stands =
     add_agrees s past a enclave number f kind perm init stands
-row_agrees s past cpus a (Extend f chunk) can sound stands = extend_agrees s past a f chunk stands
-row_agrees s past cpus a (Init enclave expect) can sound stands = init_agrees s past a enclave expect stands
-row_agrees s past cpus (actors.Cpu p) (Enter enclave tcs tf sf) can sound stands =
+row_agrees s past cpus a (Extend f chunk) can sound guarded stands = extend_agrees s past a f chunk stands
+row_agrees s past cpus a (Init enclave expect) can sound guarded stands = init_agrees s past a enclave expect stands
+row_agrees s past cpus (actors.Cpu p) (Enter enclave tcs tf sf) can sound guarded stands =
     entry_agrees enter_saves enter_saved s past p.0 enclave tcs tf.0 sf.0 stands
-row_agrees s past cpus (actors.Cpu p) (Resume enclave tcs tf sf) can sound stands =
+row_agrees s past cpus (actors.Cpu p) (Resume enclave tcs tf sf) can sound guarded stands =
     entry_agrees resume_saves resume_saved s past p.0 enclave tcs tf.0 sf.0 stands
-row_agrees s past cpus (actors.Cpu p) Exit can sound stands = inside_agrees s past p stands
-row_agrees s past cpus (actors.Cpu p) (Aex cause) can sound stands = inside_agrees s past p stands
-row_agrees s past cpus (actors.Cpu p) (Fill number f) can sound stands = fill_agrees s past p number f stands
-row_agrees s past cpus (actors.Cpu p) (Load off) can sound stands = access_agrees s past p off allows_read sound stands
-row_agrees s past cpus (actors.Cpu p) (Store off value) can sound stands = access_agrees s past p off allows_write sound stands
-row_agrees s past cpus (actors.Cpu p) (Xadd off value) can sound stands = access_agrees s past p off allows_update sound stands
-row_agrees s past cpus (actors.Cpu p) (Set value) can sound stands = inside_agrees s past p stands
-row_agrees s past cpus (actors.Cpu p) (Plus value) can sound stands = inside_agrees s past p stands
-row_agrees s past cpus (actors.Cpu p) (Pf op off) can sound stands = pf_agrees s past p op off stands
-row_agrees s past cpus (actors.Cpu p) (OutLoad enclave off) can sound stands = outside_agrees s past p stands
-row_agrees s past cpus (actors.Cpu p) (OutStore enclave off value) can sound stands = outside_agrees s past p stands
-row_agrees s past cpus a (Block f) can sound stands = block_agrees s past a f stands.columns
-row_agrees s past cpus a (Track enclave) can sound stands = track_agrees s past a enclave stands
-row_agrees s past cpus a (EwbStart f slot) can sound stands = ewbstart_agrees s past a f slot stands.columns
-row_agrees s past cpus a (EldStart f page slot) can sound stands = eldstart_agrees s past a f page slot stands
-row_agrees s past cpus a action can sound stands = absurd can
+row_agrees s past cpus (actors.Cpu p) Exit can sound guarded stands = inside_agrees s past p stands
+row_agrees s past cpus (actors.Cpu p) (Aex cause) can sound guarded stands = inside_agrees s past p stands
+row_agrees s past cpus (actors.Cpu p) (Fill number f) can sound guarded stands = fill_agrees s past p number f stands
+row_agrees s past cpus (actors.Cpu p) (Load off) can sound guarded stands = access_agrees s past p off allows_read sound stands
+row_agrees s past cpus (actors.Cpu p) (Store off value) can sound guarded stands = access_agrees s past p off allows_write sound stands
+row_agrees s past cpus (actors.Cpu p) (Xadd off value) can sound guarded stands = access_agrees s past p off allows_update sound stands
+row_agrees s past cpus (actors.Cpu p) (Set value) can sound guarded stands = inside_agrees s past p stands
+row_agrees s past cpus (actors.Cpu p) (Plus value) can sound guarded stands = inside_agrees s past p stands
+row_agrees s past cpus (actors.Cpu p) (Pf op off) can sound guarded stands = pf_agrees s past p op off stands
+row_agrees s past cpus (actors.Cpu p) (OutLoad enclave off) can sound guarded stands = outside_agrees s past p stands
+row_agrees s past cpus (actors.Cpu p) (OutStore enclave off value) can sound guarded stands = outside_agrees s past p stands
+row_agrees s past cpus a (Block f) can sound guarded stands = block_agrees s past a f stands.columns
+row_agrees s past cpus a (Track enclave) can sound guarded stands = track_agrees s past a enclave stands
+row_agrees s past cpus a (EwbStart f slot) can sound guarded stands = ewbstart_agrees s past a f slot stands.columns guarded
+row_agrees s past cpus a (EldStart f page slot) can sound guarded stands = eldstart_agrees s past a f page slot guarded stands
+row_agrees s past cpus a action can sound guarded stands = absurd can
 
 -- the row of an instruction that the state allows, by the entries
-pub row_told : (s : State) (past : List Entry) (cpus : ℕ) (a : Actor) (action : Action) → CanApply cpus a action → IsSound s → Stands s past
+pub row_told : (s : State) (past : List Entry) (cpus : ℕ) (a : Actor) (action : Action) → CanApply cpus a action → IsSound s
+    → IsGuarded s → Stands s past
     → first_of_row (row_of s a action) ≡ None → first_of_row (row_at (making_of s) past a action) ≡ None
-row_told s past cpus a action can sound stands allowed = sym (row_agrees s past cpus a action can sound stands) ∙ allowed
+row_told s past cpus a action can sound guarded stands allowed = sym (row_agrees s past cpus a action can sound guarded stands) ∙ allowed
 
 -- the row of `init` knows nothing of the measurement
 init_case : (o : Option EnclaveSight) (enclave : ℕ) (expect : Option (List ℕ)) (r : Refusal) → first_of_row (init_row o) ≡ Some r
@@ -249,16 +251,16 @@ init_case (Some x) enclave expect r is = by_test x.is_init is
 
 -- .. and the case for which the state refuses one
 pub refusal_told : (s : State) (past : List Entry) (cpus : ℕ) (a : Actor) (action : Action) (r : Refusal) → CanApply cpus a action
-    → IsSound s → Stands s past → first_of_row (row_of s a action) ≡ Some r
+    → IsSound s → IsGuarded s → Stands s past → first_of_row (row_of s a action) ≡ Some r
     → RefusalRule (making_of s) past (refused_by a action r)
-refusal_told s past cpus (actors.Cpu p) (Ewb f) r can sound stands refused = absurd can
-refusal_told s past cpus (actors.Cpu p) (Eld f) r can sound stands refused = absurd can
-refusal_told s past cpus a (Ewb f) r can sound stands refused = absurd can
-refusal_told s past cpus a (Eld f) r can sound stands refused = absurd can
-refusal_told s past cpus a (Init enclave expect) r can sound stands refused =
+refusal_told s past cpus (actors.Cpu p) (Ewb f) r can sound guarded stands refused = absurd can
+refusal_told s past cpus (actors.Cpu p) (Eld f) r can sound guarded stands refused = absurd can
+refusal_told s past cpus a (Ewb f) r can sound guarded stands refused = absurd can
+refusal_told s past cpus a (Eld f) r can sound guarded stands refused = absurd can
+refusal_told s past cpus a (Init enclave expect) r can sound guarded stands refused =
     sym (init_agrees s past a enclave expect stands) ∙ refused
     ∙ sym (init_case (enclave_sight_of (s.enclaves enclave)) enclave expect r refused)
-refusal_told s past cpus a action r can sound stands refused = sym (row_agrees s past cpus a action can sound stands) ∙ refused
+refusal_told s past cpus a action r can sound guarded stands refused = sym (row_agrees s past cpus a action can sound guarded stands) ∙ refused
 
 -- a refusal by the row says nothing of a measurement
 pub measure_told : (s : State) (past : List Entry) (a : Actor) (action : Action) (r : Refusal) → first_of_row (row_of s a action) ≡ Some r

@@ -5,7 +5,7 @@ use Rattle.std.proofs.lemmas.List.Elements.{All-append, All-nil, All-weaker}
 use Rattle.sgx_types.specs.declared.entries.Entry.{Entry}
 use Rattle.sgx_types.specs.Making.{Making}
 use Rattle.sgx_types.specs.Sealed.{Sealed}
-use Rattle.sgx_types.specs.Starts.{Start}
+use Rattle.sgx_types.specs.Starts.{BareStart}
 use Rattle.seal_record.specs.Records.{Given, Made, Unforged}
 use Rattle.seal_record.proofs.RecordLaws.{Unforged-before}
 use Rattle.paging_laws.specs.Histories.{StandsWithAllRules, given_out, looked_at, looked_at_by}
@@ -46,7 +46,7 @@ early_more : (made more : List Made) (given : List Given) → AreEarly made give
 early_more made more given = All-weaker (λ (one : Given). one.made ≤ length made) (λ one. one.made ≤ length (made ++ more))
     (λ one low. omega (arith, low, length-append made more)) given
 
-early_look : (o : Option Start) (made : List Made) (rec : Sealed) → AreEarly made (looked_at_by o made rec)
+early_look : (o : Option BareStart) (made : List Made) (rec : Sealed) → AreEarly made (looked_at_by o made rec)
 early_look None made rec = All-nil (λ (one : Given). one.made ≤ length made)
 early_look (Some start) made rec = one_early
   where

@@ -1,5 +1,5 @@
 -- Each row and each commit leaves the machine's columns as the longer list of entries has them.
-use Rattle.std.proofs.Common.{◌≡◌, ℕ, ◌+◌, ◌==◌, Bool, true, false, cond, refl, sym, ap, ◌∙◌, Option, Some, None, option_map, List, [], ◌∷◌, map}
+use Rattle.std.proofs.Common.{◌≡◌, ℕ, ◌+◌, ◌==◌, Bool, true, false, cond, refl, sym, ap, ◌∙◌, Option, Some, None, option_map, List, [], ◌∷◌, map, length}
 use Rattle.std.proofs.lemmas.Bool.{cond_both, eqb-true}
 use Rattle.sgx_types.specs.declared.entries.Entry.{Entry}
 use Rattle.sgx_types.specs.declared.entries.Event.{Event}
@@ -25,7 +25,7 @@ use Rattle.sgx_types.specs.Frames.{Content, Free, IsVa, SecsOf, Holds, IsLoading
 use Rattle.sgx_types.specs.Processors.{Seat, stay, stay_from, with_filled, translations}
 use Rattle.sgx_types.specs.Sights.{seat_of}
 use Rattle.sgx_types.specs.Slots.{is_slot_busy, names_slot, open_slot, same_slot, slot_of}
-use Rattle.sgx_types.specs.Starts.{Start, open_start, opened_by, version_told}
+use Rattle.sgx_types.specs.Starts.{BareStart, Start, bare_start, open_start, opened_by, version_told}
 use Rattle.sgx_types.proofs.Truths.{eqb-swap}
 use Rattle.sgx_types.proofs.Pages.{same_page-swap}
 use Rattle.measure_log.specs.declared.measure.Measure.{Measure}
@@ -33,6 +33,7 @@ use Rattle.cached_translations.specs.declared.cache.Translation.{Translation}
 use Rattle.cached_translations.specs.Translations.{with_translation}
 use Rattle.paging_laws.specs.Columns.{FrameColumns, CpuColumns, SlotColumns, HasColumns, frames_by, cpus_by, slots_by, slots_of, enclaves_by, noted_inside, without_perm, seat_of_stay}
 use Rattle.paging_laws.proofs.ColumnLaws.{sealing_is, start_is, inside_is, noted_is, translations_are, epoch_is, added_is}
+use Rattle.paging_laws.proofs.SlotLaws.{start_of}
 use Rattle.paging_laws.specs.State.{State, with_saved, without_start, after_epa, after_create, after_add, after_init, after_enter, after_resume, after_exit, after_aex, after_fill, after_block, after_track, after_ewbstart, after_eldstart, after_ewb, after_eld, after_failed_eld}
 use Rattle.paging_laws.specs.Steps.{did_by, refused_by}
 use Rattle.paging_laws.proofs.TranslationLaws.{with_translation-map}
@@ -110,17 +111,18 @@ did_quiet first_epoch first_version past a _ answer h = cc
 abbrev put : ℕ → Content → FrameColumns → FrameColumns
 put f c x = record x { content = λ n. cond (f == n) c (x.content n); blocked = λ n. cond (f == n) None (x.blocked n) }
 
--- the start of a frame
-abbrev with_start : ℕ → Option Start → FrameColumns → FrameColumns
-with_start f o x = record x { start = λ n. cond (f == n) o (x.start n) }
-
 -- whether the page in a frame is on its way out
 abbrev with_sealing : ℕ → Bool → FrameColumns → FrameColumns
 with_sealing f b x = record x { is_sealing = λ n. cond (f == n) b (x.is_sealing n) }
 
--- a slot that is busy, or not any more
-abbrev with_busy : SlotAt → Bool → SlotColumns → SlotColumns
-with_busy slot b x = record x { is_slot_busy = λ at. cond (same_slot slot at) b (x.is_slot_busy at) }
+-- the start of a frame, in the state and by the entries
+starts : (s : State) (past : List Entry) (f : ℕ) (o : Option Start) → HasColumns s past → (n : ℕ)
+    → cond (f == n) (bare_start o) (s.start n) ≡ bare_start (cond (f == n) o (open_start past n))
+starts s past f o h n = by_test (f == n)
+  where
+    by_test : (b : Bool) → cond b (bare_start o) (s.start n) ≡ bare_start (cond b o (open_start past n))
+    by_test true = refl
+    by_test false = start_is h n
 
 abbrev with_version : SlotAt → ℕ → SlotColumns → SlotColumns
 with_version slot version x = record x { version_in = λ at. cond (same_slot slot at) version (x.version_in at) }
@@ -296,10 +298,12 @@ module _ (s : State) (past : List Entry) (h : HasColumns s past) where
   pub ewbstart_columns : (a : Actor) (f : Frame) (slot : SlotAt)
       → HasColumns (after_ewbstart s f.0 slot) (did_by a (EwbStart f slot) (Version s.next_version) ∷ past)
   ewbstart_columns a f slot = record {
-    frames = λ i. with_sealing f.0 true (with_start f.0 (Some (record { slot = slot; version = s.next_version; loads = None }))
-        (h.frames i));
+    frames = λ i. record (with_sealing f.0 true (h.frames i)) {
+      start = λ n. starts s past f.0
+          (Some (record { slot = slot; version = s.next_version; loads = None; place = length past; actor = a })) h n i;
+    };
     cpus = h.cpus;
-    slots = λ i. record (with_busy slot true (h.slots i)) { next_version = (h.slots i).next_version + 1 };
+    slots = λ i. record (h.slots i) { next_version = (h.slots i).next_version + 1 };
     enclaves = h.enclaves;
   }
 
@@ -307,38 +311,36 @@ module _ (s : State) (past : List Entry) (h : HasColumns s past) where
   pub eldstart_columns : (a : Actor) (f : Frame) (page : Page) (slot : SlotAt)
       → HasColumns (after_eldstart s f.0 page slot) (did_by a (EldStart f page slot) (Version (s.version_in slot)) ∷ past)
   eldstart_columns a f page slot = record {
-    frames = ap (λ x. put f.0 (IsLoading page) (with_start f.0 (Some (record { slot = slot; version = s.version_in slot; loads = Some page })) x))
-        h.frames;
+    frames = λ i. record (put f.0 (IsLoading page) (h.frames i)) {
+      start = λ n. starts s past f.0
+          (Some (record { slot = slot; version = s.version_in slot; loads = Some page; place = length past; actor = a })) h n i;
+    };
     cpus = h.cpus;
-    slots = ap (with_busy slot true) h.slots;
+    slots = h.slots;
     enclaves = h.enclaves;
   }
 
 -- ---- the commits
 
 -- the slot of an open start of the machine
-slot_of_start : (s : State) (past : List Entry) (f : ℕ) (start : Start) → HasColumns s past → s.start f ≡ Some start
+slot_of_start : (s : State) (past : List Entry) (f : ℕ) (start : BareStart) → HasColumns s past → s.start f ≡ Some start
     → open_slot past f ≡ Some start.slot
-slot_of_start s past f start h is = ap slot_of (sym (start_is h f) ∙ is)
+slot_of_start s past f start h is =
+    let x = start_of s past h f start is in ap slot_of x.opened ∙ ap (λ (y : BareStart). Some y.slot) x.same
 
-module _ (s : State) (past : List Entry) (a : Actor) (f : Frame) (start : Start) (is : s.start f.0 ≡ Some start) (h : HasColumns s past)
+module _ (s : State) (past : List Entry) (a : Actor) (f : Frame) (start : BareStart) (is : s.start f.0 ≡ Some start) (h : HasColumns s past)
   where
     -- the slot of the start, by the entries too
     slot : Some start.slot ≡ open_slot past f.0
     slot = sym (slot_of_start s past f.0 start h is)
 
-    -- it is not busy any more
-    freed : slots_of (without_start s f.0 start) ≡ record (slots_by s.first_version past)
-        { is_slot_busy = λ at. cond (names_slot (open_slot past f.0) at) false (is_slot_busy past at) }
-    freed = λ i. record (h.slots i) { is_slot_busy = λ at. cond (names_slot (slot i) at) false ((h.slots i).is_slot_busy at) }
-
     -- a page is out, and its version in the slot
     pub ewb_columns : (page : Page) (tag : List ℕ) → HasColumns (after_ewb s f.0 start)
         (did_by a (Ewb f) (Moved page start.version tag) ∷ past)
     ewb_columns page tag = record {
-      frames = ap (λ x. put f.0 Free (with_sealing f.0 false (with_start f.0 None x))) h.frames;
+      frames = λ i. record (put f.0 Free (with_sealing f.0 false (h.frames i))) { start = λ n. starts s past f.0 None h n i };
       cpus = h.cpus;
-      slots = λ i. record (freed i) { version_in = λ at. cond (names_slot (slot i) at) start.version ((h.slots i).version_in at) };
+      slots = λ i. record (h.slots i) { version_in = λ at. cond (names_slot (slot i) at) start.version ((h.slots i).version_in at) };
       enclaves = h.enclaves;
     }
 
@@ -346,9 +348,9 @@ module _ (s : State) (past : List Entry) (a : Actor) (f : Frame) (start : Start)
     pub eld_columns : (page : Page) (kind : Kind) (perm : Perm) (words tag : List ℕ) → s.added page ≡ Some (kind, perm)
         → HasColumns (after_eld s f.0 start page kind perm words) (did_by a (Eld f) (Moved page start.version tag) ∷ past)
     eld_columns page kind perm words tag told = record {
-      frames = λ i. put f.0 (held i) (with_start f.0 None (h.frames i));
+      frames = λ i. record (put f.0 (held i) (h.frames i)) { start = λ n. starts s past f.0 None h n i };
       cpus = h.cpus;
-      slots = λ i. record (freed i) { version_in = λ at. cond (names_slot (slot i) at) 0 ((h.slots i).version_in at) };
+      slots = λ i. record (h.slots i) { version_in = λ at. cond (names_slot (slot i) at) 0 ((h.slots i).version_in at) };
       enclaves = h.enclaves;
     }
       where
@@ -359,9 +361,9 @@ module _ (s : State) (past : List Entry) (a : Actor) (f : Frame) (start : Start)
     pub failed_eld_columns : (why : Refusal) → s.is_sealing f.0 ≡ false
         → HasColumns (after_failed_eld s f.0 start) (refused_by a (Eld f) why ∷ past)
     failed_eld_columns why idle = record {
-      frames = λ i. record (put f.0 Free (with_start f.0 None (h.frames i))) { is_sealing = λ n. settled n i };
+      frames = λ i. record (put f.0 Free (h.frames i)) { is_sealing = λ n. settled n i; start = λ n. starts s past f.0 None h n i };
       cpus = h.cpus;
-      slots = freed;
+      slots = h.slots;
       enclaves = h.enclaves;
     }
       where

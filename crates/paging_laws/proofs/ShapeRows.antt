@@ -23,7 +23,7 @@ use Rattle.sgx_types.specs.Frames.{Content, Free, IsVa, SecsOf, Holds, IsLoading
 use Rattle.sgx_types.specs.Processors.{Seat, Stay, stay, stay_from, holds_number, translations}
 use Rattle.sgx_types.specs.Rules.{EvictRule, RisingRule, StaleRule}
 use Rattle.sgx_types.specs.Sights.{seat_of}
-use Rattle.sgx_types.specs.Starts.{Start}
+use Rattle.sgx_types.specs.Starts.{BareStart}
 use Rattle.sgx_types.specs.Table.{EnclaveSight, FrameSight, is_valid, access_row, add_row, allows_read, allows_update, allows_write, create_row, epa_row, ewbstart_row, first_of_row}
 use Rattle.sgx_types.specs.Flat.{enclave_sight_of}
 use Rattle.sgx_types.proofs.Rows.{none_holds}
@@ -38,6 +38,7 @@ use Rattle.paging_laws.specs.Stands.{IsUsable, IsSound}
 use Rattle.paging_laws.specs.State.{State, sight, slot_sight, drain_sight, is_version_spent, translation, perm_of_held, with_acc, with_saved, word_at, cssa_in, saved_word, after_epa, after_create, after_add, after_extend, after_init, after_enter, after_resume, after_exit, after_aex, after_fill, after_store, after_xadd, after_block, after_track, after_ewbstart, after_eldstart, after_ewb, after_eld, after_failed_eld, row_of}
 use Rattle.paging_laws.specs.Steps.{did_by, refused_by}
 use Rattle.paging_laws.proofs.ColumnLaws.{start_is, inside_is, translations_are, next_version_is}
+use Rattle.paging_laws.proofs.SlotLaws.{start_of}
 use Rattle.paging_laws.proofs.SoundLaws.{seat_at, unused}
 use Rattle.paging_laws.proofs.ShapeColumns.{IsQuiet, is_eld, is_quiet, refused_quiet, did_quiet, quiet_columns, epa_columns, create_columns, add_columns, init_columns, enter_columns, resume_columns, exit_columns, aex_columns, fill_columns, block_columns, track_columns, ewbstart_columns, eldstart_columns, ewb_columns, eld_columns, failed_eld_columns}
 use Rattle.paging_laws.proofs.ShapeLaws.{drained_by, IsHeld, IsNextTo}
@@ -366,7 +367,7 @@ module _ (s : State) (past : List Entry) (sound : IsSound s) (h : HasColumns s p
   -- ---- the commits
 
   -- a page is out
-  pub ewb_next : (a : Actor) (f : Frame) (start : Start) (page : Page) (tag : List ℕ) → s.start f.0 ≡ Some start → s.is_sealing f.0 ≡ true
+  pub ewb_next : (a : Actor) (f : Frame) (start : BareStart) (page : Page) (tag : List ℕ) → s.start f.0 ≡ Some start → s.is_sealing f.0 ≡ true
       → start.loads ≡ None
       → IsNextTo s (after_ewb s f.0 start) past (did_by a (Ewb f) (answers.Moved page start.version tag))
   ewb_next a f start page tag is sealing writes = record {
@@ -374,16 +375,19 @@ module _ (s : State) (past : List Entry) (sound : IsSound s) (h : HasColumns s p
     columns = ewb_columns s past a f start is h page tag;
     held = held_put s past sound h held f.0 Free (λ enclave u. false≢true (sym u.settled ∙ sealing));
     access = tt;
-    evict = record {
-      slot = start.slot;
-      opened = sym (start_is h f.0) ∙ is
-          ∙ (λ i. Some (record { slot = start.slot; version = start.version; loads = writes i }));
-    };
+    evict =
+        let x = start_of s past h f.0 start is in
+        record {
+          start = x.start;
+          opened = x.opened;
+          writes = ap (λ (y : BareStart). y.loads) x.same ∙ writes;
+          told = ap (λ (y : BareStart). y.version) x.same;
+        };
     rising = tt;
   }
 
   -- a page is back
-  pub eld_next : (a : Actor) (f : Frame) (start : Start) (page : Page) (kind : Kind) (perm : Perm) (words tag : List ℕ)
+  pub eld_next : (a : Actor) (f : Frame) (start : BareStart) (page : Page) (kind : Kind) (perm : Perm) (words tag : List ℕ)
       → s.start f.0 ≡ Some start → (w : Page) → s.content f.0 ≡ IsLoading w → s.added page ≡ Some (kind, perm)
       → IsNextTo s (after_eld s f.0 start page kind perm words) past (did_by a (Eld f) (answers.Moved page start.version tag))
   eld_next a f start page kind perm words tag is w loading told = record {
@@ -396,7 +400,7 @@ module _ (s : State) (past : List Entry) (sound : IsSound s) (h : HasColumns s p
   }
 
   -- a load is refused
-  pub failed_eld_next : (a : Actor) (f : Frame) (start : Start) (r : Refusal) → s.start f.0 ≡ Some start → (w : Page)
+  pub failed_eld_next : (a : Actor) (f : Frame) (start : BareStart) (r : Refusal) → s.start f.0 ≡ Some start → (w : Page)
       → s.content f.0 ≡ IsLoading w
       → s.is_sealing f.0 ≡ false
       → IsNextTo s (after_failed_eld s f.0 start) past (refused_by a (Eld f) r)

@@ -24,6 +24,7 @@ use Rattle.paging_laws.proofs.RowLaws.{measure_told, refusal_told, row_told, row
 use Rattle.paging_laws.proofs.EntryLaws.{enter_brings, resume_brings}
 use Rattle.paging_laws.proofs.NextEntry.{Brings, BringsDone, done_brings, refused_brings, brings_as}
 use Rattle.paging_laws.proofs.MoveLaws.{block_brings, eldstart_brings, ewbstart_brings, track_brings}
+use Rattle.paging_laws.specs.Guarded.{IsGuarded}
 use Rattle.sgx_types.specs.declared.entries.Answer.{Answer}
 use Rattle.sgx_types.specs.Frames.{no_perm}
 
@@ -33,8 +34,8 @@ init_made None allowed = cc
 init_made (Some x) allowed = refl
 
 -- what each instruction brings that can be applied
-module _ (s t : State) (past : List Entry) (cpus : ℕ) (few : cpus ≤ 16) (sound : IsSound s) (made : HasEnclaves s) (stands : Stands s past)
-    (once : NoPageTwice past) where
+module _ (s t : State) (past : List Entry) (cpus : ℕ) (few : cpus ≤ 16) (sound : IsSound s) (guarded : IsGuarded s)
+    (made : HasEnclaves s) (stands : Stands s past) (once : NoPageTwice past) where
   -- where its row refuses it, or allows it
   by_row : (a : Actor) (action : Action) (e : Entry) → CanApply cpus a action → IsStep s a action e t
       → (first_of_row (row_of s a action) ≡ None → IsDone s a action e t → Brings s t past e) → Brings s t past e
@@ -44,7 +45,7 @@ module _ (s t : State) (past : List Entry) (cpus : ℕ) (few : cpus ≤ 16) (sou
           → MatchOption o (IsDone s a action e t) (λ r. (e ≡ refused_by a action r) × (t ≡ s)) → Brings s t past e
       by_case None allowed done = f allowed done
       by_case (Some r) refused is = brings_as s t s past e _ is.0 is.1
-          (refused_brings s past a action r (refusal_told s past cpus a action r can sound stands refused)
+          (refused_brings s past a action r (refusal_told s past cpus a action r can sound guarded stands refused)
           (measure_told s past a action r refused) stands)
 
   -- one that is done
@@ -52,7 +53,7 @@ module _ (s t : State) (past : List Entry) (cpus : ℕ) (few : cpus ≤ 16) (sou
       → first_of_row (row_of s a action) ≡ None → e ≡ did_by a action answer → t ≡ t' → BringsDone s t' past a action answer
       → Brings s t past e
   done_as a action answer e t' can allowed told same k =
-      brings_as s t t' past e _ told same (done_brings s t' past a action answer (row_told s past cpus a action can sound stands allowed)
+      brings_as s t t' past e _ told same (done_brings s t' past a action answer (row_told s past cpus a action can sound guarded stands allowed)
       (row_fits s past cpus a action can stands.columns allowed) k)
 
   -- an `init` whose measurement is finished
@@ -74,7 +75,7 @@ module _ (s t : State) (past : List Entry) (cpus : ℕ) (few : cpus ≤ 16) (sou
       by_judgement (inr other) =
           brings_as s t s past e _ other.1 other.2
           (refused_brings s past a (Init enclave expect) (why.BadMeasure done.digest)
-          (row_told s past cpus a (Init enclave expect) tt sound stands allowed) (is, rw is at other.0) stands)
+          (row_told s past cpus a (Init enclave expect) tt sound guarded stands allowed) (is, rw is at other.0) stands)
 
   pub step_brings : (a : Actor) (action : Action) (e : Entry) → CanApply cpus a action → IsStep s a action e t → Brings s t past e
   step_brings a (Epa f) e can k =

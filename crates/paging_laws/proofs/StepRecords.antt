@@ -33,6 +33,7 @@ use Rattle.paging_laws.specs.Stands.{IsSound, Stands}
 use Rattle.paging_laws.specs.State.{State, after_eld, after_failed_eld}
 use Rattle.paging_laws.specs.Steps.{CanApply, IsLeaving, IsReloaded, IsStep, IsWrittenOut, commit_row, did_by, refused_by}
 use Rattle.paging_laws.proofs.ColumnLaws.{enclave_flat, start_is}
+use Rattle.paging_laws.proofs.SlotLaws.{start_of}
 use Rattle.paging_laws.proofs.OutsideLaws.{KeepsOutside, did_keeps, did_made, did_sealed, is_ewb, outside_more, refused_keeps, keeps_as}
 use Rattle.paging_laws.proofs.RowLaws.{step_entry, IsEntryOf}
 
@@ -151,31 +152,32 @@ pub record GivesRecord (key : List ℕ) (past : List Entry) (e : Entry) (rec : S
   pub outside : OutsideBytes key past → OutsideBytes key (e ∷ past)
 
 -- a record that goes out of a frame is that of its page's flat bytes
-record IsOfPage (key : List ℕ) (past : List Entry) (n : ℕ) (page : Page) (start : Start) (rec : Sealed) : Type 0 where
+record IsOfPage (key : List ℕ) (past : List Entry) (n : ℕ) (page : Page) (version : ℕ) (rec : Sealed) : Type 0 where
+  start : Start
   opened : open_start past n ≡ Some start
-  in_flat : record_in key start.version (flat past) page ≡ Some rec
-  has : rec.cipher ≡ cipher key start.version (bytes_of (words_of (flat past) page))
+  in_flat : record_in key version (flat past) page ≡ Some rec
+  has : rec.cipher ≡ cipher key version (bytes_of (words_of (flat past) page))
   size : length (bytes_of (words_of (flat past) page)) ≡ 4096
   back : words_in (bytes_of (words_of (flat past) page)) ≡ words_of (flat past) page
 
 -- a write-out that gives the record of its page's flat bytes
-gives : (key : List ℕ) (past : List Entry) (a : Actor) (f : Frame) (page : Page) (start : Start) (rec : Sealed)
-    → IsOfPage key past f.0 page start rec
-    → GivesRecord key past (did_by a (Ewb f) (answers.Moved page start.version rec.tag)) rec
-gives key past a f page start rec k = record {
+gives : (key : List ℕ) (past : List Entry) (a : Actor) (f : Frame) (page : Page) (version : ℕ) (rec : Sealed)
+    → IsOfPage key past f.0 page version rec
+    → GivesRecord key past (did_by a (Ewb f) (answers.Moved page version rec.tag)) rec
+gives key past a f page version rec k = record {
   made = more;
   sealed = record { rec = rec; made = k.in_flat; told = refl };
   outside = λ outside g slot v there. by_page outside g slot v (same_page page g) refl there;
 }
   where
     e : Entry
-    e = did_by a (Ewb f) (answers.Moved page start.version rec.tag)
+    e = did_by a (Ewb f) (answers.Moved page version rec.tag)
 
     new : Made
-    new = made_with start.version rec
+    new = made_with version rec
 
     more : made_by key (e ∷ past) ≡ made_by key past ++ new ∷ []
-    more = ap (λ o. more_made start.version o (made_by key past)) k.in_flat
+    more = ap (λ o. more_made version o (made_by key past)) k.in_flat
 
     made_now : (one : Made) → Any (λ other. other ≡ one) (made_by key past ++ new ∷ []) → IsMade key (e ∷ past) one
     made_now one is = subst (λ all. Any (λ other. other ≡ one) all) (sym more) is
@@ -192,7 +194,7 @@ gives key past a f page start rec k = record {
       },
     )
 
-    goes : HasBytes key (e ∷ past) page start.version new
+    goes : HasBytes key (e ∷ past) page version new
     goes = record {
       made = made_now new (Any-push (λ other. other ≡ new) (made_by key past) new refl);
       version = refl;
@@ -202,11 +204,11 @@ gives key past a f page start rec k = record {
     }
 
     by_page : OutsideBytes key past → (g : Page) (slot : SlotAt) (v : ℕ) (b : Bool) → same_page page g ≡ b
-        → cond b (in_slot (open_start past f.0) start.version) (copy past g) ≡ Some (InSlot slot v)
+        → cond b (in_slot (open_start past f.0) version) (copy past g) ≡ Some (InSlot slot v)
         → (one : Made) × HasBytes key (e ∷ past) g v one
     by_page outside g slot v true same there =
-        let slotted : Some (InSlot start.slot start.version) ≡ Some (InSlot slot v) = rw k.opened at there in
-        let told : start.version ≡ v = cc slotted in
+        let slotted : Some (InSlot k.start.slot version) ≡ Some (InSlot slot v) = rw k.opened at there in
+        let told : version ≡ v = cc slotted in
         let is_it : page ≡ g = same_pages page g same in
         (new, rw (← told, ← is_it) goes)
     by_page outside g slot v false other there = still g v (outside g slot v there)
@@ -220,12 +222,14 @@ outside_written s t made past a f e rec out sound stands h =
     let head = leaving.page in
     let v = leaving.start.version in
     let words = s.words f.0 in
+    let started = start_of s past h.shape.columns f.0 leaving.start leaving.opened in
     let keyed : s.key ≡ made.key = ap (λ (k : Making). k.key) h.shape.making in
     let held : words ≡ words_of (flat past) head.page =
     sym (ap page_words (stands.memory.words f.0 head.page head.kind head.perm head.held)) in
     subst (λ x. GivesRecord made.key past x rec) (sym out.entry)
-    (gives made.key past a f head.page leaving.start rec (record {
-      opened = sym (start_is h.shape.columns f.0) ∙ leaving.opened;
+    (gives made.key past a f head.page v rec (record {
+      start = started.start;
+      opened = started.opened;
       in_flat = recorded s made past f.0 leaving stands h ∙ ap Some (sym out.sealed);
       has = ap (λ (x : Sealed). x.cipher) out.sealed ∙ ap (λ key. cipher key v (bytes_of words)) keyed
           ∙ ap (λ xs. cipher made.key v (bytes_of xs)) held;

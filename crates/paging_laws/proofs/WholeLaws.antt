@@ -97,7 +97,7 @@ pub step_all : (s t : State) (made : Making) (past : List Entry) (records : List
     → StandsWithAllRules made t (e ∷ past) records
 step_all s t made past records cpus a action e few can sound guarded framed sound' guarded' k h =
     all_more s t made past records e h shaped reload
-    (step_brings s t past cpus few sound framed h.standing.stands (once_before s past h.standing) a action e can k) records
+    (step_brings s t past cpus few sound guarded framed h.standing.stands (once_before s past h.standing) a action e can k) records
     (sealed_quiet made.key s t past cpus a action e can k)
     (outside_step made.key s t past cpus a action e can sound k h.standing.stands
     (live_copies made past h.positive (keeps_moves made s past records h)) h.outside)

@@ -11,8 +11,8 @@ use Rattle.sgx_types.specs.Epochs.{block_epoch, epoch, noted}
 use Rattle.sgx_types.specs.Flat.{FlatEnclave}
 use Rattle.sgx_types.specs.Frames.{Content, added, content, is_sealing}
 use Rattle.sgx_types.specs.Processors.{BareTranslation, Seat, Stay, stay, translations}
-use Rattle.sgx_types.specs.Slots.{is_slot_busy, next_version, version_in}
-use Rattle.sgx_types.specs.Starts.{Start, open_start}
+use Rattle.sgx_types.specs.Slots.{next_version, version_in}
+use Rattle.sgx_types.specs.Starts.{BareStart, bare_start, open_start}
 use Rattle.cached_translations.specs.declared.cache.Translation.{Translation}
 use Rattle.paging_laws.specs.State.{State}
 
@@ -33,7 +33,7 @@ pub record FrameColumns : Type 0 where
   pub content : ℕ → Content
   pub blocked : ℕ → Option ℕ
   pub is_sealing : ℕ → Bool
-  pub start : ℕ → Option Start
+  pub start : ℕ → Option BareStart
 
 -- how processors are inside, the epochs that they noted, and their translations
 pub record CpuColumns : Type 0 where
@@ -41,10 +41,9 @@ pub record CpuColumns : Type 0 where
   pub noted : ℕ → ℕ
   pub translations : ℕ → List BareTranslation
 
--- the versions in slots, which slots are busy, and the next version
+-- the versions in slots, and the next version. Which slots are busy the open starts tell
 pub record SlotColumns : Type 0 where
   pub version_in : SlotAt → ℕ
-  pub is_slot_busy : SlotAt → Bool
   pub next_version : ℕ
 
 -- the enclaves that were created, their epochs, and what their pages were added as
@@ -61,7 +60,7 @@ abbrev pub cpus_of : State → CpuColumns
 cpus_of s = record { inside = s.inside; noted = s.noted; translations = λ p. map without_perm (s.cache p) }
 
 abbrev pub slots_of : State → SlotColumns
-slots_of s = record { version_in = s.version_in; is_slot_busy = s.is_slot_busy; next_version = s.next_version }
+slots_of s = record { version_in = s.version_in; next_version = s.next_version }
 
 abbrev pub enclaves_of : State → EnclaveColumns
 enclaves_of s = record { enclaves = s.enclaves; epoch = s.epoch; added = s.added }
@@ -72,7 +71,7 @@ frames_by first past = record {
   content = content past;
   blocked = block_epoch first past;
   is_sealing = is_sealing past;
-  start = open_start past;
+  start = λ n. bare_start (open_start past n);
 }
 
 abbrev pub cpus_by : ℕ → List Entry → CpuColumns
@@ -83,7 +82,7 @@ cpus_by first past = record {
 }
 
 abbrev pub slots_by : ℕ → List Entry → SlotColumns
-slots_by first past = record { version_in = version_in past; is_slot_busy = is_slot_busy past; next_version = next_version first past }
+slots_by first past = record { version_in = version_in past; next_version = next_version first past }
 
 abbrev pub enclaves_by : ℕ → List Entry → EnclaveColumns
 enclaves_by first past = record { enclaves = created past; epoch = epoch first past; added = added past }

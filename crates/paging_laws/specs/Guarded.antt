@@ -1,15 +1,17 @@
 -- What tracking and open starts keep of every state: no processor can still use the translation of a page that goes out,
 -- and each frame that is busy has its start.
-use Rattle.std.specs.Prelude.{ℕ, ◌≡◌, ◌+◌, ◌<◌, ◌≤◌, true, Option, Some, None, IfSome, is_some, List}
+use Rattle.std.specs.Prelude.{ℕ, ◌≡◌, ◌+◌, ◌<◌, ◌≤◌, ◌||◌, Bool, true, Option, Some, None, IfSome, is_some, List}
 use Rattle.std.specs.List.{All}
 use Rattle.std.specs.Option.{IsSomeAnd}
 use Rattle.sgx_types.specs.declared.names.Kind.{Kind}
 use Rattle.sgx_types.specs.declared.names.Kind.TheVariants as kinds
 use Rattle.sgx_types.specs.declared.names.Page.{Page}
 use Rattle.sgx_types.specs.declared.names.Perm.{Perm}
+use Rattle.sgx_types.specs.declared.names.SlotAt.{SlotAt}
 use Rattle.sgx_types.specs.Frames.{Content, IsVa, IsLoading, enclave_in, page_at}
 use Rattle.sgx_types.specs.Processors.{Seat}
-use Rattle.sgx_types.specs.Starts.{Start}
+use Rattle.sgx_types.specs.Starts.{BareStart}
+use Rattle.sgx_types.specs.Table.{is_loading}
 use Rattle.cached_translations.specs.declared.cache.Translation.{Translation}
 use Rattle.paging_laws.specs.State.{State, epoch_in}
 
@@ -48,15 +50,29 @@ IsPaged kinds.Reg = Unit {0}
 IsPaged _ = ⊥
 
 -- a start names a slot of a version array page, and loads a page that was added
-pub record IsOpen (content : ℕ → Content) (added : Page → Option (Kind × Perm)) (start : Start) : Type 0 where
+pub record IsOpen (content : ℕ → Content) (added : Page → Option (Kind × Perm)) (start : BareStart) : Type 0 where
   pub paged : content start.slot.frame.0 ≡ IsVa
   pub within : start.slot.index < 512
   pub loads : IfSome start.loads (λ g. is_some (added g) ≡ true)
 
-abbrev pub WritesOut : Start → Type 0
+-- an open start names the slot
+pub record IsNamed (opened : ℕ → Option BareStart) (slot : SlotAt) : Type 0 where
+  pub frame : ℕ
+  pub start : BareStart
+  pub is_open : opened frame ≡ Some start
+  pub names : start.slot ≡ slot
+
+-- open starts are of some of so many frames, each has its slot for itself, and their slots are those that are busy
+pub record AreApart (frames : ℕ) (opened : ℕ → Option BareStart) (is_slot_busy : SlotAt → Bool) : Type 0 where
+  pub below : (n : ℕ) (x : BareStart) → opened n ≡ Some x → n < frames
+  pub busy : (n : ℕ) (x : BareStart) → opened n ≡ Some x → is_slot_busy x.slot ≡ true
+  pub named : (slot : SlotAt) → is_slot_busy slot ≡ true → IsNamed opened slot
+  pub alone : (m n : ℕ) (x y : BareStart) → opened m ≡ Some x → opened n ≡ Some y → x.slot ≡ y.slot → m ≡ n
+
+abbrev pub WritesOut : BareStart → Type 0
 WritesOut start = start.loads ≡ None
 
-abbrev pub Loads : Page → Start → Type 0
+abbrev pub Loads : Page → BareStart → Type 0
 Loads g start = start.loads ≡ Some g
 
 pub record IsGuarded (s : State) : Type 0 where
@@ -73,6 +89,10 @@ pub record IsGuarded (s : State) : Type 0 where
   pub opened : (n : ℕ) → IfSome (s.start n) (IsOpen s.content s.added)
   pub written : (n : ℕ) → s.is_sealing n ≡ true → IsSomeAnd (s.start n) WritesOut
   pub loaded : (n : ℕ) (g : Page) → s.content n ≡ IsLoading g → IsSomeAnd (s.start n) (Loads g)
+  -- a frame with an open start is busy: the page in it is on its way out, or it waits for one
+  pub held : (n : ℕ) → is_some (s.start n) ≡ true → (s.is_sealing n || is_loading (s.content n)) ≡ true
+  -- the open starts are of frames of the EPC, no two of them name one slot, and a slot is busy exactly where one names it
+  pub apart : AreApart s.frames s.start s.is_slot_busy
   -- a page of an enclave is a TCS or a REG page, and only such a page goes out
   pub kinds : (g : Page) → IfSome (s.added g) (λ x. IsPaged x.0)
   pub goes_out : (n : ℕ) → s.is_sealing n ≡ true → is_some (enclave_in (s.content n)) ≡ true

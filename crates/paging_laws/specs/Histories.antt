@@ -11,7 +11,7 @@ use Rattle.sgx_types.specs.declared.names.SlotAt.{SlotAt}
 use Rattle.sgx_types.specs.Flat.{flat, words_of}
 use Rattle.sgx_types.specs.Rules.{Along}
 use Rattle.sgx_types.specs.Sealed.{Sealed}
-use Rattle.sgx_types.specs.Starts.{Start}
+use Rattle.sgx_types.specs.Starts.{BareStart}
 use Rattle.sgx_types.specs.Making.{Making}
 use Rattle.sgx_types.specs.Layouts.{bytes_of}
 use Rattle.epcm_entry.specs.Words as words
@@ -54,7 +54,7 @@ pub record BringsBack (key : List ℕ) (past : List Entry) (n : ℕ) (g : Page) 
 
 -- .. the page that a frame of the state waits for
 abbrev pub BringsIn : List ℕ → List Entry → State → ℕ → Sealed → Type 0
-BringsIn key past s n rec = (start : Start) (g : Page) → s.start n ≡ Some start → start.loads ≡ Some g
+BringsIn key past s n rec = (start : BareStart) (g : Page) → s.start n ≡ Some start → start.loads ≡ Some g
     → BringsBack key past n g start.version rec
 
 -- the record that a write-out gave, with the version that it tells
@@ -63,7 +63,7 @@ given_out (Did (Ewb f) (Moved page version tag)) rec = made_with version rec ∷
 given_out _ rec = []
 
 -- a record that the commit of a load looks at, under the version that its start found
-abbrev pub looked_at_by : Option Start → List Made → Sealed → List Given
+abbrev pub looked_at_by : Option BareStart → List Made → Sealed → List Given
 looked_at_by None records rec = []
 looked_at_by (Some start) records rec =
     record { made = length records; version = start.version; header = rec.header; cipher = rec.cipher; tag = rec.tag } ∷ []

@@ -23,7 +23,7 @@ use Rattle.measure_log.specs.declared.measure.Measure.{Measure}
 use Rattle.sgx_types.specs.Flat.{FlatEnclave, enclave_sight_of, marked, tcs_fields, with_cssa, first_words, word_index, sum_of}
 use Rattle.sgx_types.specs.Sights.{seat_of}
 use Rattle.sgx_types.specs.Slots.{same_slot}
-use Rattle.sgx_types.specs.Starts.{Start}
+use Rattle.sgx_types.specs.Starts.{BareStart}
 use Rattle.sgx_types.specs.declared.names.TheConstants.{LAST_EPOCH}
 
 pub record State : Type 0 where
@@ -47,7 +47,7 @@ pub record State : Type 0 where
   pub is_slot_busy : SlotAt → Bool
   pub next_version : ℕ
   -- the open start of a frame
-  pub start : ℕ → Option Start
+  pub start : ℕ → Option BareStart
   pub cpus : ℕ
   pub key : List ℕ
   pub first_epoch : ℕ
@@ -331,7 +331,7 @@ abbrev pub after_track : State → ℕ → State
 after_track s enclave = record s { epoch = λ e. if enclave == e then s.epoch e + 1 else s.epoch e }
 
 -- a start of a frame names a slot, which is busy
-abbrev pub with_start : State → ℕ → Start → State
+abbrev pub with_start : State → ℕ → BareStart → State
 with_start s f start = record s {
   start = λ n. if f == n then Some start else s.start n;
   is_slot_busy = λ slot. if same_slot start.slot slot then true else s.is_slot_busy slot;
@@ -352,7 +352,7 @@ after_eldstart s f page slot = record (with_start s f (record { slot = slot; ver
 }
 
 -- the start of a frame has ended, and its slot is not busy any more
-abbrev pub without_start : State → ℕ → Start → State
+abbrev pub without_start : State → ℕ → BareStart → State
 without_start s f start = record s {
   start = λ n. if f == n then None else s.start n;
   is_slot_busy = λ slot. if same_slot start.slot slot then false else s.is_slot_busy slot;
@@ -371,11 +371,11 @@ with_free s f = record s {
 }
 
 -- the page in a frame is out, and its version in the slot
-abbrev pub after_ewb : State → ℕ → Start → State
+abbrev pub after_ewb : State → ℕ → BareStart → State
 after_ewb s f start = with_version (with_free (without_start s f start) f) start.slot start.version
 
 -- a page is back in a frame, as what it was added, with these words, and no version is in the slot
-abbrev pub after_eld : State → ℕ → Start → Page → Kind → Perm → List ℕ → State
+abbrev pub after_eld : State → ℕ → BareStart → Page → Kind → Perm → List ℕ → State
 after_eld s f start page kind perm words = record (with_version (without_start s f start) start.slot 0) {
   content = λ n. if f == n then Holds page kind perm else s.content n;
   blocked = λ n. if f == n then None else s.blocked n;
@@ -383,5 +383,5 @@ after_eld s f start page kind perm words = record (with_version (without_start s
 }
 
 -- a load is refused: its frame is free, and its slot keeps the version
-abbrev pub after_failed_eld : State → ℕ → Start → State
+abbrev pub after_failed_eld : State → ℕ → BareStart → State
 after_failed_eld s f start = with_free (without_start s f start) f

@@ -23,7 +23,7 @@ use Rattle.sgx_types.specs.Flat.{FlatEnclave, all_ones, is_processors, sum_of}
 use Rattle.sgx_types.specs.Sights.{seat_of}
 use Rattle.sgx_types.specs.Layouts.{flags_of, bytes_of}
 use Rattle.sgx_types.specs.Sealed.{Sealed, header_of}
-use Rattle.sgx_types.specs.Starts.{Start}
+use Rattle.sgx_types.specs.Starts.{BareStart}
 use Rattle.epcm_entry.specs.Words.{words_of}
 use Rattle.seal_record.specs.Cipher.{cipher, sealed, tag}
 use Rattle.seal_record.specs.Row.{eld_row}
@@ -165,7 +165,7 @@ pub record IsHeaderIn (s : State) (f : ℕ) (header : Header) : Type 0 where
 
 -- a page that has started to go out of a frame
 pub record IsLeaving (s : State) (f : ℕ) : Type 0 where
-  pub start : Start
+  pub start : BareStart
   pub opened : s.start f ≡ Some start
   pub header : Header
   pub page : IsHeaderIn s f header
@@ -189,7 +189,7 @@ pub record IsWrittenOut (s : State) (actor : Actor) (f : Frame) (e : Entry) (rec
 
 -- a page for which a frame waits
 pub record IsComing (s : State) (f : ℕ) : Type 0 where
-  pub start : Start
+  pub start : BareStart
   pub opened : s.start f ≡ Some start
   pub page : Page
   pub loads : start.loads ≡ Some page

@@ -4,7 +4,7 @@ use Rattle.std.proofs.lemmas.Bool.{eq-eqb, false≢true}
 use Rattle.sgx_types.specs.declared.entries.Entry.{Entry}
 use Rattle.sgx_types.specs.declared.names.SlotAt.{SlotAt}
 use Rattle.sgx_types.specs.Slots.{IsIdle, is_slot_busy, names_slot, open_slot, same_slot, slot_of}
-use Rattle.sgx_types.specs.Starts.{Start, open_start}
+use Rattle.sgx_types.specs.Starts.{BareStart, Start, bare_start, open_start, without_place}
 use Rattle.sgx_types.proofs.CountLaws.{any_below-found, any_below-none, any_below-some}
 use Rattle.sgx_types.proofs.Pages.{same_slots}
 
@@ -58,3 +58,15 @@ pub idle_apart : (past : List Entry) (slot : SlotAt) (n : ℕ) (x : Start) → I
     → x.slot ≡ slot → ⊥
 idle_apart past slot n x idle is same =
     false≢true (sym (idle n) ∙ ap (λ o. names_slot (slot_of o) slot) is ∙ ap (same_slot x.slot) (sym same) ∙ same_slot-refl x.slot)
+
+-- ---- starts without their places and actors
+
+-- an open start that is this one without its place and its actor
+pub record IsBareOf (o : Option Start) (bare : BareStart) : Type 0 where
+  pub start : Start
+  pub opened : o ≡ Some start
+  pub same : without_place start ≡ bare
+
+pub bare_of : (o : Option Start) (bare : BareStart) → bare_start o ≡ Some bare → IsBareOf o bare
+bare_of None bare h = cc
+bare_of (Some x) bare h = record { start = x; opened = refl; same = cc }
