@@ -32,7 +32,7 @@ use Rattle.paging_laws.proofs.TestLaws.{last_place}
 use Rattle.paging_laws.specs.Columns.{HasColumns}
 use Rattle.paging_laws.proofs.BuildLaws.{adds}
 use Rattle.paging_laws.proofs.ColumnLaws.{added_is, content_is, start_is}
-use Rattle.paging_laws.proofs.SlotLaws.{start_of}
+use Rattle.paging_laws.proofs.SlotLaws.{started_as}
 use Rattle.paging_laws.proofs.RowLaws.{row_fits, step_entry, IsEntryOf}
 use Rattle.paging_laws.proofs.MoveEnds.{is_end, no_end}
 use Rattle.sgx_types.specs.Flat.{enclave_sight_of}
@@ -276,7 +276,7 @@ written_fits s t made past a f e rec sound guarded sealing below k shaped =
 coming_in : (s : State) (past : List Entry) → HasColumns s past → (f : ℕ) (coming : IsComing s f)
     → is_load_of (open_start past f) coming.page ≡ true
 coming_in s past columns f coming =
-    let x = start_of s past columns f coming.start coming.opened in
+    let x = started_as s past columns f coming.start coming.opened in
     ap (λ o. is_load_of o coming.page) x.opened ∙ ap (λ (y : BareStart). loads_page y.loads coming.page) x.same
     ∙ ap (λ o. loads_page o coming.page) coming.loads ∙ same_page-itself coming.page
   where

@@ -20,7 +20,7 @@ use Rattle.paging_laws.specs.Columns.{HasColumns}
 use Rattle.paging_laws.specs.State.{State, row_of, after_eld, after_failed_eld}
 use Rattle.paging_laws.specs.Steps.{CanApply, IsDone, IsReloaded, IsStep, IsWrittenOut, commit_row, did_by, refused_by}
 use Rattle.paging_laws.proofs.ColumnLaws.{start_is}
-use Rattle.paging_laws.proofs.SlotLaws.{start_of}
+use Rattle.paging_laws.proofs.SlotLaws.{started_as}
 use Rattle.paging_laws.proofs.RowLaws.{row_fits, step_entry, IsEntryOf}
 
 -- an instruction
@@ -64,7 +64,7 @@ open_below frames (e ∷ past) n rules is = by_event e.event rules.0 (open_below
 below : (s : State) (past : List Entry) (f : ℕ) (start : BareStart) → Along (FitsRule s.frames) past → HasColumns s past
     → s.start f ≡ Some start → f < s.frames
 below s past f start rules columns opened =
-    open_below s.frames past f rules (ap is_some (start_of s past columns f start opened).opened)
+    open_below s.frames past f rules (ap is_some (started_as s past columns f start opened).opened)
 
 -- a write-out that ends
 pub written_frames : (s t : State) (past : List Entry) (a : Actor) (f : Frame) (e : Entry) (rec : Sealed) → Along (FitsRule s.frames) past

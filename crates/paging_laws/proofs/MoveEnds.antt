@@ -30,7 +30,7 @@ use Rattle.paging_laws.specs.Stands.{Stands}
 use Rattle.paging_laws.specs.State.{State, after_eld, after_failed_eld}
 use Rattle.paging_laws.specs.Steps.{CanApply, IsComing, IsWrittenOut, commit_row, did_by, refused_by}
 use Rattle.paging_laws.proofs.ColumnLaws.{added_flat, content_is, enclave_flat, start_is}
-use Rattle.paging_laws.proofs.SlotLaws.{start_of}
+use Rattle.paging_laws.proofs.SlotLaws.{started_as}
 
 -- the ends of starts
 abbrev pub is_end : Action → Bool
@@ -54,7 +54,7 @@ pub ends_out : (s t : State) (past : List Entry) (a : Actor) (f : Frame) (e : En
     → (out : IsWrittenOut s a f e rec t) → EndsOut past f.0 (answers.Moved out.leaving.page.page out.leaving.start.version rec.tag)
 ends_out s t past a f e rec guarded sealing h out =
     let writes : WritesOut out.leaving.start = rw out.leaving.opened at (guarded.written f.0 sealing) in
-    let x = start_of s past h f.0 out.leaving.start out.leaving.opened in
+    let x = started_as s past h f.0 out.leaving.start out.leaving.opened in
     record {
       page = out.leaving.page.page;
       kind = out.leaving.page.kind;
@@ -71,7 +71,7 @@ ends_out s t past a f e rec guarded sealing h out =
 -- what a frame waits for is what its start loads
 ends_in : (s : State) (past : List Entry) (f : ℕ) → HasColumns s past → (coming : IsComing s f) → EndsIn past f coming.page
 ends_in s past f h coming =
-    let x = start_of s past h f coming.start coming.opened in
+    let x = started_as s past h f coming.start coming.opened in
     record { start = x.start; opened = x.opened; loads = ap (λ (y : BareStart). y.loads) x.same ∙ coming.loads }
 
 -- a page that is back ends the start of its load

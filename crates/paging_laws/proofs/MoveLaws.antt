@@ -29,7 +29,7 @@ use Rattle.paging_laws.proofs.MoveEnds.{IsDoneBack, IsRefusedBack, ends_back, en
 use Rattle.paging_laws.proofs.BuildLaws.{words_put}
 use Rattle.paging_laws.proofs.NextEntry.{Brings, BringsDone, done_brings, brings_as}
 use Rattle.paging_laws.proofs.ColumnLaws.{added_flat, start_is, version_is}
-use Rattle.paging_laws.proofs.SlotLaws.{start_of}
+use Rattle.paging_laws.proofs.SlotLaws.{started_as}
 use Rattle.sgx_types.specs.declared.names.SlotAt.{SlotAt}
 
 -- ---- what flat memory does not see
@@ -147,7 +147,7 @@ freed_words s past f stands = put_words s.content s.words (flat past) f Free zer
 -- a frame whose start is open is one of the EPC
 below : (s : State) (past : List Entry) (f : ℕ) (start : BareStart) → StandsWithRules s past → s.start f ≡ Some start → f < s.frames
 below s past f start h opened =
-    open_below s.frames past f h.rules.fits.entries (ap is_some (start_of s past h.stands.columns f start opened).opened)
+    open_below s.frames past f h.rules.fits.entries (ap is_some (started_as s past h.stands.columns f start opened).opened)
 
 -- a page is out
 pub written_brings : (s t : State) (past : List Entry) (a : Actor) (f : Frame) (e : Entry) (rec : Sealed) → IsGuarded s

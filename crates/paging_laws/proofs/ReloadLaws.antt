@@ -42,7 +42,7 @@ use Rattle.paging_laws.specs.Histories.{BringsBack, OutsideBytes, StandsWithAllR
 use Rattle.paging_laws.specs.State.{State, after_eld, making_of}
 use Rattle.paging_laws.specs.Steps.{IsComing, IsReloaded, commit_row, did_by}
 use Rattle.paging_laws.proofs.ColumnLaws.{enclave_flat, start_is}
-use Rattle.paging_laws.proofs.SlotLaws.{start_of}
+use Rattle.paging_laws.proofs.SlotLaws.{started_as}
 
 -- ---- the page of a header
 
@@ -204,7 +204,7 @@ pub reload_back : (made : Making) (s : State) (past : List Entry) (records : Lis
 reload_back made s past records given f coming rec allowed h unforged =
     let allows = row_allows s f coming rec allowed in
     let key : s.key ≡ made.key = ap (λ (m : Making). m.key) h.shaped.shape.making in
-    let opened = start_of s past h.shaped.shape.columns f coming.start coming.opened in
+    let opened = started_as s past h.shaped.shape.columns f coming.start coming.opened in
     let headed : HasHeader past coming.page rec.header = record {
       enclave = coming.enclave;
       made = sym (enclave_flat h.standing.stands coming.page.enclave) ∙ coming.made;

@@ -33,7 +33,7 @@ use Rattle.cached_translations.specs.declared.cache.Translation.{Translation}
 use Rattle.cached_translations.specs.Translations.{with_translation}
 use Rattle.paging_laws.specs.Columns.{FrameColumns, CpuColumns, SlotColumns, HasColumns, frames_by, cpus_by, slots_by, slots_of, enclaves_by, noted_inside, without_perm, seat_of_stay}
 use Rattle.paging_laws.proofs.ColumnLaws.{sealing_is, start_is, inside_is, noted_is, translations_are, epoch_is, added_is}
-use Rattle.paging_laws.proofs.SlotLaws.{start_of}
+use Rattle.paging_laws.proofs.SlotLaws.{started_as}
 use Rattle.paging_laws.specs.State.{State, with_saved, without_start, after_epa, after_create, after_add, after_init, after_enter, after_resume, after_exit, after_aex, after_fill, after_block, after_track, after_ewbstart, after_eldstart, after_ewb, after_eld, after_failed_eld}
 use Rattle.paging_laws.specs.Steps.{did_by, refused_by}
 use Rattle.paging_laws.proofs.TranslationLaws.{with_translation-map}
@@ -326,7 +326,7 @@ module _ (s : State) (past : List Entry) (h : HasColumns s past) where
 slot_of_start : (s : State) (past : List Entry) (f : ℕ) (start : BareStart) → HasColumns s past → s.start f ≡ Some start
     → open_slot past f ≡ Some start.slot
 slot_of_start s past f start h is =
-    let x = start_of s past h f start is in ap slot_of x.opened ∙ ap (λ (y : BareStart). Some y.slot) x.same
+    let x = started_as s past h f start is in ap slot_of x.opened ∙ ap (λ (y : BareStart). Some y.slot) x.same
 
 module _ (s : State) (past : List Entry) (a : Actor) (f : Frame) (start : BareStart) (is : s.start f.0 ≡ Some start) (h : HasColumns s past)
   where

@@ -27,6 +27,7 @@ use Rattle.paging_laws.specs.State.{State, is_noting, number_noting, has_passed,
 use Rattle.paging_laws.proofs.TestLaws.{last_place}
 use Rattle.paging_laws.proofs.ColumnLaws.{content_is, blocked_is, sealing_is, inside_is, noted_is, translations_are, epoch_is}
 use Rattle.paging_laws.proofs.SoundLaws.{seat_at}
+use Rattle.paging_laws.proofs.SlotLaws.{slot_busy_is}
 
 -- ---- how many processors inside are older, and how many newer
 
@@ -131,6 +132,7 @@ shaped_by s past h sound guarded = record {
   older = older_agrees s past h;
   newer = newer_agrees s past h;
   busy = λ g. record { taken = λ is. taken_by s past g h (guarded.taken g is); busy = busy_by s past g h sound };
+  slot_busy = slot_busy_is s past h guarded;
 }
 
 -- ---- no translation is stale
@@ -210,6 +212,7 @@ shaped_more made s t past e sound guarded h fits next =
         older = shape.older;
         newer = shape.newer;
         busy = shape.busy;
+        slot_busy = shape.slot_busy;
       };
       frames = (subst (λ (n : ℕ). FitsRule n past e) (ap (λ (m : Making). m.frames) h.shape.making) fits, h.frames);
       stale = record {

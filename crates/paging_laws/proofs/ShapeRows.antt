@@ -38,7 +38,7 @@ use Rattle.paging_laws.specs.Stands.{IsUsable, IsSound}
 use Rattle.paging_laws.specs.State.{State, sight, slot_sight, drain_sight, is_version_spent, translation, perm_of_held, with_acc, with_saved, word_at, cssa_in, saved_word, after_epa, after_create, after_add, after_extend, after_init, after_enter, after_resume, after_exit, after_aex, after_fill, after_store, after_xadd, after_block, after_track, after_ewbstart, after_eldstart, after_ewb, after_eld, after_failed_eld, row_of}
 use Rattle.paging_laws.specs.Steps.{did_by, refused_by}
 use Rattle.paging_laws.proofs.ColumnLaws.{start_is, inside_is, translations_are, next_version_is}
-use Rattle.paging_laws.proofs.SlotLaws.{start_of}
+use Rattle.paging_laws.proofs.SlotLaws.{started_as}
 use Rattle.paging_laws.proofs.SoundLaws.{seat_at, unused}
 use Rattle.paging_laws.proofs.ShapeColumns.{IsQuiet, is_eld, is_quiet, refused_quiet, did_quiet, quiet_columns, epa_columns, create_columns, add_columns, init_columns, enter_columns, resume_columns, exit_columns, aex_columns, fill_columns, block_columns, track_columns, ewbstart_columns, eldstart_columns, ewb_columns, eld_columns, failed_eld_columns}
 use Rattle.paging_laws.proofs.ShapeLaws.{drained_by, IsHeld, IsNextTo}
@@ -376,7 +376,7 @@ module _ (s : State) (past : List Entry) (sound : IsSound s) (h : HasColumns s p
     held = held_put s past sound h held f.0 Free (λ enclave u. false≢true (sym u.settled ∙ sealing));
     access = tt;
     evict =
-        let x = start_of s past h f.0 start is in
+        let x = started_as s past h f.0 start is in
         record {
           start = x.start;
           opened = x.opened;

@@ -27,6 +27,7 @@ use Rattle.paging_laws.proofs.ShapeColumns.{is_eld}
 use Rattle.paging_laws.proofs.Contents.{waits_for}
 use Rattle.paging_laws.proofs.FrameLaws.{reloaded_frames, step_frames, written_frames}
 use Rattle.sgx_types.specs.Rules.{Along, FitsRule}
+use Rattle.sgx_types.proofs.Busy.{idle_free}
 use Rattle.paging_laws.proofs.ShapeLaws.{older_agrees, newer_agrees, IsHeld, IsNextTo, held_by, shaped_more}
 use Rattle.paging_laws.proofs.ShapeRows.{add_next, aex_next, block_next, create_next, eld_next, eldstart_next, enter_next, epa_next, ewb_next, ewbstart_next, exit_next, extend_next, failed_eld_next, fill_next, init_next, load_next, outload_next, outstore_next, pf_next, plus_next, refused_next, resume_next, set_next, store_next, track_next, xadd_next}
 
@@ -187,6 +188,7 @@ fresh_shaped frames cpus key first_epoch first_version = record {
     older = λ e. older_agrees s [] columns e;
     newer = λ e. newer_agrees s [] columns e;
     busy = λ g. record { taken = λ is. cc; busy = λ k. absurd k.by };
+    slot_busy = λ slot. sym (idle_free frames [] slot (λ n. refl));
   };
   frames = tt;
   stale = record { entries = tt; places = λ p. tt };

@@ -12,9 +12,9 @@ use Rattle.paging_laws.specs.State.{State}
 use Rattle.paging_laws.proofs.ColumnLaws.{start_is}
 
 -- the start of a frame, by the entries
-pub start_of : (s : State) (past : List Entry) → HasColumns s past → (n : ℕ) (x : BareStart) → s.start n ≡ Some x
+pub started_as : (s : State) (past : List Entry) → HasColumns s past → (n : ℕ) (x : BareStart) → s.start n ≡ Some x
     → IsBareOf (open_start past n) x
-start_of s past h n x is = bare_of (open_start past n) x (sym (start_is h n) ∙ is)
+started_as s past h n x is = bare_of (open_start past n) x (sym (start_is h n) ∙ is)
 
 pub slot_busy_is : (s : State) (past : List Entry) → HasColumns s past → IsGuarded s → (slot : SlotAt)
     → s.is_slot_busy slot ≡ is_slot_busy s.frames past slot
@@ -24,7 +24,7 @@ slot_busy_is s past h guarded slot =
     named : s.is_slot_busy slot ≡ true → is_slot_busy s.frames past slot ≡ true
     named busy =
         let k = guarded.apart.named slot busy in
-        let x = start_of s past h k.frame k.start k.is_open in
+        let x = started_as s past h k.frame k.start k.is_open in
         subst (λ (t : SlotAt). is_slot_busy s.frames past t ≡ true) (ap (λ (y : BareStart). y.slot) x.same ∙ k.names)
         (open_busy s.frames past k.frame x.start (guarded.apart.below k.frame k.start k.is_open) x.opened)
 

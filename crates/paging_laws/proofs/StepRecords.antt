@@ -33,7 +33,7 @@ use Rattle.paging_laws.specs.Stands.{IsSound, Stands}
 use Rattle.paging_laws.specs.State.{State, after_eld, after_failed_eld}
 use Rattle.paging_laws.specs.Steps.{CanApply, IsLeaving, IsReloaded, IsStep, IsWrittenOut, commit_row, did_by, refused_by}
 use Rattle.paging_laws.proofs.ColumnLaws.{enclave_flat, start_is}
-use Rattle.paging_laws.proofs.SlotLaws.{start_of}
+use Rattle.paging_laws.proofs.SlotLaws.{started_as}
 use Rattle.paging_laws.proofs.OutsideLaws.{KeepsOutside, did_keeps, did_made, did_sealed, is_ewb, outside_more, refused_keeps, keeps_as}
 use Rattle.paging_laws.proofs.RowLaws.{step_entry, IsEntryOf}
 
@@ -222,7 +222,7 @@ outside_written s t made past a f e rec out sound stands h =
     let head = leaving.page in
     let v = leaving.start.version in
     let words = s.words f.0 in
-    let started = start_of s past h.shape.columns f.0 leaving.start leaving.opened in
+    let started = started_as s past h.shape.columns f.0 leaving.start leaving.opened in
     let keyed : s.key ≡ made.key = ap (λ (k : Making). k.key) h.shape.making in
     let held : words ≡ words_of (flat past) head.page =
     sym (ap page_words (stands.memory.words f.0 head.page head.kind head.perm head.held)) in

@@ -2,9 +2,11 @@
 use Rattle.std.specs.Prelude.{ℕ, ◌≡◌, not, true, List, nat_lt}
 use Rattle.sgx_types.specs.declared.entries.Entry.{Entry}
 use Rattle.sgx_types.specs.declared.names.Page.{Page}
+use Rattle.sgx_types.specs.declared.names.SlotAt.{SlotAt}
 use Rattle.sgx_types.specs.Enclaves.{IsTaken}
 use Rattle.sgx_types.specs.Epochs.{newer_at, older_at}
 use Rattle.sgx_types.specs.Rules.{Along, EvictRule, Fits, FitsRule, RisingRule, Stale}
+use Rattle.sgx_types.specs.Slots.{is_slot_busy}
 use Rattle.sgx_types.specs.Starts.{LoadsAreApart}
 use Rattle.sgx_types.specs.Making.{Making}
 use Rattle.paging_laws.specs.Columns.{HasColumns}
@@ -22,6 +24,8 @@ pub record IsShaped (made : Making) (s : State) (past : List Entry) : Type 0 whe
   pub older : (e : ℕ) → number_noting s e (λ m. nat_lt m (s.epoch e)) ≡ older_at past e
   pub newer : (e : ℕ) → number_noting s e (λ m. not (nat_lt m (s.epoch e))) ≡ newer_at past e
   pub busy : (g : Page) → IsBusyBy s past g
+  -- a slot is busy exactly where an open start of one of the machine's frames names it
+  pub slot_busy : (slot : SlotAt) → s.is_slot_busy slot ≡ is_slot_busy s.frames past slot
 
 -- a machine of the shape of its entries, by which frames are the EPC's and taken where they are free, no translation is stale, only
 -- drained pages go out, and versions rise

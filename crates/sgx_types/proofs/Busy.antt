@@ -1,6 +1,6 @@
 -- Slots that open starts name: by how many frames a slot is busy, and when none names it.
-use Rattle.std.proofs.Common.{◌≡◌, ℕ, ◌<◌, ◌==◌, Bool, true, false, refl, sym, ap, ◌∙◌, subst, Option, Some, None, List}
-use Rattle.std.proofs.lemmas.Bool.{eq-eqb, false≢true}
+use Rattle.std.proofs.Common.{◌≡◌, ℕ, ◌<◌, ◌==◌, Bool, true, false, cond, refl, sym, ap, ◌∙◌, subst, Option, Some, None, List}
+use Rattle.std.proofs.lemmas.Bool.{cond_both, eq-eqb, false≢true}
 use Rattle.sgx_types.specs.declared.entries.Entry.{Entry}
 use Rattle.sgx_types.specs.declared.names.SlotAt.{SlotAt}
 use Rattle.sgx_types.specs.Slots.{IsIdle, is_slot_busy, names_slot, open_slot, same_slot, slot_of}
@@ -58,6 +58,41 @@ pub idle_apart : (past : List Entry) (slot : SlotAt) (n : ℕ) (x : Start) → I
     → x.slot ≡ slot → ⊥
 idle_apart past slot n x idle is same =
     false≢true (sym (idle n) ∙ ap (λ o. names_slot (slot_of o) slot) is ∙ ap (same_slot x.slot) (sym same) ∙ same_slot-refl x.slot)
+
+-- a slot that is not busy is idle, where each open start is of one of so many frames
+pub not_busy_idle : (frames : ℕ) (past : List Entry) (slot : SlotAt) → ((n : ℕ) (x : Start) → open_start past n ≡ Some x → n < frames)
+    → is_slot_busy frames past slot ≡ false → IsIdle past slot
+not_busy_idle frames past slot below free =
+    idle_by past slot (λ n x is same. false≢true (sym free ∙ ap (is_slot_busy frames past) (sym same)
+    ∙ open_busy frames past n x (below n x is) is))
+
+-- ---- one start more, or one less
+
+-- an idle slot stays so where a start with another slot begins
+pub idle_started : (past : List Entry) (f : ℕ) (new : Start) (slot : SlotAt) → same_slot new.slot slot ≡ false → IsIdle past slot
+    → (n : ℕ) → names_slot (slot_of (cond (f == n) (Some new) (open_start past n))) slot ≡ false
+idle_started past f new slot other idle n =
+    cond_both (f == n) (Some new) (open_start past n) (λ o. names_slot (slot_of o) slot ≡ false) (λ _. other) (λ _. idle n)
+
+-- .. and where a start ends
+pub idle_ended : (past : List Entry) (f : ℕ) (slot : SlotAt) → IsIdle past slot → (n : ℕ)
+    → names_slot (slot_of (cond (f == n) None (open_start past n))) slot ≡ false
+idle_ended past f slot idle n =
+    cond_both (f == n) None (open_start past n) (λ o. names_slot (slot_of o) slot ≡ false) (λ _. refl) (λ _. idle n)
+
+-- a slot is idle once the one start has ended that named it
+pub idle_freed : (past : List Entry) (f : ℕ) (slot : SlotAt)
+    → ((n : ℕ) (x : Start) → open_start past n ≡ Some x → x.slot ≡ slot → f ≡ n) → (n : ℕ)
+    → names_slot (slot_of (cond (f == n) None (open_start past n))) slot ≡ false
+idle_freed past f slot only n =
+    cond_both (f == n) None (open_start past n) (λ o. names_slot (slot_of o) slot ≡ false) (λ _. refl)
+    (λ other. by_test (names_slot (open_slot past n) slot) refl other)
+  where
+    by_test : (b : Bool) → names_slot (open_slot past n) slot ≡ b → (f == n) ≡ false → names_slot (open_slot past n) slot ≡ false
+    by_test true e other =
+        let k = named_by past slot n e in
+        absurd (false≢true (sym other ∙ eq-eqb f n (only n k.start k.opened k.names)))
+    by_test false e other = e
 
 -- ---- starts without their places and actors
 
