@@ -36,6 +36,7 @@ impl Machine {
         ensures making { making_of (state_of self.new) ≡ making_of (state_of self.old) }
         ensures cpus { length self.new.cpus ≡ length self.old.cpus }
     {
+        // There are 16 processors at most, before the instruction and after it.
         prove!(self.cpus.len() <= 16);
         let entry = self.row(alloc, actor, *action)?;
         prove!(self.cpus.len() <= 16);

@@ -20,9 +20,11 @@ impl Machine {
         ensures shape { (making : Making) (past : List Entry) → ShapeWithRules making (state_of self.now) past
             → ShapeWithRules making (state_of self.now) (entry.now ∷ past) }
         ensures fits { (frames : ℕ) (past : List Entry) → FitsApart frames past → FitsApart frames (entry.now ∷ past) }
-        ensures history { (making : Making) (past : List Entry) (records : List Made) → StandsWithAllRules making (state_of self.now) past records
+        ensures history { (making : Making) (past : List Entry) (records : List Made)
+            → StandsWithAllRules making (state_of self.now) past records
             → StandsWithAllRules making (state_of self.now) (entry.now ∷ past) records }
     {
+        // There are 16 processors at most, and the entry is of no instruction.
         prove!(self.cpus.len() <= 16);
         prove!(!matches!(entry.event, Event::Did { .. } | Event::Refused { .. }));
     }
