@@ -29,11 +29,12 @@ use Rattle.driver_tables.specs.declared.driver.Driver.{Driver}
 use Rattle.driver_tables.specs.Tables.{place_in}
 use Rattle.driver_steps.specs.Agrees.{Agrees}
 use Rattle.run_history.specs.Given.{gift}
-use Rattle.run_history.specs.Honest.{EnclavesAreFlat, GiftsAreLast, IsLastPut}
+use Rattle.run_history.specs.Honest.{GiftsAreLast, IsLastPut}
 use Rattle.run_history.specs.Stored.{StoreCalls}
 use Rattle.run_history.proofs.HonestLaws.{last_sealed, load_at}
 use Rattle.active_list.specs.Places.{IsPlaced}
 use Rattle.sgx_types.specs.declared.entries.Actor.TheVariants as actors
+use Rattle.sgx_types.specs.Enclaves.{EnclavesAreFlat}
 use Rattle.fault_handler.specs.declared.answers.Loaded.{Loaded}
 use Rattle.fault_handler.specs.Finishing.{CanFinish, IsBack, IsFinished}
 use Rattle.fault_handler.proofs.OwnRecords.{own_record}

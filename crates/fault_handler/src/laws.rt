@@ -7,7 +7,7 @@ ghost use Rattle.fault_handler.specs.Finishing.{CanFinish, IsBack, IsFinished};
 ghost use Rattle.fault_handler.specs.declared.answers.Loaded.{Loaded};
 ghost use Rattle.backing_store.specs.Calls.{Call};
 ghost use Rattle.run_history.specs.Given.{gift};
-ghost use Rattle.run_history.specs.Honest.{EnclavesAreFlat, GiftsAreLast};
+ghost use Rattle.run_history.specs.Honest.{GiftsAreLast};
 ghost use Rattle.run_history.specs.Stored.{StoreCalls};
 ghost use Rattle.driver_steps.specs.Agrees.{Agrees};
 ghost use Rattle.driver_rules.specs.Reclaims.{is_refused};
@@ -23,6 +23,7 @@ ghost use Rattle.sgx_types.specs.Making.{Making};
 ghost use Rattle.sgx_types.specs.declared.entries.Entry.{Entry};
 ghost use Rattle.sgx_types.specs.declared.names.Cpu.{Cpu};
 ghost use Rattle.sgx_types.specs.declared.names.Page.{Page};
+ghost use Rattle.sgx_types.specs.Enclaves.{EnclavesAreFlat};
 
 /// A load that ends by a record with the page's header, and with the tag of it under the version that its start found, is not refused,
 /// whatever the record's cipher is. Nothing is supposed of other records.

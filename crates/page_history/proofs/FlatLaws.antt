@@ -21,7 +21,6 @@ use Rattle.sgx_types.specs.Sealed.{header_of}
 use Rattle.sgx_types.specs.Table.{EnclaveSight, FrameSight, add_row, first_of_row}
 use Rattle.sgx_types.proofs.Pages.{same_page-swap, same_pages}
 use Rattle.sgx_types.proofs.Rows.{NoneHolds, none_holds}
-use Rattle.sgx_types.proofs.Truths.{eqb-swap}
 use Rattle.page_history.proofs.OpenStarts.{entry_of}
 
 -- changed words are of the same kind and permissions
@@ -80,21 +79,32 @@ added_one : (b : Bool) (x : FlatPage) (o : Option FlatPage) → cond b (Some (x.
 added_one true x o = refl
 added_one false x o = refl
 
+-- flat memory takes an event that adds a page
+abbrev pub TakesAdds : FlatMemory → Actor → Event → Type 0
+TakesAdds m actor (Did (Add enclave number f kind perm init) answer) = accepts m actor (Add enclave number f kind perm init) ≡ true
+TakesAdds m actor event = Unit {0}
+
 -- a done `add` adds the page, and no other entry does
-added_still : (past : List Entry) (actor : Actor) (event : Event) (g : Page) → FlatRule past (entry_of actor event)
+pub added_next : (past : List Entry) (actor : Actor) (event : Event) (g : Page) → TakesAdds (flat past) actor event
     → added past g ≡ added_as ((flat past).pages g)
     → added (entry_of actor event ∷ past) g ≡ added_as ((flat (entry_of actor event ∷ past)).pages g)
-added_still past actor (Did (Add enclave number f kind perm init) answer) g rule h =
+added_next past actor (Did (Add enclave number f kind perm init) answer) g taken h =
     let x : FlatPage = record { kind = kind; perm = perm; words = first_words init } in
-    rw (rule refl).taken (rw (same_page-swap (page_at enclave number) g, h)
+    rw taken (rw (same_page-swap (page_at enclave number) g, h)
     (added_one (same_page g (page_at enclave number)) x ((flat past).pages g)))
-added_still past actor (Did action answer) g rule h = h ∙ sym (event_kinds actor action answer (flat past) g refl)
-added_still past actor event g rule h = h
+added_next past actor (Did action answer) g taken h = h ∙ sym (event_kinds actor action answer (flat past) g refl)
+added_next past actor event g taken h = h
 
--- where flat memory answers, a page was added as flat memory has it
+-- where flat memory answers, it takes each `add`
+answered_adds : (past : List Entry) (actor : Actor) (event : Event) → FlatRule past (entry_of actor event)
+    → TakesAdds (flat past) actor event
+answered_adds past actor (Did (Add enclave number f kind perm init) answer) rule = (rule refl).taken
+answered_adds past actor event rule = tt
+
+-- .. and so a page was added as flat memory has it
 pub added_flat : (past : List Entry) → Along FlatRule past → (g : Page) → added past g ≡ added_as ((flat past).pages g)
 added_flat [] h g = refl
-added_flat (e ∷ past) h g = added_still past e.actor e.event g h.0 (added_flat past h.1 g)
+added_flat (e ∷ past) h g = added_next past e.actor e.event g (answered_adds past e.actor e.event h.0) (added_flat past h.1 g)
 
 -- ---- headers
 

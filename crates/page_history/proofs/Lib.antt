@@ -4,3 +4,5 @@ pub mod FlatLaws
 pub mod StartLaws
 pub mod RecordLaws
 pub mod CopyLaws
+pub mod ApartLaws
+pub mod RefusalFits

@@ -2,8 +2,9 @@
 
 ghost use Rattle.std.specs.Prelude.{ℕ, ◌≡◌, ◌≤◌, ◌<◌, List, Some};
 ghost use Rattle.sgx_types.specs.declared.entries.Entry.{Entry};
-ghost use Rattle.sgx_types.specs.Rules.{Along};
+ghost use Rattle.sgx_types.specs.Rules.{Along, Fits, LoadsAwayRule, RefusalRule};
 ghost use Rattle.sgx_types.specs.Slots.{version_in};
+ghost use Rattle.sgx_types.specs.Starts.{LoadsAreApart};
 ghost use Rattle.sgx_types.specs.declared.names.Page.{Page};
 ghost use Rattle.sgx_types.specs.declared.names.SlotAt.{SlotAt};
 ghost use Rattle.page_history.specs.Copies.{InSlot, OneLiveCopy, copy};
@@ -33,4 +34,12 @@ pub fn versions_stand_in_one_slot()
         → copy past g ≡ Some (InSlot slot v) → 1 ≤ v }
     ensures apart { (k : Making) (past : List Entry) → 1 ≤ k.first_version → KeepsMoves k past → (one other : SlotAt)
         → 0 < version_in past one → version_in past one ≡ version_in past other → one ≡ other }
+{}
+
+/// Where an instruction is done exactly where its row allows it, and each load that starts is of a page that no frame holds and no
+/// other load brings, the entries fit: the frames that are named are of the EPC, what takes a frame takes a free one, and no page
+/// stands in two frames. No page is loaded that stands in one either, and none twice.
+pub fn loads_of_pages_away_fit()
+    ensures fits { (k : Making) (past : List Entry) → Along (RefusalRule k) past → Along LoadsAwayRule past → Fits k.frames past }
+    ensures apart { (k : Making) (past : List Entry) → Along (RefusalRule k) past → Along LoadsAwayRule past → LoadsAreApart past }
 {}

@@ -1,8 +1,9 @@
 -- Each column of a state that stands for entries, as the entries and flat memory have it.
-use Rattle.std.proofs.Common.{◌≡◌, ℕ, ◌||◌, ◌&&◌, not, Bool, true, false, cond, refl, ap, ◌∙◌, Some, None, List, [], ◌∷◌, map, is_some}
+use Rattle.std.proofs.Common.{◌≡◌, ℕ, ◌||◌, ◌&&◌, not, Bool, true, false, cond, refl, sym, ap, ◌∙◌, Some, None, List, [], ◌∷◌, map, is_some}
 use Rattle.sgx_types.specs.declared.entries.Entry.{Entry}
 use Rattle.sgx_types.specs.declared.names.Page.{Page}
 use Rattle.sgx_types.specs.declared.names.SlotAt.{SlotAt}
+use Rattle.sgx_types.specs.Enclaves.{EnclavesAreFlat, created}
 use Rattle.sgx_types.specs.Epochs.{block_epoch, epoch, epoch_in, noted}
 use Rattle.sgx_types.specs.Flat.{added_as, flat}
 use Rattle.sgx_types.specs.Frames.{added, content, is_block, is_blocked, is_put, is_sealing, put_by}
@@ -47,6 +48,9 @@ next_version_is h i = (h.slots i).next_version
 pub epoch_is : {s : State} {past : List Entry} → HasColumns s past → (e : ℕ) → s.epoch e ≡ epoch s.first_epoch past e
 epoch_is h e i = (h.enclaves i).epoch e
 
+pub enclave_is : {s : State} {past : List Entry} → HasColumns s past → (e : ℕ) → s.enclaves e ≡ created past e
+enclave_is h e i = (h.enclaves i).enclaves e
+
 pub added_is : {s : State} {past : List Entry} → HasColumns s past → (g : Page) → s.added g ≡ added past g
 added_is h g i = (h.enclaves i).added g
 
@@ -68,6 +72,16 @@ is_blocked_is {s} {past} h n = ap is_some (blocked_is h n) ∙ has_block s.first
 pub sight_is : {s : State} {past : List Entry} → HasColumns s past → (n : ℕ) → sight s n ≡ sight_at s.frames past n
 sight_is h n = rw (content_is h n, sealing_is h n, is_blocked_is h n) refl
 
+-- ---- in flat memory that has the enclaves and pages of the entries
+
+pub enclave_seen : {s : State} {past : List Entry} → HasColumns s past → EnclavesAreFlat past → (e : ℕ)
+    → s.enclaves e ≡ (flat past).enclaves e
+enclave_seen h seen e = enclave_is h e ∙ seen.enclaves e
+
+pub page_seen : {s : State} {past : List Entry} → HasColumns s past → EnclavesAreFlat past → (g : Page)
+    → s.added g ≡ added_as ((flat past).pages g)
+page_seen h seen g = added_is h g ∙ seen.pages g
+
 -- ---- in flat memory
 
 pub enclave_flat : {s : State} {past : List Entry} → Stands s past → (e : ℕ) → s.enclaves e ≡ (flat past).enclaves e
@@ -84,3 +98,10 @@ acc_flat h p i = (h.memory.cpus p i).acc
 
 pub inside_flat : {s : State} {past : List Entry} → Stands s past → (p : ℕ) → ((flat past).cpus p).inside ≡ inside_of_stay (stay past p)
 inside_flat h p i = (h.memory.cpus p i).inside
+
+-- flat memory has the enclaves and pages that the entries made
+pub enclaves_are_flat : {s : State} {past : List Entry} → Stands s past → EnclavesAreFlat past
+enclaves_are_flat h = record {
+  enclaves = λ e. sym (enclave_is h.columns e) ∙ enclave_flat h e;
+  pages = λ g. sym (added_is h.columns g) ∙ added_flat h g;
+}

@@ -18,6 +18,7 @@ use Rattle.sgx_types.specs.declared.record.Header.{Header}
 use Rattle.sgx_types.specs.declared.refusals.Refusal.{Refusal}
 use Rattle.sgx_types.specs.declared.refusals.Refusal.TheVariants as why
 use Rattle.sgx_types.specs.ByEpochs.{up_to_block}
+use Rattle.sgx_types.specs.Enclaves.{EnclavesAreFlat}
 use Rattle.sgx_types.specs.Epochs.{block_epoch, epoch, epoch_in, epoch_of}
 use Rattle.sgx_types.specs.Eviction.{kept_back}
 use Rattle.sgx_types.specs.Flat.{enclave_sight_of, flat}
@@ -35,22 +36,21 @@ use Rattle.measure_log.specs.Rule.{IsExpected, IsOther}
 use Rattle.sgx_types.specs.Sights.{drain_sight_at, row_at, slot_sight_at, track_sight_at}
 use Rattle.paging_laws.specs.Guarded.{IsGuarded, WritesOut}
 use Rattle.paging_laws.specs.State.{making_of}
-use Rattle.paging_laws.specs.Stands.{Stands}
 use Rattle.paging_laws.specs.State.{State, after_eld, after_failed_eld, after_init, drain_sight, number_up_to, row_of, slot_sight, track_sight}
 use Rattle.paging_laws.specs.Steps.{CanApply, IsComing, IsDone, IsReloaded, IsStep, IsWrittenOut, commit_row, did_by, refused_by}
 use Rattle.paging_laws.proofs.BuildLaws.{is_some-added_as}
 use Rattle.paging_laws.proofs.ShapeLaws.{drained_by, noting_agrees, older_agrees}
 use Rattle.paging_laws.specs.Columns.{HasColumns}
-use Rattle.paging_laws.proofs.ColumnLaws.{added_flat, blocked_is, content_is, enclave_flat, epoch_is, next_version_is, sight_is, start_is, version_is}
+use Rattle.paging_laws.proofs.ColumnLaws.{blocked_is, content_is, enclave_seen, epoch_is, next_version_is, page_seen, sight_is, version_is}
 use Rattle.paging_laws.proofs.SlotLaws.{slot_busy_is}
 
 -- ---- what the rows see
 
 -- what the row of `track` sees
-track_sees : (s : State) (past : List Entry) → HasColumns s past → Stands s past → (enclave : ℕ)
+track_sees : (s : State) (past : List Entry) → HasColumns s past → EnclavesAreFlat past → (enclave : ℕ)
     → track_sight s enclave ≡ track_sight_at s.first_epoch past enclave
-track_sees s past h stands enclave i = record {
-  enclave = enclave_sight_of (enclave_flat stands enclave i);
+track_sees s past h seen enclave i = record {
+  enclave = enclave_sight_of (enclave_seen h seen enclave i);
   older = older_agrees s past h enclave i;
   is_spent = epoch_is h enclave i == LAST_EPOCH;
 }
@@ -97,14 +97,16 @@ eldstart_same : (v v' : FrameSight) (o o' : Option EnclaveSight) (b b' : Bool) (
 eldstart_same v v' o o' b b' slot slot' e1 e2 e3 e4 i = first_of_row (eldstart_row (e1 i) (e2 i) (e3 i) (e4 i))
 
 -- ---- the rows of instructions that move pages, in the state and by the entries
+--
+-- They see columns alone, and of flat memory that it has the enclaves and pages that the entries made.
 
 pub block_agrees : (s : State) (past : List Entry) (a : Actor) (f : Frame) → HasColumns s past
     → first_of_row (row_of s a (Block f)) ≡ first_of_row (row_at (making_of s) past a (Block f))
 block_agrees s past a f h = ap (λ v. first_of_row (block_row v)) (sight_is h f.0)
 
-pub track_agrees : (s : State) (past : List Entry) (a : Actor) (enclave : ℕ) → Stands s past
+pub track_agrees : (s : State) (past : List Entry) (a : Actor) (enclave : ℕ) → HasColumns s past → EnclavesAreFlat past
     → first_of_row (row_of s a (Track enclave)) ≡ first_of_row (row_at (making_of s) past a (Track enclave))
-track_agrees s past a enclave stands = ap (λ v. first_of_row (track_row v)) (track_sees s past stands.columns stands enclave)
+track_agrees s past a enclave h seen = ap (λ v. first_of_row (track_row v)) (track_sees s past h seen enclave)
 
 pub ewbstart_agrees : (s : State) (past : List Entry) (a : Actor) (f : Frame) (slot : SlotAt) → HasColumns s past → IsGuarded s
     → first_of_row (row_of s a (EwbStart f slot)) ≡ first_of_row (row_at (making_of s) past a (EwbStart f slot))
@@ -112,9 +114,9 @@ ewbstart_agrees s past a f slot h guarded =
     ewbstart_same _ _ _ _ _ _ _ _ (sight_is h f.0) (slot_sees s past h guarded slot) (drain_sees s past h f.0)
     (ap (λ (n : ℕ). n == 2 ^ 64) (next_version_is h))
 
-pub eldstart_agrees : (s : State) (past : List Entry) (a : Actor) (f : Frame) (page : Page) (slot : SlotAt) → IsGuarded s
-    → Stands s past
+pub eldstart_agrees : (s : State) (past : List Entry) (a : Actor) (f : Frame) (page : Page) (slot : SlotAt) → HasColumns s past
+    → IsGuarded s → EnclavesAreFlat past
     → first_of_row (row_of s a (EldStart f page slot)) ≡ first_of_row (row_at (making_of s) past a (EldStart f page slot))
-eldstart_agrees s past a f page slot guarded stands =
-    eldstart_same _ _ _ _ _ _ _ _ (sight_is stands.columns f.0) (ap enclave_sight_of (enclave_flat stands page.enclave))
-    (ap is_some (added_flat stands page) ∙ is_some-added_as ((flat past).pages page)) (slot_sees s past stands.columns guarded slot)
+eldstart_agrees s past a f page slot h guarded seen =
+    eldstart_same _ _ _ _ _ _ _ _ (sight_is h f.0) (ap enclave_sight_of (enclave_seen h seen page.enclave))
+    (ap is_some (page_seen h seen page) ∙ is_some-added_as ((flat past).pages page)) (slot_sees s past h guarded slot)

@@ -14,6 +14,7 @@ use Rattle.sgx_types.specs.declared.names.Page.{Page}
 use Rattle.sgx_types.specs.declared.names.Kind.{Kind}
 use Rattle.sgx_types.specs.declared.names.Kind.TheVariants as kinds
 use Rattle.sgx_types.specs.declared.names.Perm.{Perm}
+use Rattle.sgx_types.specs.Enclaves.{EnclavesAreFlat}
 use Rattle.sgx_types.specs.Frames.{enclave_in, is_page, page_at, Free, content}
 use Rattle.sgx_types.specs.Processors.{stay, Seat}
 use Rattle.sgx_types.specs.Table.{Case, FrameSight, EnterSight, TcsSight, is_tcs, is_ready, epa_row, create_row, add_row, extend_row, init_row, inside_row, outside_row, fill_row, access_row, allows_read, allows_write, allows_update, pf_row, first_of_row, EnclaveSight, is_loading, is_valid, entry_row, is_enclave, is_lawful}
@@ -36,7 +37,7 @@ use Rattle.paging_laws.proofs.RegisterLaws.{added_by_entries}
 use Rattle.paging_laws.proofs.MoveSights.{block_agrees, eldstart_agrees, ewbstart_agrees, track_agrees}
 use Rattle.paging_laws.specs.Steps.{CanApply, is_of_cpus, refused_by, IsStep, IsDone, did_by, answer_of}
 use Rattle.paging_laws.proofs.MeasureLaws.{quiet}
-use Rattle.paging_laws.proofs.ColumnLaws.{added_flat, busy_flat, content_is, enclave_flat, inside_is, sight_is}
+use Rattle.paging_laws.proofs.ColumnLaws.{busy_flat, content_is, enclave_flat, enclave_seen, enclaves_are_flat, inside_is, page_seen, sight_is}
 use Rattle.paging_laws.specs.Columns.{HasColumns}
 use Rattle.paging_laws.specs.Guarded.{IsGuarded}
 use Rattle.std.proofs.lemmas.Bool.{leb-false}
@@ -46,18 +47,19 @@ use Rattle.sgx_types.proofs.Truths.{neither, tested}
 
 -- ---- the rows by the state and by the entries
 
-epa_agrees : (s : State) (past : List Entry) (a : Actor) (f : Frame) → Stands s past
+epa_agrees : (s : State) (past : List Entry) (a : Actor) (f : Frame) → HasColumns s past
     → first_of_row (row_of s a (Epa f)) ≡ first_of_row (row_at (making_of s) past a (Epa f))
-epa_agrees s past a f stands = ap (λ v. first_of_row (epa_row v)) (sight_is stands.columns f.0)
+epa_agrees s past a f h = ap (λ v. first_of_row (epa_row v)) (sight_is h f.0)
 
 create_row_same : (enclave base size : ℕ) (o o' : Option FlatEnclave) (v v' : FrameSight) → o ≡ o' → v ≡ v'
     → first_of_row (create_row enclave base size (is_some o) v) ≡ first_of_row (create_row enclave base size (is_some o') v')
 create_row_same enclave base size o o' v v' e e' = rw (e, e') refl
 
-create_agrees : (s : State) (past : List Entry) (a : Actor) (enclave : ℕ) (f : Frame) (base size : ℕ) → Stands s past
+create_agrees : (s : State) (past : List Entry) (a : Actor) (enclave : ℕ) (f : Frame) (base size : ℕ) → HasColumns s past
+    → EnclavesAreFlat past
     → first_of_row (row_of s a (Create enclave f base size)) ≡ first_of_row (row_at (making_of s) past a (Create enclave f base size))
-create_agrees s past a enclave f base size stands =
-    create_row_same enclave base size _ _ _ _ (enclave_flat stands enclave) (sight_is stands.columns f.0)
+create_agrees s past a enclave f base size h seen =
+    create_row_same enclave base size _ _ _ _ (enclave_seen h seen enclave) (sight_is h f.0)
 
 add_row_same : (number : ℕ) (kind : Kind) (perm : Perm) (init : PageInit) (o o' : Option FlatEnclave) (b b' : Bool) (v v' : FrameSight)
     → o ≡ o' → b ≡ b' → v ≡ v'
@@ -66,31 +68,34 @@ add_row_same : (number : ℕ) (kind : Kind) (perm : Perm) (init : PageInit) (o o
 add_row_same number kind perm init o o' b b' v v' e1 e2 e3 = rw (e1, e2, e3) refl
 
 add_agrees : (s : State) (past : List Entry) (a : Actor) (enclave number : ℕ) (f : Frame) (kind : Kind) (perm : Perm) (init : PageInit)
-    → Stands s past
+    → HasColumns s past → EnclavesAreFlat past
     → first_of_row (row_of s a (Add enclave number f kind perm init)) ≡ first_of_row
     (row_at (making_of s) past a (Add enclave number f kind perm init))
-add_agrees s past a enclave number f kind perm init stands =
-    add_row_same number kind perm init _ _ _ _ _ _ (enclave_flat stands enclave)
-    (ap is_some (added_flat stands (page_at enclave number)) ∙ is_some-added_as ((flat past).pages (page_at enclave number)))
-    (sight_is stands.columns f.0)
+add_agrees s past a enclave number f kind perm init h seen =
+    add_row_same number kind perm init _ _ _ _ _ _ (enclave_seen h seen enclave)
+    (ap is_some (page_seen h seen (page_at enclave number)) ∙ is_some-added_as ((flat past).pages (page_at enclave number)))
+    (sight_is h f.0)
 
-closed_agrees : (s : State) (past : List Entry) → Stands s past → (o : Option ℕ) → is_closed s o ≡ sights.is_closed (flat past) o
-closed_agrees s past stands None = refl
-closed_agrees s past stands (Some enclave) = ap (λ x. is_ready (enclave_sight_of x)) (enclave_flat stands enclave)
+closed_agrees : (s : State) (past : List Entry) → HasColumns s past → EnclavesAreFlat past → (o : Option ℕ)
+    → is_closed s o ≡ sights.is_closed (flat past) o
+closed_agrees s past h seen None = refl
+closed_agrees s past h seen (Some enclave) = ap (λ x. is_ready (enclave_sight_of x)) (enclave_seen h seen enclave)
 
 extend_row_same : (chunk : ℕ) (b b' : Bool) (v v' : FrameSight) → b ≡ b' → v ≡ v'
     → first_of_row (extend_row chunk b v) ≡ first_of_row (extend_row chunk b' v')
 extend_row_same chunk b b' v v' e e' = rw (e, e') refl
 
-pub extend_agrees : (s : State) (past : List Entry) (a : Actor) (f : Frame) (chunk : ℕ) → Stands s past
+extend_agrees : (s : State) (past : List Entry) (a : Actor) (f : Frame) (chunk : ℕ) → HasColumns s past
+    → EnclavesAreFlat past
     → first_of_row (row_of s a (Extend f chunk)) ≡ first_of_row (row_at (making_of s) past a (Extend f chunk))
-extend_agrees s past a f chunk stands =
-    extend_row_same chunk _ _ _ _ (closed_agrees s past stands (enclave_in (s.content f.0))
-    ∙ ap (λ c. sights.is_closed (flat past) (enclave_in c)) (content_is stands.columns f.0)) (sight_is stands.columns f.0)
+extend_agrees s past a f chunk h seen =
+    extend_row_same chunk _ _ _ _ (closed_agrees s past h seen (enclave_in (s.content f.0))
+    ∙ ap (λ c. sights.is_closed (flat past) (enclave_in c)) (content_is h f.0)) (sight_is h f.0)
 
-pub init_agrees : (s : State) (past : List Entry) (a : Actor) (enclave : ℕ) (expect : Option (List ℕ)) → Stands s past
+init_agrees : (s : State) (past : List Entry) (a : Actor) (enclave : ℕ) (expect : Option (List ℕ)) → HasColumns s past
+    → EnclavesAreFlat past
     → first_of_row (row_of s a (Init enclave expect)) ≡ first_of_row (row_at (making_of s) past a (Init enclave expect))
-init_agrees s past a enclave expect stands = ap (λ o. first_of_row (init_row (enclave_sight_of o))) (enclave_flat stands enclave)
+init_agrees s past a enclave expect h seen = ap (λ o. first_of_row (init_row (enclave_sight_of o))) (enclave_seen h seen enclave)
 
 fill_row_same : (number : ℕ) (o o' : Option ℕ) (v v' : FrameSight) → o ≡ o' → v ≡ v'
     → first_of_row (fill_row number o v) ≡ first_of_row (fill_row number o' v')
@@ -145,7 +150,8 @@ entry_otherwise saves saved enclave tcs v fields other = rw other refl
 -- a row by a TCS page, in the state and by the entries, for who is inside as they say
 entry_agrees_by : (saves : TcsSight → Case) (saved : TcsSight → ℕ) (s : State) (past : List Entry) (b b' : Bool) (enclave tcs tf sf : ℕ)
     → b ≡ b' → Stands s past
-    → first_of_row (by_fields saves saved enclave tcs (record (enter_sight s 0 (seat_of enclave tcs tf sf)) { is_inside = b })) ≡ first_of_row
+    → first_of_row (by_fields saves saved enclave tcs (record (enter_sight s 0 (seat_of enclave tcs tf sf)) { is_inside = b }))
+    ≡ first_of_row
     (by_fields saves saved enclave tcs (record (enter_sight_at s.frames past None (seat_of enclave tcs tf sf)) { is_inside = b' }))
 entry_agrees_by saves saved s past b b' enclave tcs tf sf same stands =
     by_page (tested (is_page v.tcs.content g)) (tested (is_tcs v.tcs.content))
@@ -202,16 +208,42 @@ row_outside_agrees s past action own stands = cc
 
 -- ---- every row
 
+-- the row of an instruction that builds an enclave or moves a page, which sees columns alone
+pub columns_agree : (s : State) (past : List Entry) (a : Actor) (action : Action) → is_of_cpus action ≡ false → HasColumns s past
+    → IsGuarded s → EnclavesAreFlat past
+    → first_of_row (row_of s a action) ≡ first_of_row (row_at (making_of s) past a action)
+columns_agree s past a (Epa f) other h guarded seen = epa_agrees s past a f h
+columns_agree s past a (Create enclave f base size) other h guarded seen = create_agrees s past a enclave f base size h seen
+columns_agree s past a (Add enclave number f kind perm init) other h guarded seen =
+    add_agrees s past a enclave number f kind perm init h seen
+columns_agree s past a (Extend f chunk) other h guarded seen = extend_agrees s past a f chunk h seen
+columns_agree s past a (Init enclave expect) other h guarded seen = init_agrees s past a enclave expect h seen
+columns_agree s past a (Block f) other h guarded seen = block_agrees s past a f h
+columns_agree s past a (Track enclave) other h guarded seen = track_agrees s past a enclave h seen
+columns_agree s past a (EwbStart f slot) other h guarded seen = ewbstart_agrees s past a f slot h guarded
+columns_agree s past a (EldStart f page slot) other h guarded seen = eldstart_agrees s past a f page slot h guarded seen
+columns_agree s past (actors.Cpu p) (Ewb f) other h guarded seen = refl
+columns_agree s past (actors.Cpu p) (Eld f) other h guarded seen = refl
+columns_agree s past a (Ewb f) other h guarded seen = refl
+columns_agree s past a (Eld f) other h guarded seen = refl
+columns_agree s past a _ other h guarded seen = cc other
+
+-- .. in a state that stands for its entries
+seen_agrees : (s : State) (past : List Entry) (a : Actor) (action : Action) → is_of_cpus action ≡ false → IsGuarded s → Stands s past
+    → first_of_row (row_of s a action) ≡ first_of_row (row_at (making_of s) past a action)
+seen_agrees s past a action other guarded stands = columns_agree s past a action other stands.columns guarded (enclaves_are_flat stands)
+
 -- the row of an instruction, by the state and by the entries
 row_agrees : (s : State) (past : List Entry) (cpus : ℕ) (a : Actor) (action : Action) → CanApply cpus a action
     → IsSound s → IsGuarded s → Stands s past
     → first_of_row (row_of s a action) ≡ first_of_row (row_at (making_of s) past a action)
-row_agrees s past cpus a (Epa f) can sound guarded stands = epa_agrees s past a f stands
-row_agrees s past cpus a (Create enclave f base size) can sound guarded stands = create_agrees s past a enclave f base size stands
+row_agrees s past cpus a (Epa f) can sound guarded stands = seen_agrees s past a (Epa f) refl guarded stands
+row_agrees s past cpus a (Create enclave f base size) can sound guarded stands =
+    seen_agrees s past a (Create enclave f base size) refl guarded stands
 row_agrees s past cpus a (Add enclave number f kind perm init) can sound guarded stands =
-    add_agrees s past a enclave number f kind perm init stands
-row_agrees s past cpus a (Extend f chunk) can sound guarded stands = extend_agrees s past a f chunk stands
-row_agrees s past cpus a (Init enclave expect) can sound guarded stands = init_agrees s past a enclave expect stands
+    seen_agrees s past a (Add enclave number f kind perm init) refl guarded stands
+row_agrees s past cpus a (Extend f chunk) can sound guarded stands = seen_agrees s past a (Extend f chunk) refl guarded stands
+row_agrees s past cpus a (Init enclave expect) can sound guarded stands = seen_agrees s past a (Init enclave expect) refl guarded stands
 row_agrees s past cpus (actors.Cpu p) (Enter enclave tcs tf sf) can sound guarded stands =
     entry_agrees enter_saves enter_saved s past p.0 enclave tcs tf.0 sf.0 stands
 row_agrees s past cpus (actors.Cpu p) (Resume enclave tcs tf sf) can sound guarded stands =
@@ -227,10 +259,10 @@ row_agrees s past cpus (actors.Cpu p) (Plus value) can sound guarded stands = in
 row_agrees s past cpus (actors.Cpu p) (Pf op off) can sound guarded stands = pf_agrees s past p op off stands
 row_agrees s past cpus (actors.Cpu p) (OutLoad enclave off) can sound guarded stands = outside_agrees s past p stands
 row_agrees s past cpus (actors.Cpu p) (OutStore enclave off value) can sound guarded stands = outside_agrees s past p stands
-row_agrees s past cpus a (Block f) can sound guarded stands = block_agrees s past a f stands.columns
-row_agrees s past cpus a (Track enclave) can sound guarded stands = track_agrees s past a enclave stands
-row_agrees s past cpus a (EwbStart f slot) can sound guarded stands = ewbstart_agrees s past a f slot stands.columns guarded
-row_agrees s past cpus a (EldStart f page slot) can sound guarded stands = eldstart_agrees s past a f page slot guarded stands
+row_agrees s past cpus a (Block f) can sound guarded stands = seen_agrees s past a (Block f) refl guarded stands
+row_agrees s past cpus a (Track enclave) can sound guarded stands = seen_agrees s past a (Track enclave) refl guarded stands
+row_agrees s past cpus a (EwbStart f slot) can sound guarded stands = seen_agrees s past a (EwbStart f slot) refl guarded stands
+row_agrees s past cpus a (EldStart f page slot) can sound guarded stands = seen_agrees s past a (EldStart f page slot) refl guarded stands
 row_agrees s past cpus a action can sound guarded stands = absurd can
 
 -- the row of an instruction that the state allows, by the entries
@@ -258,9 +290,10 @@ refusal_told s past cpus (actors.Cpu p) (Eld f) r can sound guarded stands refus
 refusal_told s past cpus a (Ewb f) r can sound guarded stands refused = absurd can
 refusal_told s past cpus a (Eld f) r can sound guarded stands refused = absurd can
 refusal_told s past cpus a (Init enclave expect) r can sound guarded stands refused =
-    sym (init_agrees s past a enclave expect stands) ∙ refused
+    sym (init_agrees s past a enclave expect stands.columns (enclaves_are_flat stands)) ∙ refused
     ∙ sym (init_case (enclave_sight_of (s.enclaves enclave)) enclave expect r refused)
-refusal_told s past cpus a action r can sound guarded stands refused = sym (row_agrees s past cpus a action can sound guarded stands) ∙ refused
+refusal_told s past cpus a action r can sound guarded stands refused =
+    sym (row_agrees s past cpus a action can sound guarded stands) ∙ refused
 
 -- a refusal by the row says nothing of a measurement
 pub measure_told : (s : State) (past : List Entry) (a : Actor) (action : Action) (r : Refusal) → first_of_row (row_of s a action) ≡ Some r

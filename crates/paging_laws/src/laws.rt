@@ -1,12 +1,19 @@
 //! Laws of the steps. Each is the contract of a function without arguments, and so holds for every run.
 
-ghost use Rattle.std.specs.Prelude.{ℕ, ◌≤◌, List};
+ghost use Rattle.std.specs.Prelude.{ℕ, ◌≡◌, ◌≤◌, false, List};
+ghost use Rattle.sgx_types.specs.declared.entries.Action.{Action};
+ghost use Rattle.sgx_types.specs.declared.entries.Actor.{Actor};
 ghost use Rattle.sgx_types.specs.declared.entries.Entry.{Entry};
+ghost use Rattle.sgx_types.specs.Enclaves.{EnclavesAreFlat};
+ghost use Rattle.sgx_types.specs.Sights.{row_at};
+ghost use Rattle.sgx_types.specs.Table.{first_of_row};
 ghost use Rattle.seal_record.specs.Records.{Given, Made, Unforged};
+ghost use Rattle.paging_laws.specs.Columns.{HasColumns};
 ghost use Rattle.paging_laws.specs.Histories.{StandsWithAllRules};
 ghost use Rattle.paging_laws.specs.Runs.{Run};
 ghost use Rattle.paging_laws.specs.Shape.{ShapeWithRules};
-ghost use Rattle.paging_laws.specs.State.{State, making_of};
+ghost use Rattle.paging_laws.specs.State.{State, making_of, row_of};
+ghost use Rattle.paging_laws.specs.Steps.{is_of_cpus};
 
 /// Whatever instructions and commits take a fresh machine on, through states that are sound and guarded, as its type keeps
 /// them, its state is the one that its entries say, column by column. By these entries the frames that are named are of the EPC
@@ -22,4 +29,12 @@ pub fn every_run_is_shaped()
 pub fn every_run_stands()
     ensures { (s : State) (past : List Entry) (made : List Made) (given : List Given) → Run s past made given
         → 1 ≤ s.first_version → Unforged s.key made given → StandsWithAllRules (making_of s) s past made }
+{}
+
+/// The rows of the instructions that build enclaves and move pages see columns alone. So where a state has the columns of some
+/// entries, and flat memory has the enclaves and pages as these entries made them, whatever the bytes of the pages are, each such
+/// instruction is allowed in the state where it is by the entries, and else refused by the same case.
+pub fn rows_see_columns()
+    ensures { (s : State) (past : List Entry) (a : Actor) (action : Action) → is_of_cpus action ≡ false → HasColumns s past
+        → EnclavesAreFlat past → first_of_row (row_of s a action) ≡ first_of_row (row_at (making_of s) past a action) }
 {}

@@ -36,10 +36,10 @@ impl Machine {
         ensures making { making_of (state_of self.new) ≡ making_of (state_of self.old) }
         ensures cpus { length self.new.cpus ≡ length self.old.cpus }
     {
-        // The proof takes from here what is true of every machine, before the instruction and after it.
-        let _ = &self.epc;
+        // There are 16 processors at most, before the instruction and after it.
+        prove!(self.cpus.len() <= 16);
         let entry = self.row(alloc, actor, *action)?;
-        let _ = &self.epc;
+        prove!(self.cpus.len() <= 16);
         Ok(entry)
     }
 

@@ -10,7 +10,7 @@ ghost use Rattle.paging_laws.specs.Shape.{FitsApart, ShapeWithRules};
 ghost use Rattle.paging_machine.specs.Parts.{state_of};
 
 use crate::machine::Machine;
-use sgx_types::entries::Entry;
+use sgx_types::entries::{Entry, Event};
 
 impl Machine {
     /// An entry of no instruction: a look at a page, a kick, or a page that could not be reloaded. The machine is what it was, and
@@ -20,11 +20,12 @@ impl Machine {
         ensures shape { (making : Making) (past : List Entry) → ShapeWithRules making (state_of self.now) past
             → ShapeWithRules making (state_of self.now) (entry.now ∷ past) }
         ensures fits { (frames : ℕ) (past : List Entry) → FitsApart frames past → FitsApart frames (entry.now ∷ past) }
-        ensures history { (making : Making) (past : List Entry) (records : List Made) → StandsWithAllRules making (state_of self.now) past records
+        ensures history { (making : Making) (past : List Entry) (records : List Made)
+            → StandsWithAllRules making (state_of self.now) past records
             → StandsWithAllRules making (state_of self.now) (entry.now ∷ past) records }
     {
-        // The proof takes from here what is true of every machine.
-        let _ = &self.epc;
-        let _ = entry;
+        // There are 16 processors at most, and the entry is of no instruction.
+        prove!(self.cpus.len() <= 16);
+        prove!(!matches!(entry.event, Event::Did { .. } | Event::Refused { .. }));
     }
 }

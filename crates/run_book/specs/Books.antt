@@ -4,6 +4,7 @@ use Rattle.sgx_types.specs.declared.entries.Entry.{Entry}
 use Rattle.sgx_types.specs.declared.names.Page.{Page}
 use Rattle.sgx_types.specs.Making.{Making}
 use Rattle.sgx_types.specs.Rules.{Along}
+use Rattle.sgx_types.specs.Enclaves.{EnclavesAreFlat}
 use Rattle.job_grammar.specs.Jobs.{JobView}
 use Rattle.backing_store.specs.Calls.{Call}
 use Rattle.paging_laws.specs.Histories.{StandsWithAllRules}
@@ -22,7 +23,7 @@ use Rattle.turn_tables.specs.Holding.{KeepsHolds}
 use Rattle.turn_tables.specs.Shown.{ShowsTurns}
 use Rattle.run_history.specs.Calls.{before}
 use Rattle.run_history.specs.Given.{UnforgedRun, gift, made_in}
-use Rattle.run_history.specs.Honest.{EnclavesAreFlat, GiftsAreLast, IsHonest}
+use Rattle.run_history.specs.Honest.{GiftsAreLast, IsHonest}
 use Rattle.run_history.specs.Stored.{Tells}
 use Rattle.book_laws.specs.Stores.{TellsStore}
 use Rattle.driver_calls.specs.Comes.{Comes}

@@ -17,7 +17,7 @@ use Rattle.sgx_types.specs.declared.entries.Look.TheVariants as looks
 use Rattle.sgx_types.specs.declared.names.Frame.{Frame}
 use Rattle.sgx_types.specs.declared.names.Page.{Page}
 use Rattle.sgx_types.specs.declared.names.SlotAt.{SlotAt}
-use Rattle.sgx_types.specs.Enclaves.{created, created_by}
+use Rattle.sgx_types.specs.Enclaves.{EnclavesAreFlat, created, created_by}
 use Rattle.sgx_types.specs.Flat.{FlatEnclave, FlatMemory, Inside, accepts, cpu_after, event_after, flat, header_at, memory_after, saved, stored, sum_of, word_seen}
 use Rattle.sgx_types.specs.Frames.{Free, content, page_at, same_page}
 use Rattle.sgx_types.specs.Rules.{Along, FlatRule}
@@ -33,7 +33,7 @@ use Rattle.driver_laws.proofs.PlaceLaws.{loads_one, same_page-refl}
 use Rattle.driver_laws.proofs.SoundLaws.{entry_of}
 use Rattle.run_history.specs.Calls.{CallsAre, ComesWith, IsFailed, IsGiven, IsNothing, IsPut, IsRoom, before, without_last}
 use Rattle.run_history.specs.Given.{gift, gift_after, got_last}
-use Rattle.run_history.specs.Honest.{EnclavesAreFlat, GiftsAreLast, IsHonest, IsLastPut, gift_of, last_put}
+use Rattle.run_history.specs.Honest.{GiftsAreLast, IsHonest, IsLastPut, gift_of, last_put}
 use Rattle.run_history.specs.Stored.{PutsSealed, StoreCalls, Tells}
 
 -- ---- the last record put of a page

@@ -3,9 +3,7 @@ use Rattle.std.specs.Prelude.{ℕ, ◌≡◌, false, if◌then◌else◌, List, 
 use Rattle.sgx_types.specs.declared.entries.Entry.{Entry}
 use Rattle.sgx_types.specs.declared.names.Page.{Page}
 use Rattle.sgx_types.specs.declared.names.SlotAt.{SlotAt}
-use Rattle.sgx_types.specs.Enclaves.{created}
-use Rattle.sgx_types.specs.Flat.{added_as, flat}
-use Rattle.sgx_types.specs.Frames.{added, same_page}
+use Rattle.sgx_types.specs.Frames.{same_page}
 use Rattle.sgx_types.specs.Sealed.{Sealed}
 use Rattle.backing_store.specs.Calls.{Call, Given, Gift, Got, Nothing, Put, Room}
 use Rattle.driver_rules.specs.Places.{Loading, place}
@@ -48,10 +46,3 @@ pub record IsLastPut (key : List ℕ) (past : List Entry) (calls : List Call) (g
 -- each load that has started was given the last record put of its page
 abbrev pub GiftsAreLast : List Entry → List Call → Type 0
 GiftsAreLast past calls = (g : Page) (f : ℕ) (slot : SlotAt) → place past g ≡ Loading f slot → gift past calls f ≡ last_put calls g
-
--- ---- enclaves and pages
-
--- flat memory has each enclave and page as the entries made it
-pub record EnclavesAreFlat (past : List Entry) : Type 0 where
-  pub enclaves : (n : ℕ) → created past n ≡ (flat past).enclaves n
-  pub pages : (g : Page) → added past g ≡ added_as ((flat past).pages g)

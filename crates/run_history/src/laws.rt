@@ -7,6 +7,7 @@ ghost use Rattle.sgx_types.specs.declared.entries.Event.{Event};
 ghost use Rattle.sgx_types.specs.Rules.{Along, FlatRule, KeepsRules};
 ghost use Rattle.sgx_types.specs.Fresh.{Out, last_out};
 ghost use Rattle.sgx_types.specs.declared.names.Page.{Page};
+ghost use Rattle.sgx_types.specs.Enclaves.{EnclavesAreFlat};
 ghost use Rattle.io_edges.specs.declared.plans.PlanLine.{PlanLine};
 ghost use Rattle.measure_log.specs.Rule.{MeasureRule};
 ghost use Rattle.job_grammar.specs.Jobs.{JobView};
@@ -25,7 +26,7 @@ ghost use Rattle.run_history.specs.Calls.{CallsAre, before};
 ghost use Rattle.run_history.specs.declared.rules.Rule.{Rule};
 ghost use Rattle.run_history.specs.Given.{UnforgedRun};
 ghost use Rattle.run_history.specs.Histories.{FailsFirst, GoesOn, History, Keeps, Says, is_machines, is_note};
-ghost use Rattle.run_history.specs.Honest.{EnclavesAreFlat, GiftsAreLast, IsHonest, IsLastPut};
+ghost use Rattle.run_history.specs.Honest.{GiftsAreLast, IsHonest, IsLastPut};
 ghost use Rattle.run_history.specs.Stored.{StoreCalls, StoreTrue};
 
 /// A history keeps each rule, so a trace that fails somewhere is none. A history is one that goes on.

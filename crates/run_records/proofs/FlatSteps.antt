@@ -17,7 +17,7 @@ use Rattle.sgx_types.specs.declared.names.Page.{Page}
 use Rattle.sgx_types.specs.declared.names.Perm.{Perm}
 use Rattle.sgx_types.specs.declared.refusals.Refusal.{Refusal}
 use Rattle.sgx_types.specs.declared.refusals.Refusal.TheVariants as why
-use Rattle.sgx_types.specs.Enclaves.{created, created_by}
+use Rattle.sgx_types.specs.Enclaves.{EnclavesAreFlat, created, created_by}
 use Rattle.sgx_types.specs.Flat.{FlatEnclave, FlatMemory, Inside, accepts, added_as, cpu_after, enclave_sight_of, event_after, first_words, flat, flat_build_row, marked, memory_after, open_frame, saved, stored, sum_of, word_seen}
 use Rattle.sgx_types.specs.Frames.{added, added_by, page_at, same_page}
 use Rattle.sgx_types.specs.Table.{add_row, create_row, first_of_row, init_row}
@@ -28,9 +28,8 @@ use Rattle.paging_laws.specs.Columns.{EnclaveColumns, HasColumns}
 use Rattle.paging_laws.specs.State.{State, after_init, row_of, sight}
 use Rattle.paging_laws.specs.Steps.{IsDone, IsStep, did_by, refused_by}
 use Rattle.paging_laws.proofs.BuildLaws.{add_open, create_open, is_some-added_as}
-use Rattle.paging_laws.proofs.ColumnLaws.{added_is}
+use Rattle.paging_laws.proofs.ColumnLaws.{enclave_seen, page_seen}
 use Rattle.paging_laws.proofs.TestLaws.{is_none-None}
-use Rattle.run_history.specs.Honest.{EnclavesAreFlat}
 use Rattle.run_records.specs.Builds.{builds, is_building}
 
 -- nothing was built, on either side
@@ -155,29 +154,23 @@ flat_init past a enclave expect answer row seen =
 
 -- of a machine with the columns of the entries
 module _ (s : State) (past : List Entry) (columns : HasColumns s past) (seen : EnclavesAreFlat past) where
-  -- the enclaves of the machine are those of flat memory
-  pub enclave_seen : (n : ℕ) → s.enclaves n ≡ (flat past).enclaves n
-  enclave_seen n = ap (λ (c : EnclaveColumns). c.enclaves n) columns.enclaves ∙ seen.enclaves n
-
-  -- .. and its pages
-  pub page_seen : (g : Page) → s.added g ≡ added_as ((flat past).pages g)
-  page_seen g = added_is columns g ∙ seen.pages g
-
   flat_done : (t : State) (a : Actor) (action : Action) (e : Entry) → first_of_row (row_of s a action) ≡ None → IsDone s a action e t
       → EnclavesAreFlat (e ∷ past)
   flat_done t a (Create enclave f base size) e row is =
       subst (λ x. EnclavesAreFlat (x ∷ past)) (sym is.0)
       (flat_create past a enclave f base size answers.Plain
-      (subst (λ (o : Option FlatEnclave). first_of_row (create_row enclave base size (is_some o) open_frame) ≡ None) (enclave_seen enclave)
+      (subst (λ (o : Option FlatEnclave). first_of_row (create_row enclave base size (is_some o) open_frame) ≡ None)
+      (enclave_seen columns seen enclave)
       (create_open enclave base size (is_some (s.enclaves enclave)) (sight s f.0) row)) seen)
   flat_done t a (Add enclave number f kind perm init) e row is =
       let g : Page = page_at enclave number in
-      let page : is_some (s.added g) ≡ is_some ((flat past).pages g) = ap is_some (page_seen g) ∙ is_some-added_as ((flat past).pages g) in
+      let page : is_some (s.added g) ≡ is_some ((flat past).pages g) =
+      ap is_some (page_seen columns seen g) ∙ is_some-added_as ((flat past).pages g) in
       subst (λ x. EnclavesAreFlat (x ∷ past)) (sym is.0)
       (flat_add past a enclave number f kind perm init answers.Plain
       (subst (λ b. first_of_row (add_row number kind perm init (enclave_sight_of ((flat past).enclaves enclave)) b open_frame) ≡ None) page
       (subst (λ (o : Option FlatEnclave). first_of_row
-      (add_row number kind perm init (enclave_sight_of o) (is_some (s.added g)) open_frame) ≡ None) (enclave_seen enclave)
+      (add_row number kind perm init (enclave_sight_of o) (is_some (s.added g)) open_frame) ≡ None) (enclave_seen columns seen enclave)
       (add_open number kind perm init (enclave_sight_of (s.enclaves enclave)) (is_some (s.added g)) (sight s f.0) row))) seen)
   flat_done t a (Init enclave expect) e row is = by_judged is.judged
     where
@@ -187,7 +180,8 @@ module _ (s : State) (past : List Entry) (columns : HasColumns s past) (seen : E
       by_judged (inl k) =
           subst (λ x. EnclavesAreFlat (x ∷ past)) (sym k.1)
           (flat_init past a enclave expect (answers.Hash is.digest)
-          (subst (λ (o : Option FlatEnclave). first_of_row (init_row (enclave_sight_of o)) ≡ None) (enclave_seen enclave) row) seen)
+          (subst (λ (o : Option FlatEnclave). first_of_row (init_row (enclave_sight_of o)) ≡ None)
+          (enclave_seen columns seen enclave) row) seen)
       by_judged (inr k) = flat_other past e (ap (λ (x : Entry). is_building x.event) k.1) seen
   flat_done t a action e row is = flat_other past e (ap (λ (x : Entry). is_building x.event) is.0) seen
 

@@ -22,6 +22,7 @@ use Rattle.sgx_types.specs.Sealed.{Sealed}
 use Rattle.sgx_types.specs.Starts.{Start, open_start}
 use Rattle.sgx_types.specs.Table.{first_of_row}
 use Rattle.sgx_types.proofs.Truths.{both_true, not_false}
+use Rattle.sgx_types.specs.Enclaves.{EnclavesAreFlat}
 use Rattle.seal_record.specs.Cipher.{tag}
 use Rattle.seal_record.specs.Row.{eld_row, is_header, same_header}
 use Rattle.job_grammar.specs.Jobs.{JobView}
@@ -36,7 +37,7 @@ use Rattle.active_list.specs.declared.page_states.PageState.{PageState}
 use Rattle.active_list.specs.declared.page_states.PageState.TheVariants as states
 use Rattle.paging_laws.specs.State.{State}
 use Rattle.paging_laws.specs.Steps.{IsComing, IsReloaded, commit_row, did_by, refused_by}
-use Rattle.paging_laws.proofs.ColumnLaws.{start_is}
+use Rattle.paging_laws.proofs.ColumnLaws.{enclave_seen, page_seen, start_is}
 use Rattle.paging_machine.specs.Parts.{Parts, state_of}
 use Rattle.driver_rules.specs.Places.{Loading}
 use Rattle.driver_rules.specs.Reclaims.{is_refused}
@@ -48,7 +49,6 @@ use Rattle.driver_steps.specs.Agrees.{Agrees}
 use Rattle.turn_tables.specs.declared.turns.Turns.{Turns}
 use Rattle.run_history.specs.Calls.{before}
 use Rattle.run_history.specs.Given.{gift}
-use Rattle.run_history.specs.Honest.{EnclavesAreFlat}
 use Rattle.run_history.specs.Stored.{IsBackBy, IsUnfit}
 use Rattle.run_history.specs.Stored.{Tells as TellsRecord}
 use Rattle.driver_calls.specs.Comes.{AnswerComes, Comes, EndComes, Tells, bus_of}
@@ -63,7 +63,7 @@ use Rattle.run_book.specs.Books.{AreTold, IsTold, KeepsBook}
 use Rattle.run_book.specs.Loads.{OfAnswer, entry_in}
 use Rattle.run_records.specs.Builds.{is_building}
 use Rattle.run_records.specs.Silent.{HasNoEntry, IsSilent, OfBus}
-use Rattle.run_records.proofs.FlatSteps.{enclave_seen, flat_other, page_seen}
+use Rattle.run_records.proofs.FlatSteps.{flat_other}
 use Rattle.run_records.proofs.KindLaws.{header_told}
 use Rattle.run_records.proofs.ToldLaws.{eldstart_silent}
 
@@ -304,8 +304,8 @@ module _ (made : Making) (j : JobView) (past : List Entry) (calls : List Call) (
   headed : first_of_row (commit_row s can.frame.0 coming can.kept) ≡ None → header_at past coming.page ≡ Some can.kept.header
   headed row =
       header_told past coming.page coming.enclave coming.kind coming.perm
-      (sym (enclave_seen s past r.follows.shape.columns k.flat coming.page.enclave) ∙ coming.made)
-      (sym (page_seen s past r.follows.shape.columns k.flat coming.page) ∙ coming.added)
+      (sym (enclave_seen r.follows.shape.columns k.flat coming.page.enclave) ∙ coming.made)
+      (sym (page_seen r.follows.shape.columns k.flat coming.page) ∙ coming.added)
       ∙ ap Some (sym coming.headed
       ∙ row_headed can.kept (tag s.key coming.start.version can.kept.header can.kept.cipher) coming.header row)
 

@@ -16,12 +16,13 @@ use Rattle.sgx_types.specs.Making.{Making}
 use Rattle.sgx_types.specs.declared.record.Header.{Header}
 use Rattle.sgx_types.specs.Flat.{header_at}
 use Rattle.sgx_types.specs.Sealed.{Sealed}
+use Rattle.sgx_types.specs.Enclaves.{EnclavesAreFlat}
 use Rattle.job_grammar.specs.Jobs.{JobView}
 use Rattle.seal_record.specs.Cipher.{cipher, sealed, tag}
 use Rattle.backing_store.specs.Calls.{Call, Put, with_call}
 use Rattle.paging_laws.specs.State.{State}
 use Rattle.paging_laws.specs.Steps.{IsHeaderIn, IsWrittenOut}
-use Rattle.paging_laws.proofs.ColumnLaws.{content_is}
+use Rattle.paging_laws.proofs.ColumnLaws.{content_is, enclave_seen}
 use Rattle.paging_machine.specs.Parts.{Parts, cpu_at, state_of}
 use Rattle.driver_laws.specs.Counted.{pages_added}
 use Rattle.driver_laws.specs.Sound.{times}
@@ -30,7 +31,6 @@ use Rattle.driver_tables.specs.declared.driver.Driver.{Driver}
 use Rattle.turn_tables.specs.declared.turns.Turns.{Turns}
 use Rattle.run_history.specs.Calls.{before}
 use Rattle.run_history.specs.Given.{gift}
-use Rattle.run_history.specs.Honest.{EnclavesAreFlat}
 use Rattle.run_history.specs.Stored.{IsSealedRecord}
 use Rattle.run_history.specs.Stored.{Tells as TellsRecord}
 use Rattle.driver_calls.specs.Comes.{Comes, Tells, TurnComes}
@@ -56,7 +56,7 @@ use Rattle.run_book.specs.Books.{AreTold, IsTold, KeepsBook}
 use Rattle.run_book.specs.Turns.{OfEntry}
 use Rattle.run_records.specs.Builds.{is_building}
 use Rattle.run_records.specs.Silent.{IsSilent, MakesNoEntry}
-use Rattle.run_records.proofs.FlatSteps.{enclave_seen, flat_other}
+use Rattle.run_records.proofs.FlatSteps.{flat_other}
 use Rattle.run_records.proofs.KindLaws.{header_told, held_kind}
 use Rattle.run_records.proofs.ToldLaws.{block_silent, ewbstart_silent, track_silent}
 
@@ -253,7 +253,7 @@ pub header_held : (made : Making) (j : JobView) (past : List Entry) (told : Opti
     → header_at past page.page ≡ Some header
 header_held made j past told d m t n header k page =
     header_told past page.page page.enclave page.kind page.perm
-    (sym (enclave_seen (state_of m) past k.agrees.follows.shape.columns k.flat page.page.enclave) ∙ page.made)
+    (sym (enclave_seen k.agrees.follows.shape.columns k.flat page.page.enclave) ∙ page.made)
     (sym (k.flat.pages page.page)
     ∙ held_kind past n page.page page.kind page.perm (few_added made j past told d m t k page.page)
     (sym (content_is k.agrees.follows.shape.columns n) ∙ page.held)) ∙ ap Some (sym page.headed)

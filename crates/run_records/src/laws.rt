@@ -28,7 +28,6 @@ ghost use Rattle.run_book.specs.Books.{AreTold, KeepsBook};
 ghost use Rattle.run_book.specs.Loads.{OfAnswer, entry_in};
 ghost use Rattle.table_notes.specs.Plain.{is_plain};
 ghost use Rattle.run_book.specs.Turns.{OfEntry};
-ghost use Rattle.run_history.specs.Honest.{EnclavesAreFlat};
 ghost use Rattle.run_records.specs.Builds.{is_building};
 ghost use Rattle.run_records.specs.Silent.{HasNoEntry, MakesNoEntry, OfBus};
 ghost use Rattle.sgx_types.specs.Making.{Making};
@@ -38,6 +37,7 @@ ghost use Rattle.sgx_types.specs.declared.entries.Entry.{Entry};
 ghost use Rattle.sgx_types.specs.declared.entries.Event.TheVariants.{Kick};
 ghost use Rattle.sgx_types.specs.declared.names.Cpu.{Cpu};
 ghost use Rattle.sgx_types.specs.declared.names.Page.{Page};
+ghost use Rattle.sgx_types.specs.Enclaves.{EnclavesAreFlat};
 ghost use Rattle.turn_rules.specs.Script.{action_of};
 ghost use Rattle.turn_tables.specs.declared.turns.Turns.{Turns};
 

@@ -6,6 +6,7 @@ use Rattle.sgx_types.specs.declared.entries.Entry.{Entry}
 use Rattle.sgx_types.specs.declared.entries.Event.{Event}
 use Rattle.sgx_types.specs.declared.entries.Event.TheVariants.{Age, Bus, Did, Kick, Refused}
 use Rattle.sgx_types.specs.Making.{Making}
+use Rattle.sgx_types.specs.Enclaves.{EnclavesAreFlat}
 use Rattle.backing_store.specs.Calls.{Call}
 use Rattle.cached_translations.specs.declared.processor.Mode.TheVariants.{Outside}
 use Rattle.turn_rules.specs.Machines.{machine_of}
@@ -39,7 +40,6 @@ use Rattle.reclaim_worker.specs.Shown.{ShowsAfter}
 use Rattle.reclaim_worker.specs.Standing.{AreInFrames, StandsFor, is_kicked, is_sealing}
 use Rattle.reclaim_worker.specs.Stored.{still_out}
 use Rattle.reclaim_worker.specs.Turning.{TurnSays}
-use Rattle.run_history.specs.Honest.{EnclavesAreFlat}
 use Rattle.run_book.specs.Books.{AreTold, CarriesBytes, KeepsBook}
 use Rattle.run_book.specs.Turns.{OfEntry}
 use Rattle.run_book.proofs.SlotTurns.{turn_counts}

@@ -39,7 +39,6 @@ use Rattle.driver_tables.specs.Tables.{ShowsTables}
 use Rattle.driver_steps.specs.Asked.{IsNextOf}
 use Rattle.driver_calls.specs.Comes.{bus_of}
 use Rattle.book_laws.specs.Stores.{StoreMoves, TellsStore}
-use Rattle.run_history.specs.Honest.{EnclavesAreFlat}
 use Rattle.fault_handler.specs.declared.answers.FaultAnswer.{FaultAnswer}
 use Rattle.fault_handler.specs.declared.answers.FaultAnswer.TheVariants as answers
 use Rattle.fault_handler.specs.declared.answers.Loaded.{Loaded}
@@ -72,6 +71,7 @@ use Rattle.run_history.specs.Stored.{StoreCalls}
 use Rattle.table_notes.proofs.EntryLaws.{IsEntryOf, entry_by}
 use Rattle.sgx_types.specs.declared.entries.Action.{Action}
 use Rattle.sgx_types.specs.declared.entries.Actor.{Actor}
+use Rattle.sgx_types.specs.Enclaves.{EnclavesAreFlat}
 use Rattle.paging_laws.specs.State.{State}
 use Rattle.paging_laws.specs.Steps.{IsStep}
 

@@ -1,5 +1,5 @@
--- The enclaves by the entries before a place: which were created and initialised, and by which TCS pages processors are
--- inside.
+-- The enclaves by the entries before a place: which were created and initialised, by which TCS pages processors are inside, and
+-- that flat memory has them.
 use Rattle.std.specs.Prelude.{ℕ, ◌≡◌, ◌==◌, false, if◌then◌else◌, List, [], ◌∷◌, Option, Some, None}
 use Rattle.std.specs.Option.{IsSomeAnd}
 use Rattle.sgx_types.specs.declared.entries.Entry.{Entry}
@@ -7,8 +7,8 @@ use Rattle.sgx_types.specs.declared.entries.Event.{Event}
 use Rattle.sgx_types.specs.declared.entries.Event.TheVariants.{Did}
 use Rattle.sgx_types.specs.declared.entries.Action.TheVariants.{Create, Init}
 use Rattle.sgx_types.specs.declared.names.Page.{Page}
-use Rattle.sgx_types.specs.Flat.{FlatEnclave, marked}
-use Rattle.sgx_types.specs.Frames.{page_at}
+use Rattle.sgx_types.specs.Flat.{FlatEnclave, added_as, flat, marked}
+use Rattle.sgx_types.specs.Frames.{added, page_at}
 use Rattle.sgx_types.specs.Processors.{stay}
 
 abbrev pub created_by : Event → ℕ → Option FlatEnclave → Option FlatEnclave
@@ -26,3 +26,8 @@ created (e ∷ past) n = created_by e.event n (created past n)
 pub record IsTaken (past : List Entry) (g : Page) : Type 0 where
   pub cpu : ℕ
   pub by : IsSomeAnd (stay past cpu) (λ t. page_at t.seat.enclave t.seat.tcs ≡ g)
+
+-- flat memory has each enclave and page as the entries made it
+pub record EnclavesAreFlat (past : List Entry) : Type 0 where
+  pub enclaves : (n : ℕ) → created past n ≡ (flat past).enclaves n
+  pub pages : (g : Page) → added past g ≡ added_as ((flat past).pages g)
