@@ -16,8 +16,8 @@ ghost use Rattle.audit_pass.specs.Noted.{decided, gone_by};
 ghost use Rattle.audit_pass.specs.Standing.{StandsAt};
 ghost use Rattle.audit_pass.specs.Viewed.{TraceView};
 
-/// Behind an entry that keeps all rules a pass that noted it stands for the pass of the longer trace, once it is settled with as many frames
-/// as are free there whether the reclaimer works. Driver and machine stand for the entries before it.
+/// Behind an entry that keeps all rules a pass that noted it stands for the pass of the longer trace, once it is settled with as many
+/// frames as are free there whether the reclaimer works. Driver and machine stand for the entries before it.
 pub fn passes_go_on()
     ensures { (made : Making) (j : JobView) (past : List Entry) (d : Driver) (m : Parts) (v : TraceView) (free : ℕ) (e : Entry)
         → Agrees made j past d m → j.marks.scan ≤ 64 → free ≡ free_count j.epc (e ∷ past) → AgeRule j past e → RefusalRule made past e

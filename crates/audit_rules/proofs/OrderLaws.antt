@@ -31,7 +31,8 @@ module _ (j : JobView) (past : List Entry) (e : Entry) (script : ScriptRule j pa
         before rules.Refusal low = refusal
         before r low = absurd (omega (arith, low))
 
-    module _ (flat : Says j rules.Flat past (Some e)) (fits : Says j rules.Fits past (Some e)) (stale : Says j rules.Stale past (Some e)) where
+    module _ (flat : Says j rules.Flat past (Some e)) (fits : Says j rules.Fits past (Some e))
+        (stale : Says j rules.Stale past (Some e)) where
       pub evict_fails : (EvictRule past e → ⊥) → FailsHere j past (Some e) rules.Evict
       evict_fails fails = record { earlier = before; fails = fails }
         where

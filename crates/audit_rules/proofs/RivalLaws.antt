@@ -125,7 +125,8 @@ module _ (j : JobView) (past : List Entry) (actor : Actor) where
       → is_load_refused (Refused action found) ≡ false → ScriptRule j past (refused action refusal)
       → KeepsMachines j past (refused action found) → (refusal ≡ found → ⊥)
       → FailsHere j past (Some (refused action refusal)) (rule_of_reasons action refusal found)
-  refused-refused (Init enclave expect) refusal found ends ended script keeps other = init-both enclave expect refusal found script keeps other
+  refused-refused (Init enclave expect) refusal found ends ended script keeps other =
+      init-both enclave expect refusal found script keeps other
   refused-refused action refusal found ends ended script keeps other =
       refusal_fails j past _ script (λ h. other (some-inj (sym (refused-first action refusal ends h)
       ∙ refused-first action found ended (keeps.each rules.Refusal refl))))
@@ -139,7 +140,8 @@ module _ (j : JobView) (past : List Entry) (actor : Actor) where
 
   -- an instruction whose answer has a value: flat memory knows it
   valued : (action : Action) (answer right : Answer) → is_visible action ≡ true → is_hash answer ≡ false → is_hash right ≡ false
-      → HasForm past action answer → ScriptRule j past (done action answer) → KeepsMachines j past (done action right) → (answer ≡ right → ⊥)
+      → HasForm past action answer → ScriptRule j past (done action answer) → KeepsMachines j past (done action right)
+      → (answer ≡ right → ⊥)
       → FailsHere j past (Some (done action answer)) rules.Flat
   valued action answer right visible a b form script keeps other =
       flat_fails j past (done action answer) script ((keeps.each rules.Refusal refl).0, form) (λ h.
@@ -185,15 +187,18 @@ module _ (j : JobView) (past : List Entry) (actor : Actor) where
   is_commit (Eld f) = true
   is_commit _ = false
 
-  row-done : (action : Action) (answer right : Answer) → is_commit action ≡ false → ScriptRule j past (done action answer) → KeepsMachines j past (done action right)
+  row-done : (action : Action) (answer right : Answer) → is_commit action ≡ false → ScriptRule j past (done action answer)
+      → KeepsMachines j past (done action right)
       → (answer ≡ right → ⊥) → FailsHere j past (Some (done action answer)) (rule_of_answer action answer)
   row-done action answer right row script keeps other = by_test (tested (has_form action answer))
     where
-      formless : (a : Action) → is_commit a ≡ false → has_form a answer ≡ false → KeepsMachines j past (done a right) → HasForm past a answer → ⊥
+      formless : (a : Action) → is_commit a ≡ false → has_form a answer ≡ false
+          → KeepsMachines j past (done a right) → HasForm past a answer → ⊥
       formless (Ewb f) none not_formed own form = absurd cc
       formless (EldStart f page slot) none not_formed own form = other (form ∙ sym (own.each rules.Refusal refl).1)
       formless (Eld f) none not_formed own form = absurd cc
-      formless a none not_formed own form = let e = sym not_formed ∙ is_of_its_form past a answer refl form in absurd (let f : false ≡ true = e in cc)
+      formless a none not_formed own form = let e = sym not_formed ∙ is_of_its_form past a answer refl form in
+          absurd (let f : false ≡ true = e in cc)
 
       by_test : (has_form action answer ≡ true) ⊎ (has_form action answer ≡ false)
           → FailsHere j past (Some (done action answer)) (rule_of_answer action answer)
@@ -215,7 +220,8 @@ by-events : (j : JobView) (past : List Entry) (actor : Actor) (event made : Even
     → FailsHere j past (Some (record { actor = actor; event = event })) (rule_of event made)
 by-events j past actor (Did one answer) (Did two right) action own same ends ended other script keeps =
     let act : two ≡ one = action-inj (same ∙ sym own) in
-    done-done j past actor one answer right script (subst (λ a. KeepsMachines j past (record { actor = actor; event = Did a right })) act keeps)
+    done-done j past actor one answer right script
+    (subst (λ a. KeepsMachines j past (record { actor = actor; event = Did a right })) act keeps)
     (λ e. other (λ i. Did (sym act i) (e i)))
 by-events j past actor (Did one answer) (Refused two found) action own same ends ended other script keeps =
     let act : two ≡ one = action-inj (same ∙ sym own) in
@@ -228,7 +234,8 @@ by-events j past actor (Refused one refusal) (Did two right) action own same end
 by-events j past actor (Refused one refusal) (Refused two found) action own same ends ended other script keeps =
     let act : two ≡ one = action-inj (same ∙ sym own) in
     refused-refused j past actor one refusal found ends (subst (λ a. is_load_refused (Refused a found) ≡ false) act ended) script
-    (subst (λ a. KeepsMachines j past (record { actor = actor; event = Refused a found })) act keeps) (λ e. other (λ i. Refused (sym act i) (e i)))
+    (subst (λ a. KeepsMachines j past (record { actor = actor; event = Refused a found })) act keeps)
+    (λ e. other (λ i. Refused (sym act i) (e i)))
 by-events j past actor (Did one answer) made action own same ends ended other script keeps = absurd (none-some same)
 by-events j past actor (Refused one refusal) made action own same ends ended other script keeps = absurd (none-some same)
 by-events j past actor event made action own same ends ended other script keeps = absurd (none-some own)

@@ -60,7 +60,8 @@ abbrev bare : List Refusal
 bare =
     why.PgInvld ∷ why.PgIsSecs ∷ why.NotBlockable ∷ why.BlkState ∷ why.Conflict ∷ why.PgInvld ∷ why.EpochSpent ∷ why.PageNotBlocked
     ∷ why.PgInvld ∷ why.PgInvld ∷ why.SlotEmpty ∷ why.VersionSpent ∷ why.PgInvld ∷ why.PgInvld ∷ why.PgInvld ∷ why.PageExists ∷ why.BadRange
-    ∷ why.BadPerm ∷ why.BadKind ∷ why.NotInit ∷ why.IsInit ∷ why.PgInvld ∷ why.TcsBusy ∷ why.NoFrame ∷ why.NoSaved ∷ why.FrameBusy ∷ why.Absent
+    ∷ why.BadPerm ∷ why.BadKind ∷ why.NotInit ∷ why.IsInit ∷ why.PgInvld ∷ why.TcsBusy ∷ why.NoFrame ∷ why.NoSaved ∷ why.FrameBusy
+    ∷ why.Absent
     ∷ why.Blocked ∷ why.NoPerm ∷ why.Miss ∷ why.NoFault ∷ why.WrongMode ∷ []
 
 bare-at : (a : Refusal) → is_bare a ≡ true → get_or bare (code_of a - 1) why.PgInvld ≡ a
@@ -115,7 +116,8 @@ own-action e f = let g = e ∙ f in cc
 none-some : {x : Action} → None ≡ Some x → ⊥
 none-some e = absurd cc
 
-pub ends_alike : (e made : Event) (action : Action) → action_of e ≡ Some action → action_of made ≡ Some action → same_end e made ≡ true → e ≡ made
+pub ends_alike : (e made : Event) (action : Action) → action_of e ≡ Some action → action_of made ≡ Some action
+    → same_end e made ≡ true → e ≡ made
 ends_alike (Did one answer) (Did other right) action own its h =
     let act : one ≡ other = own-action own (sym its) in λ i. Did (act i) (answer_same answer right h i)
 ends_alike (Refused one refusal) (Refused other found) action own its h =

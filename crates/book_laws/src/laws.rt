@@ -14,8 +14,8 @@ ghost use Rattle.run_history.specs.Given.{gift};
 ghost use Rattle.run_history.specs.Stored.{Tells};
 ghost use Rattle.sgx_types.specs.declared.entries.Entry.{Entry};
 
-/// Entries, calls and tables that agree go on to with one entry more of any actor and any kind: where the entry comes with the last call, and
-/// the tables keep of that call what they have to.
+/// Entries, calls and tables that agree go on to with one entry more of any actor and any kind: where the entry comes with the last call,
+/// and the tables keep of that call what they have to.
 pub fn calls_go_on()
     ensures first { (key : List ℕ) (j : JobView) (d : Driver) → IsNew j d → TellsStore key [] [] d }
     ensures more { (key : List ℕ) (past : List Entry) (e : Entry) (calls : List Call) (d d' : Driver) → IsSound past → CanMove past e.event

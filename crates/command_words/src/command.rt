@@ -29,8 +29,8 @@ pub enum Command {
     Gate { rounds: u32 },
 }
 
-/// The command that these words name, which stand without the program's name. NUMBER, SIZE and ROUNDS are one to twenty decimal digits, with a
-/// value below 2^64.
+/// The command that these words name, which stand without the program's name. NUMBER, SIZE and ROUNDS are one to twenty decimal digits,
+/// with a value below 2^64.
 pub fn command_of(words: &[String]) -> Option<Command>
     ensures value { result ≡ command_in (map string_bytes words.now) }
     ensures sized { IfSome result IsSized }

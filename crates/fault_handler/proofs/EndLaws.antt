@@ -76,7 +76,8 @@ not_listed (x ∷ xs) past (y ∷ ys) g same none = by_head (same_page y g) refl
         tail_of (z ∷ zs) = zs
 
     other : (b : Bool) → same_page g x.page ≡ b → same_page y g ≡ false → b ≡ false
-    other true is k = absurd (false≢true (sym k ∙ (ap (λ p. same_page p g) (sym page_same ∙ sym (same_pages g x.page is)) ∙ same_page-refl g)))
+    other true is k = absurd (false≢true
+        (sym k ∙ (ap (λ p. same_page p g) (sym page_same ∙ sym (same_pages g x.page is)) ∙ same_page-refl g)))
     other false is k = refl
 
     by_head : (b : Bool) → same_page y g ≡ b → (if b then 1 else 0) + times ys g ≡ 0 → (times ys g ≡ 0 → is_listed xs g ≡ false)

@@ -86,7 +86,8 @@ none_out first past taken (phases.Tries next form block) at stands idle out =
 pub next_is_pass : (made : Making) (j : JobView) (past : List Entry) (taken : List Taken) (phase : Phase) (d : Driver) (m : Parts)
     (kicked : Bool) → Ready made j past taken phase d m → Along (AgeRule j) past → is_sealing phase ≡ false → is_spent past ≡ false
     → all_finished j past ≡ false → reclaimer_due j past kicked ≡ pass_due j past kicked (pass j past)
-next_is_pass made j past taken phase d m kicked r age idle going some = rw going (by_start (frame_started (last_event past actors.Reclaimer)) refl)
+next_is_pass made j past taken phase d m kicked r age idle going some =
+    rw going (by_start (frame_started (last_event past actors.Reclaimer)) refl)
   where
     by_start : (o : Option ℕ) → frame_started (last_event past actors.Reclaimer) ≡ o
         → due_with j past kicked o ≡ pass_due j past kicked (pass j past)

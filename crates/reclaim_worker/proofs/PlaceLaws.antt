@@ -135,7 +135,8 @@ pub places_kept : (taken taken' : List Taken) (phase phase' : Phase) (old new : 
 places_kept taken taken' (phases.Idle false) phase' old new m m' turn n says stays low =
     waited turn (waits.Enough (count_by is_free_frame m.epc)) taken taken' (phases.Idle false) phase' n says stays low
 places_kept taken taken' (phases.Idle true) phase' old new m m' turn n (inl is) stays low =
-    scanned taken taken' (min old.marks.scan (length old.active.pages)) old new turn (phases.Idle true) phase' n is.first stays (omega arith)
+    scanned taken taken' (min old.marks.scan (length old.active.pages)) old new turn (phases.Idle true) phase' n
+    is.first stays (omega arith)
     low
 places_kept taken taken' (phases.Idle true) phase' old new m m' turn n (inr is) stays low =
     rw is.1 (waited turn waits.AllHeld taken taken' (phases.Idle true) phase' n is.1 stays low)

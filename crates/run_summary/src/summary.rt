@@ -10,9 +10,9 @@ use std::alloc::Global;
 use text_words::words::Word::{Decimal, Name};
 use text_words::words::push_line;
 
-/// The summary of a run of a job that was made of a size: its pages and its operations, and of the entries the sum mod 2^64 of what loads were
-/// answered, and how many exchanges were done. It is a function of the job, since each processor of a made job loads only words that it alone
-/// stores (this project's own).
+/// The summary of a run of a job that was made of a size: its pages and its operations, and of the entries the sum mod 2^64 of what loads
+/// were answered, and how many exchanges were done. It is a function of the job, since each processor of a made job loads only words that
+/// it alone stores (this project's own).
 #[tactic(auto, unfolding(crate::specs::Summary::summary_of))]
 pub fn print_summary(alloc: Global, size: u32, entries: &[Entry]) -> Result<Vec<u8>, Memory>
     requires { size ≤ 2000 }

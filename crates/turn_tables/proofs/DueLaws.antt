@@ -294,7 +294,7 @@ some_left [] n x h = cc
 some_left (y ∷ xs) zero x h = grind arith
 some_left (y ∷ xs) (suc n) x h = let rest = some_left xs n x h in grind (arith, rest)
 
-head_left : {X : Type 0} (xs : List X) (n : ℕ) → slice_get (drop n xs) 0 ≡ slice_get xs n
+pub head_left : {X : Type 0} (xs : List X) (n : ℕ) → slice_get (drop n xs) 0 ≡ slice_get xs n
 head_left xs zero = refl
 head_left [] (suc n) = refl
 head_left (x ∷ xs) (suc n) = head_left xs n

@@ -132,7 +132,7 @@ built_next j past ev next = by_spent (is_spent past) next
     by_spent true n = absurd n
     by_spent false n = by_step (slice_get (build_of j) (built past)) refl n
 
-built_few : (j : JobView) (past : List Entry) → Along (ScriptRule j) past → built past ≤ length (build_of j)
+pub built_few : (j : JobView) (past : List Entry) → Along (ScriptRule j) past → built past ≤ length (build_of j)
 built_few j [] along = omega arith
 built_few j (e ∷ past) along = by_actor e.actor along.0.next (built_few j past along.1)
   where
@@ -327,7 +327,7 @@ all_far j (e ∷ past) along p = far_more j past e.actor e.event along.0 (all_fa
 
 -- ---- the end
 
-past_all : {X : Type 0} (xs : List X) (n : ℕ) → slice_get xs n ≡ None → length xs ≤ n
+pub past_all : {X : Type 0} (xs : List X) (n : ℕ) → slice_get xs n ≡ None → length xs ≤ n
 past_all [] n h = omega arith
 past_all (x ∷ xs) zero h = cc
 past_all (x ∷ xs) (suc n) h = let low = past_all xs n h in omega (arith, low)

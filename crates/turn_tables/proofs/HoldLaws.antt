@@ -417,7 +417,8 @@ module _ (j : JobView) (list : ActiveList) (before : Mode) (t : Turns) (c : Cpu)
   placed quiet g h =
       subst (λ counts. IsPlaced counts g) (can.agrees.shows.counts ∙ sym can.counts)
       (can.agrees.shows.placed g (event_there j can.past c.0 (looks_at can.d can.m t c.0) can.shows.valid can.orderly
-      (looks_are can.made j can.past can.d can.m t can.agrees can.shows c.0) can.agrees.sound (action_of ev) (fits quiet) g (sym (same quiet g)
+      (looks_are can.made j can.past can.d can.m t can.agrees can.shows c.0) can.agrees.sound (action_of ev) (fits quiet) g
+      (sym (same quiet g)
       ∙ h)))
 
   -- what it holds then

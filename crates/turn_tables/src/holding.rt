@@ -229,8 +229,8 @@ fn hold_all(active: &mut Active, cpu: Cpu, held: HeldPages)
     hold_page(active, Actor::Cpu(cpu), held.third);
 }
 
-// The instruction of an entry, done or refused.
-fn action_of(event: &Event) -> Option<Action>
+/// The instruction of an entry, done or refused.
+pub fn action_of(event: &Event) -> Option<Action>
     ensures { result ≡ action_of event.now }
 {
     match *event {

@@ -99,3 +99,11 @@ fill_from_other_frame_not_stale h =
     let past = fill 3 ∷ enter 0 ∷ first_build in
     let IsHeld : BareTranslation → Type 0 = λ x. IsCurrent 1 x (content past x.frame) (is_sealing past x.frame) in
     cc (All-head IsHeld (record { number = 2; frame = 3 }) [] (h.1.1.0 0).translations).page
+
+-- ---- what each of these traces needs, in one list
+
+pub ruleset first_trace_laws = (first_size_is_lawful, first_trace_pages, first_trace_flat)
+
+pub ruleset adds_exchanged_laws = (first_size_is_lawful, adds_exchanged_pages, adds_exchanged_flat)
+
+pub ruleset epa_by_reclaimer_laws = (first_size_is_lawful, first_trace_pages, epa_by_reclaimer_flat)

@@ -27,7 +27,7 @@ pub fn the_first_trace_has_nothing_stale()
     ensures { Stale first_trace }
 {}
 
-#[tactic(auto, using(crate::proofs::TraceLaws::first_size_is_lawful, crate::proofs::TraceLaws::first_trace_pages, crate::proofs::TraceLaws::first_trace_flat))]
+#[tactic(auto, using(crate::proofs::TraceLaws::first_trace_laws))]
 pub fn the_first_trace_keeps_the_rules()
     ensures { KeepsRules (machine_of first_job) first_trace }
 {}

@@ -44,7 +44,7 @@ pub fn exchanged_adds_break_the_script()
     ensures { ¬ Along (ScriptRule first_job) adds_exchanged }
 {}
 
-#[tactic(auto, using(crate::proofs::TraceLaws::first_size_is_lawful, crate::proofs::TraceLaws::adds_exchanged_pages, crate::proofs::TraceLaws::adds_exchanged_flat))]
+#[tactic(auto, using(crate::proofs::TraceLaws::adds_exchanged_laws))]
 pub fn exchanged_adds_keep_the_rules()
     ensures { KeepsRules (machine_of first_job) adds_exchanged }
 {}
@@ -53,7 +53,7 @@ pub fn an_epa_by_the_reclaimer_breaks_the_script()
     ensures { ¬ Along (ScriptRule first_job) epa_by_reclaimer }
 {}
 
-#[tactic(auto, using(crate::proofs::TraceLaws::first_size_is_lawful, crate::proofs::TraceLaws::first_trace_pages, crate::proofs::TraceLaws::epa_by_reclaimer_flat))]
+#[tactic(auto, using(crate::proofs::TraceLaws::epa_by_reclaimer_laws))]
 pub fn an_epa_by_the_reclaimer_keeps_the_rules()
     ensures { KeepsRules (machine_of first_job) epa_by_reclaimer }
 {}

@@ -101,7 +101,7 @@ pub fn a_run_without_an_exit_keeps_the_script()
     ensures { Along (ScriptRule first_job) no_exit }
 {}
 
-#[tactic(auto, using(crate::proofs::TraceLaws::first_size_is_lawful, crate::proofs::TraceLaws::first_trace_pages, crate::proofs::TraceLaws::first_trace_flat))]
+#[tactic(auto, using(crate::proofs::TraceLaws::first_trace_laws))]
 pub fn a_run_without_an_exit_keeps_the_rules()
     ensures { KeepsRules (machine_of first_job) no_exit }
 {}

@@ -25,7 +25,8 @@ returns-in_err-make_room-clause-broke g c =
 
 pub returns-in_err-make_room-2-clause-broke : goal.returns-in_err-make_room-2-clause-broke
 returns-in_err-make_room-2-clause-broke g c =
-    told_at_err c.from_residual-in_err-make_room-2.result (broke_off _ _ _ _ _ _ _ c.loop-entry.invariant.held c.in_err-make_room-2.ensures.broke
+    told_at_err c.from_residual-in_err-make_room-2.result (broke_off _ _ _ _ _ _ _ c.loop-entry.invariant.held
+    c.in_err-make_room-2.ensures.broke
     (trace_parted c.args.entries.now c.loop-entry.entry-index))
 
 pub returns-clause-gave : goal.returns-clause-gave
@@ -33,7 +34,8 @@ returns-clause-gave g c =
     let past : length c.args.entries.now ≤ c.loop-entry.entry-index = omega arith in
     let held = held_line _ _ _ _ _ _ _ _ _ c.loop-entry.invariant.held c.in_ok-make_room-2.ensures.held c.hold_last_line.ensures
     (trace_ended c.args.entries.now c.loop-entry.entry-index past) in
-    on_ok_weaker c.give_all.result (λ gave. held_given _ _ _ _ _ held (gave ∙ ap (followed_by (g.K.Sink.given c.make_room-2.new.sink)) c.deref.ensures.value))
+    on_ok_weaker c.give_all.result (λ gave. held_given _ _ _ _ _ held
+    (gave ∙ ap (followed_by (g.K.Sink.given c.make_room-2.new.sink)) c.deref.ensures.value))
     c.give_all.ensures.ok
 
 pub returns-clause-broke : goal.returns-clause-broke

@@ -6,7 +6,8 @@ use Rattle.trace_pieces.proofs.pieces.give_lines.Given as goal
 
 abbrev pub invariant-loop-entry : goal.invariant-loop-entry
 invariant-loop-entry g l = record {
-  held : IsHeld (g.K.Sink.given l.initial.sink) (g.K.Sink.given l.sink) l.piece.items (first_line ++ entries_text (reverse (take l.entry-index l.entries)));
+  held : IsHeld (g.K.Sink.given l.initial.sink) (g.K.Sink.given l.sink) l.piece.items
+      (first_line ++ entries_text (reverse (take l.entry-index l.entries)));
   capacity : PIECE ≤ vec_capacity l.piece;
   not_fallen : g.K.Sink.faults l.initial.sink ≤ g.K.Sink.faults l.sink;
 }

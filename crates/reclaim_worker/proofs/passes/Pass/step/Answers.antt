@@ -81,6 +81,7 @@ returns g c = record {
       c.turn.result c.turn.ensures.says c.turn.ensures.waits c.turn.ensures.places
       (λ turn says waits places low. subst (λ n. still_out c.turn.new.self.taken.items c.turn.new.self.phase ≤ n) (sym places)
       (places_kept c.args.self.now.taken.items c.turn.new.self.taken.items c.args.self.now.phase c.turn.new.self.phase c.args.driver.now
-      c.turn.new.driver c.args.machine.now c.turn.new.machine turn (g.S.Backing.spare c.args.store.now) says (λ w. ((waits w).1.0, (waits w).1.1)) low));
+      c.turn.new.driver c.args.machine.now c.turn.new.machine turn (g.S.Backing.spare c.args.store.now) says
+      (λ w. ((waits w).1.0, (waits w).1.1)) low));
   goes = c.turn.ensures.goes;
 }
