@@ -1,6 +1,6 @@
 -- What the rule Refusal gives of frames, where each load that starts is of a page that is away: each frame that is named is of the
 -- EPC, what takes a frame takes a free one, and no page comes to stand in two frames.
-use Rattle.std.proofs.Common.{◌≡◌, ℕ, ◌<◌, ◌==◌, ◌||◌, not, Bool, true, false, cond, leb, ltb, refl, sym, ap, ◌∙◌, subst, Option, Some, None, is_none, is_some, List, [], ◌∷◌}
+use Rattle.std.proofs.Common.{◌≡◌, ℕ, ◌<◌, ◌==◌, ◌||◌, not, Bool, true, false, cond, leb, ltb, refl, sym, ap, ◌∙◌, subst, Option, Some, None, is_none, is_some, List, [], ◌∷◌, length}
 use Rattle.std.proofs.lemmas.Bool.{cond_both, eqb-true, false≢true, leb-false}
 use Rattle.sgx_types.specs.declared.entries.Action.{Action}
 use Rattle.sgx_types.specs.declared.entries.Action.TheVariants.{Epa, Create, Add, Extend, Enter, Resume, Fill, Block, EwbStart, Ewb, EldStart, Eld}
@@ -104,7 +104,7 @@ row_fits k past a (Fill number f) other row = (fill_within number k.frames past 
 row_fits k past a (Block f) other row = (leb-false _ _ row.0, tt)
 row_fits k past a (EwbStart f slot) other row = (start_names k.frames f.0 slot.frame.0 (ltb 511 slot.index) row.0, tt)
 row_fits k past a (EldStart f page slot) other row =
-    let idle = neither (is_busy (sight_at k.frames past f.0)) (is_slot_busy past slot) row.1.1.1.0 in
+    let idle = neither (is_busy (sight_at k.frames past f.0)) (is_slot_busy k.frames past slot) row.1.1.1.0 in
     (start_names k.frames f.0 slot.frame.0 (ltb 511 slot.index) row.0, free_there (content past f.0) _ idle.0 row.1.1.1.1.0)
 row_fits k past a (Ewb f) other row = cc other
 row_fits k past a (Eld f) other row = cc other
@@ -263,14 +263,16 @@ module _ (k : Making) (past : List Entry) (a : Actor) (refusals : Along (Refusal
       let fits = row_fits k past a (EwbStart f slot) refl (none_holds (row_at k past a (EwbStart f slot)) refusal.0) in
       keeps_more k.frames past _ fits
       (start_stands k.frames (added past) (content past) (open_start past) f.0 h.stand
-      (Some (record { slot = slot; version = version_told answer; loads = None })) (λ there. fits.0.0) (λ g here. cc here)) h
+      (Some (record { slot = slot; version = version_told answer; loads = None; place = length past; actor = a })) (λ there. fits.0.0)
+      (λ g here. cc here)) h
   done_keeps (EldStart f page slot) answer refusal away =
       let row = none_holds (row_at k past a (EldStart f page slot)) refusal.0 in
       let fits = row_fits k past a (EldStart f page slot) refl row in
       let is_added : is_some (added past page) ≡ true =
       sym (sees_added k past refusals page) ∙ not_false (is_some ((flat past).pages page)) row.1.1.0 in
       let started = start_stands k.frames (added past) (content past) (open_start past) f.0 h.stand
-      (Some (record { slot = slot; version = version_told answer; loads = Some page })) (λ there. fits.0.0)
+      (Some (record { slot = slot; version = version_told answer; loads = Some page; place = length past; actor = a }))
+      (λ there. fits.0.0)
       (λ g here. subst (IsOut (added past) (content past) (open_start past)) (same_pages page g here)
       (record { away = away; added = is_added })) in
       keeps_more k.frames past _ fits
