@@ -9,6 +9,7 @@ ghost use Rattle.sgx_types.specs.Sights.{row_at};
 ghost use Rattle.sgx_types.specs.Table.{first_of_row};
 ghost use Rattle.seal_record.specs.Records.{Given, Made, Unforged};
 ghost use Rattle.paging_laws.specs.Columns.{HasColumns};
+ghost use Rattle.paging_laws.specs.Guarded.{IsGuarded};
 ghost use Rattle.paging_laws.specs.Histories.{StandsWithAllRules};
 ghost use Rattle.paging_laws.specs.Runs.{Run};
 ghost use Rattle.paging_laws.specs.Shape.{ShapeWithRules};
@@ -31,10 +32,11 @@ pub fn every_run_stands()
         → 1 ≤ s.first_version → Unforged s.key made given → StandsWithAllRules (making_of s) s past made }
 {}
 
-/// The rows of the instructions that build enclaves and move pages see columns alone. So where a state has the columns of some
+/// The rows of the instructions that build enclaves and move pages see columns alone. So where a guarded state has the columns of some
 /// entries, and flat memory has the enclaves and pages as these entries made them, whatever the bytes of the pages are, each such
 /// instruction is allowed in the state where it is by the entries, and else refused by the same case.
 pub fn rows_see_columns()
     ensures { (s : State) (past : List Entry) (a : Actor) (action : Action) → is_of_cpus action ≡ false → HasColumns s past
-        → EnclavesAreFlat past → first_of_row (row_of s a action) ≡ first_of_row (row_at (making_of s) past a action) }
+        → IsGuarded s → EnclavesAreFlat past
+        → first_of_row (row_of s a action) ≡ first_of_row (row_at (making_of s) past a action) }
 {}
