@@ -1,5 +1,5 @@
 -- What is found of the end by the tables is what the rules say of it.
-use Rattle.std.proofs.Common.{◌≡◌, ℕ, zero, suc, ◌==◌, ◌<◌, ◌≤◌, ◌&&◌, ◌||◌, Bool, true, false, if◌then◌else◌, List, [], ◌∷◌, Option, None, Some, length, drop, slice_get, refl, sym, ap, subst, ◌∙◌, arith}
+use Rattle.std.proofs.Common.{◌≡◌, ℕ, zero, suc, ◌==◌, ◌<◌, ◌≤◌, ◌&&◌, ◌||◌, Bool, true, false, if◌then◌else◌, List, [], ◌∷◌, Option, None, Some, length, slice_get, refl, sym, ap, subst, ◌∙◌, arith}
 use Rattle.std.proofs.lemmas.Bool.{eq-eqb, eqb-false, eqb-true, ne_eqb}
 use Rattle.std.proofs.lemmas.Option.{slice_get_within}
 use Rattle.sgx_types.specs.declared.entries.Actor.{Actor}
@@ -22,8 +22,7 @@ use Rattle.driver_rules.specs.Decided.{are_done, is_done, is_ended, is_outside}
 use Rattle.driver_rules.specs.Dues.{IsNext, Stopped}
 use Rattle.driver_rules.specs.Scripts.{IsActors, ScriptRule}
 use Rattle.driver_rules.specs.Stops.{has_bus, is_bus, is_spent}
-use Rattle.driver_rules.specs.Turns.{Last, Loads, Fails, Other, WasEnded, builder_due, cpu_due, due_after, is_last, last_by, last_of, step_turn, turn_due}
-use Rattle.driver_laws.proofs.SoundLaws.{entry_of}
+use Rattle.driver_rules.specs.Turns.{Last, Loads, Fails, Other, WasEnded, cpu_due, due_after, is_last, last_by, last_of, turn_due}
 use Rattle.driver_tables.specs.declared.driver.Driver.{Driver}
 use Rattle.driver_steps.specs.Agrees.{Agrees}
 use Rattle.turn_tables.specs.declared.cpu_turns.Last as kept
@@ -33,43 +32,10 @@ use Rattle.turn_tables.specs.Asked.{next_step}
 use Rattle.turn_tables.specs.CpuTurns.{last_told, turn_at}
 use Rattle.turn_tables.specs.Ending.{EndsAreTold}
 use Rattle.turn_tables.specs.Shown.{ShowsTurns}
+use Rattle.turn_tables.proofs.DueLaws.{head_left}
+use Rattle.turn_tables.proofs.EndLaws.{built_few, past_all}
 use Rattle.turn_tables.proofs.LookLaws.{looks_are}
 use Rattle.audit_dues.specs.Ends.{are_done_by, is_done_by, is_ended_by, none_left, stands_outside, was_ended}
-
--- ---- no more entries than the build has steps
-
-built_next : (j : JobView) (past : List Entry) (ev : Event) → IsNext (builder_due j past) ev → built past < length (build_of j)
-built_next j past ev next = by_spent (is_spent past) next
-  where
-    by_step : (o : Option BuildStep) → slice_get (build_of j) (built past) ≡ o → IsNext (step_turn j past o) ev
-        → built past < length (build_of j)
-    by_step None is n = absurd n
-    by_step (Some step) is n = slice_get_within (build_of j) (built past) step is
-
-    by_spent : (b : Bool) → IsNext (if b then Stopped else step_turn j past (slice_get (build_of j) (built past))) ev
-        → built past < length (build_of j)
-    by_spent true n = absurd n
-    by_spent false n = by_step (slice_get (build_of j) (built past)) refl n
-
-built_few : (j : JobView) (past : List Entry) → Along (ScriptRule j) past → built past ≤ length (build_of j)
-built_few j [] along = omega arith
-built_few j (e ∷ past) along = by_actor e.actor along.0.next (built_few j past along.1)
-  where
-    by_actor : (a : Actor) → IsActors j past a e.event → built past ≤ length (build_of j)
-        → built (entry_of a e.event ∷ past) ≤ length (build_of j)
-    by_actor actors.Builder n few = let low = built_next j past e.event n in omega (arith, low)
-    by_actor (actors.Cpu c) n few = few
-    by_actor actors.Reclaimer n few = few
-
-past_all : {X : Type 0} (xs : List X) (n : ℕ) → slice_get xs n ≡ None → length xs ≤ n
-past_all [] n h = omega arith
-past_all (x ∷ xs) zero h = cc
-past_all (x ∷ xs) (suc n) h = let low = past_all xs n h in omega (arith, low)
-
-head_left : {X : Type 0} (xs : List X) (n : ℕ) → slice_get (drop n xs) 0 ≡ slice_get xs n
-head_left xs zero = refl
-head_left [] (suc n) = refl
-head_left (x ∷ xs) (suc n) = head_left xs n
 
 -- no step is left exactly where the build is whole
 build_is : (j : JobView) (past : List Entry) (t : Turns) → ShowsTurns j past t → Along (ScriptRule j) past

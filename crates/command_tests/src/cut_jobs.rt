@@ -14,7 +14,9 @@ pub const CUTS: &[(usize, Status, &[u8], &[u8])] = &[
         115,
         Status::Done,
         b"A init\ncpu 0\ncssa 0\n7\n",
-        b"trace 1\nb epa 0\nb create A 1 0x10000 0x10000\nb add A 0 2 tcs - tcs 1 1\nb add A 1 3 reg rw words 0\nb add A 2 4 reg rw words 7\nb init A - 006d518bbd8825da4a0e7d35d418aaf16b7749c62854a6f40d8d58db415a8c31\np0 enter A 0 2 3 0\np0 fill 2 4\np0 load 0x2000 7\np0 aex end\nend 10\n",
+        b"trace 1\nb epa 0\nb create A 1 0x10000 0x10000\nb add A 0 2 tcs - tcs 1 1\nb add A 1 3 reg rw words 0\n\
+        b add A 2 4 reg rw words 7\nb init A - 006d518bbd8825da4a0e7d35d418aaf16b7749c62854a6f40d8d58db415a8c31\n\
+        p0 enter A 0 2 3 0\np0 fill 2 4\np0 load 0x2000 7\np0 aex end\nend 10\n",
     ),
     // The offset is 0x2.
     (111, Status::BadJob, b"job line 8: Range\n", b""),
@@ -25,14 +27,18 @@ pub const CUTS: &[(usize, Status, &[u8], &[u8])] = &[
         109,
         Status::Done,
         b"A init\ncpu 0\ncssa 0\npf type\n",
-        b"trace 1\nb epa 0\nb create A 1 0x10000 0x10000\nb add A 0 2 tcs - tcs 1 1\nb add A 1 3 reg rw words 0\nb add A 2 4 reg rw words 7\nb init A - 006d518bbd8825da4a0e7d35d418aaf16b7749c62854a6f40d8d58db415a8c31\np0 enter A 0 2 3 0\np0 pf load 0x0 type\np0 aex end\nend 9\n",
+        b"trace 1\nb epa 0\nb create A 1 0x10000 0x10000\nb add A 0 2 tcs - tcs 1 1\nb add A 1 3 reg rw words 0\n\
+        b add A 2 4 reg rw words 7\nb init A - 006d518bbd8825da4a0e7d35d418aaf16b7749c62854a6f40d8d58db415a8c31\n\
+        p0 enter A 0 2 3 0\np0 pf load 0x0 type\np0 aex end\nend 9\n",
     ),
     // The processor has no operation.
     (
         92,
         Status::Done,
         b"A init\ncpu 0\n",
-        b"trace 1\nb epa 0\nb create A 1 0x10000 0x10000\nb add A 0 2 tcs - tcs 1 1\nb add A 1 3 reg rw words 0\nb add A 2 4 reg rw words 7\nb init A - 006d518bbd8825da4a0e7d35d418aaf16b7749c62854a6f40d8d58db415a8c31\nend 6\n",
+        b"trace 1\nb epa 0\nb create A 1 0x10000 0x10000\nb add A 0 2 tcs - tcs 1 1\nb add A 1 3 reg rw words 0\n\
+        b add A 2 4 reg rw words 7\nb init A - 006d518bbd8825da4a0e7d35d418aaf16b7749c62854a6f40d8d58db415a8c31\n\
+        end 6\n",
     ),
     // There is no processor.
     (86, Status::BadJob, b"job line 6: Missing\n", b""),

@@ -11,15 +11,28 @@ pub const ENCLAVE: &[u8] =
 
 /// A processor stores into each of 40 pages, and then loads from each.
 pub const SCRIPT: &[u8] =
-    b"cpu 0\neenter A 0\nstore 0x2000 1\nstore 0x3000 2\nstore 0x4000 3\nstore 0x5000 4\nstore 0x6000 5\nstore 0x7000 6\nstore 0x8000 7\nstore 0x9000 8\nstore 0xa000 9\nstore 0xb000 10\nstore 0xc000 11\nstore 0xd000 12\nstore 0xe000 13\nstore 0xf000 14\nstore 0x10000 15\nstore 0x11000 16\nstore 0x12000 17\nstore 0x13000 18\nstore 0x14000 19\nstore 0x15000 20\nstore 0x16000 21\nstore 0x17000 22\nstore 0x18000 23\nstore 0x19000 24\nstore 0x1a000 25\nstore 0x1b000 26\nstore 0x1c000 27\nstore 0x1d000 28\nstore 0x1e000 29\nstore 0x1f000 30\nstore 0x20000 31\nstore 0x21000 32\nstore 0x22000 33\nstore 0x23000 34\nstore 0x24000 35\nstore 0x25000 36\nstore 0x26000 37\nstore 0x27000 38\nstore 0x28000 39\nstore 0x29000 40\nload 0x2000\nload 0x3000\nload 0x4000\nload 0x5000\nload 0x6000\nload 0x7000\nload 0x8000\nload 0x9000\nload 0xa000\nload 0xb000\nload 0xc000\nload 0xd000\nload 0xe000\nload 0xf000\nload 0x10000\nload 0x11000\nload 0x12000\nload 0x13000\nload 0x14000\nload 0x15000\nload 0x16000\nload 0x17000\nload 0x18000\nload 0x19000\nload 0x1a000\nload 0x1b000\nload 0x1c000\nload 0x1d000\nload 0x1e000\nload 0x1f000\nload 0x20000\nload 0x21000\nload 0x22000\nload 0x23000\nload 0x24000\nload 0x25000\nload 0x26000\nload 0x27000\nload 0x28000\nload 0x29000\neexit\n";
+    b"cpu 0\neenter A 0\nstore 0x2000 1\nstore 0x3000 2\nstore 0x4000 3\nstore 0x5000 4\nstore 0x6000 5\n\
+    store 0x7000 6\nstore 0x8000 7\nstore 0x9000 8\nstore 0xa000 9\nstore 0xb000 10\nstore 0xc000 11\n\
+    store 0xd000 12\nstore 0xe000 13\nstore 0xf000 14\nstore 0x10000 15\nstore 0x11000 16\nstore 0x12000 17\n\
+    store 0x13000 18\nstore 0x14000 19\nstore 0x15000 20\nstore 0x16000 21\nstore 0x17000 22\nstore 0x18000 23\n\
+    store 0x19000 24\nstore 0x1a000 25\nstore 0x1b000 26\nstore 0x1c000 27\nstore 0x1d000 28\nstore 0x1e000 29\n\
+    store 0x1f000 30\nstore 0x20000 31\nstore 0x21000 32\nstore 0x22000 33\nstore 0x23000 34\nstore 0x24000 35\n\
+    store 0x25000 36\nstore 0x26000 37\nstore 0x27000 38\nstore 0x28000 39\nstore 0x29000 40\nload 0x2000\n\
+    load 0x3000\nload 0x4000\nload 0x5000\nload 0x6000\nload 0x7000\nload 0x8000\nload 0x9000\nload 0xa000\n\
+    load 0xb000\nload 0xc000\nload 0xd000\nload 0xe000\nload 0xf000\nload 0x10000\nload 0x11000\nload 0x12000\n\
+    load 0x13000\nload 0x14000\nload 0x15000\nload 0x16000\nload 0x17000\nload 0x18000\nload 0x19000\nload 0x1a000\n\
+    load 0x1b000\nload 0x1c000\nload 0x1d000\nload 0x1e000\nload 0x1f000\nload 0x20000\nload 0x21000\nload 0x22000\n\
+    load 0x23000\nload 0x24000\nload 0x25000\nload 0x26000\nload 0x27000\nload 0x28000\nload 0x29000\neexit\n";
 
 const ENTERED: &str = "A init\ncpu 0\ncssa 0\n";
 
 const STORED: &str =
-    "ok\nok\nok\nok\nok\nok\nok\nok\nok\nok\nok\nok\nok\nok\nok\nok\nok\nok\nok\nok\nok\nok\nok\nok\nok\nok\nok\nok\nok\nok\nok\nok\nok\nok\nok\nok\nok\nok\nok\nok\n";
+    "ok\nok\nok\nok\nok\nok\nok\nok\nok\nok\nok\nok\nok\nok\nok\nok\nok\nok\nok\nok\nok\nok\nok\nok\nok\nok\nok\nok\n\
+    ok\nok\nok\nok\nok\nok\nok\nok\nok\nok\nok\nok\n";
 
 const LOADED: &str =
-    "1\n2\n3\n4\n5\n6\n7\n8\n9\n10\n11\n12\n13\n14\n15\n16\n17\n18\n19\n20\n21\n22\n23\n24\n25\n26\n27\n28\n29\n30\n31\n32\n33\n34\n35\n36\n37\n38\n39\n40\n";
+    "1\n2\n3\n4\n5\n6\n7\n8\n9\n10\n11\n12\n13\n14\n15\n16\n17\n18\n19\n20\n21\n22\n23\n24\n25\n26\n27\n28\n29\n30\n\
+    31\n32\n33\n34\n35\n36\n37\n38\n39\n40\n";
 
 const ALL: &[&str] = &[ENTERED, STORED, LOADED, "exit\n"];
 
@@ -126,4 +139,5 @@ pub const SWAPPED_TOLD: &[&str] = &[
 
 /// An enclave of 48 pages with four TCSs, in 16 frames. Its processors follow.
 pub const MANY_ADDS: &[u8] =
-    b"epc 16\nenclave A 0x40000 0x40000\ntcs 0 4 1 plain\ntcs 1 5 1 plain\ntcs 2 6 1 plain\ntcs 3 7 1 plain\nreg 4 4 rw 0 plain\nreg 8 40 rw 0 plain\n";
+    b"epc 16\nenclave A 0x40000 0x40000\ntcs 0 4 1 plain\ntcs 1 5 1 plain\ntcs 2 6 1 plain\ntcs 3 7 1 plain\n\
+    reg 4 4 rw 0 plain\nreg 8 40 rw 0 plain\n";

@@ -61,7 +61,8 @@ const NO_COMMANDS: &[&[&str]] = &[
     &["gate", "1", "2"],
 ];
 
-// Calls the program with these words, which are to read nothing and to give no trace: each edge but the output would fail at its first call.
+// Calls the program with these words, which are to read nothing and to give no trace: each edge but the output would fail
+// at its first call.
 fn begins(
     rt: &(impl Abort + Alloc<A = Global> + Threads + Wait + Sync),
     words: &[&str],

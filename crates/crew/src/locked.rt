@@ -31,7 +31,8 @@ impl Run for Brand {
     ghost words = { no_words };
 }
 
-/// A book of the run's job and words. When the lock is free the book keeps its promises, as every book does, and nothing else is known of it.
+/// A book of the run's job and words. When the lock is free the book keeps its promises, as every book does, and nothing else
+/// is known of it.
 #[derive(Drop)]
 pub struct Locked<B: Backing, N: Run> {
     book: MachineBook<B>,

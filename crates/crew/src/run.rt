@@ -24,8 +24,8 @@ use turn_gate::gate::Gate;
 /// Lets the builder, each processor and the reclaimer work on a book, each in a thread of its own, until nothing is left to anyone or the
 /// run is stopped. Nothing is supposed of the order in which they take the lock. What a worker knew of the book is not known behind the
 /// lock, so rounds of turns on one thread close the run; they call no gate. Where a thread can't be made, a worker that has to wait stops,
-/// and those rounds do what is left. While a processor keeps a page back, the reclaimer's worker looks at the word of that enclave, with the
-/// lock free; the words and the pass are those of the book's seat. A run whose store fails for ever may not return.
+/// and those rounds do what is left. While a processor keeps a page back, the reclaimer's worker looks at the word of that enclave, with
+/// the lock free; the words and the pass are those of the book's seat. A run whose store fails for ever may not return.
 pub fn run_crew<R: Threads + Wait + Sync, B: Backing + Send, G: Gate + Sync>(
     rt: &R,
     alloc: Global,

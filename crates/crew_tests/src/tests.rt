@@ -18,7 +18,8 @@ use turn_gate::gate::OpenGate;
 
 // Four processors add one to a word a hundred times each, in an EPC of 16 frames for 48 pages.
 const ADDS: &[u8] =
-    b"epc 16\nenclave A 0x40000 0x40000\ntcs 0 4 1 plain\ntcs 1 5 1 plain\ntcs 2 6 1 plain\ntcs 3 7 1 plain\nreg 4 4 rw 0 plain\nreg 8 40 rw 0 plain\n";
+    b"epc 16\nenclave A 0x40000 0x40000\ntcs 0 4 1 plain\ntcs 1 5 1 plain\ntcs 2 6 1 plain\ntcs 3 7 1 plain\n\
+    reg 4 4 rw 0 plain\nreg 8 40 rw 0 plain\n";
 
 fn adds(alloc: Global) -> Result<Vec<u8>, Fail> {
     let mut job = Vec::new(alloc);

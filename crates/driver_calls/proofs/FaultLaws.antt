@@ -89,7 +89,8 @@ module _ (key : List ℕ) (past : List Entry) (calls : List Call) (d : Driver) (
   lost_is x at = sym (t.lost page placed) ∙ ap is_lost_state at
 
   load_moves : (f : Frame) (slot : SlotAt) (rec : Sealed) (answer : Answer) → page_state d.states page ≡ states.Away slot
-      → StoreMoves (did_by (actors.Cpu cpu) (EldStart f page slot) answer) (Got page (Given rec) ∷ calls) d (with_load d cpu page slot f rec)
+      → StoreMoves (did_by (actors.Cpu cpu) (EldStart f page slot) answer) (Got page (Given rec) ∷ calls)
+      d (with_load d cpu page slot f rec)
   load_moves f slot rec answer at = record {
     counts = refl;
     given = λ p n g s a mine is. kept_own d.kept cpu (Some (keeping page rec)) p room mine;

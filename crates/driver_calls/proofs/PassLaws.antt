@@ -107,7 +107,8 @@ is_paging (EwbStart f slot) = true
 is_paging action = false
 
 quiet_did : (action : Action) (answer : Answer) → is_paging action ≡ true → IsQuiet (did_by actors.Reclaimer action answer)
-quiet_did (Block f) answer h = record { comes = λ calls. tt; earlier = λ calls. refl; no_start = λ n g s a no. cc; no_put = λ calls g b. refl }
+quiet_did (Block f) answer h =
+    record { comes = λ calls. tt; earlier = λ calls. refl; no_start = λ n g s a no. cc; no_put = λ calls g b. refl }
 quiet_did (Track enclave) answer h =
     record { comes = λ calls. tt; earlier = λ calls. refl; no_start = λ n g s a no. cc; no_put = λ calls g b. refl }
 quiet_did (EwbStart f slot) answer h =
@@ -309,7 +310,8 @@ put_moves : (d d' : Driver) (page g : Page) (slot : SlotAt) (failed : Bool) → 
     → IsPlaced d.states.counts page → IsPlaced d.states.counts g → d'.states ≡ with_state d.states page (gone slot failed)
     → is_lost_state (page_state d'.states g) ≡ (if same_page page g then failed else is_lost_state (page_state d.states g))
 put_moves d d' page g slot failed sized placed here is =
-    ap (λ x. is_lost_state (page_state x g)) is ∙ ap is_lost_state (state_of-with_state d.states page g (gone slot failed) sized placed here)
+    ap (λ x. is_lost_state (page_state x g)) is
+    ∙ ap is_lost_state (state_of-with_state d.states page g (gone slot failed) sized placed here)
     ∙ by_page (same_page g page) ∙ ap (λ b. if b then failed else is_lost_state (page_state d.states g)) (same_page-swap g page)
   where
     lost_gone : (b : Bool) → is_lost_state (gone slot b) ≡ b
@@ -337,7 +339,8 @@ put_comes one slot calls d d' e rec version failed told sized placed entry call 
   };
 }
 
-pub stored_tells : (made : Making) (j : JobView) (past : List Entry) (calls : List Call) (taken : List Taken) (phase : Phase) (d d' : Driver)
+pub stored_tells : (made : Making) (j : JobView) (past : List Entry) (calls : List Call) (taken : List Taken) (phase : Phase)
+    (d d' : Driver)
     (m m' : Parts) (faults faults' : ℕ) (e : Entry) (told : Option (List Call)) → Ready made j past taken phase d m
     → StoredSays taken phase (state_of m) d (Some calls) faults e (state_of m') d' told faults'
     → Tells told (λ longer. Comes e calls longer d d')

@@ -43,8 +43,8 @@ pub fn ends_of_loads_make_no_call()
         → IsFinished cpu page can.slot can.frame can.kept d s loaded d' t → EndComes cpu page loaded calls d d' }
 {}
 
-/// The entry of a turn of a pass comes with the call that was made of the store: a look asks for place where it takes its page, or would have
-/// taken it. Kicks, and a turn that waits, make no call.
+/// The entry of a turn of a pass comes with the call that was made of the store: a look asks for place where it takes its page, or would
+/// have taken it. Kicks, and a turn that waits, make no call.
 pub fn turns_of_a_pass_tell_their_calls()
     ensures { (calls : List Call) (taken taken' : List Taken) (phase phase' : Phase) (d d' : Driver) (m m' : Parts) (turn : PassTurn)
         (told : Option (List Call)) → d.states.counts ≡ d.active.counts → length d.states.states ≡ sum d.states.counts

@@ -152,7 +152,8 @@ module _ (n : NotesView) (e : Entry) (can : CanNote n (e ∷ [])) where
       pub counted : IfSome (get_or n.inside cpu.0 None) (IsIn n)
       counted =
           subst (λ o. IfSome o (IsIn n))
-          (sym (is_noted n can.first can.past can.tells cpu e.event can.few low (calm_of e.event Leaves moves differs_too) moves at.0 at.1 near
+          (sym (is_noted n can.first can.past can.tells cpu e.event can.few low
+          (calm_of e.event Leaves moves differs_too) moves at.0 at.1 near
           has_a_word.0 has_a_word.1))
           (is_in n can.first can.past can.tells cpu e.event can.few low (calm_of e.event Leaves moves differs_too) moves at.0 at.1 near
           has_a_word.0 has_a_word.1)

@@ -21,7 +21,8 @@ one_more : (xs : List Entry) (i : ℕ) (d : Entry) → i < length xs → reverse
 one_more xs i d low = ap reverse (take_more xs i d low) ∙ reverse-append (take i xs) (get_or xs i d ∷ [])
 
 -- .. and those behind them
-pub split : (xs : List Entry) (i : ℕ) (d : Entry) → i < length xs → (after : List Entry) × (reverse xs ≡ after ++ (get_or xs i d ∷ reverse (take i xs)))
+pub split : (xs : List Entry) (i : ℕ) (d : Entry) → i < length xs
+    → (after : List Entry) × (reverse xs ≡ after ++ (get_or xs i d ∷ reverse (take i xs)))
 split xs i d low = (
   reverse (drop (i + 1) xs),
   ap reverse (sym (take-append-drop (i + 1) xs)) ∙ reverse-append (take (i + 1) xs) (drop (i + 1) xs)
@@ -31,7 +32,8 @@ split xs i d low = (
 -- ---- one after another
 
 -- the next entry can be taken in
-unfoldable pub can_next : (n now : NotesView) (xs : List Entry) (i : ℕ) (can : CanNote n (reverse xs)) (low : i < length xs) → now.words ≡ n.words
+unfoldable pub can_next : (n now : NotesView) (xs : List Entry) (i : ℕ) (can : CanNote n (reverse xs)) (low : i < length xs)
+    → now.words ≡ n.words
     → length now.inside ≡ length n.inside → TellsEntries can.first (reverse (take i xs) ++ can.past) now → (d : Entry)
     → CanNote now (get_or xs i d ∷ [])
 can_next n now xs i can low words cpus tells d =
@@ -74,6 +76,7 @@ pub next_told : (n : NotesView) (xs : List Entry) (i first : ℕ) (past : List E
 next_told n xs i first past low d tells = subst (λ ys. TellsEntries first (ys ++ past) n) (sym (one_more xs i d low)) tells
 
 -- all are
-pub all_told : (n : NotesView) (xs : List Entry) (first : ℕ) (past : List Entry) (i : ℕ) → TellsEntries first (reverse (take i xs) ++ past) n
+pub all_told : (n : NotesView) (xs : List Entry) (first : ℕ) (past : List Entry) (i : ℕ)
+    → TellsEntries first (reverse (take i xs) ++ past) n
     → length xs ≤ i → TellsEntries first (reverse xs ++ past) n
 all_told n xs first past i tells long = subst (λ ys. TellsEntries first (reverse ys ++ past) n) (take_all i xs long) tells

@@ -32,7 +32,8 @@ track_of first past (Did (actions.Track enclave) answer) n is can = subst (CanTr
 track_of first past _ n is can = absurd (false≢true is)
 
 -- no epoch is above the last
-pub limited : (first : ℕ) (past : List Entry) → Along (TrackingRule first) past → first ≤ LAST_EPOCH → (n : ℕ) → epoch first past n ≤ LAST_EPOCH
+pub limited : (first : ℕ) (past : List Entry) → Along (TrackingRule first) past → first ≤ LAST_EPOCH
+    → (n : ℕ) → epoch first past n ≤ LAST_EPOCH
 limited first [] along low n = low
 limited first (e ∷ past) along low n = by_track (is_track e.event n) refl (limited first past along.1 low n)
   where
@@ -74,7 +75,8 @@ near_more first e past p low t inside tells near = by_track (is_track e.event t.
         sym (before_track first past t.seat.enclave m t noted_one refl) ∙ (sym (rw (inside, here) refl) ∙ off) in
         over lt (cases_lt m (epoch first past t.seat.enclave))
       where
-        over : ltb m (epoch first past t.seat.enclave) ≡ false → (m < epoch first past t.seat.enclave) ⊎ (epoch first past t.seat.enclave ≤ m)
+        over : ltb m (epoch first past t.seat.enclave) ≡ false
+            → (m < epoch first past t.seat.enclave) ⊎ (epoch first past t.seat.enclave ≤ m)
             → epoch first past t.seat.enclave + 1 ≤ m + 1
         over not_below (inl x) = absurd (false≢true (sym not_below ∙ lt-ltb _ _ x))
         over not_below (inr x) = omega (arith, x)
@@ -185,7 +187,8 @@ module _ (n : NotesView) (first : ℕ) (past : List Entry) (tells : TellsEntries
           ≡ cond (cpu.0 == p) (Some x) (since (stay past p) (noted first past p))
       entered_since p = rw moves (by_test (cpu.0 == p))
         where
-          by_test : (b : Bool) → since (cond b (Some (stay_from past seat)) (stay past p)) (cond b (epoch first past seat.enclave) (noted first past p))
+          by_test : (b : Bool)
+              → since (cond b (Some (stay_from past seat)) (stay past p)) (cond b (epoch first past seat.enclave) (noted first past p))
               ≡ cond b (Some x) (since (stay past p) (noted first past p))
           by_test true = ap (λ (s : Seen). Some (record { enclave = seat.enclave; epoch = s.epoch })) (sym (tells.words seat.enclave le he))
           by_test false = refl
@@ -194,7 +197,8 @@ module _ (n : NotesView) (first : ℕ) (past : List Entry) (tells : TellsEntries
       tells_entered = record {
         wide = length-set n.seen (seat.enclave - 1) _ ∙ tells.wide;
         words = λ c lc hc.
-            words_stepped seat.enclave le he entered c lc hc ∙ (sym (word_entered first past c cpu.0 below seat out) ∙ sym (entered_word c));
+            words_stepped seat.enclave le he entered c lc hc
+            ∙ (sym (word_entered first past c cpu.0 below seat out) ∙ sym (entered_word c));
         inside = λ p lp.
             inside_set cpu.0 low (Some x) p (rw (length-set n.inside cpu.0 (Some x)) at lp) ∙ sym (entered_since p);
       }
@@ -202,7 +206,8 @@ module _ (n : NotesView) (first : ℕ) (past : List Entry) (tells : TellsEntries
     -- ---- a processor leaves
 
     module _ (moves : move_by ev ≡ Leaves) (t : Stay) (inside : stay past cpu.0 ≡ Some t)
-        (near : epoch first past t.seat.enclave ≤ noted first past cpu.0 + 1) (le : 1 ≤ t.seat.enclave) (he : t.seat.enclave ≤ n.words.words) where
+        (near : epoch first past t.seat.enclave ≤ noted first past cpu.0 + 1)
+        (le : 1 ≤ t.seat.enclave) (he : t.seat.enclave ≤ n.words.words) where
       abbrev y : Inside
       y = record { enclave = t.seat.enclave; epoch = noted first past cpu.0 }
 
@@ -241,12 +246,14 @@ module _ (n : NotesView) (first : ℕ) (past : List Entry) (tells : TellsEntries
 
   -- ---- an epoch begins
 
-  module _ (a : Actor) (enclave : ℕ) (answer : Answer) (le : 1 ≤ enclave) (he : enclave ≤ n.words.words) (can : CanTrack first past enclave) where
+  module _ (a : Actor) (enclave : ℕ) (answer : Answer) (le : 1 ≤ enclave) (he : enclave ≤ n.words.words)
+      (can : CanTrack first past enclave) where
     abbrev track : Entry
     track = record { actor = a; event = Did (actions.Track enclave) answer }
 
     pub may_track : epoch first past enclave ≤ LAST_EPOCH → words.CanTrack (seen_of n enclave)
-    may_track limited_now = subst words.CanTrack (sym (tells.words enclave le he)) (can.none_older, by_last (cases_lt (epoch first past enclave) LAST_EPOCH))
+    may_track limited_now = subst words.CanTrack (sym (tells.words enclave le he))
+        (can.none_older, by_last (cases_lt (epoch first past enclave) LAST_EPOCH))
       where
         by_last : (epoch first past enclave < LAST_EPOCH) ⊎ (LAST_EPOCH ≤ epoch first past enclave) → epoch first past enclave < LAST_EPOCH
         by_last (inl lt) = lt
@@ -318,6 +325,7 @@ pub tells_none : (first cpus : ℕ) (words : TableId) → TellsEntries first []
 unfolding none
 tells_none first cpus words = record {
   wide = length-replicate words.words (starting_at first);
-  words = λ c lc hc. get_or-replicate words.words (c - 1) (starting_at first) (seen 0 0 0) (omega (arith, lc, hc)) ∙ sym (word_none first c);
+  words = λ c lc hc. get_or-replicate words.words (c - 1) (starting_at first) (seen 0 0 0) (omega (arith, lc, hc))
+      ∙ sym (word_none first c);
   inside = λ p lp. get_or-replicate cpus p none none (subst (λ n. p < n) (length-replicate cpus none) lp);
 }

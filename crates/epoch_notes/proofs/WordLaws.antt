@@ -263,7 +263,8 @@ module _ (first : ℕ) (past : List Entry) (n q : ℕ) (low : q < 16) where
         let new : is_before k t.entered ≡ false = before_track first past n (noted first past q) t is_noted is ∙ lt in
         let here_in : (t.seat.enclave == n) ≡ true = eq-eqb t.seat.enclave n is in
         let fewer = one_fewer past n q low k None (is_newer n k) (rw (inside, here_in, new) refl) refl in
-        let same : noted first past q ≡ epoch first past n = omega (arith, rw is at is_noted.counted, over (cases_lt (noted first past q) (epoch first past n))) in
+        let same : noted first past q ≡ epoch first past n =
+        omega (arith, rw is at is_noted.counted, over (cases_lt (noted first past q) (epoch first past n))) in
         let this : (noted first past q == epoch first past n) ≡ true = eq-eqb _ _ same in
         record {
           counted = inl (same, omega (arith, fewer));
@@ -314,7 +315,8 @@ word_tracked first past n enclave calm = by_enclave (enclave == n) refl
     newer : count_below (λ p. is_newer n (Some (length past)) (stay past p)) 16 ≡ 0
     newer =
         count_none _ 16
-        (λ p low. ap (λ b. is_in n (stay past p) && not b) (all_before p (stay past p) (all_noted first past p)) ∙ none (is_in n (stay past p)))
+        (λ p low. ap (λ b. is_in n (stay past p) && not b) (all_before p (stay past p) (all_noted first past p))
+        ∙ none (is_in n (stay past p)))
 
     by_enclave : (b : Bool) → (enclave == n) ≡ b
         → seen (cond b (epoch first past n + 1) (epoch first past n))
@@ -323,7 +325,8 @@ word_tracked first past n enclave calm = by_enclave (enclave == n) refl
         ≡ cond b (tracked w) w
     by_enclave true is =
         let zeroes : older_at past n ≡ 0 = ap (older_at past) (sym (eqb-true _ _ is)) ∙ calm in
-        let all : count_below (λ p. is_in_before n (Some (length past)) (stay past p)) 16 ≡ newer_at past n = omega (arith, older, zeroes) in
+        let all : count_below (λ p. is_in_before n (Some (length past)) (stay past p)) 16 ≡ newer_at past n =
+        omega (arith, older, zeroes) in
         λ i. seen (epoch first past n + 1) (all i) (newer i)
     by_enclave false is = refl
 

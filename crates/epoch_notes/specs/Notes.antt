@@ -43,8 +43,8 @@ abbrev pub IsOfCpus : ℕ → Actor → Type 0
 IsOfCpus cpus (actors.Cpu p) = p.0 < cpus
 IsOfCpus cpus _ = Unit {0}
 
--- entries, the newest first, can be taken in: they come next in a run whose entries tell who is inside and which epochs begin, and the words
--- say what the entries before them say
+-- entries, the newest first, can be taken in: they come next in a run whose entries tell who is inside and which epochs begin, and the
+-- words say what the entries before them say
 pub record CanNote (n : NotesView) (new : List Entry) : Type 0 where
   pub first : ℕ
   pub past : List Entry

@@ -15,7 +15,8 @@ const ONE_ENCLAVE: &[u8] =
     b"epc 6\nenclave A 0x10000 0x10000\ntcs 0 1 1 plain\nreg 1 1 rw 0 plain\nreg 2 1 rw 7 plain\ncpu 0\neenter A 0\nload 0x2000\neexit\n";
 
 const TWO_ENCLAVES: &[u8] =
-    b"epc 16\nenclave A 0x10000 0x4000\ntcs 0 1 1\nreg 1 1 rw 0\nreg 2 1 rw 7\nenclave B 0x10000 0x4000\ntcs 0 1 1 plain\nreg 1 1 rw 0 plain\nreg 2 1 rw 9 plain\ncpu 0\neenter B 0\nload 0x2000\neexit\n";
+    b"epc 16\nenclave A 0x10000 0x4000\ntcs 0 1 1\nreg 1 1 rw 0\nreg 2 1 rw 7\nenclave B 0x10000 0x4000\n\
+    tcs 0 1 1 plain\nreg 1 1 rw 0 plain\nreg 2 1 rw 9 plain\ncpu 0\neenter B 0\nload 0x2000\neexit\n";
 
 #[derive(Clone, Copy, Debug)]
 enum Change {

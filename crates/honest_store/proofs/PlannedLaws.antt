@@ -41,7 +41,8 @@ newest_there page calls puts place each found none =
     absurd cc
 
 -- a record more, put of another page, leaves it where it is
-newest_stays : (page : Page) (calls : List StoreCall) (rec : Sealed) (puts : List Sealed) (o : Option ℕ) → length puts ≡ count_by is_put calls
+newest_stays : (page : Page) (calls : List StoreCall) (rec : Sealed) (puts : List Sealed) (o : Option ℕ)
+    → length puts ≡ count_by is_put calls
     → newest (records_of page calls) ≡ o → record_of o (rec ∷ puts) ≡ record_of o puts
 newest_stays page calls rec puts None each found = refl
 newest_stays page calls rec puts (Some place) each found =
@@ -78,7 +79,8 @@ newest_is_last page (Put g false ∷ calls) (rec ∷ puts) rule each =
         ≡ (if b then Some rec else last_put (told_of calls puts) page)
     by_page true last =
         ap (λ found. record_of found (rec ∷ puts)) (newest_push (records_of page calls) (count_by is_put calls))
-        ∙ ap (λ b. if b then Some rec else record_at (count_by is_put calls) puts) (eq-eqb (count_by is_put calls) (length puts) (sym before))
+        ∙ ap (λ b. if b then Some rec else record_at (count_by is_put calls) puts)
+        (eq-eqb (count_by is_put calls) (length puts) (sym before))
     by_page false last =
         ap (λ places. record_of (newest places) (rec ∷ puts)) (append-nil (records_of page calls))
         ∙ newest_stays page calls rec puts (newest (records_of page calls)) before refl ∙ last

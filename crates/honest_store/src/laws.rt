@@ -17,8 +17,8 @@ pub fn planned_stores_without_lines_are_honest()
         → IsHonest (told_of store.calls store.puts) }
 {}
 
-/// Where a run is at its end, each page came back, and no epoch or version was used up, each operation of each script has its reply, and each
-/// processor is outside.
+/// Where a run is at its end, each page came back, and no epoch or version was used up, each operation of each script has its reply, and
+/// each processor is outside.
 pub fn runs_without_a_loss_are_done()
     ensures { (j : JobView) (past : List Entry) → IsEnded j past → AllCameBack past → is_spent past ≡ false
         → (p : ℕ) → p < length j.scripts → IsDone j past p }

@@ -93,7 +93,8 @@ module _ (j : JobView) (done : List EnclaveView) (e : EnclaveView) (rest : List 
     marks = h.marks;
     key = h.key;
     start = h.start;
-    enclaves = ap (add_page line) h.enclaves ∙ change_last-push (λ x. record x { lines = x.lines ++ line ∷ [] }) done (begun_enclave e front);
+    enclaves = ap (add_page line) h.enclaves
+        ∙ change_last-push (λ x. record x { lines = x.lines ++ line ∷ [] }) done (begun_enclave e front);
     plans = h.plans;
     scripts = h.scripts;
     saved = saved;
@@ -164,8 +165,12 @@ module _ (j : JobView) (done : List EnclaveView) (e : EnclaveView) (rest : List 
       → Leads n d (map page_says behind) (Begun e.lines)
   pages-lead n d front [] h lines = subst (λ ls. Begun ls d) (sym (lines ∙ append-nil front)) h
   pages-lead n d front (line ∷ behind) h lines =
-      let step = page-step n d front line behind h lines in
-      (step.0, step.1, pages-lead (n + 1) (keep n d (page_says line)) (front ++ line ∷ []) behind step.2 (lines ∙ push-push front line behind))
+      let step = page-step n d front line behind h lines in (
+        step.0,
+        step.1,
+        pages-lead (n + 1) (keep n d (page_says line)) (front ++ line ∷ [])
+            behind step.2 (lines ∙ push-push front line behind),
+      )
 
   -- ---- the digest that is expected
 

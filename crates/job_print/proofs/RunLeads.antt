@@ -73,7 +73,9 @@ covered-small most (line ∷ lines) n small valid any =
     at_line : (l : PageLine) → IsValidLine most l → covers n l ≡ true → n < 2 ^ 24
     at_line (pages.Tcs page ossa nssa plain) v is = (let e = eqb-true page n is in omega (arith, e, v.2, small))
     at_line (pages.Reg first count perm value plain) v is =
-        (let p = and_parts (nat_le first n) (nat_lt n (first + count)) is in let lt = ltb-true n (first + count) p.1 in omega (arith, lt, v.1, small))
+        (let p = and_parts (nat_le first n) (nat_lt n (first + count)) is in
+        let lt = ltb-true n (first + count) p.1 in
+        omega (arith, lt, v.1, small))
 
 added-small : (es : List EnclaveView) (enclave n : ℕ) → All IsValidEnclave es → list_any (covers n) (lines_at es enclave) ≡ true
     → n < 2 ^ 24
@@ -96,8 +98,10 @@ any-weaker n (line ∷ lines) any =
 module _ (j : JobView) (valid : IsValid j) where
   page-named : (page : Page) → is_added_page j.enclaves page ≡ true → IsPageName (named page)
   page-named page added =
-      let small = added-small j.enclaves page.enclave page.number valid.enclaves added in
-      (letter-of j.enclaves page.enclave valid.few_enclaves (any-declared (covers page.number) j.enclaves page.enclave added), omega (arith, small))
+      let small = added-small j.enclaves page.enclave page.number valid.enclaves added in (
+        letter-of j.enclaves page.enclave valid.few_enclaves (any-declared (covers page.number) j.enclaves page.enclave added),
+        omega (arith, small),
+      )
 
   tcs-named : (enclave tcs : ℕ) → is_tcs_page (lines_at j.enclaves enclave) tcs ≡ true → IsPageName (page_of enclave tcs)
   tcs-named enclave tcs is =
@@ -175,8 +179,12 @@ module _ (j : JobView) (valid : IsValid j) where
   plans-lead n d done (plan ∷ rest) all h =
       let counted = ap (λ (ps : List PlanLine). length ps) all in
       let step = plan-step n d done plan h (All-seam (IsPlanAmong j.enclaves) done plan rest (rw (← all) valid.plans))
-      (omega (arith, counted, valid.few_plans, length-append done (plan ∷ rest))) in
-      (step.0, step.1, plans-lead (n + 1) (keep n d (says.Plan (plan_says plan))) (done ++ plan ∷ []) rest (all ∙ push-push done plan rest) step.2)
+      (omega (arith, counted, valid.few_plans, length-append done (plan ∷ rest))) in (
+        step.0,
+        step.1,
+        plans-lead (n + 1) (keep n d (says.Plan (plan_says plan))) (done ++ plan ∷ [])
+            rest (all ∙ push-push done plan rest) step.2,
+      )
 
   -- ---- operations
 

@@ -1,10 +1,12 @@
 -- What a line is spelled by says it again, line by line.
-use Rattle.std.proofs.Common.{◌≡◌, ℕ, Bool, true, false, Some, Ok, refl}
+use Rattle.std.proofs.Common.{◌≡◌, ℕ, Bool, true, false, [], ◌∷◌, Some, Ok, refl}
+use Rattle.std.specs.Fmt.{decimal}
 use Rattle.sgx_types.specs.declared.names.Perm.{Perm}
-use Rattle.text_words.specs.Words.{enclave_word, perm_word}
+use Rattle.text_words.specs.Words.{Words, enclave_word, perm_word}
 use Rattle.text_words.specs.Reading.{IsLetter, letter_of}
 use Rattle.text_words.proofs.Numerals.{number_of-decimal, number_of-hexadecimal}
 use Rattle.text_words.proofs.WordLaws.{digest_of-encode_lower, letter_of-letter}
+use Rattle.job_lines.specs.declared.statements.NamedPage.{NamedPage}
 use Rattle.job_lines.specs.declared.statements.Plan.{Plan}
 use Rattle.job_lines.specs.declared.statements.Plan.TheVariants as plans
 use Rattle.job_lines.specs.declared.statements.Operation.{Operation}
@@ -14,7 +16,7 @@ use Rattle.job_lines.specs.declared.statements.Statement.TheVariants as says
 use Rattle.job_lines.specs.Words.{as_plain, call_word_of, keyword_of, perm_of, plan_word_of}
 use Rattle.job_lines.specs.Statements.{cpu_row, drop_row, enclave_row, epc_row, expect_row, fail_row, flip_row, key_row, marks_row, outload_row, outstore_row, plan_row, reg_row, replay_row, start_row, statement_of, swap_row, tcs_row}
 use Rattle.job_print.specs.JobText.{op_words, plain_words, plan_words, statement_words}
-use Rattle.job_print.proofs.Printable.{IsPrintable, IsPrintableOp, IsPrintablePlan}
+use Rattle.job_print.proofs.Printable.{IsPageName, IsPrintable, IsPrintableOp, IsPrintablePlan}
 use Rattle.job_print.proofs.Plain.{ArePlain, decimal-plain, digest-plain, enclave-plain, hexadecimal-plain, letter-word, perm-plain}
 
 -- ---- single words
@@ -120,18 +122,21 @@ said has_cpu (says.Operation op) fits by = rw by (op-said op fits)
 
 -- ---- the words are plain
 
+page-plain : (page : NamedPage) (rest : Words) → IsPageName page → ArePlain rest
+    → ArePlain (enclave_word page.enclave ∷ decimal page.number ∷ rest)
+page-plain page rest fits plain = (enclave-plain page.enclave fits.0, (decimal-plain page.number fits.1, plain))
+
 plan-plain : (plan : Plan) → IsPrintablePlan plan → ArePlain (plan_words plan)
 plan-plain (plans.FailRoom k) fits = (refl, (refl, (decimal-plain k fits, tt)))
 plan-plain (plans.FailPut k) fits = (refl, (refl, (decimal-plain k fits, tt)))
 plan-plain (plans.FailGet k) fits = (refl, (refl, (decimal-plain k fits, tt)))
-plan-plain (plans.DropGet page g) fits =
-    (refl, (enclave-plain page.enclave fits.0.0, (decimal-plain page.number fits.0.1, (decimal-plain g fits.1, tt))))
+plan-plain (plans.DropGet page g) fits = (refl, page-plain page (decimal g ∷ []) fits.0 (decimal-plain g fits.1, tt))
 plan-plain (plans.Flip page g place) fits =
-    (refl, (enclave-plain page.enclave fits.0.0, (decimal-plain page.number fits.0.1, (decimal-plain g fits.1, (decimal-plain place fits.2, tt)))))
+    (refl, page-plain page (decimal g ∷ decimal place ∷ []) fits.0 (decimal-plain g fits.1, (decimal-plain place fits.2, tt)))
 plan-plain (plans.Replay page g w) fits =
-    (refl, (enclave-plain page.enclave fits.0.0, (decimal-plain page.number fits.0.1, (decimal-plain g fits.1, (decimal-plain w fits.2, tt)))))
+    (refl, page-plain page (decimal g ∷ decimal w ∷ []) fits.0 (decimal-plain g fits.1, (decimal-plain w fits.2, tt)))
 plan-plain (plans.Swap one other) fits =
-    (refl, (enclave-plain one.enclave fits.0.0, (decimal-plain one.number fits.0.1, (enclave-plain other.enclave fits.1.0, (decimal-plain other.number fits.1.1, tt)))))
+    (refl, page-plain one (enclave_word other.enclave ∷ decimal other.number ∷ []) fits.0 (page-plain other [] fits.1 tt))
 
 op-plain : (op : Operation) → IsPrintableOp op → ArePlain (op_words op)
 op-plain (ops.Enter tcs) fits = (refl, (enclave-plain tcs.enclave fits.0, (decimal-plain tcs.number fits.1, tt)))
@@ -158,7 +163,9 @@ statement-plain (says.Enclave enclave base size) fits =
 statement-plain (says.Tcs page ossa nssa plain) fits =
     (refl, (decimal-plain page fits.0, (decimal-plain ossa fits.1, (decimal-plain nssa fits.2, plain-plain plain))))
 statement-plain (says.Reg first count perm value plain) fits =
-    (refl, (decimal-plain first fits.0, (decimal-plain count fits.1, (perm-plain perm fits.2, (decimal-plain value fits.3, plain-plain plain)))))
+    let behind : ArePlain (perm_word perm ∷ decimal value ∷ plain_words plain) =
+    (perm-plain perm fits.2, (decimal-plain value fits.3, plain-plain plain)) in
+    (refl, (decimal-plain first fits.0, (decimal-plain count fits.1, behind)))
 statement-plain (says.Expect digest) fits = (refl, (digest-plain digest fits, tt))
 statement-plain (says.Plan plan) fits = (refl, plan-plain plan fits)
 statement-plain (says.Cpu number) fits = (refl, (decimal-plain number fits, tt))

@@ -68,3 +68,6 @@ all_parts j empty options enclaves plans text none first second third fourth =
   where
     merged : (some others : List Statement) → statements_text some ++ statements_text others ≡ statements_text (some ++ others)
     merged some others = sym (flat_map-append statement_text some others)
+
+-- a line more behind lines that were begun
+pub ruleset lines_laws = (line_more, begun, joined, one)

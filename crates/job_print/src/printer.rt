@@ -44,7 +44,7 @@ fn push_options(job: &Job, onto: &mut Vec<u8>) -> Result<(), Memory>
 }
 
 /// Writes an enclave, by its number.
-#[tactic(auto, using(crate::proofs::TextLaws::line_more, crate::proofs::TextLaws::begun, crate::proofs::TextLaws::joined, crate::proofs::TextLaws::one))]
+#[tactic(auto, using(crate::proofs::TextLaws::lines_laws))]
 fn push_enclave(number: u16, enclave: &EnclaveJob, onto: &mut Vec<u8>) -> Result<(), Memory>
     ensures { OnOk result (
         onto.new.items ≡ onto.old.items ++ statements_text (enclave_says number (enclave_view enclave.now))) }

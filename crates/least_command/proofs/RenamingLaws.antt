@@ -45,14 +45,16 @@ distinct_named r (x ∷ pages) once =
 abbrev pub step_named : Renaming → StepView → StepView
 step_named r step = record { out = map r.to step.out; load = map r.to step.load }
 
-map_cond : (r : Renaming) (b : Bool) (x : Page) (some none : List Page) → cond b (r.to x ∷ map r.to some) (map r.to none) ≡ map r.to (cond b (x ∷ some) none)
+map_cond : (r : Renaming) (b : Bool) (x : Page) (some none : List Page)
+    → cond b (r.to x ∷ map r.to some) (map r.to none) ≡ map r.to (cond b (x ∷ some) none)
 map_cond r true x some none = refl
 map_cond r false x some none = refl
 
 kept_named : (r : Renaming) (held : List Page) (step : StepView) → kept (map r.to held) (step_named r step) ≡ map r.to (kept held step)
 kept_named r [] step = refl
 kept_named r (x ∷ held) step =
-    ap (λ b. cond (not b) (r.to x ∷ kept (map r.to held) (step_named r step)) (kept (map r.to held) (step_named r step))) (has_to r step.out x)
+    ap (λ b. cond (not b) (r.to x ∷ kept (map r.to held) (step_named r step)) (kept (map r.to held) (step_named r step)))
+    (has_to r step.out x)
     ∙ ap (λ rest. cond (not (has step.out x)) (r.to x ∷ rest) rest) (kept_named r held step)
     ∙ map_cond r (not (has step.out x)) x (kept held step) (kept held step)
 
@@ -80,8 +82,10 @@ named_run r frames held [] [] run = tt
 named_run r frames held [] (step ∷ steps) run = run
 named_run r frames held (x ∷ accesses) [] run = run
 named_run r frames held (x ∷ accesses) (step ∷ steps) run =
-    let Goes : List Page → Type 0 = λ pages. IsRun frames pages (map r.to accesses) (map (step_named r) steps) in
-    (named_step r frames held x step run.0, subst Goes (sym (after_named r held step)) (named_run r frames (after held step) accesses steps run.1))
+    let Goes : List Page → Type 0 = λ pages. IsRun frames pages (map r.to accesses) (map (step_named r) steps) in (
+      named_step r frames held x step run.0,
+      subst Goes (sym (after_named r held step)) (named_run r frames (after held step) accesses steps run.1),
+    )
 
 named_loads : (r : Renaming) (steps : List StepView) → loads_of (map (step_named r) steps) ≡ loads_of steps
 named_loads r [] = refl

@@ -76,7 +76,8 @@ newest all entries past k is long =
     let whole : all ≡ reverse past ++ reverse entries = sym (reverse-reverse all) ∙ (ap reverse is ∙ reverse-append entries past) in
     let at : k ≡ length (reverse past) = long ∙ sym (length-reverse past) in
     let gone : drop k (reverse past) ≡ [] = drop_all k (reverse past) (omega (arith, at)) in
-    ap reverse (ap (drop k) whole ∙ (drop-append-le k (reverse past) (reverse entries) (omega (arith, at)) ∙ ap (λ xs. xs ++ reverse entries) gone))
+    ap reverse (ap (drop k) whole
+    ∙ (drop-append-le k (reverse past) (reverse entries) (omega (arith, at)) ∙ ap (λ xs. xs ++ reverse entries) gone))
     ∙ reverse-reverse entries
 
 pub long_enough : (all entries past : List Entry) (k : ℕ) → reverse all ≡ entries ++ past → k ≡ length past → k ≤ length all
@@ -155,8 +156,10 @@ build_grown old new n g holds k =
     by_entries [] long by past = absurd (omega (arith, long))
     by_entries (e ∷ x ∷ es) long by past = absurd (omega (arith, long))
     by_entries (e ∷ []) long by past =
-        subst (λ (a : Actor). TellsEntries old.job.start_epoch (record { actor = a; event = e.event } ∷ old.past) n) (sym (by 0 e (omega arith)))
-        (tells_other n old.job.start_epoch old.past k.tells actors.Builder e.event tt (calm (builds_or_none old.job old.past e script.0 age.0)))
+        subst (λ (a : Actor). TellsEntries old.job.start_epoch (record { actor = a; event = e.event } ∷ old.past) n)
+        (sym (by 0 e (omega arith)))
+        (tells_other n old.job.start_epoch old.past k.tells actors.Builder e.event tt
+        (calm (builds_or_none old.job old.past e script.0 age.0)))
       where
         script : Along (ScriptRule old.job) (e ∷ old.past)
         script = subst (Along (ScriptRule old.job)) past (subst (λ (j : JobView). Along (ScriptRule j) new.past) g.job holds.anyhow.script)
@@ -262,7 +265,8 @@ module _ (old new : BookView) (n : NotesView) (by : Actor) (m : Made old by new)
   can_take k holds own = subst (CanNote n) (sym new_ones) (can_note old new n by m k holds own)
 
   pub kept : (n' : NotesView) (k : KeepsWords old n) (holds : Holds new) (own : IsOfCpus (length old.job.scripts) by)
-      → ((can : CanNote n (reverse (drop (length before) after))) → TellsEntries can.first (reverse (drop (length before) after) ++ can.past) n')
+      → ((can : CanNote n (reverse (drop (length before) after)))
+      → TellsEntries can.first (reverse (drop (length before) after) ++ can.past) n')
       → n'.words ≡ n.words → length n'.inside ≡ length n.inside → KeepsWords new n'
   unfolding can_note
   kept n' k holds own tells words cpus =
@@ -280,7 +284,8 @@ pub keeps_start : (b : BookView) (words : TableId) (seen : List Seen) (cpus : �
     → cpus ≡ length b.job.scripts → KeepsWords b (record { words = words; seen = seen; inside = replicate cpus None })
 keeps_start b words seen cpus valid none wide says many = record {
   valid = valid;
-  tells = subst (λ past. TellsEntries b.job.start_epoch past (record { words = words; seen = seen; inside = replicate cpus None })) (sym none)
+  tells = subst (λ past. TellsEntries b.job.start_epoch past (record { words = words; seen = seen; inside = replicate cpus None }))
+      (sym none)
       (subst (λ s. TellsEntries b.job.start_epoch [] (record { words = words; seen = s; inside = replicate cpus None }))
       (sym (says ∙ ap (λ w. replicate w (starting_at b.job.start_epoch)) (sym wide))) (tells_none b.job.start_epoch cpus words));
   cpus = length-replicate cpus None ∙ many;

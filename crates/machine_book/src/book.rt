@@ -21,8 +21,8 @@ use std::alloc::Global;
 use std::marker::Model;
 
 /// The book of a run of any valid job, with the seat that writes the tracking words of its enclaves. Each turn writes the words that its
-/// entries change, in that turn, so whoever looks at a word sees how its enclave stands by the entries so far. No turn and no commit changes
-/// the job, or the words to which the seat belongs.
+/// entries change, in that turn, so whoever looks at a word sees how its enclave stands by the entries so far. No turn and no commit
+/// changes the job, or the words to which the seat belongs.
 #[derive(Drop)]
 pub struct MachineBook<B: Backing> {
     book: Book<B>,
@@ -40,8 +40,8 @@ impl<B: Backing> Model for MachineBook<B> {
 }
 
 impl<B: Backing> MachineBook<B> {
-    /// The book of a job before its first entry, whose plan lines are handed to the store. The store has told no calls yet, and the words say
-    /// that each enclave is at the job's first epoch with no processor inside.
+    /// The book of a job before its first entry, whose plan lines are handed to the store. The store has told no calls yet, and the words
+    /// say that each enclave is at the job's first epoch with no processor inside.
     pub fn start(
         alloc: Global,
         job: Job,
@@ -57,10 +57,8 @@ impl<B: Backing> MachineBook<B> {
         ensures noted { IfOk result (λ made. made.book.noted ≡ false) }
         ensures words { IfOk result (λ made. made.words ≡ seat.words) }
     {
-        // A job tells that it is valid.
-        let _ = job.epc();
-        let notes = EpochNotes::new(alloc, seat, job.scripts().len())?;
         let book = Book::start(alloc, job, store)?;
+        let notes = EpochNotes::new(alloc, seat, usize::from(book.cpus()))?;
         Ok(MachineBook { book, notes })
     }
 
@@ -151,6 +149,13 @@ impl<B: Backing> MachineBook<B> {
         ensures { result.now ≡ self.now.book.job }
     {
         self.book.job()
+    }
+
+    /// How many processors the job has.
+    pub fn cpus(&self) -> u8
+        ensures { result ≡ length self.now.book.job.scripts }
+    {
+        self.book.cpus()
     }
 
     /// How the words of the enclaves stand: what they say is what the entries say.

@@ -1,6 +1,6 @@
 // Reads old traces from sources, and tells their four numbers or the line of their fault: as a whole, and in pieces of 1 and of 7 bytes,
-// which must give the same text. Then one is read whose source fails, one from a file that is opened at its first read, and three from what is
-// no such file: a missing one, a folder and an empty path.
+// which must give the same text. Then one is read whose source fails, one from a file that is opened at its first read, and three from what
+// is no such file: a missing one, a folder and an empty path.
 #![tactic(auto)]
 
 #[cfg(test)]

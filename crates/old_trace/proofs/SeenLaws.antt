@@ -76,7 +76,8 @@ entries_read (Ok entries) items reader first before now bytes piece n zero short
 entries_read (Err e) items reader first before now bytes piece n zero short read more ended seen tells = tt
 
 -- .. or the line is that of their first fault
-pub fault_read : {T : Type 0} (told : Result T Unread) (reader : Progress) (first before now : Option (List ℕ)) (bytes piece : List ℕ) (n : ℕ)
+pub fault_read : {T : Type 0} (told : Result T Unread) (reader : Progress) (first before now : Option (List ℕ))
+    (bytes piece : List ℕ) (n : ℕ)
     → n ≡ 0
     → length bytes ≤ 2 ^ 30
     → HasRead first before bytes

@@ -67,7 +67,8 @@ fn read_piece<S: Source>(
 
 // The entries of the text that was read.
 fn entries_of(reader: TraceReader) -> Result<Vec<Entry>, Unread>
-    ensures entries { IfOk result (λ entries. (bytes : List ℕ) → HasSeen reader bytes → length bytes ≤ 2 ^ 30 → Reads bytes (Ok entries.items)) }
+    ensures entries { IfOk result (λ entries. (bytes : List ℕ) → HasSeen reader bytes
+        → length bytes ≤ 2 ^ 30 → Reads bytes (Ok entries.items)) }
     ensures fault { (line : ℕ) → IsErrOf result (Unread.Bad line) → (bytes : List ℕ) → HasSeen reader bytes → length bytes ≤ 2 ^ 30
         → Reads bytes (Err line) }
     ensures not_failed { IsErrOf result Unread.Failed → ⊥ }

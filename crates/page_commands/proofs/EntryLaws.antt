@@ -73,3 +73,5 @@ module _ (start : List ℕ) (entries : List Entry) (p i : ℕ) (d : Entry) (text
           (sym (reply_lines_if past this p false (rw other refl)));
       interrupted_is = h.interrupted_is ∙ sym (rw other refl);
     })
+
+pub ruleset replies_laws = (replies_more, replies_same, replies_other)

@@ -34,11 +34,11 @@ use turn_gate::gate::Gate;
 
 /// Does what the words of the command line say, which stand without the program's name.
 ///
-/// `run PATH` runs the job that `job` gives, over this store, which has told no calls yet. The text of its trace goes to `trace`, which is the
-/// file at that path, and then its replies go to `out`. Where the text is no job's, `out` gets its first faulty line and what is wrong there. A
-/// job of more than 2^24 bytes is refused as line 0, and is read no further than one byte past them. `make NUMBER SIZE` gives the text of the
-/// job that is made of these to `out`. `demo NUMBER SIZE` runs that job, and gives the summary of the run to `out`. `gate ROUNDS` lets processors
-/// and a pager make so many rounds at a gate with no lock, and gives to `out` how many entries there were.
+/// `run PATH` runs the job that `job` gives, over this store, which has told no calls yet. The text of its trace goes to `trace`, which is
+/// the file at that path, and then its replies go to `out`. Where the text is no job's, `out` gets its first faulty line and what is wrong
+/// there. A job of more than 2^24 bytes is refused as line 0, and is read no further than one byte past them. `make NUMBER SIZE` gives the
+/// text of the job that is made of these to `out`. `demo NUMBER SIZE` runs that job, and gives the summary of the run to `out`.
+/// `gate ROUNDS` lets processors and a pager make so many rounds at a gate with no lock, and gives to `out` how many entries there were.
 ///
 /// `least PATH` reads the job and then, behind a valid one, a trace from `old`, which is the file at that path. It gives to `out` how
 /// many accesses the trace has, how many frames the job leaves for them, the fewest loads for these, and how many reloads the trace
@@ -48,8 +48,8 @@ use turn_gate::gate::Gate;
 /// `audit PATH` reads the same two, whoever made the trace, and gives to `out` the verdict: `yes` where the trace is a history of the job,
 /// and else the first place at which a rule fails, and that rule.
 ///
-/// Other words are no command, and then nothing is read or written. `gate`, which is another, is told of each turn of a run. A run whose store
-/// fails for ever may not return.
+/// Other words are no command, and then nothing is read or written. `gate`, which is another, is told of each turn of a run. A run whose
+/// store fails for ever may not return.
 pub fn sgxpage<
     R: Threads + Wait + Sync,
     J: Source,
@@ -110,7 +110,8 @@ pub fn sgxpage<
 
     ensures write_fault { result.status ≡ Status.WriteFault →
         HasRisen (K.faults out.old) (K.faults out.new) ⊎ HasRisen (L.faults trace.old) (L.faults trace.new) }
-    ensures broke { command_in (map string_bytes words.now) ≡ Some commands.Run → result.status ≡ Status.WriteFault → OfRead (J.left job.old) (λ bytes.
+    ensures broke { command_in (map string_bytes words.now) ≡ Some commands.Run → result.status ≡ Status.WriteFault
+        → OfRead (J.left job.old) (λ bytes.
         (HalfTold bytes (K.given out.old) (K.given out.new) × (trace.new ≡ trace.old) × (result.store ≡ None))
         ⊎ ((end : End) × IsSomeAnd result.store (λ store. RanBy bytes end (B.told store) (B.plans store)
         (λ j past. HalfGiven j past (K.given out.old) (K.given out.new) (L.given trace.old) (L.given trace.new))))) }

@@ -249,7 +249,7 @@ fn is_by(cpu: usize, actor: &Actor) -> bool
 }
 
 /// Writes the line of a processor, and its replies.
-#[tactic(auto, using(crate::proofs::EntryLaws::replies_more, crate::proofs::EntryLaws::replies_same, crate::proofs::EntryLaws::replies_other))]
+#[tactic(auto, using(crate::proofs::EntryLaws::replies_laws))]
 fn push_cpu(cpu: usize, entries: &[Entry], onto: &mut Vec<u8>) -> Result<(), Memory>
     ensures { OnOk result (
         onto.new.items ≡ onto.old.items

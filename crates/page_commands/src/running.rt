@@ -27,8 +27,8 @@ use trace_pieces::pieces::give_trace;
 use trace_pieces::ungiven::Ungiven;
 use turn_gate::gate::Gate;
 
-/// Runs the job that `job` gives, over this store, which has told no calls yet. The text of its trace goes to `trace`, and then its replies go
-/// to `out`. Where the text is no job's, `out` gets its first faulty line and what is wrong there.
+/// Runs the job that `job` gives, over this store, which has told no calls yet. The text of its trace goes to `trace`, and then its replies
+/// go to `out`. Where the text is no job's, `out` gets its first faulty line and what is wrong there.
 pub(crate) fn run_command<
     R: Threads + Wait + Sync,
     J: Source,

@@ -4,7 +4,7 @@ ghost use Rattle.driver_rules.specs.Scripts.{IsEnded};
 ghost use Rattle.rounds.specs.Rests.{CpusRest, IsSameRun};
 ghost use Rattle.std.specs.Prelude.{◌≡◌, OnOk, IfOk, false, length, true};
 
-use crate::turns::{build, cpus_of, reclaim, run_cpu};
+use crate::turns::{build, reclaim, run_cpu};
 use backing_store::backing::Backing;
 use epoch_words::words::Words;
 pub use machine_book::book::{MachineBook, Parts, Turn};
@@ -68,7 +68,7 @@ fn run_cpus<B: Backing>(
         → (book.new.book ≡ book.old.book) × CpusRest book.new.book (length book.new.book.job.scripts)) }
 {
     let mut is_done = true;
-    for number in 0..cpus_of(book.job()) {
+    for number in 0..book.cpus() {
         if !run_cpu(alloc, book, words, Cpu(number))? {
             is_done = false;
         }

@@ -5,7 +5,6 @@ ghost use Rattle.std.specs.Prelude.{◌≡◌, ◌<◌, IfOk, false, length, tru
 
 use backing_store::backing::Backing;
 use epoch_words::words::Words;
-use job_grammar::jobs::Job;
 use machine_book::book::{MachineBook, Turn};
 use seal_record::seal::seal;
 use seal_record::unseal::unseal;
@@ -66,12 +65,4 @@ pub(crate) fn run_cpu<B: Backing>(
         Turn::Finished | Turn::Stopped => Ok(true),
         Turn::Did { .. } | Turn::Seal(_) | Turn::Again(_) => Ok(false),
     }
-}
-
-/// How many processors a job has. At most 16, since a job is valid.
-pub(crate) fn cpus_of(job: &Job) -> u8
-    ensures { result ≡ length job.now.scripts }
-{
-    let _ = job.epc();
-    job.scripts().len() as u8
 }

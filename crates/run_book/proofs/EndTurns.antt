@@ -76,9 +76,21 @@ end_so first s t past cpu f rec e is = by_row _ _ (first_of_row (commit_row s f.
         ((e ≡ did_by (actors.Cpu cpu) (Eld f) (Moved is.coming.page is.coming.start.version rec.tag)) × X)
         (λ refusal. (e ≡ refused_by (actors.Cpu cpu) (Eld f) refusal) × Y refusal) → EndsSo first past e
     by_row X Y None k =
-        rw k.0 record { tries = tt; starts = tt; tracking = record { stay = tt; track = tt }; refused = λ old new no same. cc; done = λ old new h fewer. fewer }
+        rw k.0 record {
+          tries = tt;
+          starts = tt;
+          tracking = record { stay = tt; track = tt };
+          refused = λ old new no same. cc;
+          done = λ old new h fewer. fewer;
+        }
     by_row X Y (Some refusal) k =
-        rw k.0 record { tries = tt; starts = tt; tracking = record { stay = tt; track = tt }; refused = λ old new h same. same; done = λ old new no fewer. cc }
+        rw k.0 record {
+          tries = tt;
+          starts = tt;
+          tracking = record { stay = tt; track = tt };
+          refused = λ old new h same. same;
+          done = λ old new no fewer. cc;
+        }
 
 module _ (made : Making) (j : JobView) (past : List Entry) (d d' : Driver) (m m' : Parts) (taken : List Taken) (phase : Phase) (cpu : Cpu)
     (page : Page) (n : ℕ) (loaded : Loaded) (can : CanFinish cpu page d m) (r : Agrees made j past d m)
@@ -202,7 +214,8 @@ out_next made j past d d' m m' taken (phases.Sealing next slot) told told' fault
     let write : is_write_start (open_start past w.one.frame.0) ≡ true = subst (λ n. is_write_start (open_start past n) ≡ true) frame
     page.page.write in
     out_by made j past d d' m m' w.one.frame k.out.leaving.page.page k.out.leaving.start k.rec.tag e after behind a going k.out.entry opened
-    (none_loads k.out.leaving.start (ap is_write_start (sym opened) ∙ write)) (ap (λ (x : Driver). count_out x.slots) k.tables) ended on cpus
+    (none_loads k.out.leaving.start (ap is_write_start (sym opened) ∙ write)) (ap (λ (x : Driver). count_out x.slots) k.tables)
+    ended on cpus
   where
     frames : (x y : ℕ) → Leaving x ≡ Leaving y → x ≡ y
     frames x y h = cc

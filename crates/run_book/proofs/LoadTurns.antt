@@ -177,7 +177,8 @@ fault_next made j past d d' m m' taken phase cpu page answer told told' r stands
         → ((why : BusWhy) → a ≡ answers.Bus why → GoesOnWith made past (bus_of cpu page why) m)
         → OfAnswer cpu page a (λ e. IsNextOf made j past d m e d' m')
     by_answer (answers.Started e work) k did goes =
-        let so = start_tells made.first_epoch (state_of m) (state_of m') past cpu did.frame page did.slot e (count_out d.slots) (count_out d'.slots)
+        let so = start_tells made.first_epoch (state_of m) (state_of m') past cpu did.frame page did.slot e
+        (count_out d.slots) (count_out d'.slots)
         r.follows.shape.columns (ap count_out did.slots) did.step in
         record {
           script = record {

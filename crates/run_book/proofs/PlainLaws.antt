@@ -69,10 +69,12 @@ outside (Some x) h = absurd (false≢true (sym h))
 pub enclave_is : {s : State} {past : List Entry} → HasColumns s past → (e : ℕ) → s.enclaves e ≡ created past e
 enclave_is h e i = (h.enclaves i).enclaves e
 
-made_now : {s : State} {past : List Entry} → HasColumns s past → (enclave : ℕ) → not (is_made (enclave_sight_of (s.enclaves enclave))) ≡ false
+made_now : {s : State} {past : List Entry} → HasColumns s past → (enclave : ℕ)
+    → not (is_made (enclave_sight_of (s.enclaves enclave))) ≡ false
     → is_some (created past enclave) ≡ true
 made_now {s} {past} columns enclave h =
-    sym (ap is_some (enclave_is columns enclave)) ∙ by_enclave (s.enclaves enclave) (not_false (is_made (enclave_sight_of (s.enclaves enclave))) h)
+    sym (ap is_some (enclave_is columns enclave))
+    ∙ by_enclave (s.enclaves enclave) (not_false (is_made (enclave_sight_of (s.enclaves enclave))) h)
   where
     by_enclave : (o : Option FlatEnclave) → is_made (enclave_sight_of o) ≡ true → is_some o ≡ true
     by_enclave None k = absurd (false≢true k)
@@ -106,7 +108,8 @@ record AsksNothing (first : ℕ) (past : List Entry) (a : Actor) (event : Event)
   tracking : TrackingRule first past (record { actor = a; event = event })
   loads : LoadsAwayRule past (record { actor = a; event = event })
 
-did_asks : (first : ℕ) (s : State) (past : List Entry) (a : Actor) (action : Action) (answer : Answer) → is_plain action ≡ true → HasColumns s past
+did_asks : (first : ℕ) (s : State) (past : List Entry) (a : Actor) (action : Action) (answer : Answer)
+    → is_plain action ≡ true → HasColumns s past
     → ((g : Page) → is_some (added past g) ≡ not (is_absent (place past g))) → first_of_row (row_of s a action) ≡ None
     → AsksNothing first past a (Did action answer)
 did_asks first s past a (Block f) answer plain columns seen row = absurd (false≢true plain)
@@ -136,7 +139,8 @@ refused_asks first past a action refusal plain = record {
 }
 
 asks : (first : ℕ) (s t : State) (past : List Entry) (a : Actor) (action : Action) (e : Entry) → is_plain action ≡ true → HasColumns s past
-    → ((g : Page) → is_some (added past g) ≡ not (is_absent (place past g))) → IsStep s a action e t → AsksNothing first past e.actor e.event
+    → ((g : Page) → is_some (added past g) ≡ not (is_absent (place past g))) → IsStep s a action e t
+    → AsksNothing first past e.actor e.event
 asks first s t past a action e plain columns seen is = by_entry (entry_by s t a action e is)
   where
     by_entry : IsEntryOf s a action e → AsksNothing first past e.actor e.event

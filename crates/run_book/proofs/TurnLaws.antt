@@ -85,16 +85,19 @@ module _ (made : Making) (j : JobView) (past : List Entry) (slots : Keeper) (tur
     where
       by_head : (o : Option Page) → IsTurn made past slots (look_at j past o) turn → Mine
       by_head None l = told _ l tt
-      by_head (Some g) l = told _ l.told (record { actor_is = refl; starts = tt; tracking = record { stay = tt; track = tt }; no_load = refl; loads = tt })
+      by_head (Some g) l = told _ l.told
+          (record { actor_is = refl; starts = tt; tracking = record { stay = tt; track = tt }; no_load = refl; loads = tt })
 
   blocks : (g : Page) → IsTurn made past slots (leaving_due past g (λ f. Makes (Block (frame_at f)))) turn → Mine
   blocks g k = by_frame (frame_leaving (place past g)) k
     where
       by_frame : (o : Option ℕ) → IsTurn made past slots (in_frame g o (λ f. Makes (Block (frame_at f)))) turn → Mine
       by_frame None l = told _ l tt
-      by_frame (Some f) l = told _ l (record { actor_is = refl; starts = tt; tracking = record { stay = tt; track = tt }; no_load = refl; loads = tt })
+      by_frame (Some f) l = told _ l
+          (record { actor_is = refl; starts = tt; tracking = record { stay = tt; track = tt }; no_load = refl; loads = tt })
 
-  tracks : (enclave : ℕ) → is_some (created past enclave) ≡ true → IsCalm past enclave → turn ≡ track_turn made.first_epoch past enclave → Mine
+  tracks : (enclave : ℕ) → is_some (created past enclave) ≡ true → IsCalm past enclave
+      → turn ≡ track_turn made.first_epoch past enclave → Mine
   tracks enclave made_it calm k = told _ k (by_last (epoch made.first_epoch past enclave == LAST_EPOCH) refl)
     where
       by_last : (b : Bool) → (epoch made.first_epoch past enclave == LAST_EPOCH) ≡ b
@@ -129,9 +132,12 @@ module _ (made : Making) (j : JobView) (past : List Entry) (slots : Keeper) (tur
               (by_reclaimer (Did (EwbStart (frame_at f) slot) (answers.Version (next_version made.first_version past)))))
               else turns.One (by_reclaimer (Refused (EwbStart (frame_at f) slot)
               (why.NotTracked (epoch_in made.first_epoch past f) (kept_back past f))))) (IsOwn made.first_epoch past)
-          by_drain true true = record { actor_is = refl; starts = tt; tracking = record { stay = tt; track = tt }; no_load = refl; loads = tt }
-          by_drain true false = record { actor_is = refl; starts = (idle, drawn); tracking = record { stay = tt; track = tt }; no_load = refl; loads = tt }
-          by_drain false v = record { actor_is = refl; starts = tt; tracking = record { stay = tt; track = tt }; no_load = refl; loads = tt }
+          by_drain true true =
+              record { actor_is = refl; starts = tt; tracking = record { stay = tt; track = tt }; no_load = refl; loads = tt }
+          by_drain true false =
+              record { actor_is = refl; starts = (idle, drawn); tracking = record { stay = tt; track = tt }; no_load = refl; loads = tt }
+          by_drain false v =
+              record { actor_is = refl; starts = tt; tracking = record { stay = tt; track = tt }; no_load = refl; loads = tt }
 
       by_place : (p : Place) → place past g ≡ p → IsTurn made past slots (in_frame g (frame_leaving p) TriesOut) turn → Mine
       by_place (Leaving f) at (inl l) = told _ l.told (try_own f l.slot at)
@@ -208,9 +214,11 @@ pub turn_next : (made : Making) (j : JobView) (past : List Entry) (d d' : Driver
     → ShowsAfter j past (pass j past) turn d' → OfEntry turn (λ e. CountMoves e.event (count_out d.slots) (count_out d'.slots))
     → OfEntry turn (λ e. IsNextOf made j past d m e d' m')
 turn_next made j past d d' m m' taken phase turn positive r stands going due =
-    by_turn turn (own made j past d.slots turn positive (λ g taken. taken_made r g taken) (is_kicked phase) (pass j past) r.pages.pages r.tracks due)
+    by_turn turn (own made j past d.slots turn positive (λ g taken. taken_made r g taken) (is_kicked phase) (pass j past)
+    r.pages.pages r.tracks due)
   where
-    by_turn : (t : PassTurn) → OfEntry t (IsOwn made.first_epoch past) → TurnKeeps j past (pass j past) t → TurnGoes (state_of m) t (state_of m')
+    by_turn : (t : PassTurn) → OfEntry t (IsOwn made.first_epoch past) → TurnKeeps j past (pass j past) t
+        → TurnGoes (state_of m) t (state_of m')
         → length m'.cpus ≡ length m.cpus → ShowsAfter j past (pass j past) t d'
         → OfEntry t (λ e. CountMoves e.event (count_out d.slots) (count_out d'.slots)) → OfEntry t (λ e. IsNextOf made j past d m e d' m')
     by_turn (turns.One e) mine keeps goes cpus shows counts = entry_next made j past d d' m m' e r going mine keeps goes cpus shows counts

@@ -64,8 +64,8 @@ pub fn the_book_goes_on()
         → KeepsBook made j (e ∷ past) told' (with_own d' own) m' t' }
 {}
 
-/// An instruction of the builder or of a processor that moves no page out or back, and that is its actor's next, is one with which driver and
-/// machine go on to agree: by the machine's own clauses, where the tables show it.
+/// An instruction of the builder or of a processor that moves no page out or back, and that is its actor's next, is one with which driver
+/// and machine go on to agree: by the machine's own clauses, where the tables show it.
 pub fn instructions_are_next()
     ensures { (made : Making) (j : JobView) (past : List Entry) (d d' : Driver) (m m' : Parts) (taken : List Taken) (phase : Phase)
         (actor : Actor) (action : Action) (e : Entry) → is_reclaimer actor ≡ false → is_plain action ≡ true → Agrees made j past d m
@@ -74,8 +74,8 @@ pub fn instructions_are_next()
         → ShowsTables j d' (e ∷ past) → CountMoves e.event (count_out d.slots) (count_out d'.slots) → IsNextOf made j past d m e d' m' }
 {}
 
-/// The entry of a turn of a pass is one with which driver and machine go on to agree, where the run was not stopped, versions begin above 0, and
-/// as many slots are out behind it as it says.
+/// The entry of a turn of a pass is one with which driver and machine go on to agree, where the run was not stopped, versions begin
+/// above 0, and as many slots are out behind it as it says.
 pub fn turns_of_a_pass_are_next()
     ensures { (made : Making) (j : JobView) (past : List Entry) (d d' : Driver) (m m' : Parts) (taken : List Taken) (phase : Phase)
         (turn : PassTurn) → 1 ≤ made.first_version → Agrees made j past d m → StandsFor made.first_epoch past taken phase (pass j past)
@@ -93,10 +93,11 @@ pub fn turns_of_a_pass_count_slots()
         → OfEntry turn (λ e. CountMoves e.event (count_out d.slots) (count_out d'.slots)) }
 {}
 
-/// The entry of a fault step that is due to a processor is one with which driver and machine go on to agree: the start of a load; or why its page
-/// does not come back, where the machine goes on with that note.
+/// The entry of a fault step that is due to a processor is one with which driver and machine go on to agree: the start of a load; or why
+/// its page does not come back, where the machine goes on with that note.
 pub fn fault_steps_are_next()
-    ensures { (made : Making) (j : JobView) (past : List Entry) (d d' : Driver) (m m' : Parts) (taken : List Taken) (phase : Phase) (cpu : Cpu)
+    ensures { (made : Making) (j : JobView) (past : List Entry) (d d' : Driver) (m m' : Parts)
+        (taken : List Taken) (phase : Phase) (cpu : Cpu)
         (page : Page) (answer : FaultAnswer) (told told' : Option (List Call)) → Agrees made j past d m
         → StandsFor made.first_epoch past taken phase (pass j past) → is_spent past ≡ false → cpu.0 < length j.scripts
         → cpu_due j past cpu.0 ≡ fetches j.epc past page (place past page)
@@ -108,7 +109,8 @@ pub fn fault_steps_are_next()
 
 /// The end of a load by the processor that has it to end is one with which driver and machine go on to agree.
 pub fn ends_of_loads_are_next()
-    ensures { (made : Making) (j : JobView) (past : List Entry) (d d' : Driver) (m m' : Parts) (taken : List Taken) (phase : Phase) (cpu : Cpu)
+    ensures { (made : Making) (j : JobView) (past : List Entry) (d d' : Driver) (m m' : Parts)
+        (taken : List Taken) (phase : Phase) (cpu : Cpu)
         (page : Page) (n : ℕ) (loaded : Loaded) (can : CanFinish cpu page d m) → Agrees made j past d m
         → StandsFor made.first_epoch past taken phase (pass j past) → is_spent past ≡ false → cpu.0 < length j.scripts
         → last_of past cpu.0 ≡ Loads n page → IsFinished cpu page can.slot can.frame can.kept d (state_of m) loaded d' (state_of m')

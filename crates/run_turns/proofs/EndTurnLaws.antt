@@ -109,7 +109,8 @@ closed taken (phases.Tries next form block) h = absurd (false≢true h)
 
 -- ---- it can be taken in
 
-pub end_is_own : (c : Course) (told longer : Option (List Call)) (before spare faults faults' : ℕ) (e : Entry) (p : worker.Pass) (d : Driver)
+pub end_is_own : (c : Course) (told longer : Option (List Call)) (before spare faults faults' : ℕ)
+    (e : Entry) (p : worker.Pass) (d : Driver)
     (m : Parts) → KeepsCourse c told before → is_spent (past_of c) ≡ false → is_sealing c.pass.phase ≡ true
     → IsEnded c.job.start_epoch c.job (past_of c) e p.taken.items p.phase d
     → StoredSays c.pass.taken.items c.pass.phase (state_of c.machine) c.driver told faults e (state_of m) d longer faults'
@@ -130,7 +131,8 @@ end_is_own c told longer before spare faults faults' e p d m k going waits ended
         next = next;
         own = is.own;
         enters = subst (λ (x : Entry). EntersApart x.event) (sym is.is) tt;
-        flat = out_flat (past_of c) c.pass.taken.items c.pass.phase (state_of c.machine) (state_of m) c.driver d told longer faults faults' e
+        flat = out_flat (past_of c) c.pass.taken.items c.pass.phase (state_of c.machine) (state_of m) c.driver d
+            told longer faults faults' e
             says k.book.flat;
         store = out_told (machine_of c.job) c.job (past_of c) told longer c.driver d c.machine m c.turns c.pass.taken.items c.pass.phase
             faults faults' e k.book refl ready says;
@@ -172,4 +174,5 @@ end_is_own c told longer before spare faults faults' e p d m k going waits ended
         p.taken.items p.phase k.book.agrees ready going says ended (record { shape = shape; fits = fits }) cpus
 
     room : vec_len c.entries + 2 * (count_by is_loading c.turns.cpus + 1) ≤ vec_capacity c.entries
-    room = subst (λ b. vec_len c.entries + 2 * (count_by is_loading c.turns.cpus + (if b then 1 else 0)) ≤ vec_capacity c.entries) waits k.room
+    room = subst (λ b. vec_len c.entries + 2 * (count_by is_loading c.turns.cpus + (if b then 1 else 0)) ≤ vec_capacity c.entries)
+        waits k.room

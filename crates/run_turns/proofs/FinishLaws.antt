@@ -1,5 +1,5 @@
 -- Whether nothing is left to any actor.
-use Rattle.std.proofs.Common.{◌≡◌, ℕ, zero, suc, ◌+◌, ◌≤◌, ◌<◌, ◌&&◌, ◌==◌, not, Bool, true, false, if◌then◌else◌, List, [], ◌∷◌, Option, Some, None, length, nat_le, slice_get, refl, sym, ap, subst, ◌∙◌, arith, le-leb}
+use Rattle.std.proofs.Common.{◌≡◌, ℕ, zero, suc, ◌+◌, ◌<◌, ◌&&◌, ◌==◌, not, Bool, true, false, if◌then◌else◌, List, Option, Some, None, length, nat_le, slice_get, refl, sym, ap, subst, ◌∙◌, arith, le-leb}
 use Rattle.std.proofs.lemmas.Option.{slice_get_within}
 use Rattle.sgx_types.specs.declared.entries.Action.{Action}
 use Rattle.sgx_types.specs.declared.entries.Entry.{Entry}
@@ -14,6 +14,7 @@ use Rattle.driver_rules.specs.Places.{Absent, Away, Here, Leaving, Loading, Plac
 use Rattle.driver_rules.specs.Reclaims.{all_finished, are_finished, is_finished}
 use Rattle.driver_rules.specs.Stops.{is_spent}
 use Rattle.driver_rules.specs.Turns.{builder_due, cpu_due, fetches, is_built, step_turn}
+use Rattle.turn_tables.proofs.EndLaws.{past_all}
 use Rattle.turn_tables.specs.Due.{due_in}
 use Rattle.turn_tables.specs.declared.dues.TurnDue.{TurnDue}
 use Rattle.turn_tables.specs.declared.dues.TurnDue.TheVariants as dues
@@ -24,11 +25,6 @@ use Rattle.run_turns.specs.Passing.{is_left}
 not_made : (reason : Why) (o : Option Action) → is_finished (makes_or reason o) ≡ false
 not_made reason None = refl
 not_made reason (Some action) = refl
-
-past_all : {X : Type 0} (xs : List X) (n : ℕ) → slice_get xs n ≡ None → length xs ≤ n
-past_all [] n h = omega arith
-past_all (x ∷ xs) zero h = cc
-past_all (x ∷ xs) (suc n) h = let low = past_all xs n h in omega (arith, low)
 
 -- nothing is left to it exactly where the build is done
 pub builder_is : (j : JobView) (past : List Entry) → is_spent past ≡ false → is_finished (builder_due j past) ≡ is_built j past
@@ -84,7 +80,8 @@ one_unfinished j past p (suc count) low h = by_place (p == count) refl (λ less.
     none true = refl
     none false = refl
 
-    by_place : (b : Bool) → (p == count) ≡ b → (p < count → are_finished j past count ≡ false) → (is_finished (cpu_due j past count) && are_finished j past count) ≡ false
+    by_place : (b : Bool) → (p == count) ≡ b → (p < count → are_finished j past count ≡ false)
+        → (is_finished (cpu_due j past count) && are_finished j past count) ≡ false
     by_place true is rest =
         let same : p ≡ count = grind (arith, is) in
         ap (λ b. b && are_finished j past count) (subst (λ n. is_finished (cpu_due j past n) ≡ false) same h)

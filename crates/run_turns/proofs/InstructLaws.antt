@@ -57,7 +57,8 @@ pub record IsLawful (c : Course) (actor : Actor) (action : Action) : Type 0 wher
   pub among : IsAmong (length c.machine.cpus) actor
 
 -- as many processors as the job has scripts
-pub cpus_of : (c : Course) (past : List Entry) (told : Option (List Call)) → KeepsBook (machine_of c.job) c.job past told c.driver c.machine c.turns
+pub cpus_of : (c : Course) (past : List Entry) (told : Option (List Call))
+    → KeepsBook (machine_of c.job) c.job past told c.driver c.machine c.turns
     → length c.machine.cpus ≡ length c.job.scripts
 cpus_of c past told k = k.agrees.cpus ∙ k.agrees.shows.cpus
 

@@ -55,7 +55,8 @@ taken_keeps c c' e told spare tcs job kept book stands places arrays ends none r
       tcs = subst TcsAreApart (sym job) tcs;
       book = subst (λ (j : JobView). KeepsBook (machine_of j) j (past_of c') told c'.driver c'.machine c'.turns) (sym job)
           (subst (λ h. KeepsBook (machine_of c.job) c.job h told c'.driver c'.machine c'.turns) (sym past) book);
-      stands = subst (λ (j : JobView). StandsFor j.start_epoch (past_of c') c'.pass.taken.items c'.pass.phase (pass j (past_of c'))) (sym job)
+      stands = subst (λ (j : JobView). StandsFor j.start_epoch (past_of c') c'.pass.taken.items c'.pass.phase (pass j (past_of c')))
+          (sym job)
           (subst (λ h. StandsFor c.job.start_epoch h c'.pass.taken.items c'.pass.phase (pass c.job h)) (sym past) stands);
       places = places;
       arrays = subst (λ (j : JobView). KeepsArrays j c'.driver.slots (past_of c')) (sym job)

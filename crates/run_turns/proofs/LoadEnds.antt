@@ -160,7 +160,8 @@ ends_here f (Age page look) acts done past = cc
 ends_here f (Kick cpu) acts done past = cc
 ends_here f (Bus page reason) acts done past = cc
 
-pub load_ends_here : (c : Course) (past : List Entry) (e : Entry) (f : Frame) → past_of c ≡ e ∷ past → action_of e.event ≡ Some (actions.Eld f)
+pub load_ends_here : (c : Course) (past : List Entry) (e : Entry) (f : Frame) → past_of c ≡ e ∷ past
+    → action_of e.event ≡ Some (actions.Eld f)
     → is_refused e.event ≡ false → EndsLoad 1 (past_of c)
 load_ends_here c past e f is acts done = subst (EndsLoad 1) (sym is) (ends_here f e.event acts done past)
 

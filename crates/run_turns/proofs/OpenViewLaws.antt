@@ -124,7 +124,8 @@ module _ (c c' : Course) (told told' : Option (List Call)) (plans plans' : List 
 -- ---- the end of a load
 
 module _ (c c' : Course) (told : Option (List Call)) (plans : List PlanLine) (spare : ℕ) (cpu : Cpu) where
-  pub opened_seen : (turn : Turn) → IsOpened c cpu turn c' told spare → IsLoadEnd (view_of c told plans false) cpu turn (view_of c' told plans false)
+  pub opened_seen : (turn : Turn) → IsOpened c cpu turn c' told spare
+      → IsLoadEnd (view_of c told plans false) cpu turn (view_of c' told plans false)
   opened_seen (turns.Did zero) (none, s) = (none, same_view c c' told plans false s)
   opened_seen (turns.Did (suc n)) (ends, g) =
       (ends, grown_seen c c' (actors.Cpu cpu) (suc n) told told told plans plans spare false g)

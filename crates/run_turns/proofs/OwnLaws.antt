@@ -27,7 +27,8 @@ use Rattle.run_turns.proofs.RecordLaws.{newest}
 
 -- ---- an entry of the reclaimer ends no processor's script
 
-ends_quiet : (past : List Entry) (event : Event) → EndsAreTold past → EndsAreTold (record { actor = actors.Reclaimer; event = event } ∷ past)
+ends_quiet : (past : List Entry) (event : Event) → EndsAreTold past
+    → EndsAreTold (record { actor = actors.Reclaimer; event = event } ∷ past)
 ends_quiet past event told p h = told p h
 
 none_quiet : (past : List Entry) (event : Event) → NoneFails past → NoneFails (record { actor = actors.Reclaimer; event = event } ∷ past)

@@ -286,7 +286,8 @@ keepers_refused : (past : List Entry) (action : Action) (refusal : Refusal) (g :
     → ((f : ℕ) → block_place (by_reclaimer (Refused action refusal) ∷ past) f ≡ block_place past f)
     → keepers (by_reclaimer (Refused action refusal) ∷ past) g ≡ keepers past g
 keepers_refused past action refusal g still blocks =
-    ap (λ at. keepers_in (by_reclaimer (Refused action refusal) ∷ past) g.enclave (frame_leaving at)) still ∙ by_frame (frame_leaving (place past g))
+    ap (λ at. keepers_in (by_reclaimer (Refused action refusal) ∷ past) g.enclave (frame_leaving at)) still
+    ∙ by_frame (frame_leaving (place past g))
   where
     behind_none : (o : Option ℕ) (at : ℕ) → earlier_or o false at ≡ o
     behind_none None at = refl

@@ -31,7 +31,8 @@ longer_apart old new e is same =
 pub none_started_by : (past : List Entry) (e : Entry) (p : Cpu) → e.actor ≡ actors.Cpu p → frame_started (Some e.event) ≡ None
     → started (e ∷ past) (actors.Cpu p) ≡ false
 none_started_by past e p mine none =
-    ap (λ b. is_frame (frame_started (if b then Some e.event else last_event past (actors.Cpu p)))) (ap (is_by p.0) mine ∙ eq-eqb p.0 p.0 refl)
+    ap (λ b. is_frame (frame_started (if b then Some e.event else last_event past (actors.Cpu p))))
+    (ap (is_by p.0) mine ∙ eq-eqb p.0 p.0 refl)
     ∙ ap is_frame none
 
 -- .. nor the builder

@@ -118,7 +118,8 @@ same_rests c c' same = record {
   room = same.room;
 }
 
-pub same_keeps : (c c' : Course) (told : Option (List Call)) (spare : ℕ) → IsSame c c' → KeepsCourse c told spare → KeepsCourse c' told spare
+pub same_keeps : (c c' : Course) (told : Option (List Call)) (spare : ℕ) → IsSame c c' → KeepsCourse c told spare
+    → KeepsCourse c' told spare
 same_keeps c c' told spare same = rest_keeps c c' told spare (same_rests c c' same)
 
 -- nothing has changed in two turns

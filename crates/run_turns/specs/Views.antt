@@ -44,8 +44,8 @@ pub record BookView : Type 0 where
 abbrev pub is_stopped : BookView → Bool
 is_stopped b = if b.noted then true else is_spent b.past
 
--- whatever the store gave: who makes which entry, the reclaimer's looks and kicks, who is inside since which epoch, no frame twice, no stale translation, only drained
--- pages go out, versions rise, and the store's calls are those of the entries
+-- whatever the store gave: who makes which entry, the reclaimer's looks and kicks, who is inside since which epoch, no frame twice, no
+-- stale translation, only drained pages go out, versions rise, and the store's calls are those of the entries
 pub record HoldsAnyhow (b : BookView) : Type 0 where
   pub script : Along (ScriptRule b.job) b.past
   pub age : Along (AgeRule b.job) b.past
@@ -114,8 +114,8 @@ IsLoadEnd old cpu (turns.Did (suc n)) new = EndsLoad (suc n) new.past × HasGrow
 IsLoadEnd old cpu turns.Stopped new = (is_stopped old ≡ true) × (new ≡ old)
 IsLoadEnd old cpu _ new = ⊥
 
--- the page that has started to go out: its bytes and its header, under the job's key and the version that its start drew. Where no record was
--- forged, the bytes are those of flat memory
+-- the page that has started to go out: its bytes and its header, under the job's key and the version that its start drew. Where no record
+-- was forged, the bytes are those of flat memory
 pub record SealsPageOut (b : BookView) (work : SealWork) : Type 0 where
   pub key : work.key ≡ b.job.key
   pub frame : ℕ
@@ -127,7 +127,8 @@ pub record SealsPageOut (b : BookView) (work : SealWork) : Type 0 where
   pub header : header_at b.past page ≡ Some work.header
   pub bytes : IfSome b.told (λ calls. UnforgedRun b.job.key b.past calls → work.plain.items ≡ bytes_at b.past page)
 
--- what is due to the reclaimer. Where a turn of kicks has nobody to kick, no entry tells whether it was made: what comes behind it may be due
+-- what is due to the reclaimer. Where a turn of kicks has nobody to kick, no entry tells whether it was made: what comes
+-- behind it may be due
 abbrev pub IsDueNow : BookView → Due → Type 0
 IsDueNow b due = (due ≡ reclaimer_due b.job b.past false)
     ⊎ ((reclaimer_due b.job b.past false ≡ KicksAll []) × (due ≡ reclaimer_due b.job b.past true))

@@ -1,6 +1,7 @@
 //! The book of a run.
 
 ghost use Rattle.std.specs.Prelude.{◌≡◌, ◌<◌, [], false, true, IfOk, IfSome, OnErr, length, reverse};
+ghost use Rattle.job_grammar.specs.Valid.{IsValid};
 ghost use Rattle.run_turns.specs.Views.{Holds, IsBuild, IsLoadEnd, IsOutEnd, IsReclaim, IsRun};
 
 use crate::course::Course;
@@ -138,6 +139,14 @@ impl<B: Backing> Book<B> {
         ensures { result.now ≡ self.now.job }
     {
         &self.course.job
+    }
+
+    /// How many processors the job has, which is valid.
+    pub fn cpus(&self) -> u8
+        ensures value { result ≡ length self.now.job.scripts }
+        ensures valid { IsValid self.now.job }
+    {
+        self.course.job.scripts().len() as u8
     }
 
     /// The job, the entries, oldest first, and the store. They keep what the book kept.

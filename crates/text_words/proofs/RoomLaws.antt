@@ -24,3 +24,5 @@ pub words_room_past : (words : List Word) (i : ℕ) (d : Word) → i < length wo
 words_room_past [] i d within = absurd (omega arith)
 words_room_past (word ∷ words) zero d within = omega arith
 words_room_past (word ∷ words) (suc i) d within = let rest = words_room_past words i d (omega arith) in omega (arith, rest)
+
+pub ruleset room_laws = (words_room_more, words_room_next)

@@ -115,7 +115,7 @@ pub fn push_word(word: Word, onto: &mut Vec<u8>) -> Result<(), Memory>
 }
 
 /// Writes words with a space before each.
-#[tactic(auto, using(crate::proofs::LineLaws::with_words_more, crate::proofs::RoomLaws::words_room_more, crate::proofs::RoomLaws::words_room_next))]
+#[tactic(auto, using(crate::proofs::LineLaws::with_words_more, crate::proofs::RoomLaws::room_laws))]
 pub fn push_words(words: &[Word], onto: &mut Vec<u8>) -> Result<(), Memory>
     ensures text { OnOk result (onto.new.items ≡ with_words onto.old.items (map word_text words.now)) }
     ensures full { OnErr result (LacksRoom (words_room words.now) onto.old) }

@@ -103,7 +103,8 @@ builder-builds j past = by_spent (is_spent past)
     by_spent true = tt
     by_spent false = due-builds j past (slice_get (build_of j) (built past))
 
-not-built : (d : Due) (event : Event) (action : Action) → OfBuilder d → IsNext d event → action_of event ≡ Some action → is_of_cpus action ≡ false
+not-built : (d : Due) (event : Event) (action : Action) → OfBuilder d → IsNext d event
+    → action_of event ≡ Some action → is_of_cpus action ≡ false
 not-built (Makes due) event action of next own = ap is_of_cpus (same-action event action due own next) ∙ of
 not-built Stopped event action of next own = absurd next
 not-built Finished event action of next own = absurd next

@@ -142,7 +142,8 @@ module _ (j : JobView) (a : Auditing) (e : Entry) (at : IsAuditing j a) where
           kick = (kick_tells j past e).0 (sym (kick_is k said) ∙ too)
 
           goes : GoesOn j (e ∷ past)
-          goes = goes_on_more j (state_of new.machine) past e (made_by j.key (e ∷ past)) at.keeps.trace.goes_on script asked.taken.stands age
+          goes = goes_on_more j (state_of new.machine) past e (made_by j.key (e ∷ past)) at.keeps.trace.goes_on script
+              asked.taken.stands age
               kick
 
           module _ (before : Mode) (start : Option starts.Start) (stood : before ≡ mode_of a.machine e.actor)

@@ -17,10 +17,11 @@ use run_history::rules::Rule;
 use sgx_types::entries::{Action, Actor, Answer, Entry, Event};
 use sgx_types::names::{Frame, Memory, Page};
 use std::alloc::Global;
+use turn_tables::holding::action_of;
 
 impl Auditing {
-    /// Asks the machine for an entry that its actor may make, and keeps or drops the record of the page that it moves. None where the machine
-    /// makes this very entry, which then keeps each of the machine's rules; else the rule that it breaks first.
+    /// Asks the machine for an entry that its actor may make, and keeps or drops the record of the page that it moves. None where the
+    /// machine makes this very entry, which then keeps each of the machine's rules; else the rule that it breaks first.
     pub(crate) fn ask(&mut self, alloc: Global, entry: &Entry) -> Result<Option<Rule>, Memory>
         requires { CanAsk self.old entry.now }
         ensures answer { IfOk result (λ broken. (can : CanAsk self.old entry.now)
@@ -125,16 +126,6 @@ impl Auditing {
                 Ok(None)
             }
         }
-    }
-}
-
-// The instruction of an event.
-fn action_of(event: &Event) -> Option<Action>
-    ensures { result ≡ action_of event.now }
-{
-    match *event {
-        Event::Did { action, .. } | Event::Refused { action, .. } => Some(action),
-        Event::Age { .. } | Event::Kick { .. } | Event::Bus { .. } => None,
     }
 }
 

@@ -11,8 +11,8 @@ use paging_machine::starts::Start;
 use sgx_types::entries::Entry;
 
 impl Auditing {
-    /// Brings the tables to an entry that keeps each rule, with which the machine, the pass and the records have gone on. `before` is how its
-    /// processor stood before it, `start` the open start that it ends.
+    /// Brings the tables to an entry that keeps each rule, with which the machine, the pass and the records have gone on. `before` is how
+    /// its processor stood before it, `start` the open start that it ends.
     pub(crate) fn follow(&mut self, job: &Job, before: Mode, start: Option<Start>, entry: &Entry)
         requires { CanFollow job.now self.old before start entry.now }
         ensures { (can : CanFollow job.now self.old before start entry.now)

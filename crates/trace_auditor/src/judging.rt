@@ -20,8 +20,8 @@ use turn_tables::holding::mode_of;
 
 impl Auditing {
     /// The first rule that the next entry breaks, in the order in which rules are named. None where it keeps each rule; then all stands for
-    /// the entries with it. Constant time, but for the SHA-256 of a page that goes out and of an enclave's measurement, and for the slot that
-    /// a write-out names, which is looked for among those that are not out.
+    /// the entries with it. Constant time, but for the SHA-256 of a page that goes out and of an enclave's measurement, and for the slot
+    /// that a write-out names, which is looked for among those that are not out.
     pub(crate) fn judge(
         &mut self,
         alloc: Global,

@@ -45,7 +45,8 @@ init-read (inits.Tcs ossa nssa) rest fits = rw (small_of-decimal ossa fits.0, sm
 
 -- the words of an instruction, and any behind them
 action-read : (action : Action) (rest : Words) → FitsAction action → action_of (action_words action ++ rest) ≡ Some (action, rest)
-unfolding action_of row_of epa_row create_row add_row extend_row init_row enter_row resume_row aex_row fill_row load_row store_row xadd_row set_row plus_row pf_row outload_row outstore_row block_row track_row ewbstart_row ewb_row eldstart_row eld_row
+unfolding action_of row_of epa_row create_row add_row extend_row init_row enter_row resume_row aex_row fill_row load_row store_row xadd_row
+    set_row plus_row pf_row outload_row outstore_row block_row track_row ewbstart_row ewb_row eldstart_row eld_row
 action-read (actions.Epa f) rest fits = rw (frame-read f.0 fits) refl
 action-read (actions.Create enclave f base size) rest fits =
     rw (enclave-read enclave fits.0, frame-read f.0 fits.1, number_of-hexadecimal base fits.2, number_of-hexadecimal size fits.3) refl

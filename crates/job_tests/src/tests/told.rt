@@ -105,7 +105,9 @@ pub const JOBS: &[(&str, Row<'static>, Told)] = &[
         (
             "in both",
             "enclave B 0x10000 0x8000\nreg 4 2 r 9 plain\ntcs 0 1 1 plain\nreg 1 1 rw 0 plain\ncpu 0",
-            "expect 000102030405060708090a0b0c0d0e0f101112131415161718191a1b1c1d1e1f\nenclave B 0x10000 0x8000\nreg 4 2 r 9 plain\ntcs 0 1 1 plain\nreg 1 1 rw 0 plain\nexpect ffffffffffffffffffffffffffffffffffffffffffffffffffffffffffffffff\ncpu 0",
+            "expect 000102030405060708090a0b0c0d0e0f101112131415161718191a1b1c1d1e1f\nenclave B 0x10000 0x8000\n\
+            reg 4 2 r 9 plain\ntcs 0 1 1 plain\nreg 1 1 rw 0 plain\n\
+            expect ffffffffffffffffffffffffffffffffffffffffffffffffffffffffffffffff\ncpu 0",
             "Read",
         ),
         Told::Digests(Some(DIGEST), Some([255; 32])),

@@ -17,7 +17,8 @@ loop-entry-preserved c =
     let past : List Entry = reverse (take c.loop-entry.entry-index c.args.entries.now) in
     let notes = c.in_ok-note.ensures in
     record {
-      inside = inside_more c.args.entries.now c.loop-entry.entry-index _ c.note.new.inside c.loop-entry-test.true (notes.inside past was.inside);
+      inside = inside_more c.args.entries.now c.loop-entry.entry-index _ c.note.new.inside c.loop-entry-test.true
+          (notes.inside past was.inside);
       accesses = accesses_more c.args.entries.now c.loop-entry.entry-index _ _ _ c.loop-entry-test.true (notes.accesses past was.inside)
           was.accesses;
     }

@@ -29,5 +29,6 @@ pub returns : goal.returns
 returns c = record {
   by = c.loop-access.invariant.by;
   same = c.loop-access.invariant.same
-      ∙ ap (λ all. map c.loop-access.invariant.by.to (map page_of all)) (take_all c.loop-access.access-index c.args.accesses.now c.loop-access-test.false);
+      ∙ ap (λ all. map c.loop-access.invariant.by.to (map page_of all))
+      (take_all c.loop-access.access-index c.args.accesses.now c.loop-access-test.false);
 }

@@ -6,4 +6,5 @@ use Rattle.least_command.proofs.fewest.named.Given as goal
 
 abbrev pub invariant-loop-access : goal.invariant-loop-access
 invariant-loop-access l =
-    AreNamed (map page_of (take l.access-index l.accesses)) l.pages.items (λ g. get same_access l.names (access_of g)) (hash_map_len l.names)
+    AreNamed (map page_of (take l.access-index l.accesses)) l.pages.items (λ g. get same_access l.names (access_of g))
+    (hash_map_len l.names)

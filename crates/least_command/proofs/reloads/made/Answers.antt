@@ -18,7 +18,8 @@ loop-entry-preserved c =
     let past : List Entry = reverse (take c.loop-entry.entry-index c.args.entries.now) in
     let one : c.from-count.result ≡ (if c.brings_back.result then 1 else 0) = c.from-count.ensures ∙ as_number c.brings_back.result in
     record {
-      regs = regs_more c.args.entries.now c.loop-entry.entry-index _ c.note.new.regs c.loop-entry-test.true (c.in_ok-note.ensures past was.regs);
+      regs = regs_more c.args.entries.now c.loop-entry.entry-index _ c.note.new.regs c.loop-entry-test.true
+          (c.in_ok-note.ensures past was.regs);
       count = ap (λ n. c.loop-entry.count + n) (one ∙ ap (λ b. if b then 1 else 0) (c.brings_back.ensures past was.regs))
           ∙ made_more c.args.entries.now c.loop-entry.entry-index _ c.loop-entry.count c.loop-entry-test.true was.count;
       few = omega (arith, was.few, one, at_most_one c.brings_back.result);

@@ -17,7 +17,8 @@ returns-then-n-eq0-clause-entries g c =
     let short : length was.bytes ≤ 2 ^ 30 = omega (arith, was.count, c.loop-count-test.true) in
     entries_read c.entries_of.result (λ entries. entries.items) c.read_piece.new.reader (g.S.Source.left c.args.source.now)
     (g.S.Source.left c.loop-count.source) (g.S.Source.left c.read_piece.new.source) was.bytes _ c.in_ok-n.n c.if-n-eq0.true short was.read
-    c.in_ok-n.ensures.read (c.in_ok-n.ensures.at_end c.if-n-eq0.true) (c.in_ok-n.ensures.seen was.bytes was.seen) c.entries_of.ensures.entries
+    c.in_ok-n.ensures.read (c.in_ok-n.ensures.at_end c.if-n-eq0.true) (c.in_ok-n.ensures.seen was.bytes was.seen)
+    c.entries_of.ensures.entries
 
 pub returns-then-n-eq0-clause-fault : goal.returns-then-n-eq0-clause-fault
 returns-then-n-eq0-clause-fault g c =
@@ -36,7 +37,8 @@ loop-count-preserved g c =
     let both = length-append was.bytes more in
     record {
       bytes = was.bytes ++ more;
-      read = HasRead-append (g.S.Source.left c.args.source.now) (g.S.Source.left c.loop-count.source) (g.S.Source.left c.read_piece.new.source)
+      read = HasRead-append (g.S.Source.left c.args.source.now) (g.S.Source.left c.loop-count.source)
+          (g.S.Source.left c.read_piece.new.source)
           was.bytes more was.read c.in_ok-n.ensures.read;
       count = omega (arith, was.count, both, long, c.in_ok-n.ensures.bound, c.read_piece.ensures.length);
       seen = c.in_ok-n.ensures.seen was.bytes was.seen;

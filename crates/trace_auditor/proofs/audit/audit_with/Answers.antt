@@ -38,12 +38,14 @@ may_end-requires c =
 pub returns-then-may_end : goal.returns-then-may_end
 returns-then-may_end c =
     yes_at_end c.args.job.now c.loop-place.auditing c.args.entries.now c.loop-place.place c.loop-place.invariant
-    (over c.count-count.ensures.value c.loop-place-test.false) (short c.count-count.ensures.value c.count-count.ensures.few) c.may_end.result
+    (over c.count-count.ensures.value c.loop-place-test.false) (short c.count-count.ensures.value c.count-count.ensures.few)
+    c.may_end.result
     c.may_end.ensures c.if-may_end.true
 
 pub returns : goal.returns
 returns c =
     subst (λ n. FailsFirst c.args.job.now (reverse c.args.entries.now) n rules.Script) (sym c.count-count.ensures.value)
     (no_at_end c.args.job.now c.loop-place.auditing c.args.entries.now c.loop-place.place c.loop-place.invariant
-    (over c.count-count.ensures.value c.loop-place-test.false) (short c.count-count.ensures.value c.count-count.ensures.few) c.may_end.result
+    (over c.count-count.ensures.value c.loop-place-test.false) (short c.count-count.ensures.value c.count-count.ensures.few)
+    c.may_end.result
     c.may_end.ensures c.if-may_end.false)

@@ -78,7 +78,8 @@ returns-in_default-actor-2 c =
 pub tracked-requires-clause-allowed : goal.tracked-requires-clause-allowed
 tracked-requires-clause-allowed c =
     subst (λ (v : NotesView). words.CanTrack (seen_of v c.in-Track.enclave)) (sym c.self.view_is)
-    (may_begin c.args.self.now c.args.entry.now c.requires.can c.in-Track.enclave c.in-Did.answer (c.in-Did.is ∙ ap (λ a. Did a c.in-Did.answer) c.in-Track.is))
+    (may_begin c.args.self.now c.args.entry.now c.requires.can c.in-Track.enclave c.in-Did.answer
+    (c.in-Did.is ∙ ap (λ a. Did a c.in-Did.answer) c.in-Track.is))
 
 pub returns-in-Track-clause-tells : goal.returns-in-Track-clause-tells
 returns-in-Track-clause-tells c = λ can.

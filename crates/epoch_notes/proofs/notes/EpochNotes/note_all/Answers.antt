@@ -19,4 +19,6 @@ loop-entry-preserved c = record {
 }
 
 pub returns-clause-tells : goal.returns-clause-tells
-returns-clause-tells c = λ can. all_told c.loop-entry.self c.args.entries.now can.first can.past c.loop-entry.entry-index (c.loop-entry.invariant.tells can) c.loop-entry-test.false
+returns-clause-tells c = λ can.
+    all_told c.loop-entry.self c.args.entries.now can.first can.past c.loop-entry.entry-index
+    (c.loop-entry.invariant.tells can) c.loop-entry-test.false

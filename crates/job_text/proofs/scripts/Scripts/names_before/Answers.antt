@@ -17,7 +17,8 @@ returns-in-Some c =
     rw (← c.self.view_is)
     (owner-before c.self.inside.owners.items (script_ops c.self.inside.scripts.items) c.args.page.enclave c.args.page.number
     (Some c.in-Some.owner) _ (c.self.invariant.tells c.args.page.enclave c.args.page.number c.requires.enclave c.requires.number)
-    (rw (← c.place_of.ensures) (sym c.in-Some.is ∙ owner-read c.self.inside.owners.items c.place_of.result c.index.result.now lt c.index.ensures))
+    (rw (← c.place_of.ensures) (sym c.in-Some.is
+    ∙ owner-read c.self.inside.owners.items c.place_of.result c.index.result.now lt c.index.ensures))
     (search (rules, length-map)))
 
 pub returns-in-None : goal.returns-in-None

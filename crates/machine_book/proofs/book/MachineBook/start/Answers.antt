@@ -1,8 +1,5 @@
-use Rattle.std.proofs.Common.{List, length, replicate, sym, ap, subst, ◌∙◌}
-use Rattle.std.proofs.lemmas.List.{length-map}
+use Rattle.std.proofs.Common.{length, replicate, sym, ap, subst, ◌∙◌}
 use Rattle.job_grammar.specs.Jobs.{JobView}
-use Rattle.job_grammar.specs.declared.jobs.Op.{Op}
-use Rattle.job_grammar.specs.Valid.{IsValid}
 use Rattle.epoch_words.specs.Seen.{starting_at}
 use Rattle.machine_book.specs.Words.{KeepsWords}
 use Rattle.machine_book.proofs.GrownLaws.{keeps_start}
@@ -13,8 +10,7 @@ invariant_of-result g c =
     let book = c.in_ok-book.book in
     let same = sym c.in_ok-book.ensures.job in
     subst (KeepsWords book) (sym c.in_ok-notes.ensures)
-    (keeps_start book c.args.seat.words c.args.seat.seen (length c.scripts.result.now) (subst IsValid same c.epc.ensures.valid)
+    (keeps_start book c.args.seat.words c.args.seat.seen c.from.result c.cpus.ensures.valid
     c.in_ok-book.ensures.past (c.requires.enclaves ∙ ap (λ (j : JobView). length j.enclaves) same)
     (c.requires.seen ∙ ap (λ (j : JobView). replicate (length j.enclaves) (starting_at j.start_epoch)) same)
-    (sym (length-map c.scripts.result.now _) ∙ (ap (λ (xs : List (List Op)). length xs) c.scripts.ensures
-    ∙ ap (λ (j : JobView). length j.scripts) same)))
+    (c.from.ensures ∙ c.cpus.ensures.value))

@@ -52,7 +52,8 @@ pub returns-in-Finished-clause-turn : goal.returns-in-Finished-clause-turn
 returns-in-Finished-clause-turn c = λ can.
     (let s = c.args.self.now in
     let k = can.keeps.book in (
-      sym (c.builder_due.ensures (machine_of s.job) (past_of s) k.agrees k.orderly k.turns) ∙ ap (due_in s.job (past_of s)) c.in-Finished.is,
+      sym (c.builder_due.ensures (machine_of s.job) (past_of s) k.agrees k.orderly k.turns)
+          ∙ ap (due_in s.job (past_of s)) c.in-Finished.is,
       same_self s,
     ))
 
@@ -61,7 +62,8 @@ returns-in-Waits-clause-turn c = λ can.
     (let s = c.args.self.now in
     let k = can.keeps.book in (
       subst (λ due. IsWaitBy due c.in-Waits.why)
-          (sym (ap (due_in s.job (past_of s)) c.in-Waits.is) ∙ c.builder_due.ensures (machine_of s.job) (past_of s) k.agrees k.orderly k.turns)
+          (sym (ap (due_in s.job (past_of s)) c.in-Waits.is)
+          ∙ c.builder_due.ensures (machine_of s.job) (past_of s) k.agrees k.orderly k.turns)
           refl,
       same_self s,
     ))

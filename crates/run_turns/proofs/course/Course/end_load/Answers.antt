@@ -145,8 +145,11 @@ returns-in-Bus c = λ can.
     c.mode-between.result e c.in-Bus.why can.keeps c.requires.cpu c.requires.going f took c.mode-between.ensures stands c.bus-told.result
     c.bus-told.ensures c.note.ensures.shape c.note.ensures.fits c.note.ensures.history) in (
       load_ends_so last (past_of s) e c.args.cpu c.args.page c.in-Bus.why f.frame
-          (took_past new last (e ∷ past_of s) can.told c.mode-between.result (bus_of c.args.cpu c.args.page c.in-Bus.why) stands.same second)
-          f.acts (sym (own_last (past_of s) c.args.cpu e f.by) ∙ end_last s can.told c.args.cpu c.args.page c.finish.new.driver c.finish.new.machine e c.in-Bus.why f),
+          (took_past new last (e ∷ past_of s) can.told c.mode-between.result (bus_of c.args.cpu c.args.page c.in-Bus.why)
+          stands.same second)
+          f.acts
+          (sym (own_last (past_of s) c.args.cpu e f.by)
+          ∙ end_last s can.told c.args.cpu c.args.page c.finish.new.driver c.finish.new.machine e c.in-Bus.why f),
       pair_grows s new last can.told can.spare c.args.cpu c.args.page c.finish.new.driver c.finish.new.machine c.mode-before.result
           c.mode-between.result e c.in-Bus.why can.keeps c.requires.cpu f took stands second,
     ))

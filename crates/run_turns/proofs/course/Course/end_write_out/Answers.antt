@@ -10,7 +10,8 @@ use Rattle.run_turns.proofs.course.Course.end_write_out.Goals as goal
 
 pub stored-entry-requires-clause-started : goal.stored-entry-requires-clause-started
 stored-entry-requires-clause-started g c =
-    (course_open c.args.self.now (g.S.Backing.told c.args.store.now) (g.S.Backing.spare c.args.store.now) c.requires.keeps c.requires.sealing).1
+    (course_open c.args.self.now (g.S.Backing.told c.args.store.now) (g.S.Backing.spare c.args.store.now)
+    c.requires.keeps c.requires.sealing).1
 
 pub stored-entry-requires-clause-place : goal.stored-entry-requires-clause-place
 stored-entry-requires-clause-place g c =

@@ -7,7 +7,8 @@ use Rattle.run_turns.proofs.course.Course.kick.Goals as goal
 
 pub loop-number-init : goal.loop-number-init
 loop-number-init c can = (
-  subst (λ ps. HasKicked c.args.self.now ps can.told c.args.self.now) (sym (below_zero can.cpus)) (none_kicked c.args.self.now c.args.bits can),
+  subst (λ ps. HasKicked c.args.self.now ps can.told c.args.self.now) (sym (below_zero can.cpus))
+      (none_kicked c.args.self.now c.args.bits can),
   sym (ap length (below_zero can.cpus)),
 )
 
@@ -18,7 +19,8 @@ kick_if-kicked-requires c set =
 
 pub overflow_add-kicked : goal.overflow_add-kicked
 overflow_add-kicked c =
-    let next = kicked_next c.args.self.now c.loop-number.self c.kick_if-kicked.new.self c.args.bits c.requires c.loop-number.number c.loop-number.kicked
+    let next = kicked_next c.args.self.now c.loop-number.self c.kick_if-kicked.new.self c.args.bits c.requires
+    c.loop-number.number c.loop-number.kicked
     c.kick_if-kicked.result c.loop-number-test.true (c.loop-number.invariant c.requires).0 (c.loop-number.invariant c.requires).1 _ refl
     c.kick_if-kicked.ensures.one c.kick_if-kicked.ensures.none in
     let few = few_below c.args.self.now c.args.bits c.requires (c.loop-number.number + 1) in

@@ -6,4 +6,6 @@ use Rattle.run_turns.proofs.course.Course.kick.Given as goal
 -- those below the number are kicked
 abbrev pub invariant-loop-number : goal.invariant-loop-number
 invariant-loop-number l =
-    (can : CanKick l.initial.self l.bits) → HasKicked l.initial.self (below l.number can.cpus) can.told l.self × (l.kicked ≡ length (below l.number can.cpus))
+    (can : CanKick l.initial.self l.bits)
+    → HasKicked l.initial.self (below l.number can.cpus) can.told l.self
+    × (l.kicked ≡ length (below l.number can.cpus))

@@ -10,5 +10,6 @@ pub returns : goal.returns
 returns c can =
     let e = c.record_entry.ensures in
     kicked_one c.args.self.now c.record_entry.new.self c.args.number can
-    (kick_goes c.args.self.now c.args.number can c.note.ensures.shape c.note.ensures.fits) c.note.ensures.history e.book e.kept e.room e.driver
+    (kick_goes c.args.self.now c.args.number can c.note.ensures.shape c.note.ensures.fits)
+    c.note.ensures.history e.book e.kept e.room e.driver
     e.others

@@ -137,7 +137,8 @@ returns-clause-rests g c = λ waits.
     let told = g.S.Backing.told c.args.store.now in
     let before = g.S.Backing.spare c.args.store.now in
     let ready = course_ready self told before k in
-    e.rests (followed_waits (record self { driver = c.step.new.driver; machine = c.step.new.machine; pass = c.step.new.self }) c.follow.new.self c.in_ok-turn.turn c.follow.result (g.S.Backing.told c.step.new.store)
+    e.rests (followed_waits (record self { driver = c.step.new.driver; machine = c.step.new.machine; pass = c.step.new.self })
+    c.follow.new.self c.in_ok-turn.turn c.follow.result (g.S.Backing.told c.step.new.store)
     (g.S.Backing.spare c.step.new.store) (c.follow.ensures (record {
       longer = g.S.Backing.told c.step.new.store;
       spare = g.S.Backing.spare c.step.new.store;

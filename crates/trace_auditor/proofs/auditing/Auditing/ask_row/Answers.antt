@@ -23,5 +23,6 @@ returns-clause-answer c =
     ] in
     out_of c.args.self.now c.args.entry.now _ c.ask.result (λ can. answered c.args.self.now c.args.entry.now can c.args.action.now
     c.requires.own c.requires.row _ c.ask.result
-    (applies c.args.self.now c.args.entry.now can c.args.action.now c.requires.own c.requires.row own) c.ask.ensures.takes c.ask.ensures.step
+    (applies c.args.self.now c.args.entry.now can c.args.action.now c.requires.own c.requires.row own)
+    c.ask.ensures.takes c.ask.ensures.step
     c.ask.ensures.cpus refl)

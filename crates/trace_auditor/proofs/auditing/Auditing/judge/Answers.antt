@@ -63,7 +63,8 @@ follow-requires c =
     let asked = asked_by j a e at script c.note.new.self c.ask.new.self c.in_ok-broken.broken (sym c.is_some.ensures ∙ c.if-is_some.false)
     (answered_by j a e at script c.note.new.self c.ask.new.self c.in_ok-broken.broken c.in_ok-broken.ensures.answer) in
     can_follow j a e at script c.note.new.self c.ask.new.self asked c.keeps_age-keeps_age.result c.keeps_age-keeps_age.ensures
-    c.if-not-keeps_age.false c.keeps_kick-keeps_kick.result c.keeps_kick-keeps_kick.ensures c.if-not-keeps_kick.false c.mode_of-before.result
+    c.if-not-keeps_age.false c.keeps_kick-keeps_kick.result c.keeps_kick-keeps_kick.ensures c.if-not-keeps_kick.false
+    c.mode_of-before.result
     c.start_ended-start.result c.mode_of-before.ensures c.start_ended-start.ensures c.note.ensures c.in_ok-broken.ensures.others
 
 pub returns : goal.returns
@@ -75,6 +76,7 @@ returns c = λ at.
     let asked = asked_by j a e at script c.note.new.self c.ask.new.self c.in_ok-broken.broken (sym c.is_some.ensures ∙ c.if-is_some.false)
     (answered_by j a e at script c.note.new.self c.ask.new.self c.in_ok-broken.broken c.in_ok-broken.ensures.answer) in
     judged j a e at script c.note.new.self c.ask.new.self asked c.keeps_age-keeps_age.result c.keeps_age-keeps_age.ensures
-    c.if-not-keeps_age.false c.keeps_kick-keeps_kick.result c.keeps_kick-keeps_kick.ensures c.if-not-keeps_kick.false c.mode_of-before.result
+    c.if-not-keeps_age.false c.keeps_kick-keeps_kick.result c.keeps_kick-keeps_kick.ensures c.if-not-keeps_kick.false
+    c.mode_of-before.result
     c.start_ended-start.result c.mode_of-before.ensures c.start_ended-start.ensures c.note.ensures c.in_ok-broken.ensures.others
     c.follow.new.self c.follow.ensures)
