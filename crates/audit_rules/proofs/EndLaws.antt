@@ -66,7 +66,8 @@ back-page past n g h v w s t one other =
     ∙ other.ends.loads) ∙ sym (moved-page other.told)
 
 write-out-version : (o : Option Start) (v w : ℕ) → EndsWriteOut o v → EndsWriteOut o w → v ≡ w
-write-out-version o v w one other = ap (λ (x : Start). x.version) (some-start (sym one.opened ∙ other.opened))
+write-out-version o v w one other =
+    sym one.told ∙ ap (λ (x : Start). x.version) (some-start (sym one.opened ∙ other.opened)) ∙ other.told
 
 module _ (j : JobView) (past : List Entry) (actor : Actor) (f : Frame) where
   abbrev out : Answer → Entry
@@ -98,7 +99,8 @@ module _ (j : JobView) (past : List Entry) (actor : Actor) (f : Frame) where
     of-version : (version : ℕ) (tag : List ℕ) → ScriptRule j past (out (answers.Moved g version tag)) → (version ≡ v → ⊥)
         → FailsHere j past (Some (out (answers.Moved g version tag))) rules.Evict
     of-version version tag script other =
-        evict_fails j past (out (answers.Moved g version tag)) script (refl, own-page version tag) (λ seen. absurd cc) (keeps.each rules.Fits refl)
+        evict_fails j past (out (answers.Moved g version tag)) script (refl, own-page version tag) (λ seen. absurd cc)
+        (keeps.each rules.Fits refl)
         (keeps.each rules.Stale refl) (λ h. other (write-out-version (open_start past f.0) version v h (keeps.each rules.Evict refl)))
 
     of-tag : (tag : List ℕ) → ScriptRule j past (out (answers.Moved g v tag)) → (tag ≡ t → ⊥)
@@ -148,7 +150,8 @@ module _ (j : JobView) (past : List Entry) (actor : Actor) (f : Frame) where
             → FailsHere j past (Some (out (answers.Moved p version tag))) (rule_out (answers.Moved p version tag) (answers.Moved g v t))
 
         by_test : (same_page page g ≡ true) ⊎ (same_page page g ≡ false)
-            → FailsHere j past (Some (out (answers.Moved page version tag))) (rule_out (answers.Moved page version tag) (answers.Moved g v t))
+            → FailsHere j past (Some (out (answers.Moved page version tag)))
+            (rule_out (answers.Moved page version tag) (answers.Moved g v t))
         by_test (inl same) = subst Says_of (sym (same_pages page g same)) (at-page version tag) script other
         by_test (inr differs) =
             rw differs (of-page page version tag script (λ e. clash differs (subst (λ x. same_page page x ≡ true) e (same_page-refl page))))
@@ -212,11 +215,13 @@ module _ (j : JobView) (past : List Entry) (actor : Actor) (f : Frame) where
         at-page held differs = rw (same_page-refl g) (back-at-page version tag held differs)
 
         by_test : (same_page page g ≡ true) ⊎ (same_page page g ≡ false)
-            → FailsHere j past (Some (back (answers.Moved page version tag))) (rule_back (answers.Moved page version tag) (answers.Moved g v t))
+            → FailsHere j past (Some (back (answers.Moved page version tag)))
+            (rule_back (answers.Moved page version tag) (answers.Moved g v t))
         by_test (inl same) = subst Says_of (sym (same_pages page g same)) at-page script other
         by_test (inr differs) =
             rw differs (refusal_fails j past (back (answers.Moved page version tag)) script (λ h.
-            clash differs (subst (λ x. same_page page x ≡ true) (back-page past f.0 page g version v tag t h.1 is-back) (same_page-refl page))))
+            clash differs (subst (λ x. same_page page x ≡ true) (back-page past f.0 page g version v tag t h.1 is-back)
+            (same_page-refl page))))
 
     back-other : (answer : Answer) → ScriptRule j past (back answer) → (answer ≡ answers.Moved g v t → ⊥)
         → FailsHere j past (Some (back answer)) (rule_back answer (answers.Moved g v t))
