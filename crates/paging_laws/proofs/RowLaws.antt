@@ -145,7 +145,8 @@ entry_otherwise saves saved enclave tcs v fields other = rw other refl
 -- a row by a TCS page, in the state and by the entries, for who is inside as they say
 entry_agrees_by : (saves : TcsSight → Case) (saved : TcsSight → ℕ) (s : State) (past : List Entry) (b b' : Bool) (enclave tcs tf sf : ℕ)
     → b ≡ b' → Stands s past
-    → first_of_row (by_fields saves saved enclave tcs (record (enter_sight s 0 (seat_of enclave tcs tf sf)) { is_inside = b })) ≡ first_of_row
+    → first_of_row (by_fields saves saved enclave tcs (record (enter_sight s 0 (seat_of enclave tcs tf sf)) { is_inside = b }))
+    ≡ first_of_row
     (by_fields saves saved enclave tcs (record (enter_sight_at s.frames past None (seat_of enclave tcs tf sf)) { is_inside = b' }))
 entry_agrees_by saves saved s past b b' enclave tcs tf sf same stands =
     by_page (tested (is_page v.tcs.content g)) (tested (is_tcs v.tcs.content))
@@ -260,7 +261,8 @@ refusal_told s past cpus a (Eld f) r can sound guarded stands refused = absurd c
 refusal_told s past cpus a (Init enclave expect) r can sound guarded stands refused =
     sym (init_agrees s past a enclave expect stands) ∙ refused
     ∙ sym (init_case (enclave_sight_of (s.enclaves enclave)) enclave expect r refused)
-refusal_told s past cpus a action r can sound guarded stands refused = sym (row_agrees s past cpus a action can sound guarded stands) ∙ refused
+refusal_told s past cpus a action r can sound guarded stands refused = sym (row_agrees s past cpus a action can sound guarded stands)
+    ∙ refused
 
 -- a refusal by the row says nothing of a measurement
 pub measure_told : (s : State) (past : List Entry) (a : Actor) (action : Action) (r : Refusal) → first_of_row (row_of s a action) ≡ Some r
