@@ -21,7 +21,7 @@ use Rattle.sgx_types.specs.Frames.{content}
 use Rattle.sgx_types.specs.Making.{Making}
 use Rattle.sgx_types.specs.Rules.{RefusalRule}
 use Rattle.sgx_types.specs.Sealed.{Sealed}
-use Rattle.sgx_types.specs.Starts.{Start, open_start}
+use Rattle.sgx_types.specs.Starts.{Start, open_start, BareStart, bare_start, without_place}
 use Rattle.sgx_types.specs.Table.{first_of_row, is_loading}
 use Rattle.sgx_types.proofs.Truths.{both_true, not_false, tested}
 use Rattle.seal_record.specs.Cipher.{tag}
@@ -78,7 +78,8 @@ no-end j past actor (Did action answer) f own none h =
     (action-inj own) h).1 in
     none back.page back.ends
 no-end j past actor (Refused action refusal) f own none h =
-    let back : IsNotBack past f.0 refusal = subst (λ a. RefusalRule (machine_of j) past (record { actor = actor; event = Refused a refusal }))
+    let back : IsNotBack past f.0 refusal = subst (λ a. RefusalRule (machine_of j) past
+    (record { actor = actor; event = Refused a refusal }))
     (action-inj own) h in
     none back.page back.ends
 no-end j past actor event f own none h = absurd (none-some own)
@@ -89,7 +90,8 @@ none_comes s e f own idle j past records h script = refusal_fails j past e scrip
   where
     none : (page : Page) → EndsIn past f.0 page → ⊥
     none page ends =
-        let loading = (starts_apart (machine_of j) past (keeps_moves (machine_of j) s past records h)).loading f.0 ends.start page ends.opened
+        let loading = (starts_apart (machine_of j) past (keeps_moves (machine_of j) s past records h)).loading f.0 ends.start page
+        ends.opened
         ends.loads in
         clash idle (ap is_loading (content_is h.shaped.shape.columns f.0 ∙ loading))
 
@@ -120,18 +122,20 @@ number-apart n e = by_test (tested (n == 0))
 
 module _ (k : Making) (s : State) (past : List Entry) (records : List Made) (f : Frame) (rec : Sealed)
     (h : StandsWithAllRules k s past records) (own : IsOwnRecord k.key past f.0 rec) where
-  own-start : (start : Start) → s.start f.0 ≡ Some start → own.start ≡ start
-  own-start start opened = some-start (sym own.opened ∙ sym (start_is h.shaped.shape.columns f.0) ∙ opened)
+  own-start : (start : BareStart) → s.start f.0 ≡ Some start → without_place own.start ≡ start
+  own-start start opened =
+      let e : Some (without_place own.start) ≡ Some start =
+      sym (ap bare_start own.opened) ∙ sym (start_is h.shaped.shape.columns f.0) ∙ opened in cc
 
   pub brings_in : BringsIn k.key past s f.0 rec
   brings_in start g opened loads =
-      let same : own.start ≡ start = own-start start opened in
-      let page : own.page ≡ g = some-page (sym own.loads ∙ ap (λ (x : Start). x.loads) same ∙ loads) in
-      subst (λ (x : Start). BringsBack k.key past f.0 g x.version rec) same
+      let same : without_place own.start ≡ start = own-start start opened in
+      let page : own.page ≡ g = some-page (sym own.loads ∙ ap (λ (x : BareStart). x.loads) same ∙ loads) in
+      subst (λ (x : BareStart). BringsBack k.key past f.0 g x.version rec) same
       (subst (λ p. BringsBack k.key past f.0 p own.start.version rec) page own.brings)
 
   own-page : (coming : IsComing s f.0) → own.page ≡ coming.page
-  own-page coming = some-page (sym own.loads ∙ ap (λ (x : Start). x.loads) (own-start coming.start coming.opened) ∙ coming.loads)
+  own-page coming = some-page (sym own.loads ∙ ap (λ (x : BareStart). x.loads) (own-start coming.start coming.opened) ∙ coming.loads)
 
   own-header : (coming : IsComing s f.0) → rec.header ≡ coming.header
   own-header coming =
@@ -145,7 +149,8 @@ module _ (k : Making) (s : State) (past : List Entry) (records : List Made) (f :
   -- its row refuses nothing
   allows : (coming : IsComing s f.0) → first_of_row (commit_row s f.0 coming rec) ≡ None
   allows coming =
-      let fits : bytes_eq rec.tag (tag s.key coming.start.version rec.header rec.cipher) ≡ true = (bytes_eq-Decides _ _).1 (own-tag coming) in
+      let fits : bytes_eq rec.tag (tag s.key coming.start.version rec.header rec.cipher) ≡ true = (bytes_eq-Decides _ _).1
+      (own-tag coming) in
       let headed : same_header rec.header coming.header ≡ true =
       subst (λ x. same_header rec.header x ≡ true) (own-header coming) (header-own rec.header) in
       rw (fits, headed) refl

@@ -18,7 +18,7 @@ use Rattle.sgx_types.specs.Ends.{EndsOut}
 use Rattle.sgx_types.specs.declared.names.Page.{Page}
 use Rattle.sgx_types.specs.Frames.{is_sealing, sealing_after}
 use Rattle.sgx_types.specs.Rules.{RefusalRule}
-use Rattle.sgx_types.specs.Starts.{Start, open_start, opened_by, version_told}
+use Rattle.sgx_types.specs.Starts.{Start, open_start, opened_by, version_told, BareStart}
 use Rattle.sgx_types.proofs.Truths.{tested}
 use Rattle.seal_record.specs.Cipher.{cipher, sealed, tag}
 use Rattle.seal_record.specs.Records.{Made}
@@ -57,40 +57,42 @@ loads-none page loads same none = let e = sym loads ∙ ap (λ (o : Option Start
     loads_in None = None
     loads_in (Some x) = x.loads
 
-writes-after : (event : Event) (n : ℕ) (o : Option Start) (b : Bool) → (Writes o → b ≡ true) → Writes (opened_by event n o)
+writes-after : (actor : Actor) (place : ℕ) (event : Event) (n : ℕ) (o : Option Start) (b : Bool) → (Writes o → b ≡ true)
+    → Writes (opened_by actor place event n o)
     → sealing_after event n b ≡ true
-writes-after (Did (EwbStart f slot) answer) n o b before w = by_test (tested (f.0 == n))
+writes-after actor place (Did (EwbStart f slot) answer) n o b before w = by_test (tested (f.0 == n))
   where
     by_test : ((f.0 == n) ≡ true) ⊎ ((f.0 == n) ≡ false) → (if f.0 == n then true else b) ≡ true
     by_test (inl is) = rw is refl
     by_test (inr differs) = rw differs (before (rw differs at w))
-writes-after (Did (Ewb f) answer) n o b before w = by_test (tested (f.0 == n))
+writes-after actor place (Did (Ewb f) answer) n o b before w = by_test (tested (f.0 == n))
   where
     by_test : ((f.0 == n) ≡ true) ⊎ ((f.0 == n) ≡ false) → (if f.0 == n then false else b) ≡ true
     by_test (inl is) = let v : Writes None = rw is at w in absurd (none-start v.1.0)
     by_test (inr differs) = rw differs (before (rw differs at w))
-writes-after (Did (EldStart f page slot) answer) n o b before w = by_test (tested (f.0 == n))
+writes-after actor place (Did (EldStart f page slot) answer) n o b before w = by_test (tested (f.0 == n))
   where
     by_test : ((f.0 == n) ≡ true) ⊎ ((f.0 == n) ≡ false) → b ≡ true
     by_test (inl is) =
-        let v : Writes (Some (record { slot = slot; version = version_told answer; loads = Some page })) = rw is at w in
+        let new : Start = record { slot = slot; version = version_told answer; loads = Some page; place = place; actor = actor } in
+        let v : Writes (Some new) = rw is at w in
         absurd (loads-none page refl v.1.0 v.1.1)
     by_test (inr differs) = before (rw differs at w)
-writes-after (Did (Eld f) answer) n o b before w = by_test (tested (f.0 == n))
+writes-after actor place (Did (Eld f) answer) n o b before w = by_test (tested (f.0 == n))
   where
     by_test : ((f.0 == n) ≡ true) ⊎ ((f.0 == n) ≡ false) → b ≡ true
     by_test (inl is) = let v : Writes None = rw is at w in absurd (none-start v.1.0)
     by_test (inr differs) = before (rw differs at w)
-writes-after (Refused (Eld f) refusal) n o b before w = by_test (tested (f.0 == n))
+writes-after actor place (Refused (Eld f) refusal) n o b before w = by_test (tested (f.0 == n))
   where
     by_test : ((f.0 == n) ≡ true) ⊎ ((f.0 == n) ≡ false) → b ≡ true
     by_test (inl is) = let v : Writes None = rw is at w in absurd (none-start v.1.0)
     by_test (inr differs) = before (rw differs at w)
-writes-after event n o b before w = before w
+writes-after actor place event n o b before w = before w
 
 is-leaving : (past : List Entry) (n : ℕ) → Writes (open_start past n) → is_sealing past n ≡ true
 is-leaving [] n w = absurd (none-start w.1.0)
-is-leaving (e ∷ past) n w = writes-after e.event n (open_start past n) (is_sealing past n) (is-leaving past n) w
+is-leaving (e ∷ past) n w = writes-after e.actor (length past) e.event n (open_start past n) (is_sealing past n) (is-leaving past n) w
 
 -- ---- so where none is on its way out there is nothing to end
 
@@ -113,14 +115,15 @@ no-end j past actor (Refused action refusal) f own still h =
     subst (λ a. RefusalRule (machine_of j) past (record { actor = actor; event = Refused a refusal })) (action-inj own) h
 no-end j past actor event f own still h = absurd (none-some own)
 
-pub none_leaves : (s : State) (e : Entry) (f : Frame) → action_of e.event ≡ Some (Ewb f) → s.is_sealing f.0 ≡ false → Breaks s e rules.Refusal
+pub none_leaves : (s : State) (e : Entry) (f : Frame) → action_of e.event ≡ Some (Ewb f) → s.is_sealing f.0 ≡ false
+    → Breaks s e rules.Refusal
 none_leaves s e f own still j past records h script =
     refusal_fails j past e script (no-end j past e.actor e.event f own (sym (sealing_is h.shaped.shape.columns f.0) ∙ still))
 
 -- ---- the end that the machine makes
 
-some-start : {x y : Start} → Some x ≡ Some y → x ≡ y
-some-start e = cc
+bare-start : {x y : BareStart} → Some x ≡ Some y → x ≡ y
+bare-start e = cc
 
 no-load : (event : Event) (f : Frame) → action_of event ≡ Some (Ewb f) → is_load_refused event ≡ false
 no-load (Did action answer) f own = refl
@@ -148,12 +151,13 @@ module _ (s t : State) (e made : Entry) (f : Frame) (rec : Sealed) (own : action
 
   pub out_apart : (rule : Rule) → same_end e.event made.event ≡ false → Tells e made rule → Breaks s e rule
   out_apart rule unlike tells =
-      broken s t (Ewb f) e made (given_out made.event rec) rule own is (no-load e.event f own) (no-load made.event f is.action_is) unlike history
+      broken s t (Ewb f) e made (given_out made.event rec) rule own is (no-load e.event f own)
+      (no-load made.event f is.action_is) unlike history
       tells
 
   module _ (key : List ℕ) (version : ℕ) (header : Header) (plain : List ℕ) (seals : SealsPage s f.0 key version header plain) where
     own-version : step.leaving.start.version ≡ version
-    own-version = ap (λ (x : Start). x.version) (some-start (sym step.leaving.opened ∙ seals.leaving.opened)) ∙ sym seals.version
+    own-version = ap (λ (x : BareStart). x.version) (bare-start (sym step.leaving.opened ∙ seals.leaving.opened)) ∙ sym seals.version
 
     own-record : rec ≡ sealed key version step.leaving.header plain
     own-record = step.sealed ∙ (λ i. sealed (sym seals.key i) (own-version i) step.leaving.header (sym seals.plain i))

@@ -52,6 +52,7 @@ module _ (past : List Entry) (a : Actor) (f : Frame) (found other : Refusal) whe
         taken = λ b. let t = (h.shape.busy g).taken b in record { cpu = t.cpu; by = t.by };
         busy = λ t. (h.shape.busy g).busy (record { cpu = t.cpu; by = t.by });
       };
+      slot_busy = h.shape.slot_busy;
     };
     frames = h.frames;
     stale = stale h.stale;

@@ -66,7 +66,8 @@ back-page past n g h v w s t one other =
     ∙ other.ends.loads) ∙ sym (moved-page other.told)
 
 write-out-version : (o : Option Start) (v w : ℕ) → EndsWriteOut o v → EndsWriteOut o w → v ≡ w
-write-out-version o v w one other = ap (λ (x : Start). x.version) (some-start (sym one.opened ∙ other.opened))
+write-out-version o v w one other =
+    sym one.told ∙ ap (λ (x : Start). x.version) (some-start (sym one.opened ∙ other.opened)) ∙ other.told
 
 module _ (j : JobView) (past : List Entry) (actor : Actor) (f : Frame) where
   abbrev out : Answer → Entry

@@ -29,7 +29,7 @@ use Rattle.version_array.specs.Keeper.{Keeper, count_out}
 use Rattle.paging_laws.specs.Steps.{did_by, refused_by}
 use Rattle.paging_machine.specs.declared.starts.Start as starts
 use Rattle.paging_machine.specs.Parts.{Parts, start_of}
-use Rattle.driver_rules.specs.Places.{Loading, place}
+use Rattle.driver_rules.specs.Places.{Loading, place, Away}
 use Rattle.driver_rules.specs.Turns.{Fails, Last, Loads, Other, WasEnded, last_of}
 use Rattle.driver_laws.specs.Agrees.{loaded_by}
 use Rattle.driver_laws.specs.Counted.{CountMoves}
@@ -140,15 +140,15 @@ module _ (j : JobView) (past : List Entry) (d : Driver) (m : Parts) (agrees : Ag
       → new ≡ with_gone start (Moved page version tag) d
       → IsFollowed j past d (did_by actors.Reclaimer (actions.Ewb f) (Moved page version tag)) new
   gone f page version tag law does = record {
-    shows = shows_gone j d new past f page version tag (record { slot = x.slot; version = x.version; loads = x.loads }) (states.Away x.slot)
-        law.can (sym (law.opened f refl) ∙ ap start_of at.1) refl agrees.sound (has_place j past d m agrees page (ap is_absent law.can.0))
+    shows = shows_gone j d new past f page version tag law.can.1.0 (states.Away x.slot)
+        law.can law.can.1.1 (ap Away at.2) agrees.sound (has_place j past d m agrees page (ap is_absent law.can.0))
         only tables;
     counts = ap (λ (y : Driver). count_out y.slots) only;
     own = ap (λ (y : Driver). y.active.own) only;
     arrays = in_pass (Did (actions.Ewb f) (Moved page version tag)) law;
   }
     where
-      at : (y : starts.Start) × (start ≡ Some y)
+      at : (y : starts.Start) × (start ≡ Some y) × (y.slot ≡ law.can.1.0.slot)
       at = opened_as start (open_start past f.0) law.can.1.0 (law.opened f refl) law.can.1.1
 
       x : starts.Start

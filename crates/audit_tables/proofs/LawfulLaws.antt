@@ -10,7 +10,7 @@ use Rattle.sgx_types.specs.declared.entries.Event.{Event}
 use Rattle.sgx_types.specs.declared.entries.Event.TheVariants.{Did, Refused, Age, Kick, Bus}
 use Rattle.sgx_types.specs.declared.names.Frame.{Frame}
 use Rattle.sgx_types.specs.Rules.{RefusalRule}
-use Rattle.sgx_types.specs.Starts.{open_start}
+use Rattle.sgx_types.specs.Starts.{bare_start, open_start}
 use Rattle.cached_translations.specs.declared.processor.Mode.{Mode}
 use Rattle.job_grammar.specs.Jobs.{JobView}
 use Rattle.turn_rules.specs.Machines.{machine_of}
@@ -41,7 +41,7 @@ pub record IsLawful (j : JobView) (past : List Entry) (start : Option starts.Sta
   pub refusal : RefusalRule (machine_of j) past e
   pub can : CanMove past e.event
   pub starts : StartTells past e.event
-  pub opened : (f : Frame) → frame_ended e.event ≡ Some f → start_of start ≡ open_start past f.0
+  pub opened : (f : Frame) → frame_ended e.event ≡ Some f → start_of start ≡ bare_start (open_start past f.0)
 
 pub lawful : (t : Turns) (d : Driver) (before : Mode) (start : Option starts.Start) (e : Entry) (can : CanFollow t d before start e)
     → IsLawful can.j can.past start e

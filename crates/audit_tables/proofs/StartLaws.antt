@@ -13,7 +13,7 @@ use Rattle.sgx_types.specs.declared.names.SlotAt.{SlotAt}
 use Rattle.sgx_types.specs.Frames.{Content, IsVa, content, same_page}
 use Rattle.sgx_types.specs.Making.{Making}
 use Rattle.sgx_types.specs.Sights.{drain_sight_at, row_at, sight_at, slot_sight_at}
-use Rattle.sgx_types.specs.Starts.{Start, loads_page, open_start}
+use Rattle.sgx_types.specs.Starts.{BareStart, Start, bare_start, loads_page, open_start, without_place}
 use Rattle.sgx_types.specs.Table.{ewbstart_row, first_of_row, is_va as is_va_in}
 use Rattle.job_grammar.specs.Jobs.{JobView}
 use Rattle.version_array.specs.Keeper.{Keeper, is_out}
@@ -27,10 +27,23 @@ use Rattle.audit_tables.specs.Naming.{IsLeft}
 -- ---- the start that ends
 
 -- where one is open there is one
-pub opened_as : (s : Option starts.Start) (o : Option Start) (x : Start) → start_of s ≡ o → o ≡ Some x
-    → (y : starts.Start) × (s ≡ Some y)
-opened_as None o x same is = absurd (let bad : None ≡ Some x = same ∙ is in cc)
-opened_as (Some y) o x same is = (y, refl)
+pub opened_as : (s : Option starts.Start) (o : Option Start) (x : Start) → start_of s ≡ bare_start o → o ≡ Some x
+    → (y : starts.Start) × (s ≡ Some y) × (y.slot ≡ x.slot)
+opened_as None o x same is = absurd (let bad : None ≡ Some (without_place x) = same ∙ ap bare_start is in cc)
+opened_as (Some y) o x same is =
+    let both : start_of (Some y) ≡ Some (without_place x) = same ∙ ap bare_start is in (y, refl, slots both)
+  where
+    slots : start_of (Some y) ≡ Some (without_place x) → y.slot ≡ x.slot
+    slots h = ap (λ (o : Option BareStart). slot_or o) h
+      where
+        slot_or : Option BareStart → SlotAt
+        slot_or None = x.slot
+        slot_or (Some z) = z.slot
+
+-- the slot of a start that loads this page, without its place and its actor
+abbrev bare_slot : Option BareStart → Page → Option SlotAt
+bare_slot None g = None
+bare_slot (Some x) g = slot_if (loads_page x.loads g) x.slot
 
 -- the start of a load: the page comes back from its slot
 pub record IsOfLoad (past : List Entry) (f : ℕ) (page : Page) (s : Option starts.Start) : Type 0 where
@@ -40,12 +53,16 @@ pub record IsOfLoad (past : List Entry) (f : ℕ) (page : Page) (s : Option star
   pub loads : start.loads ≡ Some page
 
 pub open_load : (past : List Entry) (f : ℕ) (page : Page) (slot : SlotAt) (s : Option starts.Start) → IsSound past
-    → place past page ≡ Loading f slot → start_of s ≡ open_start past f → IsOfLoad past f page s
+    → place past page ≡ Loading f slot → start_of s ≡ bare_start (open_start past f) → IsOfLoad past f page s
 open_load past f page slot s sound at opened = by_start s refl named
   where
-    named : load_slot (start_of s) page ≡ Some slot
+    same_slot_of : (o : Option Start) → bare_slot (bare_start o) page ≡ load_slot o page
+    same_slot_of None = refl
+    same_slot_of (Some x) = refl
+
+    named : bare_slot (start_of s) page ≡ Some slot
     named =
-        ap (λ o. load_slot o page) opened ∙ sound.places.loads page f ∙ ap (λ p. slot_loading p f) at
+        ap (λ o. bare_slot o page) opened ∙ same_slot_of (open_start past f) ∙ sound.places.loads page f ∙ ap (λ p. slot_loading p f) at
         ∙ ap (λ b. slot_if b slot) (eq-eqb f f refl)
 
     by_test : (x : starts.Start) (g : Page) (b : Bool) → s ≡ Some x → x.loads ≡ Some g → same_page g page ≡ b
@@ -60,7 +77,7 @@ open_load past f page slot s sound at opened = by_start s refl named
     by_loads x None is loads k = absurd cc
     by_loads x (Some g) is loads k = by_test x g (same_page g page) is loads refl k
 
-    by_start : (o : Option starts.Start) → s ≡ o → load_slot (start_of o) page ≡ Some slot → IsOfLoad past f page s
+    by_start : (o : Option starts.Start) → s ≡ o → bare_slot (start_of o) page ≡ Some slot → IsOfLoad past f page s
     by_start None is k = absurd cc
     by_start (Some x) is k = by_loads x x.loads is refl k
 

@@ -6,7 +6,7 @@ use Rattle.sgx_types.specs.declared.entries.Entry.{Entry}
 use Rattle.sgx_types.specs.declared.entries.Event.{Event}
 use Rattle.sgx_types.specs.declared.entries.Event.TheVariants.{Did, Refused}
 use Rattle.sgx_types.specs.declared.names.Frame.{Frame}
-use Rattle.sgx_types.specs.Starts.{open_start}
+use Rattle.sgx_types.specs.Starts.{bare_start, open_start}
 use Rattle.cached_translations.specs.declared.processor.Mode.{Mode}
 use Rattle.job_grammar.specs.Jobs.{JobView}
 use Rattle.turn_rules.specs.Script.{action_of}
@@ -45,7 +45,7 @@ pub record CanFollow (t : Turns) (d : Driver) (before : Mode) (start : Option st
   pub step : (action : Action) → action_of e.event ≡ Some action → is_plain action ≡ true
       → IsStep (state_of m) e.actor action e (state_of m')
   pub stood : before ≡ mode_of m e.actor
-  pub opened : (f : Frame) → frame_ended e.event ≡ Some f → start_of start ≡ open_start past f.0
+  pub opened : (f : Frame) → frame_ended e.event ≡ Some f → start_of start ≡ bare_start (open_start past f.0)
 
 -- the tables behind the entry
 pub record IsFollowed (j : JobView) (past : List Entry) (old : Driver) (e : Entry) (new : Driver) : Type 0 where

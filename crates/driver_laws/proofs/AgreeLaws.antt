@@ -20,20 +20,22 @@ use Rattle.sgx_types.specs.declared.names.Page.{Page}
 use Rattle.sgx_types.specs.declared.names.SlotAt.{SlotAt}
 use Rattle.sgx_types.specs.declared.refusals.Refusal.{Refusal}
 use Rattle.sgx_types.specs.Frames.{Content, Free, Holds, IsLoading, IsVa, SecsOf, added, content, is_page, page_at, reloaded, same_page}
-use Rattle.sgx_types.specs.Slots.{is_slot_busy, names_slot, open_slot, same_slot, version_in}
-use Rattle.sgx_types.specs.Starts.{Start, open_start}
+use Rattle.sgx_types.specs.Slots.{is_slot_busy, names_slot, open_slot, same_slot, version_in, IsIdle}
+use Rattle.sgx_types.specs.Starts.{Start, open_start, version_told}
 use Rattle.version_array.specs.Keeper.{Adds, Gives, Keeper, Takes, is_added, is_out}
 use Rattle.job_grammar.specs.Jobs.{JobView, va_pages}
 use Rattle.driver_laws.specs.Agrees.{ShowsSlots, has_pages, is_va}
 use Rattle.driver_laws.specs.Kinds.{CanMove, is_quiet}
 use Rattle.driver_rules.specs.Places.{Leaving, Loading, place}
 use Rattle.sgx_types.specs.Slots.{slot_of as starts_slot}
+use Rattle.sgx_types.proofs.Busy.{idle_ended, idle_freed, idle_started}
 use Rattle.driver_laws.specs.Sound.{IsSound, is_loading, load_slot, slot_at, slot_loading, slot_of, stands_in}
 use Rattle.driver_laws.proofs.PlaceLaws.{load_slot_is, same_page-refl}
 use Rattle.driver_laws.proofs.SlotLaws.{same_slot-refl}
 use Rattle.driver_laws.proofs.ThreeEntryLaws.{or_left, or_right}
 use Rattle.driver_laws.proofs.SoundLaws.{entry_of, load_start, named}
 use Rattle.driver_laws.proofs.SlotMoves.{SameSlots, same_add, same_age, same_eldstart, same_ewb, same_refused, slot_back, slot_back_other, slot_started, slot_started_other}
+use Rattle.driver_laws.proofs.AloneLaws.{alone}
 
 -- a slot that is not out is no page's, so a write-out may begin with it
 pub kept_is_free : (j : JobView) (keeper : Keeper) (past : List Entry) (slot : SlotAt) → ShowsSlots j keeper past
@@ -47,14 +49,14 @@ shows_same : (j : JobView) (keeper : Keeper) (past : List Entry) (e : Entry) →
     → ((n : ℕ) → is_va (content (e ∷ past) n) ≡ is_va (content past n)) → (has_pages (e ∷ past) ≡ true → length keeper.frames ≡ va_pages j)
     → SameSlots past e
     → ((slot : SlotAt) → is_out keeper slot ≡ false
-    → (version_in (e ∷ past) slot ≡ version_in past slot) × (is_slot_busy (e ∷ past) slot ≡ is_slot_busy past slot))
+    → (version_in (e ∷ past) slot ≡ version_in past slot) × (IsIdle past slot → IsIdle (e ∷ past) slot))
     → ShowsSlots j keeper (e ∷ past)
 shows_same j keeper past e s arrays made same kept = record {
   frames = λ n. s.frames n ∙ sym (arrays n);
   made = made;
   out = λ slot is_out_now. let owner = s.out slot is_out_now in (owner.0, same owner.0 ∙ owner.1);
   used = λ g slot at. s.used g slot (sym (same g) ∙ at);
-  empty = λ slot free. let old = s.empty slot free in let stays = kept slot free in (stays.0 ∙ old.0, stays.1 ∙ old.1);
+  empty = λ slot free. let old = s.empty slot free in let stays = kept slot free in (stays.0 ∙ old.0, stays.1 old.1);
 }
 
 -- a free frame takes something that is no version array page
@@ -85,7 +87,7 @@ shows_add j keeper past a e n f kind perm init answer can made s =
     shows_same j keeper past (entry_of a (Did (Add e n f kind perm init) answer)) s
     (λ m. not_array past f.0 m (Holds (page_at e n) kind perm) can.0 refl) (λ h. made)
     (same_add past a e n f kind perm init answer can)
-    (λ slot free. (refl, refl))
+    (λ slot free. (refl, λ idle. idle))
 
 -- a load starts
 pub shows_eldstart : (j : JobView) (keeper : Keeper) (past : List Entry) (a : Actor) (f : Frame) (page : Page) (slot : SlotAt)
@@ -95,7 +97,9 @@ shows_eldstart j keeper past a f page slot answer can sound s =
     shows_same j keeper past (entry_of a (Did (EldStart f page slot) answer)) s
     (λ m. not_array past f.0 m (IsLoading page) can.0 refl) s.made
     (same_eldstart past a f page slot answer can sound)
-    (λ t free. (refl, rw (out_apart keeper slot t (s.used page slot (ap (slot_at (open_start past)) can.1)) free) refl))
+    (λ t free. (refl, idle_started past f.0
+    (record { slot = slot; version = version_told answer; loads = Some page; place = length past; actor = a }) t
+    (out_apart keeper slot t (s.used page slot (ap (slot_at (open_start past)) can.1)) free)))
 
 -- a frame that loads is no version array page
 loading_no_array : (c : Content) → is_loading c ≡ true → is_va c ≡ false
@@ -164,10 +168,12 @@ shows_ewbstart j old new past a f slot answer page at none sound takes s = recor
     by_used g t false is k = or_right (same_slot slot t) (is_out old t) (s.used g t (sym (others g is) ∙ k))
 
     by_empty : (t : SlotAt) (b : Bool) → same_slot slot t ≡ b → (c : Bool) → is_out old t ≡ c → (b || c) ≡ false
-        → (version_in past t ≡ 0) × ((if same_slot slot t then true else is_slot_busy past t) ≡ false)
+        → (version_in past t ≡ 0) × IsIdle (entry ∷ past) t
     by_empty t true is c free k = cc
     by_empty t false is true free k = cc
-    by_empty t false is false free k = let before = s.empty t free in (before.0, rw is before.1)
+    by_empty t false is false free k =
+        let before = s.empty t free in (before.0, idle_started past f.0
+        (record { slot = slot; version = version_told answer; loads = None; place = length past; actor = a }) t is before.1)
 
 -- its end leaves the slot with the page
 pub shows_ewb : (j : JobView) (keeper : Keeper) (past : List Entry) (a : Actor) (f : Frame) (page : Page) (version : ℕ) (tag : List ℕ)
@@ -176,11 +182,7 @@ pub shows_ewb : (j : JobView) (keeper : Keeper) (past : List Entry) (a : Actor) 
 shows_ewb j keeper past a f page version tag can sound s =
     shows_same j keeper past (entry_of a (Did (Ewb f) (Moved page version tag))) s (λ n. arrays n (f.0 == n) refl) s.made
     (same_ewb past a f page version tag can sound)
-    (λ t free. (
-      rw (named past f.0 x can.1.1, out_apart keeper x.slot t mine free) refl,
-      rw
-          (named past f.0 x can.1.1, out_apart keeper x.slot t mine free) refl,
-    ))
+    (λ t free. (rw (named past f.0 x can.1.1, out_apart keeper x.slot t mine free) refl, idle_ended past f.0 t))
   where
     x : Start
     x = can.1.0
@@ -272,10 +274,13 @@ shows_eld j old new past a f page version tag slot loading sound gives s = recor
         rw (slots_apart g t (same_slot slot t) refl same before) (s.used g t before)
 
     by_empty : (t : SlotAt) (b : Bool) → same_slot slot t ≡ b → (not b && is_out old t) ≡ false
-        → ((if names_slot (open_slot past f.0) t then 0 else version_in past t) ≡ 0) ×
-        ((if names_slot (open_slot past f.0) t then false else is_slot_busy past t) ≡ false)
-    by_empty t true is k = (rw (names, is) refl, rw (names, is) refl)
-    by_empty t false is k = let before = s.empty t k in (rw (names, is) before.0, rw (names, is) before.1)
+        → ((if names_slot (open_slot past f.0) t then 0 else version_in past t) ≡ 0) × IsIdle (entry ∷ past) t
+    by_empty t true is k = (rw (names, is) refl, idle_freed past f.0 t alone_by)
+      where
+        alone_by : (n : ℕ) (x : Start) → open_start past n ≡ Some x → x.slot ≡ t → f.0 ≡ n
+        alone_by n x is_open same =
+            (alone past sound).apart f.0 n start.0 x start.1 is_open (start.2 ∙ same_slots slot t is ∙ sym same)
+    by_empty t false is k = let before = s.empty t k in (rw (names, is) before.0, idle_ended past f.0 t before.1)
 
 -- a refused load leaves the slot with the page
 pub shows_refused : (j : JobView) (keeper : Keeper) (past : List Entry) (a : Actor) (f : Frame) (refusal : Refusal)
@@ -284,7 +289,7 @@ pub shows_refused : (j : JobView) (keeper : Keeper) (past : List Entry) (a : Act
 shows_refused j keeper past a f refusal can sound s =
     shows_same j keeper past (entry_of a (Refused (Eld f) refusal)) s (λ n. arrays n (f.0 == n) refl) s.made
     (same_refused past a f refusal can sound)
-    (λ t free. (refl, rw (names, out_apart keeper slot t mine free) refl))
+    (λ t free. (refl, idle_ended past f.0 t))
   where
     page : Page
     page = can.0
@@ -346,12 +351,13 @@ pub shows_create : (j : JobView) (keeper : Keeper) (past : List Entry) (a : Acto
     → ShowsSlots j keeper (entry_of a (Did (Create e f base size) answer) ∷ past)
 shows_create j keeper past a e f base size answer free s =
     shows_same j keeper past (entry_of a (Did (Create e f base size) answer)) s (λ n. not_array past f.0 n (SecsOf e) free refl) s.made
-    (λ g. refl) (λ t k. (refl, refl))
+    (λ g. refl) (λ t k. (refl, λ idle. idle))
 
 pub shows_age : (j : JobView) (keeper : Keeper) (past : List Entry) (a : Actor) (page : Page) (look : Look) → IsSound past
     → ShowsSlots j keeper past → ShowsSlots j keeper (entry_of a (Age page look) ∷ past)
 shows_age j keeper past a page look sound s =
-    shows_same j keeper past (entry_of a (Age page look)) s (λ n. refl) s.made (same_age past a page look sound) (λ t k. (refl, refl))
+    shows_same j keeper past (entry_of a (Age page look)) s (λ n. refl) s.made (same_age past a page look sound)
+    (λ t k. (refl, λ idle. idle))
 
 -- an entry that moves no page, takes no frame and starts nothing
 abbrev pub is_slotless : Event → Bool

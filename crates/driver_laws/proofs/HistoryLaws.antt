@@ -29,7 +29,7 @@ use Rattle.sgx_types.specs.Flat.{FlatPage, added_as, enclave_sight, flat}
 use Rattle.sgx_types.specs.Frames.{Content, Free, Holds, IsLoading, IsVa, SecsOf, content, free_from, is_free, is_page, least_free, page_at}
 use Rattle.sgx_types.specs.Rules.{FitsRule, RefusalRule}
 use Rattle.sgx_types.specs.Sights.{drain_sight_at, row_at, sight_at, slot_sight_at}
-use Rattle.sgx_types.specs.Slots.{is_slot_busy, next_version, version_in}
+use Rattle.sgx_types.specs.Slots.{is_slot_busy, next_version, version_in, IsIdle}
 use Rattle.sgx_types.specs.Starts.{Start, is_load_of, open_start}
 use Rattle.sgx_types.specs.Table.{EnclaveSight, FrameSight, add_row, ewbstart_row, first_of_row}
 use Rattle.job_grammar.specs.Jobs.{JobView}
@@ -43,6 +43,7 @@ use Rattle.driver_rules.specs.Scripts.{IsActors, ScriptRule}
 use Rattle.driver_laws.specs.Stages.{KeepsPages}
 use Rattle.driver_laws.proofs.StageLaws.{first_pages, pages_kept}
 use Rattle.sgx_types.specs.Slots.{slot_of as slot_of_start}
+use Rattle.sgx_types.proofs.Busy.{idle_apart, not_busy_idle}
 use Rattle.driver_laws.specs.Sound.{IsSound, is_absent, load_slot, slot_at, slot_if, slot_loading, slot_of, stands_in, version_out}
 use Rattle.driver_laws.specs.Tracks.{KeepsTracks, is_reclaimers}
 use Rattle.driver_rules.specs.Dues.{Due, Ends, Fetches, Finished, IsFetch, IsNext, KicksAll, LooksAt, Makes, Reports, Stopped, TriesOut, Waits}
@@ -168,7 +169,7 @@ ends_in past f page s e = (
 -- ---- slots that are free
 
 abbrev IsEmpty : List Entry → SlotAt → Type 0
-IsEmpty past slot = (version_in past slot ≡ 0) × (is_slot_busy past slot ≡ false)
+IsEmpty past slot = (version_in past slot ≡ 0) × IsIdle past slot
 
 -- a page's slot is not empty
 used_slot : (k : Making) (past : List Entry) (slot : SlotAt) → 1 ≤ k.first_version → IsSound past → KeepsMoves k past → IsEmpty past slot
@@ -186,8 +187,7 @@ used_slot k past slot positive s keeps empty g at = by_place (place past g) refl
     started : (n : ℕ) (o : Option Start) → open_start past n ≡ o → slot_of_start o ≡ Some slot → ⊥
     started n None is told = cc
     started n (Some x) is told =
-        let same : x.slot ≡ slot = cc in
-        false≢true (sym empty.1 ∙ ap (is_slot_busy past) (sym same) ∙ (starts_apart k past keeps).busy n x is)
+        let same : x.slot ≡ slot = cc in idle_apart past slot n x empty.1 is same
 
     by_place : (p : Place) → place past g ≡ p → slot_at (open_start past) p ≡ Some slot → ⊥
     by_place Absent here told = cc
@@ -235,22 +235,22 @@ leaving_there past f g page kind perm s at held =
 
 -- ---- each entry can move its page
 
-empty_row : (k : Making) (past : List Entry) (f : Frame) (slot : SlotAt) (is_spent : Bool)
+empty_row : (k : Making) (past : List Entry) (f : Frame) (slot : SlotAt) (is_spent : Bool) → KeepsMoves k past
     → NoneHolds (ewbstart_row (sight_at k.frames past f.0) (slot_sight_at k.frames past slot)
     (drain_sight_at k.first_epoch past f.0) is_spent) → IsEmpty past slot
-empty_row k past f slot is_spent none = (
+empty_row k past f slot is_spent keeps none = (
   eqb-true (version_in past slot) 0 (not_not (version_in past slot == 0) none.1.1.1.1.1.1.0),
-  (neither _ (is_slot_busy past slot) none.1.0).1,
+  not_busy_idle k.frames past slot (starts_apart k past keeps).below (neither _ (is_slot_busy k.frames past slot) none.1.0).1,
 )
   where
     not_not : (b : Bool) → not b ≡ false → b ≡ true
     not_not true h = refl
     not_not false h = cc
 
-empty_slot : (k : Making) (past : List Entry) (a : Actor) (f : Frame) (slot : SlotAt)
+empty_slot : (k : Making) (past : List Entry) (a : Actor) (f : Frame) (slot : SlotAt) → KeepsMoves k past
     → first_of_row (row_at k past a (actions.EwbStart f slot)) ≡ None → IsEmpty past slot
-empty_slot k past a f slot h =
-    empty_row k past f slot (next_version k.first_version past == 2 ^ 64) (none_holds (row_at k past a (actions.EwbStart f slot)) h)
+empty_slot k past a f slot keeps h =
+    empty_row k past f slot (next_version k.first_version past == 2 ^ 64) keeps (none_holds (row_at k past a (actions.EwbStart f slot)) h)
 
 -- an entry that keeps the rules can move its page
 pub can_move : (k : Making) (j : JobView) (past : List Entry) (e : Entry) → 1 ≤ k.first_version → IsSound past → KeepsMoves k (e ∷ past)
@@ -287,7 +287,7 @@ can_move k j past e positive s keeps fits script age = by_event e.event keeps.re
     by_event (Age page look) refusal fit sc ag = (reclaimed j past e.actor (Age page look) sc ag refl).0.head
     by_event (Did (actions.EwbStart f slot) answer) refusal fit sc ag = (
       start_frame j past f slot answer (pass j past) (reclaimed j past e.actor (Did (actions.EwbStart f slot) answer) sc ag refl).1,
-      used_slot k past slot positive s before (empty_slot k past e.actor f slot refusal.0),
+      used_slot k past slot positive s before (empty_slot k past e.actor f slot before refusal.0),
     )
     by_event (Did (actions.Ewb f) (Moved page version tag)) refusal fit sc ag =
         let out = refusal.1 in

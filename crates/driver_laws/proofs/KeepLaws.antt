@@ -36,7 +36,7 @@ first_shows j pages = record {
   made = λ h. cc;
   out = λ slot h. cc;
   used = λ g slot h. cc;
-  empty = λ slot h. (refl, refl);
+  empty = λ slot h. (refl, λ n. refl);
 }
 
 pub stays_shown : (j : JobView) (old new : Keeper) (past : List Entry) (e : Entry) → IsSound past → CanMove past e.event

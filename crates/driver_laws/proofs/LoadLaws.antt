@@ -1,5 +1,5 @@
 -- Each open start of a load stays one processor's, one entry longer.
-use Rattle.std.proofs.Common.{◌≡◌, ℕ, ◌==◌, ◌≤◌, Bool, true, false, if◌then◌else◌, refl, sym, ◌∙◌, ap, List, [], ◌∷◌, Option, Some, None, is_some}
+use Rattle.std.proofs.Common.{◌≡◌, ℕ, ◌==◌, ◌≤◌, Bool, true, false, if◌then◌else◌, refl, sym, ◌∙◌, ap, List, [], ◌∷◌, Option, Some, None, is_some, length}
 use Rattle.std.proofs.lemmas.Bool.{eqb-true, eq-eqb, false≢true}
 use Rattle.sgx_types.specs.declared.entries.Action.{Action}
 use Rattle.sgx_types.specs.declared.entries.Action.TheVariants as actions
@@ -195,9 +195,11 @@ loads_kept past e s can no_start no_end n = by_event e.event can no_start no_end
     by_frame f false x g is none at = refl
 
     by_event : (ev : Event) → CanMove past ev → begins ev ≡ false → load_ended ev ≡ None
-        → load_of (opened_by ev n (open_start past n)) ≡ load_of (open_start past n)
+        → load_of (opened_by e.actor (length past) ev n (open_start past n)) ≡ load_of (open_start past n)
     by_event (Did (actions.EwbStart f slot) answer) c h k =
-        by_frame f.0 (f.0 == n) (Some (record { slot = slot; version = version_told answer; loads = None })) c.0.0 refl refl c.0.1
+        by_frame f.0 (f.0 == n)
+        (Some (record { slot = slot; version = version_told answer; loads = None; place = length past; actor = e.actor })) c.0.0 refl refl
+        c.0.1
     by_event (Did (actions.Ewb f) (Moved page version tag)) c h k = by_frame f.0 (f.0 == n) None page refl refl c.0
     by_event (Did (actions.Ewb f) answer) c h k = absurd c
     by_event (Did (actions.EldStart f page slot) answer) c h k = absurd (false≢true (sym h))
@@ -272,7 +274,8 @@ by_free past c ev s can none no_end h = by_begin (begins ev) refl
   where
     starts : (x : Event) → CanMove past x → begins x ≡ true → LoadsAreTheirs (entry_of (actors.Cpu c) x ∷ past)
     starts (Did (actions.EldStart f page slot) answer) k b =
-        let new : Start = record { slot = slot; version = version_told answer; loads = Some page } in
+        let new : Start =
+        record { slot = slot; version = version_told answer; loads = Some page; place = length past; actor = actors.Cpu c } in
         loads_same (λ m. load_of (if f.0 == m then Some new else open_start past m))
         (λ m. if f.0 == m then Some page else load_of (open_start past m)) (λ p. if c.0 == p then Loads f.0 page else last_of past p)
         (λ m. opens_load (open_start past) f.0 m (Some new) (f.0 == m) refl)
@@ -312,8 +315,8 @@ stays_theirs past e s can rule h = by_actor e.actor rule
     by_last c Other is k = by_free past c e.event s can (none_loads (last_of past c.0) (ap frame_loaded is)) k h
 
     by_actor : (a : Actor) → TheirRule past a e.event → LoadsAreTheirs (entry_of a e.event ∷ past)
-    by_actor actors.Builder k = by_none past e s can k h
-    by_actor actors.Reclaimer k = by_none past e s can k h
+    by_actor actors.Builder k = by_none past (entry_of actors.Builder e.event) s can k h
+    by_actor actors.Reclaimer k = by_none past (entry_of actors.Reclaimer e.event) s can k h
     by_actor (actors.Cpu c) k = by_last c (last_of past c.0) refl k
 
 -- ---- all along

@@ -12,6 +12,7 @@ use Rattle.driver_rules.specs.Places.{Absent, Away, Here, Leaving, Loading, Plac
 use Rattle.driver_laws.specs.Sound.{PlacesAreFrames, is_load_start, is_loading, is_write_start, load_slot, slot_if, slot_loading, stands_in}
 use Rattle.sgx_types.specs.declared.entries.Look.{Look}
 use Rattle.sgx_types.specs.declared.entries.Look.TheVariants as looks
+use Rattle.sgx_types.specs.declared.entries.Actor.{Actor}
 
 -- ---- pages, contents and starts
 
@@ -152,10 +153,12 @@ put_looked at held opened a look s = record {
     by_write false l g n h = h
 
 -- the write-out of a page starts
-pub put_starting : (at : Page → Place) (held : ℕ → Content) (opened : ℕ → Option Start) (f : ℕ) (a : Page) (slot : SlotAt) (v : ℕ)
+pub put_starting : (at : Page → Place) (held : ℕ → Content) (opened : ℕ → Option Start) (f : ℕ) (a : Page) (slot : SlotAt)
+    (v q : ℕ) (who : Actor)
     → PlacesAreFrames at held opened → at a ≡ Leaving f
-    → PlacesAreFrames at held (λ n. if f == n then Some (record { slot = slot; version = v; loads = None }) else opened n)
-put_starting at held opened f a slot v s leaving = record {
+    → PlacesAreFrames at held
+    (λ n. if f == n then Some (record { slot = slot; version = v; loads = None; place = q; actor = who }) else opened n)
+put_starting at held opened f a slot v q who s leaving = record {
   frames = s.frames;
   loads = λ g n. grind (arith, s.loads, no_loads);
   loading = λ n. grind (arith, s.loading, no_load);
@@ -172,7 +175,7 @@ put_starting at held opened f a slot v s leaving = record {
     no_loads g = sym (s.loads g f) ∙ no_load_slot (opened f) g (s.loading f ∙ no_load)
 
     by_write : (n : ℕ) (b : Bool) → (f == n) ≡ b
-        → is_write_start (if b then Some (record { slot = slot; version = v; loads = None }) else opened n) ≡ true
+        → is_write_start (if b then Some (record { slot = slot; version = v; loads = None; place = q; actor = who }) else opened n) ≡ true
         → (g : Page) × (at g ≡ Leaving n)
     by_write n true is h = (a, leaving ∙ ap Leaving (eqb-true f n is))
     by_write n false is h = s.writes n h
@@ -225,11 +228,12 @@ put_out at held opened f a x s leaving open_now = record {
     by_write n false is h = let w = s.writes n h in (w.0, grind (arith, same_pages))
 
 -- a load starts
-pub put_loading : (at : Page → Place) (held : ℕ → Content) (opened : ℕ → Option Start) (f : ℕ) (a : Page) (before slot : SlotAt) (v : ℕ)
+pub put_loading : (at : Page → Place) (held : ℕ → Content) (opened : ℕ → Option Start) (f : ℕ) (a : Page) (before slot : SlotAt)
+    (v q : ℕ) (who : Actor)
     → PlacesAreFrames at held opened → held f ≡ Free → at a ≡ Away before
     → PlacesAreFrames (λ g. if same_page a g then Loading f slot else at g) (λ n. if f == n then IsLoading a else held n)
-    (λ n. if f == n then Some (record { slot = slot; version = v; loads = Some a }) else opened n)
-put_loading at held opened f a before slot v s free away = record {
+    (λ n. if f == n then Some (record { slot = slot; version = v; loads = Some a; place = q; actor = who }) else opened n)
+put_loading at held opened f a before slot v q who s free away = record {
   frames = λ g n. grind (arith, s.frames, same_pages);
   loads = λ g n. grind (arith, s.loads, no_loads, same_pages);
   loading = λ n. grind (arith, s.loading);
@@ -240,7 +244,7 @@ put_loading at held opened f a before slot v s free away = record {
     no_loads g = sym (s.loads g f) ∙ no_load_slot (opened f) g (s.loading f ∙ ap is_loading free)
 
     by_write : (n : ℕ) (b : Bool) → (f == n) ≡ b
-        → is_write_start (if b then Some (record { slot = slot; version = v; loads = Some a }) else opened n) ≡ true
+        → is_write_start (if b then Some (record { slot = slot; version = v; loads = Some a; place = q; actor = who }) else opened n) ≡ true
         → (g : Page) × ((if same_page a g then Loading f slot else at g) ≡ Leaving n)
     by_write n true is h = cc
     by_write n false is h = let w = s.writes n h in (w.0, grind (arith, same_pages))

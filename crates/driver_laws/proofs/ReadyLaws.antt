@@ -15,8 +15,9 @@ use Rattle.sgx_types.specs.Making.{Making}
 use Rattle.sgx_types.specs.Rules.{EvictRule, RefusalRule, RisingRule}
 use Rattle.sgx_types.specs.Table.{is_busy, is_loading as busy_content}
 use Rattle.sgx_types.specs.Sights.{row_at, sight_at}
-use Rattle.sgx_types.specs.Slots.{is_draw, is_slot_busy, next_version}
+use Rattle.sgx_types.specs.Slots.{is_draw, is_slot_busy, next_version, IsIdle}
 use Rattle.sgx_types.specs.Starts.{Start, open_start, version_told}
+use Rattle.sgx_types.proofs.Busy.{idle_by}
 use Rattle.job_grammar.specs.Jobs.{JobView}
 use Rattle.driver_rules.specs.Places.{Away, place}
 use Rattle.driver_laws.specs.Driven.{IsDriven}
@@ -64,28 +65,23 @@ start_tells k past e positive s sealing = by_event e.event
         → RisingRule k.first_version past (entry_of e.actor ev) → StartTells past ev
     by_event (Did (EwbStart f slot) answer) refusal evict rising =
         let row = none_holds (row_at k past e.actor (EwbStart f slot)) refusal.0 in
-        let idle = neither (is_busy (sight_at k.frames past f.0)) (is_slot_busy past slot) row.1.0 in
+        let idle = neither (is_busy (sight_at k.frames past f.0)) (is_slot_busy k.frames past slot) row.1.0 in
         let two = neither (is_sealing past f.0) (busy_content (content past f.0)) idle.0 in
         let low = first_below k.first_version past in (
           idle_none past f.0 s sealing two.0 (table_loading (content past f.0) two.1),
           subst (λ (x : Answer). 0 < version_told x) (sym rising) (omega (arith, low, positive)),
         )
     by_event (Did (Ewb f) (Moved page version tag)) refusal evict rising =
-        (record { slot = evict.slot; version = version; loads = None }, evict.opened, refl, refl)
+        (evict.start, evict.opened, evict.writes, sym evict.told)
     by_event (Did (EldStart f page slot) answer) refusal evict rising = ap version_told refusal.1
     by_event _ refusal evict rising = tt
 
 -- ---- what it is for
 
--- the slot of a page that is away is not busy
-pub away_idle : (past : List Entry) (g : Page) (slot : SlotAt) → IsSound past → SlotsAreUsed past → place past g ≡ Away slot
-    → is_slot_busy past slot ≡ false
-away_idle past g slot s u at = by_test (is_slot_busy past slot) refl
-  where
-    by_test : (b : Bool) → is_slot_busy past slot ≡ b → b ≡ false
-    by_test true is =
-        let o = u.busy.named slot is in absurd ((alone past s).away o.frame o.start g o.is_open (at ∙ ap Away (sym o.names)))
-    by_test false is = refl
+-- no open start names the slot of a page that is away
+pub away_idle : (past : List Entry) (g : Page) (slot : SlotAt) → IsSound past → place past g ≡ Away slot → IsIdle past slot
+away_idle past g slot s at =
+    idle_by past slot (λ n x is_open same. (alone past s).away n x g is_open (at ∙ ap Away (sym same)))
 
 -- ---- all along
 

@@ -19,6 +19,7 @@ use Rattle.sgx_types.specs.declared.names.Kind.{Kind}
 use Rattle.sgx_types.specs.declared.names.Page.{Page}
 use Rattle.sgx_types.specs.declared.names.Perm.{Perm}
 use Rattle.sgx_types.specs.declared.names.SlotAt.{SlotAt}
+use Rattle.sgx_types.proofs.Busy.{idle_free}
 use Rattle.version_array.specs.Keeper.{Keeper, is_added, is_ours, is_out}
 use Rattle.job_grammar.specs.Jobs.{JobView}
 use Rattle.driver_rules.specs.Places.{Away, Leaving, place}
@@ -119,8 +120,8 @@ load_goes frames j keeper past g slot f enclave s u sealing shows at free low sl
     settled : is_sealing past f ≡ false
     settled = sealing f ∙ ap is_write_start (free_none past f s free)
 
-    idle : (is_busy (sight_at frames past f) || is_slot_busy past slot) ≡ false
-    idle = rw (settled, free, away_idle past g slot s u at) refl
+    idle : (is_busy (sight_at frames past f) || is_slot_busy frames past slot) ≡ false
+    idle = rw (settled, free, idle_free frames past slot (away_idle past g slot s at)) refl
 
     some : (version_in past slot == 0) ≡ false
     some = by_test (version_in past slot == 0) refl (u.filled g slot (ap slot_outside at))
@@ -169,8 +170,8 @@ try_goes frames j keeper past g slot w drain is_spent s sealing shows ours free 
     settled : is_sealing past w.frame ≡ false
     settled = sealing w.frame ∙ ap is_write_start w.start
 
-    idle : (is_busy sight || is_slot_busy past slot) ≡ false
-    idle = rw (settled, frame.idle, (shows.empty slot free).1) refl
+    idle : (is_busy sight || is_slot_busy frames past slot) ≡ false
+    idle = rw (settled, frame.idle, idle_free frames past slot (shows.empty slot free).1) refl
 
     kind : (is_secs (content past w.frame) || is_va_in (content past w.frame) || not (is_va_in (content past slot.frame.0))) ≡ false
     kind = rw (frame.no_secs, frame.no_va, page.array) refl

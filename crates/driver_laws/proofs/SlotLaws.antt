@@ -10,6 +10,7 @@ use Rattle.sgx_types.specs.Slots.{names_slot, same_slot}
 use Rattle.sgx_types.specs.Starts.{Start, is_load_of}
 use Rattle.driver_rules.specs.Places.{Absent, Away, Here, Leaving, Loading, Place, back_to, gone_to, leaves}
 use Rattle.sgx_types.specs.Slots.{slot_of as slot_of_start}
+use Rattle.sgx_types.specs.declared.entries.Actor.{Actor}
 use Rattle.driver_laws.specs.Sound.{PlacesAreFrames, SlotsAreApart, SlotsHaveVersions, is_load_start, is_write_start, slot_at, slot_outside, stands_in, version_out}
 use Rattle.driver_laws.proofs.PlaceLaws.{of_same, one_page, page_no_load, same_page-refl}
 
@@ -99,21 +100,22 @@ apart_taken at opened a f h here none =
     by_page g slot false is k = k
 
 -- the write-out of a page starts, by a slot that is no other page's
-pub apart_starting : (at : Page → Place) (held : ℕ → Content) (opened : ℕ → Option Start) (f : ℕ) (a : Page) (slot : SlotAt) (v : ℕ)
+pub apart_starting : (at : Page → Place) (held : ℕ → Content) (opened : ℕ → Option Start) (f : ℕ) (a : Page) (slot : SlotAt)
+    (v q : ℕ) (who : Actor)
     → PlacesAreFrames at held opened → at a ≡ Leaving f
     → ((g : Page) → slot_at opened (at g) ≡ Some slot → ⊥) → SlotsAreApart at opened
-    → SlotsAreApart at (λ n. if f == n then Some (record { slot = slot; version = v; loads = None }) else opened n)
-apart_starting at held opened f a slot v s leaving fresh h =
+    → SlotsAreApart at (λ n. if f == n then Some (record { slot = slot; version = v; loads = None; place = q; actor = who }) else opened n)
+apart_starting at held opened f a slot v q who s leaving fresh h =
     more (λ g. slot_at opened (at g)) (λ g. slot_at now (at g)) a slot (λ g t. by_place g t (at g) refl) fresh h
   where
     now : ℕ → Option Start
-    now n = if f == n then Some (record { slot = slot; version = v; loads = None }) else opened n
+    now n = if f == n then Some (record { slot = slot; version = v; loads = None; place = q; actor = who }) else opened n
 
     here : is_page (held f) a ≡ true
     here = s.frames a f ∙ ap (λ y. stands_in y f) leaving ∙ eq-eqb f f refl
 
     by_frame : (g : Page) (t : SlotAt) (n : ℕ) (b : Bool) → (f == n) ≡ b → at g ≡ Leaving n
-        → slot_of_start (if b then Some (record { slot = slot; version = v; loads = None }) else opened n) ≡ Some t
+        → slot_of_start (if b then Some (record { slot = slot; version = v; loads = None; place = q; actor = who }) else opened n) ≡ Some t
         → (slot_at opened (at g) ≡ Some t) ⊎ ((a ≡ g) × (slot ≡ t))
     by_frame g t n true is it k =
         let other : is_page (held f) g ≡ true = s.frames g f ∙ ap (λ y. stands_in y f) it ∙ rw (eqb-true f n is) (eq-eqb n n refl) in
@@ -166,19 +168,21 @@ apart_out at opened f a x leaving now h =
     by_page g slot false is k = closed-slot opened f (at g) slot k
 
 -- a load starts
-pub apart_loading : (at : Page → Place) (held : ℕ → Content) (opened : ℕ → Option Start) (f : ℕ) (a : Page) (slot : SlotAt) (v : ℕ)
+pub apart_loading : (at : Page → Place) (held : ℕ → Content) (opened : ℕ → Option Start) (f : ℕ) (a : Page) (slot : SlotAt)
+    (v q : ℕ) (who : Actor)
     → PlacesAreFrames at held opened → held f ≡ Free → at a ≡ Away slot → SlotsAreApart at opened
     → SlotsAreApart (λ g. if same_page a g then Loading f slot else at g)
-    (λ n. if f == n then Some (record { slot = slot; version = v; loads = Some a }) else opened n)
-apart_loading at held opened f a slot v s free away h =
+    (λ n. if f == n then Some (record { slot = slot; version = v; loads = Some a; place = q; actor = who }) else opened n)
+apart_loading at held opened f a slot v q who s free away h =
     less (λ g. slot_at opened (at g)) (λ g. slot_at now (if same_page a g then Loading f slot else at g))
     (λ g t. by_page g t (same_page a g) refl) h
   where
     now : ℕ → Option Start
-    now n = if f == n then Some (record { slot = slot; version = v; loads = Some a }) else opened n
+    now n = if f == n then Some (record { slot = slot; version = v; loads = Some a; place = q; actor = who }) else opened n
 
     by_frame : (g : Page) (t : SlotAt) (n : ℕ) (b : Bool) → (f == n) ≡ b → at g ≡ Leaving n
-        → slot_of_start (if b then Some (record { slot = slot; version = v; loads = Some a }) else opened n) ≡ Some t
+        → slot_of_start (if b then Some (record { slot = slot; version = v; loads = Some a; place = q; actor = who }) else opened n)
+        ≡ Some t
         → slot_of_start (opened n) ≡ Some t
     by_frame g t n true is it k =
         let other : is_page (held f) g ≡ true = s.frames g f ∙ ap (λ y. stands_in y f) it ∙ rw (eqb-true f n is) (eq-eqb n n refl) in

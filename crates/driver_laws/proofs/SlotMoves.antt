@@ -1,5 +1,5 @@
 -- Which slot each page has behind each kind of entry.
-use Rattle.std.proofs.Common.{◌≡◌, ℕ, ◌==◌, Bool, true, false, if◌then◌else◌, refl, sym, ◌∙◌, ap, List, ◌∷◌, Option, Some, None}
+use Rattle.std.proofs.Common.{◌≡◌, ℕ, ◌==◌, Bool, true, false, if◌then◌else◌, refl, sym, ◌∙◌, ap, List, ◌∷◌, Option, Some, None, length}
 use Rattle.std.proofs.lemmas.Bool.{eqb-true, eq-eqb, false≢true}
 use Rattle.sgx_types.proofs.Pages.{same_pages}
 use Rattle.sgx_types.specs.declared.entries.Action.TheVariants.{Add, EwbStart, Ewb, EldStart, Eld}
@@ -132,7 +132,10 @@ same_eldstart past a f page slot answer can sound g =
     (λ h other. frame_apart past now f.0 h (λ n k. rw k refl) (apart h))
   where
     now : ℕ → Option Start
-    now n = if f.0 == n then Some (record { slot = slot; version = version_told answer; loads = Some page }) else open_start past n
+    now n =
+        if f.0 == n
+        then Some (record { slot = slot; version = version_told answer; loads = Some page; place = length past; actor = a })
+        else open_start past n
 
     apart : (h : Page) → place past h ≡ Leaving f.0 → ⊥
     apart h here = false≢true (sym (ap (λ c. is_page c h) can.0) ∙ stands past h f.0 sound here)

@@ -1,5 +1,5 @@
 -- One entry more keeps places, the list and the slots sound.
-use Rattle.std.proofs.Common.{◌≡◌, ℕ, ◌+◌, ◌==◌, not, Bool, true, false, if◌then◌else◌, refl, sym, ◌∙◌, ap, subst, List, [], ◌∷◌, Option, Some, None, is_some, arith}
+use Rattle.std.proofs.Common.{◌≡◌, ℕ, ◌+◌, ◌==◌, not, Bool, true, false, if◌then◌else◌, refl, sym, ◌∙◌, ap, subst, List, [], ◌∷◌, Option, Some, None, is_some, arith, length}
 use Rattle.std.proofs.lemmas.Bool.{eq-eqb}
 use Rattle.sgx_types.specs.Slots.{slot_of as slot_of_start}
 use Rattle.sgx_types.specs.Fresh.{last_out}
@@ -164,10 +164,12 @@ sound_age past a page looks.NoRoom head s = sound_turned past a page looks.NoRoo
 pub sound_ewbstart : (past : List Entry) (a : Actor) (f : Frame) (slot : SlotAt) (answer : Answer)
     → CanMove past (Did (EwbStart f slot) answer) → IsSound past → IsSound (entry_of a (Did (EwbStart f slot) answer) ∷ past)
 sound_ewbstart past a f slot answer can s = record {
-  places = put_starting (place past) (content past) (open_start past) f.0 can.0.0 slot (version_told answer) s.places can.0.1;
+  places = put_starting (place past) (content past) (open_start past) f.0 can.0.0 slot (version_told answer) (length past) a
+      s.places can.0.1;
   list = s.list;
   apart =
-      apart_starting (place past) (content past) (open_start past) f.0 can.0.0 slot (version_told answer) s.places can.0.1 can.1 s.apart;
+      apart_starting (place past) (content past) (open_start past) f.0 can.0.0 slot (version_told answer) (length past) a
+      s.places can.0.1 can.1 s.apart;
   versions = s.versions;
   added = s.added;
 }
@@ -214,11 +216,13 @@ pub sound_eldstart : (past : List Entry) (a : Actor) (f : Frame) (page : Page) (
     → CanMove past (Did (EldStart f page slot) answer) → IsSound past
     → IsSound (entry_of a (Did (EldStart f page slot) answer) ∷ past)
 sound_eldstart past a f page slot answer can s = record {
-  places = put_loading (place past) (content past) (open_start past) f.0 page slot slot (version_told answer) s.places can.0 can.1;
+  places = put_loading (place past) (content past) (open_start past) f.0 page slot slot (version_told answer)
+      (length past) a s.places can.0 can.1;
   list =
       list_same (active past) (place past) (λ g. if same_page page g then Loading f.0 slot else place past g) s.list
       (by_same (place past) (λ p. Loading f.0 slot) page (Away slot) is_here can.1 refl);
-  apart = apart_loading (place past) (content past) (open_start past) f.0 page slot (version_told answer) s.places can.0 can.1 s.apart;
+  apart = apart_loading (place past) (content past) (open_start past) f.0 page slot (version_told answer)
+      (length past) a s.places can.0 can.1 s.apart;
   versions =
       versions_less (place past) (λ g. if same_page page g then Loading f.0 slot else place past g) (last_out past)
       (version_in past) s.versions (outside_loading (place past) page f.0 slot can.1);

@@ -257,7 +257,13 @@ start_has past f slot answer g rest s can at waiting apart = record {
       record {
         frame = f.0;
         leaving = at;
-        start = record { slot = slot; version = version_told answer; loads = None };
+        start = record {
+          slot = slot;
+          version = version_told answer;
+          loads = None;
+          place = length past;
+          actor = actors.Reclaimer;
+        };
         opened = rw
             (self_eq f.0) refl;
         write = rw (self_eq f.0) refl;
@@ -555,7 +561,9 @@ sealing_kept past e s can h n = by_event e.event can
       where
         by_test : (b : Bool)
             → (if b then true else is_sealing past n) ≡ is_write_start
-            (if b then Some (record { slot = slot; version = version_told answer; loads = None }) else open_start past n)
+            (if b
+            then Some (record { slot = slot; version = version_told answer; loads = None; place = length past; actor = e.actor })
+            else open_start past n)
         by_test true = refl
         by_test false = h n
     by_event (Did (Ewb f) (Moved page version tag)) k = by_test (f.0 == n)
@@ -564,7 +572,8 @@ sealing_kept past e s can h n = by_event e.event can
         by_test true = refl
         by_test false = h n
     by_event (Did (EldStart f page slot) answer) k =
-        at_other f.0 (free_no_write past f.0 s k.0) (Some (record { slot = slot; version = version_told answer; loads = Some page })) refl
+        at_other f.0 (free_no_write past f.0 s k.0)
+        (Some (record { slot = slot; version = version_told answer; loads = Some page; place = length past; actor = e.actor })) refl
         (f.0 == n) refl
     by_event (Did (Eld f) (Moved page version tag)) k =
         at_other f.0 (load_no_write (open_start past f.0) (load_open past page f.0 k.0 s k.1)) None refl (f.0 == n) refl

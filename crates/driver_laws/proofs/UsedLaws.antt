@@ -1,5 +1,5 @@
 -- Slots stay used, one entry longer.
-use Rattle.std.proofs.Common.{◌≡◌, ℕ, ◌<◌, ◌==◌, Bool, true, false, if◌then◌else◌, refl, sym, ◌∙◌, ap, subst, List, [], ◌∷◌, Option, Some, None}
+use Rattle.std.proofs.Common.{◌≡◌, ℕ, ◌<◌, ◌==◌, Bool, true, false, if◌then◌else◌, refl, sym, ◌∙◌, ap, subst, List, [], ◌∷◌, Option, Some, None, length}
 use Rattle.std.proofs.lemmas.Bool.{eqb-true, eq-eqb, false≢true}
 use Rattle.sgx_types.proofs.Pages.{same_slots}
 use Rattle.sgx_types.specs.declared.entries.Action.TheVariants.{Add, EwbStart, Ewb, EldStart, Eld}
@@ -21,93 +21,10 @@ use Rattle.sgx_types.specs.Starts.{Start, open_start, version_told}
 use Rattle.driver_rules.specs.Places.{Here, Place, after_look, gone_to, place}
 use Rattle.driver_laws.specs.Kinds.{CanMove}
 use Rattle.driver_laws.specs.Sound.{IsSound, slot_at, slot_outside}
-use Rattle.driver_laws.specs.Used.{BusyAreNamed, IsNamed, LoadsHaveFound, SlotsAreFilled, SlotsAreUsed, StartTells, WritesHaveDrawn}
+use Rattle.driver_laws.specs.Used.{LoadsHaveFound, SlotsAreFilled, SlotsAreUsed, StartTells, WritesHaveDrawn}
 use Rattle.driver_laws.proofs.SlotLaws.{other_slot, outside_here, outside_loading, outside_refused, outside_taken, same_slot-refl}
 use Rattle.driver_laws.proofs.SoundLaws.{entry_of, load_start, named}
 use Rattle.driver_laws.proofs.AloneLaws.{alone, free_none}
-
--- ---- busy slots
-
-either_busy : (b c : Bool) → c ≡ true → (if b then true else c) ≡ true
-either_busy true c h = refl
-either_busy false c h = h
-
--- a start opens in a frame that had none
-busy_opened : (opened : ℕ → Option Start) (busy : SlotAt → Bool) (f : ℕ) (x : Start) → opened f ≡ None → BusyAreNamed opened busy
-    → BusyAreNamed (λ n. if f == n then Some x else opened n) (λ slot. if same_slot x.slot slot then true else busy slot)
-busy_opened opened busy f x none h = record {
-  named = λ slot. by_slot slot (same_slot x.slot slot) refl;
-  busy = λ n y. by_frame n y (f == n);
-}
-  where
-    now : ℕ → Option Start
-    now n = if f == n then Some x else opened n
-
-    none_some : (y : Start) → None ≡ Some y → ⊥
-    none_some y e = cc
-
-    other : (n : ℕ) (y : Start) (b : Bool) → (f == n) ≡ b → opened n ≡ Some y → (if b then Some x else opened n) ≡ Some y
-    other n y true is is_open = absurd (none_some y (sym none ∙ ap opened (eqb-true f n is) ∙ is_open))
-    other n y false is is_open = is_open
-
-    by_slot : (slot : SlotAt) (b : Bool) → same_slot x.slot slot ≡ b → (if b then true else busy slot) ≡ true → IsNamed now slot
-    by_slot slot true is k = record { frame = f; start = x; is_open = rw (eq-eqb f f refl) refl; names = same_slots x.slot slot is }
-    by_slot slot false is k =
-        let o = h.named slot k in
-        record { frame = o.frame; start = o.start; is_open = other o.frame o.start (f == o.frame) refl o.is_open; names = o.names }
-
-    by_frame : (n : ℕ) (y : Start) (b : Bool) → (if b then Some x else opened n) ≡ Some y
-        → (if same_slot x.slot y.slot then true else busy y.slot) ≡ true
-    by_frame n y true e =
-        let same : x ≡ y = cc in
-        ap (λ (b : Bool). if b then true else busy y.slot) (ap (λ (z : Start). same_slot x.slot z.slot) (sym same) ∙ same_slot-refl x.slot)
-    by_frame n y false e = either_busy (same_slot x.slot y.slot) (busy y.slot) (h.busy n y e)
-
--- the start of a frame ends
-busy_closed : (opened : ℕ → Option Start) (busy : SlotAt → Bool) (f : ℕ) (x : Start) (its : Option SlotAt) → opened f ≡ Some x
-    → its ≡ Some x.slot
-    → ((n : ℕ) (y : Start) → opened n ≡ Some y → x.slot ≡ y.slot → f ≡ n) → BusyAreNamed opened busy
-    → BusyAreNamed (λ n. if f == n then None else opened n) (λ slot. if names_slot its slot then false else busy slot)
-busy_closed opened busy f x its is_open names apart h = rw names record {
-  named = λ slot. by_slot slot (same_slot x.slot slot) refl;
-  busy = λ n y. by_frame n y (f == n) refl;
-}
-  where
-    now : ℕ → Option Start
-    now n = if f == n then None else opened n
-
-    other : (slot : SlotAt) (n : ℕ) (y : Start) (b : Bool) → same_slot x.slot slot ≡ false → y.slot ≡ slot → (f == n) ≡ b
-        → opened n ≡ Some y
-        → (if b then None else opened n) ≡ Some y
-    other slot n y true apart_slots mine is k =
-        let same : x ≡ y = some_same (sym is_open ∙ ap opened (eqb-true f n is) ∙ k) in
-        let equal : x.slot ≡ slot = ap (λ (z : Start). z.slot) same ∙ mine in
-        absurd (false≢true (sym apart_slots ∙ subst (λ t. same_slot x.slot t ≡ true) equal (same_slot-refl x.slot)))
-      where
-        some_same : Some x ≡ Some y → x ≡ y
-        some_same e = cc
-    other slot n y false apart_slots mine is k = k
-
-    by_slot : (slot : SlotAt) (b : Bool) → same_slot x.slot slot ≡ b → (if b then false else busy slot) ≡ true → IsNamed now slot
-    by_slot slot true is k = cc
-    by_slot slot false is k =
-        let o = h.named slot k in
-        record {
-          frame = o.frame;
-          start = o.start;
-          is_open = other slot o.frame o.start (f == o.frame) is o.names refl o.is_open;
-          names = o.names;
-        }
-
-    its_own : (n : ℕ) (y : Start) (b : Bool) → (f == n) ≡ false → opened n ≡ Some y → same_slot x.slot y.slot ≡ b
-        → (if b then false else busy y.slot) ≡ true
-    its_own n y true isnt k is = absurd (false≢true (sym isnt ∙ eq-eqb f n (apart n y k (same_slots x.slot y.slot is))))
-    its_own n y false isnt k is = h.busy n y k
-
-    by_frame : (n : ℕ) (y : Start) (b : Bool) → (f == n) ≡ b → (if b then None else opened n) ≡ Some y
-        → (if same_slot x.slot y.slot then false else busy y.slot) ≡ true
-    by_frame n y true is k = cc
-    by_frame n y false is k = its_own n y (same_slot x.slot y.slot) is k refl
 
 -- ---- versions that were drawn
 
@@ -201,7 +118,6 @@ filled_back at version f a mine its apart names h g slot = rw names (by_page (sa
 pub first_used : SlotsAreUsed []
 first_used = record {
   filled = λ g slot h. cc;
-  busy = record { named = λ slot h. cc; busy = λ n x h. cc };
   drawn = λ n x h. cc;
   found = λ n x g h. cc;
 }
@@ -218,15 +134,7 @@ outside_looked past page g looks.Young slot = unmoved (same_page page g) (place 
 outside_looked past page g looks.Held slot = unmoved (same_page page g) (place past g) slot
 outside_looked past page g looks.NoRoom slot = unmoved (same_page page g) (place past g) slot
 
--- the slots behind the end of the start of a frame
-closed_busy : (past : List Entry) (f : ℕ) (x : Start) → IsSound past → SlotsAreUsed past → open_start past f ≡ Some x
-    → BusyAreNamed (λ n. if f == n then None else open_start past n)
-    (λ slot. if names_slot (open_slot past f) slot then false else is_slot_busy past slot)
-closed_busy past f x s u is_open =
-    busy_closed (open_start past) (is_slot_busy past) f x (open_slot past f) is_open (named past f x is_open)
-    (λ n y k same. (alone past s).apart f n x y is_open k same) u.busy
-
--- the versions behind it, where its slot holds another one
+-- the versions behind the end of the start of a frame, where its slot holds another one
 closed_found : (past : List Entry) (f : ℕ) (x : Start) (v : ℕ) → IsSound past → SlotsAreUsed past → open_start past f ≡ Some x
     → LoadsHaveFound (λ n. if f == n then None else open_start past n)
     (λ slot. if names_slot (open_slot past f) slot then v else version_in past slot)
@@ -245,7 +153,6 @@ used_out past a f page version tag told s u =
           filled_out (place past) (open_start past) (version_in past) f.0 page x (open_slot past f.0) version is_open
           (named past f.0 x is_open)
           (subst (λ v. 0 < v) (sym told.3) (u.drawn f.0 x is_open told.2)) u.filled;
-      busy = closed_busy past f.0 x s u is_open;
       drawn = drawn_closed (open_start past) f.0 u.drawn;
       found = closed_found past f.0 x version s u is_open;
     }
@@ -255,13 +162,12 @@ used_loading : (past : List Entry) (a : Actor) (f : Frame) (page : Page) (slot :
     → SlotsAreUsed past → SlotsAreUsed (entry_of a (Did (EldStart f page slot) answer) ∷ past)
 used_loading past a f page slot answer can told s u = record {
   filled = λ g t k. u.filled g t (outside_loading (place past) page f.0 slot can.1 g t k);
-  busy = busy_opened (open_start past) (is_slot_busy past) f.0 new (free_none past f.0 s can.0) u.busy;
   drawn = drawn_opened (open_start past) f.0 new (λ h. cc) u.drawn;
   found = found_opened (open_start past) (version_in past) f.0 new (λ g h. told) u.found;
 }
   where
     new : Start
-    new = record { slot = slot; version = version_told answer; loads = Some page }
+    new = record { slot = slot; version = version_told answer; loads = Some page; place = length past; actor = a }
 
 used_back : (past : List Entry) (a : Actor) (f : Frame) (page : Page) (version : ℕ) (tag : List ℕ)
     → CanMove past (Did (Eld f) (Moved page version tag)) → IsSound past → SlotsAreUsed past
@@ -275,7 +181,6 @@ used_back past a f page version tag can s u =
           filled_back (place past) (version_in past) f.0 page slot (open_slot past f.0)
           (λ g t other k. other_slot (place past) (open_start past) page g slot t s.apart (ap (slot_at (open_start past)) loading) other k)
           (named past f.0 start.0 start.1 ∙ ap Some start.2) u.filled;
-      busy = closed_busy past f.0 start.0 s u start.1;
       drawn = drawn_closed (open_start past) f.0 u.drawn;
       found = closed_found past f.0 start.0 0 s u start.1;
     }
@@ -286,7 +191,6 @@ used_refused past a f refusal can s u =
     let start = load_start past f.0 can.0 can.1 s can.2 in
     record {
       filled = λ g slot k. u.filled g slot (outside_refused (place past) (open_start past) f.0 g slot k);
-      busy = closed_busy past f.0 start.0 s u start.1;
       drawn = drawn_closed (open_start past) f.0 u.drawn;
       found = found_dropped (open_start past) (version_in past) f.0 u.found;
     }
@@ -298,17 +202,16 @@ stays_used past e s can told u = by_event e.event can told
     by_event : (ev : Event) → CanMove past ev → StartTells past ev → SlotsAreUsed (entry_of e.actor ev ∷ past)
     by_event (Did (Add n number f kind perm init) answer) c t = record {
       filled = λ g slot k. u.filled g slot (outside_here (place past) (page_at n number) f.0 g slot k);
-      busy = u.busy;
       drawn = u.drawn;
       found = u.found;
     }
     by_event (Age page look) c t =
-        record { filled = λ g slot k. u.filled g slot (outside_looked past page g look slot k); busy = u.busy; drawn = u.drawn; found = u.found }
+        record { filled = λ g slot k. u.filled g slot (outside_looked past page g look slot k); drawn = u.drawn; found = u.found }
     by_event (Did (EwbStart f slot) answer) c t =
-        let new : Start = record { slot = slot; version = version_told answer; loads = None } in
+        let new : Start =
+        record { slot = slot; version = version_told answer; loads = None; place = length past; actor = e.actor } in
         record {
           filled = u.filled;
-          busy = busy_opened (open_start past) (is_slot_busy past) f.0 new t.0 u.busy;
           drawn = drawn_opened (open_start past) f.0 new (λ h. t.1) u.drawn;
           found = found_opened (open_start past) (version_in past) f.0 new (λ g h. cc) u.found;
         }
@@ -318,4 +221,4 @@ stays_used past e s can told u = by_event e.event can told
     by_event (Refused (Eld f) refusal) c t = used_refused past e.actor f refusal c s u
     by_event (Did (Ewb f) answer) c t = absurd c
     by_event (Did (Eld f) answer) c t = absurd c
-    by_event _ c t = record { filled = u.filled; busy = u.busy; drawn = u.drawn; found = u.found }
+    by_event _ c t = record { filled = u.filled; drawn = u.drawn; found = u.found }

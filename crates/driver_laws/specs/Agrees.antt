@@ -8,7 +8,7 @@ use Rattle.sgx_types.specs.declared.entries.Action.TheVariants.{Add}
 use Rattle.sgx_types.specs.declared.names.Page.{Page}
 use Rattle.sgx_types.specs.declared.names.SlotAt.{SlotAt}
 use Rattle.sgx_types.specs.Frames.{Content, IsVa, content, same_page}
-use Rattle.sgx_types.specs.Slots.{is_slot_busy, version_in}
+use Rattle.sgx_types.specs.Slots.{IsIdle, version_in}
 use Rattle.version_array.specs.Keeper.{Keeper, is_added, is_out}
 use Rattle.job_grammar.specs.Jobs.{JobView, va_pages}
 use Rattle.driver_rules.specs.Places.{active, is_young}
@@ -58,8 +58,8 @@ pub record ShowsSlots (j : JobView) (keeper : Keeper) (past : List Entry) : Type
   -- a slot is out exactly where it is a page's
   pub out : (slot : SlotAt) → is_out keeper slot ≡ true → (g : Page) × (slot_of past g ≡ Some slot)
   pub used : (g : Page) (slot : SlotAt) → slot_of past g ≡ Some slot → is_out keeper slot ≡ true
-  -- another one is empty
-  pub empty : (slot : SlotAt) → is_out keeper slot ≡ false → (version_in past slot ≡ 0) × (is_slot_busy past slot ≡ false)
+  -- another one is empty, and no open start names it
+  pub empty : (slot : SlotAt) → is_out keeper slot ≡ false → (version_in past slot ≡ 0) × IsIdle past slot
 
 -- ---- copies
 

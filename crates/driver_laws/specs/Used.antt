@@ -1,6 +1,6 @@
--- What the entries give of slots as long as each entry is the driver's: the slot of a page that is outside holds a version, a slot is
--- busy exactly by an open start that names it, a load has found the version of its slot, and no two starts name one slot.
-use Rattle.std.specs.Prelude.{ℕ, ◌≡◌, ◌<◌, not, Bool, true, List, Option, Some, None}
+-- What the entries give of slots as long as each entry is the driver's: the slot of a page that is outside holds a version, a load has
+-- found the version of its slot, and no two starts name one slot.
+use Rattle.std.specs.Prelude.{ℕ, ◌≡◌, ◌<◌, not, Bool, List, Option, Some, None}
 use Rattle.sgx_types.specs.declared.entries.Action.TheVariants.{EwbStart, Ewb, EldStart}
 use Rattle.sgx_types.specs.declared.entries.Answer.TheVariants.{Moved}
 use Rattle.sgx_types.specs.declared.entries.Entry.{Entry}
@@ -9,7 +9,7 @@ use Rattle.sgx_types.specs.declared.entries.Event.TheVariants.{Did}
 use Rattle.sgx_types.specs.declared.names.Page.{Page}
 use Rattle.sgx_types.specs.declared.names.SlotAt.{SlotAt}
 use Rattle.sgx_types.specs.Frames.{is_sealing}
-use Rattle.sgx_types.specs.Slots.{is_slot_busy, version_in}
+use Rattle.sgx_types.specs.Slots.{version_in}
 use Rattle.sgx_types.specs.declared.refusals.Refusal.TheVariants as why
 use Rattle.sgx_types.specs.Table.{Case, DrainSight, allowed, when, ◌otherwise◌}
 use Rattle.sgx_types.specs.Starts.{Start, open_start, version_told}
@@ -22,18 +22,6 @@ use Rattle.driver_laws.specs.Sound.{is_write_start, slot_outside}
 abbrev pub SlotsAreFilled : (Page → Place) → (SlotAt → ℕ) → Type 0
 SlotsAreFilled at version = (g : Page) (slot : SlotAt) → slot_outside (at g) ≡ Some slot → 0 < version slot
 
--- an open start of some frame names the slot
-pub record IsNamed (opened : ℕ → Option Start) (slot : SlotAt) : Type 0 where
-  pub frame : ℕ
-  pub start : Start
-  pub is_open : opened frame ≡ Some start
-  pub names : start.slot ≡ slot
-
--- a slot is busy exactly where an open start names it
-pub record BusyAreNamed (opened : ℕ → Option Start) (is_busy : SlotAt → Bool) : Type 0 where
-  pub named : (slot : SlotAt) → is_busy slot ≡ true → IsNamed opened slot
-  pub busy : (n : ℕ) (x : Start) → opened n ≡ Some x → is_busy x.slot ≡ true
-
 -- an open start of a write-out has drawn a version
 abbrev pub WritesHaveDrawn : (ℕ → Option Start) → Type 0
 WritesHaveDrawn opened = (n : ℕ) (x : Start) → opened n ≡ Some x → x.loads ≡ None → 0 < x.version
@@ -45,7 +33,6 @@ LoadsHaveFound opened version =
 
 pub record SlotsAreUsed (past : List Entry) : Type 0 where
   pub filled : SlotsAreFilled (place past) (version_in past)
-  pub busy : BusyAreNamed (open_start past) (is_slot_busy past)
   pub drawn : WritesHaveDrawn (open_start past)
   pub found : LoadsHaveFound (open_start past) (version_in past)
 

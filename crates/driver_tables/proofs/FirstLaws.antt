@@ -30,7 +30,7 @@ slots_first j pages = record {
   made = λ h. absurd (false≢true h);
   out = λ slot h. absurd (false≢true h);
   used = λ g slot h. cc;
-  empty = λ slot h. (refl, refl);
+  empty = λ slot h. (refl, λ n. refl);
 }
 
 pub shows_first : (j : JobView) (d : Driver) → IsValid j → IsNew j d → ShowsTables j d []

@@ -267,12 +267,10 @@ written_out : (o : Option Start) (version : ℕ) → is_write_out o version ≡ 
 written_out None version h = absurd (false≢true h)
 written_out (Some start) version h =
     let k = both_true (start.version == version) (is_none start.loads) h in record {
-      slot = start.slot;
-      opened = λ i. Some (record {
-        slot = start.slot;
-        version = eqb-true start.version version k.0 i;
-        loads = none_of start.loads k.1 i;
-      });
+      start = start;
+      opened = refl;
+      writes = none_of start.loads k.1;
+      told = eqb-true start.version version k.0;
     }
 
 evict_tells : (past : List Entry) (a : Actor) (ev : Event) → keeps_evict past ev ≡ true → EvictRule past (record { actor = a; event = ev })

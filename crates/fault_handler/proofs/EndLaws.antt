@@ -17,9 +17,10 @@ use Rattle.sgx_types.specs.declared.refusals.Refusal.TheVariants as why
 use Rattle.sgx_types.specs.Frames.{Content, Free, Holds, IsLoading, IsVa, SecsOf, content, same_page}
 use Rattle.sgx_types.specs.Making.{Making}
 use Rattle.sgx_types.specs.Sealed.{Sealed}
-use Rattle.sgx_types.specs.Starts.{Start, open_start}
+use Rattle.sgx_types.specs.Starts.{Start, open_start, BareStart}
 use Rattle.sgx_types.specs.Table as table
 use Rattle.sgx_types.specs.Table.{first_of_row}
+use Rattle.sgx_types.proofs.Busy.{IsBareOf}
 use Rattle.epcm_entry.specs.Words.{words_of}
 use Rattle.job_grammar.specs.Jobs.{JobView}
 use Rattle.active_list.specs.declared.ring.Listed as ring
@@ -34,6 +35,7 @@ use Rattle.seal_record.specs.Row.{eld_row, is_header}
 use Rattle.paging_laws.specs.State.{State, after_eld, after_failed_eld}
 use Rattle.paging_laws.specs.Steps.{commit_row, did_by, refused_by}
 use Rattle.paging_laws.proofs.ColumnLaws.{content_is, start_is}
+use Rattle.paging_laws.proofs.SlotLaws.{started_as}
 use Rattle.paging_machine.specs.Parts.{Parts, state_of}
 use Rattle.driver_rules.specs.Places.{Loading, active, place}
 use Rattle.driver_rules.specs.Dues.{Ends, IsNext}
@@ -223,10 +225,13 @@ module _ (made : Making) (j : JobView) (past : List Entry) (d d' : Driver) (m : 
   opened_here : load_of (open_start past f.0) ≡ Some page
   opened_here = r.theirs.started cpu.0 f.0 page last
 
+  its : IsBareOf (open_start past f.0) is.reloaded.coming.start
+  its = started_as (state_of m) past r.follows.shape.columns f.0 is.reloaded.coming.start is.reloaded.coming.opened
+
   -- the page for which the frame waits is this one
   same_coming : is.reloaded.coming.page ≡ page
   same_coming = some_same is.reloaded.coming.page page
-      (sym is.reloaded.coming.loads ∙ ap load_of (sym is.reloaded.coming.opened ∙ start_is r.follows.shape.columns f.0) ∙ opened_here)
+      (sym is.reloaded.coming.loads ∙ sym (ap (λ (y : BareStart). y.loads) its.same) ∙ sym (ap load_of its.opened) ∙ opened_here)
     where
       some_same : (a b : Page) → Some a ≡ Some b → a ≡ b
       some_same a b e = cc

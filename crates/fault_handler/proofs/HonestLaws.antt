@@ -13,12 +13,13 @@ use Rattle.sgx_types.specs.Fresh.{Out, last_out}
 use Rattle.sgx_types.specs.Making.{Making}
 use Rattle.sgx_types.specs.Sealed.{Sealed, header_of}
 use Rattle.sgx_types.specs.Slots.{version_in}
-use Rattle.sgx_types.specs.Starts.{Start, loads_page, open_start}
+use Rattle.sgx_types.specs.Starts.{Start, loads_page, open_start, BareStart}
 use Rattle.seal_record.specs.Cipher.{tag}
 use Rattle.paging_laws.specs.Columns.{EnclaveColumns}
 use Rattle.paging_laws.proofs.ColumnLaws.{added_is, start_is}
 use Rattle.paging_laws.specs.State.{State}
 use Rattle.paging_laws.specs.Steps.{IsComing}
+use Rattle.paging_laws.proofs.SlotLaws.{started_as}
 use Rattle.paging_machine.specs.Parts.{Parts, state_of}
 use Rattle.backing_store.specs.Calls.{Call}
 use Rattle.job_grammar.specs.Jobs.{JobView}
@@ -35,6 +36,7 @@ use Rattle.run_history.proofs.HonestLaws.{last_sealed, load_at}
 use Rattle.active_list.specs.Places.{IsPlaced}
 use Rattle.sgx_types.specs.declared.entries.Actor.TheVariants as actors
 use Rattle.sgx_types.specs.Enclaves.{EnclavesAreFlat}
+use Rattle.sgx_types.proofs.Busy.{IsBareOf}
 use Rattle.fault_handler.specs.declared.answers.Loaded.{Loaded}
 use Rattle.fault_handler.specs.Finishing.{CanFinish, IsBack, IsFinished}
 use Rattle.fault_handler.proofs.OwnRecords.{own_record}
@@ -93,19 +95,24 @@ module _ (made : Making) (j : JobView) (past : List Entry) (calls : List Call) (
   kept : can.kept ≡ put.rec
   kept = some_same can.kept put.rec (sym given ∙ gifts page can.frame.0 can.slot at ∙ put.put)
 
-  opened : open_start past can.frame.0 ≡ Some coming.start
-  opened = sym (start_is r.follows.shape.columns can.frame.0) ∙ coming.opened
+  its : IsBareOf (open_start past can.frame.0) coming.start
+  its = started_as s past r.follows.shape.columns can.frame.0 coming.start coming.opened
 
-  start : (coming.start.loads ≡ Some page) × (coming.start.slot ≡ can.slot)
+  opened : open_start past can.frame.0 ≡ Some its.start
+  opened = its.opened
+
+  start : (its.start.loads ≡ Some page) × (its.start.slot ≡ can.slot)
   start =
-      start_of coming.start page can.slot
+      start_of its.start page can.slot
       (sym (ap (λ o. load_slot o page) opened) ∙ load_at past can.frame.0 page can.slot r.sound at)
 
   its_page : coming.page ≡ page
-  its_page = some_same coming.page page (sym coming.loads ∙ start.0)
+  its_page = some_same coming.page page (sym coming.loads ∙ sym (ap (λ (y : BareStart). y.loads) its.same) ∙ start.0)
 
   version : coming.start.version ≡ out.0.version
-  version = r.used.found can.frame.0 coming.start page opened start.0 ∙ ap (version_in past) start.1 ∙ sym out.2
+  version =
+      sym (ap (λ (y : BareStart). y.version) its.same) ∙ r.used.found can.frame.0 its.start page opened start.0
+      ∙ ap (version_in past) start.1 ∙ sym out.2
 
   made_flat : (flat past).enclaves page.enclave ≡ Some coming.enclave
   made_flat =

@@ -18,7 +18,8 @@ use Rattle.job_grammar.specs.Jobs.{JobView}
 use Rattle.version_array.specs.Keeper.{is_added, is_among, is_ours, is_out}
 use Rattle.paging_laws.specs.Columns.{HasColumns}
 use Rattle.paging_laws.specs.State.{State, row_of, sight, slot_sight}
-use Rattle.paging_laws.proofs.ColumnLaws.{added_is, sight_is, slot_busy_is, version_is}
+use Rattle.paging_laws.proofs.ColumnLaws.{added_is, sight_is, version_is}
+use Rattle.paging_laws.specs.Shape.{IsShaped}
 use Rattle.paging_machine.specs.Parts.{Parts, state_of}
 use Rattle.driver_rules.specs.Places.{Away, place}
 use Rattle.driver_laws.specs.Sound.{is_absent, slot_at}
@@ -51,8 +52,9 @@ not_past frames f low = by_test (nat_le frames f) refl
 
 -- ---- what the row sees
 
-slot_sees : (s : State) (past : List Entry) → HasColumns s past → (slot : SlotAt) → slot_sight s slot ≡ slot_sight_at s.frames past slot
-slot_sees s past h slot = rw (sight_is h slot.frame.0, slot_busy_is h slot, version_is h slot) refl
+slot_sees : (made : Making) (s : State) (past : List Entry) → IsShaped made s past → (slot : SlotAt)
+    → slot_sight s slot ≡ slot_sight_at s.frames past slot
+slot_sees made s past h slot = rw (sight_is h.columns slot.frame.0, h.slot_busy slot, version_is h.columns slot) refl
 
 row_as : (x x' : FrameSight) (e : Option EnclaveSight) (b : Bool) (y y' : SlotSight) → x ≡ x' → b ≡ true → y ≡ y'
     → first_of_row (eldstart_row x' e true y') ≡ None → first_of_row (eldstart_row x e b y) ≡ None
@@ -67,7 +69,7 @@ module _ (made : Making) (j : JobView) (past : List Entry) (d : Driver) (m : Par
   load_row a g slot f at least =
       row_as (sight (state_of m) f) (sight_at (state_of m).frames past f) (enclave_sight_of ((state_of m).enclaves g.enclave))
       (is_some ((state_of m).added g)) (slot_sight (state_of m) slot) (slot_sight_at (state_of m).frames past slot)
-      (sight_is r.follows.shape.columns f) is_added_page (slot_sees (state_of m) past r.follows.shape.columns slot)
+      (sight_is r.follows.shape.columns f) is_added_page (slot_sees made (state_of m) past r.follows.shape slot)
       (load_goes (state_of m).frames j d.slots past g slot f (enclave_sight_of
       ((state_of m).enclaves g.enclave)) r.sound r.used r.pages.sealing
       r.shows.slots at (least_is_free (content past) j.epc f least) low slot_low

@@ -14,7 +14,7 @@ use Rattle.sgx_types.specs.Table.{first_of_row, is_loading}
 use Rattle.paging_laws.specs.State.{State, after_eldstart, row_of}
 use Rattle.paging_laws.specs.Steps.{IsDone, IsStep, refused_by}
 use Rattle.sgx_types.specs.Sealed.{Sealed}
-use Rattle.sgx_types.specs.Starts.{Start}
+use Rattle.sgx_types.specs.Starts.{BareStart}
 use Rattle.std.specs.Option.{IsSomeAnd}
 use Rattle.seal_record.specs.declared.unseal.UnsealWork.{UnsealWork}
 use Rattle.paging_machine.specs.Parts.{Parts, state_of}
@@ -84,7 +84,7 @@ module _ (cpu : Cpu) (page : Page) (slot : SlotAt) (frame : Frame) (rec : Sealed
       work_is = λ k. opened ((state_of m').start frame.0) refl version;
     }
       where
-        opened : (x : Option Start) → (state_of m').start frame.0 ≡ x → IsSomeAnd x (λ start. work.version ≡ start.version)
+        opened : (x : Option BareStart) → (state_of m').start frame.0 ≡ x → IsSomeAnd x (λ start. work.version ≡ start.version)
             → IsToOpen (state_of m') frame.0 rec work
         opened None is v = absurd v
         opened (Some start) is v = record { brought = brought; key = key; start = start; opened = is; version = v }

@@ -10,7 +10,7 @@ use Rattle.sgx_types.specs.declared.names.Page.{Page}
 use Rattle.sgx_types.specs.declared.names.SlotAt.{SlotAt}
 use Rattle.sgx_types.specs.Frames.{least_free}
 use Rattle.sgx_types.specs.Sealed.{Sealed}
-use Rattle.sgx_types.specs.Starts.{Start}
+use Rattle.sgx_types.specs.Starts.{BareStart}
 use Rattle.turn_rules.specs.Script.{frame_at}
 use Rattle.seal_record.specs.declared.unseal.UnsealWork.{UnsealWork}
 use Rattle.paging_laws.specs.State.{State}
@@ -44,7 +44,7 @@ pub record IsSaid (said : FaultAnswer) (d : Driver) (m : Parts) (answer : FaultA
 pub record IsToOpen (s : State) (f : ℕ) (rec : Sealed) (work : UnsealWork) : Type 0 where
   pub brought : work.rec ≡ rec
   pub key : work.key ≡ s.key
-  pub start : Start
+  pub start : BareStart
   pub opened : s.start f ≡ Some start
   pub version : work.version ≡ start.version
 

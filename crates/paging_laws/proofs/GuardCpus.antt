@@ -104,7 +104,8 @@ pub guarded_left : (s : State) (p : ℕ) (words : ℕ → List ℕ) → IsGuarde
 guarded_left s p words h = record {
   few = λ q high. cond_both (p == q) None (s.inside q) (λ o. o ≡ None) (λ _. refl) (λ _. h.few q high);
   noted = λ q.
-      elim (p == q) as (λ b. IfSome (cond b None (s.inside q)) (HasNoted s.epoch s.blocked (cond b 0 (s.noted q)) (cond b [] (s.cache q)))) [
+      elim (p == q) as (λ b. IfSome (cond b None (s.inside q))
+      (HasNoted s.epoch s.blocked (cond b 0 (s.noted q)) (cond b [] (s.cache q)))) [
         | true ↦ tt
         | false ↦ h.noted q
       ];

@@ -267,7 +267,8 @@ guarded_ewbstart s f slot allowed h =
           (rw here (record { paged = k.paged; within = k.within; loads = tt })) (λ n e. rw e (h.opened n));
       written = each_frame f (λ n. t.is_sealing n ≡ true → IsSomeAnd (t.start n) WritesOut) (λ _. rw here refl) (λ n e. rw e (h.written n));
       loaded = λ n g.
-          each_frame f (λ m. s.content m ≡ IsLoading g → IsSomeAnd (t.start m) (Loads g)) (λ waits. absurd (false≢true (rw waits at k.ours)))
+          each_frame f (λ m. s.content m ≡ IsLoading g → IsSomeAnd (t.start m) (Loads g))
+          (λ waits. absurd (false≢true (rw waits at k.ours)))
           (λ m e. rw e (h.loaded m g)) n;
       held = each_frame f (λ n. is_some (t.start n) ≡ true → (t.is_sealing n || is_loading (s.content n)) ≡ true) (λ _. rw here refl)
           (λ n e. rw e (h.held n));

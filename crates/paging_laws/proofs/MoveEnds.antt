@@ -107,7 +107,8 @@ header_told g (Some y) (Some x) enclave kind perm made added =
 pub coming_header : (s : State) (past : List Entry) (f : ℕ) → Stands s past → (coming : IsComing s f)
     → header_at past coming.page ≡ Some coming.header
 coming_header s past f stands coming =
-    header_told coming.page ((flat past).enclaves coming.page.enclave) ((flat past).pages coming.page) coming.enclave coming.kind coming.perm
+    header_told coming.page ((flat past).enclaves coming.page.enclave)
+    ((flat past).pages coming.page) coming.enclave coming.kind coming.perm
     (sym (enclave_flat stands coming.page.enclave) ∙ coming.made) (sym (added_flat stands coming.page) ∙ coming.added)
     ∙ ap Some (sym coming.headed)
 

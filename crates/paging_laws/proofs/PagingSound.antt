@@ -149,7 +149,8 @@ sound_ewbstart s f slot allowed h sound = by_block (s.blocked f) refl (starts_ou
 
 -- a free frame starts to wait for a page
 pub sound_eldstart : (s : State) (f : ℕ) (page : Page) (slot : SlotAt)
-    → first_of_row (eldstart_row (sight s f) (enclave_sight_of (s.enclaves page.enclave)) (is_some (s.added page)) (slot_sight s slot)) ≡ None → IsSound s
+    → first_of_row (eldstart_row (sight s f) (enclave_sight_of (s.enclaves page.enclave)) (is_some (s.added page)) (slot_sight s slot))
+    ≡ None → IsSound s
     → IsSound (after_eldstart s f page slot)
 sound_eldstart s f page slot allowed sound =
     let t = after_eldstart s f page slot in
@@ -180,7 +181,8 @@ sound_ewb s f start leaving sound =
     (freed s f start (unusable s f sound (λ enclave u. false≢true (sym u.settled ∙ leaving))) sound)
 
 -- a load is refused
-pub sound_failed_eld : (s : State) (f : ℕ) (start : BareStart) (g : Page) → s.content f ≡ IsLoading g → IsSound s → IsSound (after_failed_eld s f start)
+pub sound_failed_eld : (s : State) (f : ℕ) (start : BareStart) (g : Page) → s.content f ≡ IsLoading g → IsSound s
+    → IsSound (after_failed_eld s f start)
 sound_failed_eld s f start g waits sound = freed s f start (unusable_empty s f sound (rw waits refl)) sound
 
 -- a page is back, with its words

@@ -367,7 +367,8 @@ module _ (s : State) (past : List Entry) (sound : IsSound s) (h : HasColumns s p
   -- ---- the commits
 
   -- a page is out
-  pub ewb_next : (a : Actor) (f : Frame) (start : BareStart) (page : Page) (tag : List ℕ) → s.start f.0 ≡ Some start → s.is_sealing f.0 ≡ true
+  pub ewb_next : (a : Actor) (f : Frame) (start : BareStart) (page : Page) (tag : List ℕ) → s.start f.0 ≡ Some start
+      → s.is_sealing f.0 ≡ true
       → start.loads ≡ None
       → IsNextTo s (after_ewb s f.0 start) past (did_by a (Ewb f) (answers.Moved page start.version tag))
   ewb_next a f start page tag is sealing writes = record {

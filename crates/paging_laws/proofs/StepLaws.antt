@@ -53,7 +53,8 @@ module _ (s t : State) (past : List Entry) (cpus : ℕ) (few : cpus ≤ 16) (sou
       → first_of_row (row_of s a action) ≡ None → e ≡ did_by a action answer → t ≡ t' → BringsDone s t' past a action answer
       → Brings s t past e
   done_as a action answer e t' can allowed told same k =
-      brings_as s t t' past e _ told same (done_brings s t' past a action answer (row_told s past cpus a action can sound guarded stands allowed)
+      brings_as s t t' past e _ told same (done_brings s t' past a action answer
+      (row_told s past cpus a action can sound guarded stands allowed)
       (row_fits s past cpus a action can stands.columns allowed) k)
 
   -- an `init` whose measurement is finished

@@ -15,7 +15,7 @@ use Rattle.sgx_types.specs.declared.names.Perm.{Perm}
 use Rattle.sgx_types.specs.declared.refusals.Refusal.{Refusal}
 use Rattle.sgx_types.specs.Frames.{Content, Free, IsVa, SecsOf, Holds, IsLoading, enclave_in}
 use Rattle.sgx_types.specs.Sealed.{Sealed, header_of}
-use Rattle.sgx_types.specs.Starts.{Start}
+use Rattle.sgx_types.specs.Starts.{BareStart}
 use Rattle.sgx_types.specs.Table as table
 use Rattle.sgx_types.specs.Table.{first_of_row}
 use Rattle.epcm_entry.specs.declared.entry_view.EntryView.{EntryView}
@@ -65,7 +65,7 @@ pub low_in : (d : Parts) (f : ℕ) → table.is_loading ((state_of d).content f)
 low_in d f waits = below d f (λ free. false≢true (sym (ap (λ v. table.is_loading (held v)) free) ∙ waits))
 
 -- an open start names a slot of the table
-pub writable : (m : Inside) → IsWhole m → (f : ℕ) (start : Start) → f < length m.epc → (state_of (parts_of m)).start f ≡ Some start
+pub writable : (m : Inside) → IsWhole m → (f : ℕ) (start : BareStart) → f < length m.epc → (state_of (parts_of m)).start f ≡ Some start
     → IsWritable (parts_of m) f start.slot
 writable m h f start low at =
     let is : IsOpen (state_of (parts_of m)).content (state_of (parts_of m)).added start = rw at at (h.guarded.opened f) in
@@ -76,7 +76,7 @@ writable m h f start low at =
     }
 
 -- the same start
-one_start : (o : Option Start) (a b : Start) → o ≡ Some a → o ≡ Some b → a ≡ b
+one_start : (o : Option BareStart) (a b : BareStart) → o ≡ Some a → o ≡ Some b → a ≡ b
 one_start o a b p q = let same : Some a ≡ Some b = sym p ∙ q in cc same
 
 -- ---- EWB
@@ -89,7 +89,7 @@ no_va (SecsOf enclave) h = refl
 no_va (Holds page kind perm) h = refl
 no_va (IsLoading page) h = refl
 
-pub ewb_leaves : (m : Inside) → IsWhole m → (f : ℕ) (start : Start) (d' : Parts) → (state_of (parts_of m)).is_sealing f ≡ true
+pub ewb_leaves : (m : Inside) → IsWhole m → (f : ℕ) (start : BareStart) (d' : Parts) → (state_of (parts_of m)).is_sealing f ≡ true
     → (state_of (parts_of m)).start f ≡ Some start → d' ≡ written_parts (parts_of m) f start
     → Leaves d' (after_ewb (state_of (parts_of m)) f start)
 ewb_leaves m h f start d' leaves at done =
@@ -97,7 +97,7 @@ ewb_leaves m h f start d' leaves at done =
     let k = writable m h f start (low_out d f leaves) at in
     rw done (record {
       state = ewb_state d f start h.slots k;
-      kept = kept_ewb (state_of d) f start leaves (kept_of m h);
+      kept = kept_ewb (state_of d) f start at leaves (kept_of m h);
       processors = h.processors;
       places = h.places;
       table = h.table;
@@ -122,7 +122,7 @@ page_held (views.Valid page k p blocked sealing) g kind perm h = by_kind k h
 
 -- what the commit of EWB leaves and answers
 pub record Written (m : Inside) (a : Actor) (f : Frame) (e : Entry) (rec : Sealed) (d' : Parts) : Type 0 where
-  pub start : Start
+  pub start : BareStart
   pub leaves : Leaves d' (after_ewb (state_of (parts_of m)) f.0 start)
   pub out : IsWrittenOut (state_of (parts_of m)) a f e rec (state_of d')
 
@@ -141,7 +141,7 @@ written m h a f e work start page epc va leaves seals at holds frees ends told =
     let same : k.start ≡ record { slot = start.slot; version = start.version; loads = start.loads } =
     one_start (s.start f.0) k.start _ k.opened at in
     let slots : va ≡ with_ended d.va k.start.slot k.start.version = ends
-    ∙ (λ i. with_ended d.va (let x : Start = sym same i in x.slot) (seals.version i)) in
+    ∙ (λ i. with_ended d.va (let x : BareStart = sym same i in x.slot) (seals.version i)) in
     let parts : record d { epc = epc; va = va; starts = set d.starts f.0 None } ≡ written_parts d f.0 k.start =
     λ i. record d { epc = frees i; va = slots i; starts = set d.starts f.0 None } in
     let left = ewb_leaves m h f.0 k.start _ leaves k.opened parts in
@@ -153,7 +153,7 @@ written m h a f e work start page epc va leaves seals at holds frees ends told =
       out = record {
         leaving = k;
         sealed = work.is_sealed ∙ (λ i. sealed (seals.key i) (seals.version i) (seals.header i) (seals.plain i));
-        entry = told ∙ (λ i. did_by a (Ewb f) (Moved (page_is i) (let x : Start = sym same i in x.version) work.rec.tag));
+        entry = told ∙ (λ i. did_by a (Ewb f) (Moved (page_is i) (let x : BareStart = sym same i in x.version) work.rec.tag));
         state = left.state;
       };
     }
@@ -170,7 +170,7 @@ pub record Waits (d : Parts) (page : Page) : Type 0 where
   pub paged : IsPaged kind
 
 -- the page that an open start loads was added
-pub waits : (m : Inside) → IsWhole m → (f : ℕ) (start : Start) (page : Page) → (state_of (parts_of m)).start f ≡ Some start
+pub waits : (m : Inside) → IsWhole m → (f : ℕ) (start : BareStart) (page : Page) → (state_of (parts_of m)).start f ≡ Some start
     → start.loads ≡ Some page → Waits (parts_of m) page
 waits m h f start page at loads =
     let is : IsOpen (state_of (parts_of m)).content (state_of (parts_of m)).added start = rw at at (h.guarded.opened f) in
@@ -209,7 +209,8 @@ paged_is_not_va page kinds.Reg perm h = refl
 paged_is_not_va page kinds.Secs perm h = absurd h
 paged_is_not_va page kinds.Va perm h = absurd h
 
-pub eld_leaves : (m : Inside) → IsWhole m → (f : ℕ) (start : Start) (page : Page) (kind : Kind) (perm : Perm) (words : List ℕ) (d' : Parts)
+pub eld_leaves : (m : Inside) → IsWhole m
+    → (f : ℕ) (start : BareStart) (page : Page) (kind : Kind) (perm : Perm) (words : List ℕ) (d' : Parts)
     → table.is_loading ((state_of (parts_of m)).content f) ≡ true → (state_of (parts_of m)).start f ≡ Some start
     → (state_of (parts_of m)).added page ≡ Some (kind, perm) → IsPaged kind → length words ≡ 512
     → d' ≡ loaded_parts (parts_of m) f start page kind perm words
@@ -221,7 +222,7 @@ eld_leaves m h f start page kind perm words d' comes at added paged long done =
     let epc = with_page d.epc f page kind perm in
     rw done (record {
       state = eld_state d f start page kind perm words h.slots k (waits_idle (entry_at d.epc f) comes) paged;
-      kept = kept_eld (state_of d) f start page kind perm words comes added long (kept_of m h);
+      kept = kept_eld (state_of d) f start page kind perm words at comes added long (kept_of m h);
       processors = h.processors;
       places = h.places;
       table = h.table;
@@ -234,7 +235,8 @@ eld_leaves m h f start page kind perm words d' comes at added paged long done =
       start_places = length-set d.starts f _ ∙ h.start_places ∙ sym (length-with_words epc f words ∙ length-with_entry d.epc f v);
     })
 
-pub failed_leaves : (m : Inside) → IsWhole m → (f : ℕ) (start : Start) (d' : Parts) → table.is_loading ((state_of (parts_of m)).content f) ≡ true
+pub failed_leaves : (m : Inside) → IsWhole m → (f : ℕ) (start : BareStart) (d' : Parts)
+    → table.is_loading ((state_of (parts_of m)).content f) ≡ true
     → (state_of (parts_of m)).start f ≡ Some start → d' ≡ failed_parts (parts_of m) f start
     → Leaves d' (after_failed_eld (state_of (parts_of m)) f start)
 failed_leaves m h f start d' comes at done =
@@ -242,19 +244,20 @@ failed_leaves m h f start d' comes at done =
     let k = writable m h f start (low_in d f comes) at in
     rw done (record {
       state = failed_state d f start h.slots k;
-      kept = kept_failed_eld (state_of d) f start comes (kept_of m h);
+      kept = kept_failed_eld (state_of d) f start at comes (kept_of m h);
       processors = h.processors;
       places = h.places;
       table = h.table;
       track_places = h.track_places;
       tracked = h.tracked;
       slots = slots_marked d f start.slot false h.slots k;
-      pages = pages_marked d (cleared d.epc f) f start.slot false (pages-cleared d.epc d.va f h.pages k.low (loading_no_va (held (entry_at d.epc f)) comes)) k;
+      pages = pages_marked d (cleared d.epc f) f start.slot false
+          (pages-cleared d.epc d.va f h.pages k.low (loading_no_va (held (entry_at d.epc f)) comes)) k;
       start_places = length-set d.starts f _ ∙ h.start_places ∙ sym (length-cleared d.epc f);
     })
 
 -- the start of a frame that waits, with its page
-abbrev pub coming : (m : Inside) (f : ℕ) (start : Start) (page : Page) → (state_of (parts_of m)).start f ≡ Some start
+abbrev pub coming : (m : Inside) (f : ℕ) (start : BareStart) (page : Page) → (state_of (parts_of m)).start f ≡ Some start
     → start.loads ≡ Some page → (w : Waits (parts_of m) page) → IsComing (state_of (parts_of m)) f
 coming m f start page at loads w = record {
   start = start;
@@ -293,7 +296,7 @@ module _ (m : Inside) (h : IsWhole m) (a : Actor) (f : Frame) (work : UnsealedWo
     abbrev s : State
     s = state_of d
 
-    abbrev own : Start
+    abbrev own : BareStart
     own = record { slot = start.slot; version = start.version; loads = start.loads }
 
     abbrev d' : Parts

@@ -113,6 +113,13 @@ guarded_made frames cpus key epoch version =
       opened = λ n. tt;
       written = λ n is. cc is;
       loaded = λ n g is. cc is;
+      held = λ n is. cc is;
+      apart = record {
+        below = λ n x is. cc is;
+        busy = λ n x is. cc is;
+        named = λ slot is. cc is;
+        alone = λ m n x y is too same. cc is;
+      };
       kinds = λ g. tt;
       goes_out = λ n is. cc is;
     })

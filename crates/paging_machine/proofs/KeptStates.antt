@@ -10,7 +10,7 @@ use Rattle.sgx_types.specs.declared.names.Perm.{Perm}
 use Rattle.sgx_types.specs.declared.names.SlotAt.{SlotAt}
 use Rattle.sgx_types.specs.Frames.{Content, Free, SecsOf, Holds, IsLoading, same_page}
 use Rattle.sgx_types.specs.Flat.{FlatEnclave, marked, enclave_sight_of}
-use Rattle.sgx_types.specs.Starts.{Start}
+use Rattle.sgx_types.specs.Starts.{BareStart}
 use Rattle.sgx_types.specs.Table.{block_row, track_row, ewbstart_row, eldstart_row, first_of_row, is_loading}
 use Rattle.sgx_types.proofs.Pages.{same_page-at}
 use Rattle.measure_log.specs.declared.measure.Measure.{Measure}
@@ -141,7 +141,8 @@ kept_ewbstart s f slot allowed h = record {
 }
 
 pub kept_eldstart : (s : State) (f : ℕ) (page : Page) (slot : SlotAt)
-    → first_of_row (eldstart_row (sight s f) (enclave_sight_of (s.enclaves page.enclave)) (is_some (s.added page)) (slot_sight s slot)) ≡ None → IsKept s
+    → first_of_row (eldstart_row (sight s f) (enclave_sight_of (s.enclaves page.enclave)) (is_some (s.added page)) (slot_sight s slot))
+    ≡ None → IsKept s
     → IsKept (after_eldstart s f page slot)
 kept_eldstart s f page slot allowed h = record {
   measured = h.measured;
@@ -151,34 +152,36 @@ kept_eldstart s f page slot allowed h = record {
   guarded = guarded_eldstart s f page slot allowed h.guarded;
 }
 
-pub kept_ewb : (s : State) (f : ℕ) (start : Start) → s.is_sealing f ≡ true → IsKept s → IsKept (after_ewb s f start)
-kept_ewb s f start leaving h = record {
+pub kept_ewb : (s : State) (f : ℕ) (start : BareStart) → s.start f ≡ Some start → s.is_sealing f ≡ true → IsKept s
+    → IsKept (after_ewb s f start)
+kept_ewb s f start is leaving h = record {
   measured = h.measured;
   framed = framed_put s f Free (λ g kind perm at. cc at) h.framed;
   within = h.within;
   sound = sound_ewb s f start leaving h.sound;
-  guarded = guarded_ewb s f start leaving h.guarded;
+  guarded = guarded_ewb s f start is leaving h.guarded;
 }
 
-pub kept_eld : (s : State) (f : ℕ) (start : Start) (page : Page) (kind : Kind) (perm : Perm) (words : List ℕ)
-    → is_loading (s.content f) ≡ true
+pub kept_eld : (s : State) (f : ℕ) (start : BareStart) (page : Page) (kind : Kind) (perm : Perm) (words : List ℕ)
+    → s.start f ≡ Some start → is_loading (s.content f) ≡ true
     → s.added page ≡ Some (kind, perm) → length words ≡ 512 → IsKept s
     → IsKept (after_eld s f start page kind perm words)
-kept_eld s f start page kind perm words waits added long h = record {
+kept_eld s f start page kind perm words is waits added long h = record {
   measured = h.measured;
   framed = λ n g k p.
       cond_both (f == n) (Holds page kind perm) (s.content n) (λ v. v ≡ Holds g k p → is_some (s.added g) ≡ true)
       (λ _ at. let same : page ≡ g = cc at in rw (← same, added) refl) (λ _. h.framed n g k p);
   within = h.within;
   sound = let w = waits_for (s.content f) waits in sound_eld s f start page kind perm words w.0 w.1 long h.sound;
-  guarded = let w = waits_for (s.content f) waits in guarded_eld s f start page kind perm words w.0 w.1 h.guarded;
+  guarded = let w = waits_for (s.content f) waits in guarded_eld s f start page kind perm words w.0 is w.1 h.guarded;
 }
 
-pub kept_failed_eld : (s : State) (f : ℕ) (start : Start) → is_loading (s.content f) ≡ true → IsKept s → IsKept (after_failed_eld s f start)
-kept_failed_eld s f start waits h = record {
+pub kept_failed_eld : (s : State) (f : ℕ) (start : BareStart) → s.start f ≡ Some start → is_loading (s.content f) ≡ true → IsKept s
+    → IsKept (after_failed_eld s f start)
+kept_failed_eld s f start is waits h = record {
   measured = h.measured;
   framed = framed_put s f Free (λ g kind perm at. cc at) h.framed;
   within = h.within;
   sound = let w = waits_for (s.content f) waits in sound_failed_eld s f start w.0 w.1 h.sound;
-  guarded = let w = waits_for (s.content f) waits in guarded_failed_eld s f start w.0 w.1 h.guarded;
+  guarded = let w = waits_for (s.content f) waits in guarded_failed_eld s f start w.0 is w.1 h.guarded;
 }

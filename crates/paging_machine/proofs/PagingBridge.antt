@@ -11,7 +11,7 @@ use Rattle.sgx_types.specs.declared.names.Kind.TheVariants as kinds
 use Rattle.sgx_types.specs.declared.names.Perm.{Perm}
 use Rattle.sgx_types.specs.Frames.{Content, Free, IsVa, SecsOf, Holds, IsLoading, enclave_in, is_free}
 use Rattle.sgx_types.specs.Slots.{same_slot}
-use Rattle.sgx_types.specs.Starts.{Start}
+use Rattle.sgx_types.specs.Starts.{BareStart}
 use Rattle.sgx_types.specs.Table as table
 use Rattle.sgx_types.specs.Table.{DrainSight, first_of_row, block_row, track_row, ewbstart_row, eldstart_row, EnclaveSight}
 use Rattle.sgx_types.proofs.Rows.{none_holds}
@@ -257,10 +257,10 @@ eldstart_state d f page slot is k idle =
 
 -- ---- the commits
 
-abbrev pub written_parts : Parts → ℕ → Start → Parts
+abbrev pub written_parts : Parts → ℕ → BareStart → Parts
 written_parts d f start = record d { epc = cleared d.epc f; va = with_ended d.va start.slot start.version; starts = set d.starts f None }
 
-pub ewb_state : (d : Parts) (f : ℕ) (start : Start) → IsVaTable d.va → IsWritable d f start.slot
+pub ewb_state : (d : Parts) (f : ℕ) (start : BareStart) → IsVaTable d.va → IsWritable d f start.slot
     → state_of (written_parts d f start) ≡ after_ewb (state_of d) f start
 ewb_state d f start is k =
     let entries : (n : ℕ) → entry_at (cleared d.epc f) n ≡ cond (f == n) views.Free (entry_at d.epc n) =
@@ -276,10 +276,10 @@ ewb_state d f start is k =
       start = λ n. start_column d.starts f n None k.there i;
     }
 
-abbrev pub failed_parts : Parts → ℕ → Start → Parts
+abbrev pub failed_parts : Parts → ℕ → BareStart → Parts
 failed_parts d f start = record d { epc = cleared d.epc f; va = with_busy d.va start.slot false; starts = set d.starts f None }
 
-pub failed_state : (d : Parts) (f : ℕ) (start : Start) → IsVaTable d.va → IsWritable d f start.slot
+pub failed_state : (d : Parts) (f : ℕ) (start : BareStart) → IsVaTable d.va → IsWritable d f start.slot
     → state_of (failed_parts d f start) ≡ after_failed_eld (state_of d) f start
 failed_state d f start is k =
     let entries : (n : ℕ) → entry_at (cleared d.epc f) n ≡ cond (f == n) views.Free (entry_at d.epc n) =
@@ -302,11 +302,11 @@ holds_paged page kinds.Reg perm h = refl
 holds_paged page kinds.Secs perm h = absurd h
 holds_paged page kinds.Va perm h = absurd h
 
-abbrev pub loaded_parts : Parts → ℕ → Start → Page → Kind → Perm → List ℕ → Parts
+abbrev pub loaded_parts : Parts → ℕ → BareStart → Page → Kind → Perm → List ℕ → Parts
 loaded_parts d f start page kind perm words = record d
     { epc = with_words (with_page d.epc f page kind perm) f words; va = with_ended d.va start.slot 0; starts = set d.starts f None }
 
-pub eld_state : (d : Parts) (f : ℕ) (start : Start) (page : Page) (kind : Kind) (perm : Perm) (words : List ℕ) → IsVaTable d.va
+pub eld_state : (d : Parts) (f : ℕ) (start : BareStart) (page : Page) (kind : Kind) (perm : Perm) (words : List ℕ) → IsVaTable d.va
     → IsWritable d f start.slot → goes_out (entry_at d.epc f) ≡ false → IsPaged kind
     → state_of (loaded_parts d f start page kind perm words) ≡ after_eld (state_of d) f start page kind perm words
 eld_state d f start page kind perm words is k idle paged =
@@ -349,7 +349,8 @@ block_leaves m h f epc allowed done =
     })
 
 -- an enclave that is there, by the row of a track
-there_tracked : (o : Option SecsState) (t : Option Tracking) → first_of_row (track_row (track_seen (option_map sight_of o) t)) ≡ None → is_some o ≡ true
+there_tracked : (o : Option SecsState) (t : Option Tracking) → first_of_row (track_row (track_seen (option_map sight_of o) t)) ≡ None
+    → is_some o ≡ true
 there_tracked None None allowed = cc allowed
 there_tracked None (Some t) allowed = cc allowed
 there_tracked (Some x) t allowed = refl
@@ -479,7 +480,8 @@ pub record ComesIn (d : Parts) (f : ℕ) (slot : SlotAt) : Type 0 where
   pub found : IsFound d f slot
   pub not_va : table.is_va (held (entry_at d.epc f)) ≡ false
 
-pub comes : (d : Parts) (f : ℕ) (slot : SlotAt) (enclave : Option EnclaveSight) (added : Bool) → AreVaPages d.epc d.va → length d.starts ≡ length d.epc
+pub comes : (d : Parts) (f : ℕ) (slot : SlotAt) (enclave : Option EnclaveSight) (added : Bool) → AreVaPages d.epc d.va
+    → length d.starts ≡ length d.epc
     → first_of_row (eldstart_row (sight_in d.epc f) enclave added (parts.slot_sight d.epc d.va slot)) ≡ None → ComesIn d f slot
 comes d f slot enclave added pages places allowed =
     let none = none_holds (eldstart_row (sight_in d.epc f) enclave added (parts.slot_sight d.epc d.va slot)) allowed in
@@ -505,7 +507,8 @@ eldstart_leaves m h f page slot d' allowed done =
       track_places = h.track_places;
       tracked = h.tracked;
       slots = slots_marked d f slot true h.slots w;
-      pages = pages_marked d (with_loading d.epc f page) f slot true (pages-with_entry d.epc d.va f (views.Loading page) h.pages w.low (sym k.not_va))
+      pages = pages_marked d (with_loading d.epc f page) f slot true
+          (pages-with_entry d.epc d.va f (views.Loading page) h.pages w.low (sym k.not_va))
           w;
       start_places = length-set d.starts f _ ∙ h.start_places ∙ sym (length-with_entry d.epc f (views.Loading page));
     })

@@ -30,7 +30,7 @@ use Rattle.cached_translations.specs.declared.processor.Mode.TheVariants as mode
 use Rattle.secs_state.specs.Secs.{SecsState, added_at, page_count}
 use Rattle.secs_state.specs.Table.{enclave_at}
 use Rattle.secs_state.proofs.Columns.{added_below}
-use Rattle.sgx_types.specs.Starts.{Start}
+use Rattle.sgx_types.specs.Starts.{BareStart}
 use Rattle.sgx_types.proofs.Truths.{both_true}
 use Rattle.paging_laws.specs.Stands.{IsFramed}
 use Rattle.paging_laws.specs.Guarded.{IsGuarded, WritesOut, Loads}
@@ -268,7 +268,7 @@ page_below d g x table found added =
     let there : is_some (added_at x g.number) ≡ true = ap (λ o. is_some (added_in o g.number)) (sym found) ∙ added in
     added_below x g.number (table.own g.enclave x found).sound (λ none. false≢true (ap is_some (sym none) ∙ there))
 
-some_there : (o : Option Start) (P : Start → Type 0) → IsSomeAnd o P → is_some o ≡ true
+some_there : (o : Option BareStart) (P : BareStart → Type 0) → IsSomeAnd o P → is_some o ≡ true
 some_there None P h = absurd h
 some_there (Some x) P h = refl
 
@@ -280,7 +280,7 @@ pub start_in : (s : State) (f : ℕ) → IsGuarded s → is_loading (s.content f
 start_in s f guarded loads = let w = waits_for (s.content f) loads in some_there (s.start f) (Loads w.0) (guarded.loaded f w.0 w.1)
 
 -- .. and it loads the page for which the frame waits
-pub loads_in : (s : State) (f : ℕ) (start : Start) → IsGuarded s → is_loading (s.content f) ≡ true → s.start f ≡ Some start
+pub loads_in : (s : State) (f : ℕ) (start : BareStart) → IsGuarded s → is_loading (s.content f) ≡ true → s.start f ≡ Some start
     → is_some start.loads ≡ true
 loads_in s f start guarded loads opened =
     let w = waits_for (s.content f) loads in

@@ -20,7 +20,7 @@ use Rattle.track_epoch.specs.Tracking.{Tracking, starting_at}
 use Rattle.track_epoch.specs.Tracks.{track_of}
 use Rattle.version_array.specs.declared.va_page.VaSlot.{VaSlot}
 use Rattle.version_array.specs.Slots.{is_busy_at as is_slot_busy_at, version_in}
-use Rattle.sgx_types.specs.Starts.{Start}
+use Rattle.sgx_types.specs.Starts.{BareStart}
 use Rattle.paging_machine.specs.declared.starts.Start as starts
 use Rattle.paging_laws.specs.State.{State}
 
@@ -85,7 +85,7 @@ abbrev pub epoch_from : ℕ → Option Tracking → ℕ
 epoch_from first None = first
 epoch_from first (Some t) = t.epoch
 
-abbrev pub start_of : Option starts.Start → Option Start
+abbrev pub start_of : Option starts.Start → Option BareStart
 start_of None = None
 start_of (Some x) = Some (record { slot = x.slot; version = x.version; loads = x.loads })
 

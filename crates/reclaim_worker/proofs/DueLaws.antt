@@ -121,7 +121,8 @@ module _ (made : Making) (j : JobView) (past : List Entry) (taken taken' : List 
       → IsTryTurn next form block one (state_of m) d turn phase' d' (state_of m')
       → IsTurn made past d.slots (leaving_due past one.page TriesOut) turn
   tries next form block one h making r at w k = try_is_due made j past m
-      (state_of m') next form block one d d' turn phase' making h r.sound r.pages.sealing r.shows.tables.slots at w k
+      (state_of m') next form block one d d' turn phase' making h r.follows.shape.slot_busy r.sound r.pages.sealing
+      r.shows.tables.slots at w k
 
   -- the last one, or its wait
   third : (next block : ℕ) (one : Taken) → Ready made j past taken (phases.Tries next forms.Third block) d m
@@ -140,7 +141,8 @@ module _ (made : Making) (j : JobView) (past : List Entry) (taken taken' : List 
 
       by_keepers : (ps : List ℕ) → keepers past one.page ≡ ps → IsTurn made past d.slots (third_due past one.page ps) turn
       by_keepers [] is = try_is_due made j past m (state_of m') next forms.Third block one d d' turn phase' r.follows.shape.making
-          r.follows.shape.columns r.sound r.pages.sealing r.shows.tables.slots at w (k.tried (count ∙ ap length is))
+          r.follows.shape.columns r.follows.shape.slot_busy r.sound r.pages.sealing r.shows.tables.slots at w
+          (k.tried (count ∙ ap length is))
       by_keepers (p ∷ ps) is =
           let some : count_from (λ q. is_kept_by (cpu_at m q).mode one.page.enclave block) 0 d.cpus ≡ length (p ∷ ps) =
           count ∙ ap length is in

@@ -46,7 +46,7 @@ use Rattle.driver_rules.specs.Reclaims.{leaving_due}
 use Rattle.reclaim_worker.specs.Moves.{IsBlockTurn, IsTrackTurn, IsTryTurn, turn_of, turn_of_track}
 use Rattle.driver_laws.specs.Stages.{IsTaken}
 use Rattle.reclaim_worker.specs.Tried.{IsTried}
-use Rattle.reclaim_worker.proofs.RowLaws.{SeesPage, block_allowed, blocked_same, drain_sees, sees_page, sees_slot}
+use Rattle.reclaim_worker.proofs.RowLaws.{KeepsBusy, SeesPage, block_allowed, blocked_same, drain_sees, sees_page, sees_slot}
 use Rattle.driver_steps.proofs.PartLaws.{seen_made, added_created}
 use Rattle.reclaim_worker.proofs.RowLaws.{track_allowed, try_refusal, try_row}
 
@@ -133,13 +133,14 @@ try_told s t past one slot e h step row = by_drain (is_drained past one.frame.0)
 
 pub try_is_due : (made : Making) (j : JobView) (past : List Entry) (d : Parts) (t : State) (next : ℕ) (form : Form) (block : ℕ)
     (one : Taken) (old new : Driver) (turn : PassTurn) (phase : Phase) → making_of (state_of d) ≡ made → HasColumns (state_of d) past
+    → KeepsBusy (state_of d) past
     → IsSound past → ((n : ℕ) → is_sealing past n ≡ is_write_start (open_start past n)) → ShowsSlots j old.slots past
     → place past one.page ≡ Leaving one.frame.0 → IsTaken past true one.page
     → IsTryTurn next form block one (state_of d) old turn phase new t
     → IsTurn made past old.slots (leaving_due past one.page TriesOut) turn
-try_is_due made j past d t next form block one old new turn phase making h s sealing slots at waits (inr none) =
+try_is_due made j past d t next form block one old new turn phase making h busy s sealing slots at waits (inr none) =
     rw (due_there past one.page one.frame.0 TriesOut at) (inr none)
-try_is_due made j past d t next form block one old new turn phase making h s sealing slots at waits (inl k) =
+try_is_due made j past d t next form block one old new turn phase making h busy s sealing slots at waits (inl k) =
     rw (due_there past one.page one.frame.0 TriesOut at)
     (inl (record {
       slot = k.tried.slot;
@@ -159,7 +160,7 @@ try_is_due made j past d t next form block one old new turn phase making h s sea
         (drain_sight_at (state_of d).first_epoch past one.frame.0) (next_version (state_of d).first_version past == 2 ^ 64)
     row = try_row (sight (state_of d) one.frame.0) (slot_sight (state_of d) k.tried.slot) (drain_sight (state_of d) one.frame.0)
         (is_version_spent (state_of d)) sees (blocked_same (state_of d) past one.frame.0 h ∙ there.block)
-        (sees_slot d j past old.slots k.tried.slot h slots k.tried.ours k.tried.free)
+        (sees_slot d j past old.slots k.tried.slot h (busy k.tried.slot) slots k.tried.ours k.tried.free)
         ∙ ap (λ x. try_refusal x (is_version_spent (state_of d))) (drain_sees (state_of d) past h one.frame.0)
         ∙ ap (λ (v : ℕ). try_refusal (drain_sight_at (state_of d).first_epoch past one.frame.0) (v == 2 ^ 64)) (next_version_is h)
 
@@ -208,12 +209,12 @@ abbrev pub started_entry : State → Taken → SlotAt → Entry
 started_entry s one slot = by_reclaimer (Did (EwbStart one.frame slot) (answers.Version s.next_version))
 
 pub try_entry : (j : JobView) (past : List Entry) (d : Parts) (t : State) (one : Taken) (old new : Driver) (e : Entry)
-    → HasColumns (state_of d) past → IsSound past → ((n : ℕ) → is_sealing past n ≡ is_write_start (open_start past n))
-    → ShowsSlots j old.slots past
+    → HasColumns (state_of d) past → KeepsBusy (state_of d) past → IsSound past
+    → ((n : ℕ) → is_sealing past n ≡ is_write_start (open_start past n)) → ShowsSlots j old.slots past
     → place past one.page ≡ Leaving one.frame.0 → IsTaken past true one.page → (k : IsTried (state_of d) old one.frame e new t)
     → ((is_drained past one.frame.0 ≡ false) × (e ≡ refused_entry (state_of d) past one k.slot))
     ⊎ ((e ≡ spent_entry one k.slot) ⊎ (e ≡ started_entry (state_of d) one k.slot))
-try_entry j past d t one old new e h s sealing slots at waits k = by_drain (is_drained past one.frame.0) refl
+try_entry j past d t one old new e h busy s sealing slots at waits k = by_drain (is_drained past one.frame.0) refl
     (is_version_spent (state_of d)) refl
   where
     there : InFrame past true one.frame.0
@@ -223,7 +224,8 @@ try_entry j past d t one old new e h s sealing slots at waits k = by_drain (is_d
         (drain_sight_at (state_of d).first_epoch past one.frame.0) (is_version_spent (state_of d))
     row = try_row (sight (state_of d) one.frame.0) (slot_sight (state_of d) k.slot) (drain_sight (state_of d) one.frame.0)
         (is_version_spent (state_of d)) (sees_page d past one.page one.frame.0 h s at (not_sealing past one.frame.0 sealing there.start))
-        (blocked_same (state_of d) past one.frame.0 h ∙ there.block) (sees_slot d j past old.slots k.slot h slots k.ours k.free)
+        (blocked_same (state_of d) past one.frame.0 h ∙ there.block)
+        (sees_slot d j past old.slots k.slot h (busy k.slot) slots k.ours k.free)
         ∙ ap (λ x. try_refusal x (is_version_spent (state_of d))) (drain_sees (state_of d) past h one.frame.0)
 
     by_drain : (b : Bool) → is_drained past one.frame.0 ≡ b → (v : Bool) → is_version_spent (state_of d) ≡ v

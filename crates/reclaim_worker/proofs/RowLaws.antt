@@ -1,7 +1,7 @@
 -- What the rows of a block, a track and a try say of a page that was taken.
 use Rattle.std.proofs.Common.{◌≡◌, ℕ, ◌&&◌, not, Bool, true, false, if◌then◌else◌, refl, sym, ◌∙◌, ap, List, Option, Some, None}
 use Rattle.std.proofs.Common.{is_some, nat_lt, leb, arith}
-use Rattle.paging_laws.proofs.ColumnLaws.{blocked_is, content_is, epoch_is, is_blocked_is, sealing_is, slot_busy_is, version_is}
+use Rattle.paging_laws.proofs.ColumnLaws.{blocked_is, content_is, epoch_is, is_blocked_is, sealing_is, version_is}
 use Rattle.std.proofs.lemmas.Bool.{eq-eqb}
 use Rattle.sgx_types.proofs.Keystone.{epochs_tell}
 use Rattle.sgx_types.specs.ByEpochs.{up_to_block}
@@ -18,11 +18,13 @@ use Rattle.sgx_types.specs.Table as table
 use Rattle.sgx_types.specs.Table.{DrainSight, FrameSight, SlotSight, TrackSight, block_row, ewbstart_row, first_of_row, track_row}
 use Rattle.version_array.specs.Keeper.{Keeper, is_added, is_ours, is_out}
 use Rattle.sgx_types.specs.Sights.{drain_sight_at}
+use Rattle.sgx_types.proofs.Busy.{idle_free}
+use Rattle.sgx_types.specs.Slots.{is_slot_busy}
 use Rattle.job_grammar.specs.Jobs.{JobView}
 use Rattle.paging_machine.specs.Parts.{Parts, state_of}
 use Rattle.paging_laws.specs.Columns.{HasColumns}
 use Rattle.paging_laws.specs.State.{State, drain_sight, number_up_to, sight, slot_sight}
-use Rattle.paging_laws.proofs.ColumnLaws.{is_blocked_is, content_is, blocked_is, sealing_is, epoch_is, slot_busy_is, version_is}
+use Rattle.paging_laws.proofs.ColumnLaws.{is_blocked_is, content_is, blocked_is, sealing_is, epoch_is, version_is}
 use Rattle.paging_laws.proofs.ShapeLaws.{drained_by, noting_agrees}
 use Rattle.driver_steps.proofs.PartLaws.{held_within}
 use Rattle.driver_laws.specs.Agrees.{ShowsSlots}
@@ -77,9 +79,14 @@ pub record SeesSlot (s : SlotSight) : Type 0 where
   pub array : table.is_va s.frame.content ≡ true
   pub empty : s.version ≡ 0
 
+-- each slot is busy exactly where an open start of one of the machine's frames names it
+abbrev pub KeepsBusy : State → List Entry → Type 0
+KeepsBusy s past = (slot : SlotAt) → s.is_slot_busy slot ≡ is_slot_busy s.frames past slot
+
 pub sees_slot : (d : Parts) (j : JobView) (past : List Entry) (keeper : Keeper) (slot : SlotAt) → HasColumns (state_of d) past
-    → ShowsSlots j keeper past → is_ours keeper slot ≡ true → is_out keeper slot ≡ false → SeesSlot (slot_sight (state_of d) slot)
-sees_slot d j past keeper slot h shows ours free =
+    → (state_of d).is_slot_busy slot ≡ is_slot_busy (state_of d).frames past slot → ShowsSlots j keeper past → is_ours keeper slot ≡ true
+    → is_out keeper slot ≡ false → SeesSlot (slot_sight (state_of d) slot)
+sees_slot d j past keeper slot h busy shows ours free =
     let two = both (is_added keeper slot.frame.0) (nat_lt slot.index 512) ours in
     let here : table.is_va ((state_of d).content slot.frame.0) ≡ true =
     ap table.is_va (content_is h slot.frame.0) ∙ same (content past slot.frame.0) ∙ sym (shows.frames slot.frame.0) ∙ two.0 in
@@ -87,7 +94,7 @@ sees_slot d j past keeper slot h shows ours free =
     record {
       frame = held_within d slot.frame.0 (no_free ((state_of d).content slot.frame.0) here);
       within = below slot.index two.1;
-      idle = slot_busy_is h slot ∙ none.1;
+      idle = busy ∙ idle_free (state_of d).frames past slot none.1;
       array = here;
       empty = version_is h slot ∙ none.0;
     }

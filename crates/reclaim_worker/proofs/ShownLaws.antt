@@ -212,7 +212,8 @@ module _ (made : Making) (j : JobView) (past : List Entry) (taken taken' : List 
       → IsTryTurn next form block one (state_of m) d turn phase' d' (state_of m') → After turn
   try_shown next form block one r w at (inr none) = full r.shows none.1
   try_shown next form block one r w at (inl k) =
-      by_entry (try_entry j past m (state_of m') one d d' k.entry r.follows.shape.columns r.sound r.pages.sealing r.shows.tables.slots at w
+      by_entry (try_entry j past m (state_of m') one d d' k.entry r.follows.shape.columns r.follows.shape.slot_busy r.sound
+      r.pages.sealing r.shows.tables.slots at w
       k.tried)
     where
       told : (x : Entry) → k.entry ≡ x → turn ≡ turn_of x x.event

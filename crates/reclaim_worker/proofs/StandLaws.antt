@@ -130,7 +130,8 @@ module _ (made : Making) (j : JobView) (past : List Entry) (taken taken' : List 
   try_stands next form block one rest to r is frames passed waits at same again starts (inr none) =
       subst (λ x. After (pass j past) x taken' phase') (sym none.1) tt
   try_stands next form block one rest to r is frames passed waits at same again starts (inl k) =
-      by_entry (try_entry j past m (state_of m') one d d' k.entry r.follows.shape.columns r.sound r.pages.sealing r.shows.tables.slots at
+      by_entry (try_entry j past m (state_of m') one d d' k.entry r.follows.shape.columns r.follows.shape.slot_busy r.sound
+      r.pages.sealing r.shows.tables.slots at
       waits k.tried)
     where
       told : (x : Entry) → k.entry ≡ x → turn ≡ turn_of x x.event

@@ -14,10 +14,12 @@ use Rattle.sgx_types.specs.Frames.{is_page, same_page}
 use Rattle.sgx_types.specs.Slots.{slot_of as slot_of_start}
 use Rattle.sgx_types.specs.Starts.{Start, open_start}
 use Rattle.sgx_types.specs.Making.{Making}
+use Rattle.sgx_types.proofs.Busy.{IsBareOf}
 use Rattle.job_grammar.specs.Jobs.{JobView}
 use Rattle.backing_store.specs.Calls.{Call}
 use Rattle.paging_laws.specs.Columns.{HasColumns}
 use Rattle.paging_laws.proofs.ColumnLaws.{content_is, start_is}
+use Rattle.paging_laws.proofs.SlotLaws.{started_as}
 use Rattle.paging_machine.specs.Parts.{Parts, state_of}
 use Rattle.driver_rules.specs.Dues.{IsNext}
 use Rattle.driver_rules.specs.Passes.{First, Sealing, Tries, next_tries, pass, pass_by}
@@ -63,14 +65,20 @@ module _ (made : Making) (j : JobView) (past : List Entry) (taken : List Taken) 
     at : place past one.page ≡ Leaving one.frame.0
     at = (subst (AreInFrames past) is r.stands.1).0
 
-    abbrev start : Start
-    start = k.out.leaving.start
-
     columns : HasColumns (state_of m) past
     columns = r.follows.shape.columns
 
+    its : IsBareOf (open_start past one.frame.0) k.out.leaving.start
+    its = started_as (state_of m) past columns one.frame.0 k.out.leaving.start k.out.leaving.opened
+
+    abbrev start : Start
+    start = its.start
+
+    abbrev version : ℕ
+    version = k.out.leaving.start.version
+
     opened : open_start past one.frame.0 ≡ Some start
-    opened = sym (start_is columns one.frame.0) ∙ k.out.leaving.opened
+    opened = its.opened
 
     pub page_is : k.out.leaving.page.page ≡ one.page
     page_is =
@@ -79,10 +87,10 @@ module _ (made : Making) (j : JobView) (past : List Entry) (taken : List Taken) 
         ∙ holds_here past one.page (Leaving one.frame.0) one.frame.0 r.sound at (eq-eqb one.frame.0 one.frame.0 refl))
 
     abbrev entry : Entry
-    entry = by_reclaimer (Did (Ewb one.frame) (Moved one.page start.version k.rec.tag))
+    entry = by_reclaimer (Did (Ewb one.frame) (Moved one.page version k.rec.tag))
 
     entry_is : e ≡ entry
-    entry_is = k.out.entry ∙ ap (λ g. by_reclaimer (Did (Ewb one.frame) (Moved g start.version k.rec.tag))) page_is
+    entry_is = k.out.entry ∙ ap (λ g. by_reclaimer (Did (Ewb one.frame) (Moved g version k.rec.tag))) page_is
 
     slot_is : start.slot ≡ slot
     slot_is =
@@ -95,7 +103,7 @@ module _ (made : Making) (j : JobView) (past : List Entry) (taken : List Taken) 
             let here : w.one ≡ one = cc in
             subst (λ (x : Taken). slot_at (open_start past) (place past x.page) ≡ Some slot) here w.named
 
-    can : CanMove past (Did (Ewb one.frame) (Moved one.page start.version k.rec.tag))
+    can : CanMove past (Did (Ewb one.frame) (Moved one.page version k.rec.tag))
     can = (at, (start, opened))
 
     away : (failed : Bool) → place_in (gone slot failed) ≡ Away start.slot
@@ -104,9 +112,9 @@ module _ (made : Making) (j : JobView) (past : List Entry) (taken : List Taken) 
 
     shown : Shows j new (entry ∷ past)
     shown =
-        with_held j past old new (Did (Ewb one.frame) (Moved one.page start.version k.rec.tag))
+        with_held j past old new (Did (Ewb one.frame) (Moved one.page version k.rec.tag))
         (ap (λ (x : Driver). x.active.own) k.tables) r.shows
-        (shows_gone j old new past one.frame one.page start.version k.rec.tag start (gone slot k.failed) can opened (away k.failed) r.sound
+        (shows_gone j old new past one.frame one.page version k.rec.tag start (gone slot k.failed) can opened (away k.failed) r.sound
         (r.shows.tables.placed one.page (ap is_absent at)) k.tables r.shows.tables)
 
     -- the pages behind it stay in their frames
@@ -144,11 +152,11 @@ module _ (made : Making) (j : JobView) (past : List Entry) (taken : List Taken) 
               subst (AreInFrames (entry ∷ past)) (sym behind) (others (y ∷ ys) none h),
             )
 
-    keeps : Keeps j past (Tries one.page (pages_in rest) Sealing) (Did (Ewb one.frame) (Moved one.page start.version k.rec.tag))
+    keeps : Keeps j past (Tries one.page (pages_in rest) Sealing) (Did (Ewb one.frame) (Moved one.page version k.rec.tag))
     keeps = record { look = tt; in_pass = at; form = tt; can = can; tells = tt }
 
     due : IsNext (pass_due j past false (Tries one.page (pages_in rest) Sealing))
-        (Did (Ewb one.frame) (Moved one.page start.version k.rec.tag))
+        (Did (Ewb one.frame) (Moved one.page version k.rec.tag))
     due = rw at refl
 
     ended : IsEnded made.first_epoch j past e (taken_in (after_page next (length taken)) taken) (after_page next (length taken)) new

@@ -12,13 +12,14 @@ use Rattle.sgx_types.specs.declared.names.SlotAt.{SlotAt}
 use Rattle.sgx_types.specs.declared.refusals.Refusal.{Refusal}
 use Rattle.sgx_types.specs.Making.{Making}
 use Rattle.sgx_types.specs.Sealed.{Sealed}
-use Rattle.sgx_types.specs.Starts.{Start, open_start}
+use Rattle.sgx_types.specs.Starts.{Start, open_start, BareStart}
 use Rattle.sgx_types.specs.Table.{first_of_row}
 use Rattle.job_grammar.specs.Jobs.{JobView}
 use Rattle.backing_store.specs.Calls.{Call}
 use Rattle.paging_laws.specs.State.{State}
 use Rattle.paging_laws.specs.Steps.{IsReloaded, commit_row, did_by, refused_by}
 use Rattle.paging_laws.proofs.ColumnLaws.{start_is}
+use Rattle.paging_laws.proofs.SlotLaws.{started_as}
 use Rattle.paging_machine.specs.Parts.{Parts, state_of}
 use Rattle.version_array.specs.Keeper.{count_out}
 use Rattle.turn_rules.specs.Script.{frame_at}
@@ -171,11 +172,11 @@ module _ (made : Making) (j : JobView) (past : List Entry) (d d' : Driver) (m m'
 
 -- by what is told of it
 out_by : (made : Making) (j : JobView) (past : List Entry) (d d' : Driver) (m m' : Parts) (f : Frame) (page : Page) (x : Start)
-    (tag : List ℕ) (e : Entry) (after : List Taken) (behind : Phase) → Agrees made j past d m → is_spent past ≡ false
-    → e ≡ did_by actors.Reclaimer (Ewb f) (Moved page x.version tag) → open_start past f.0 ≡ Some x → x.loads ≡ None
+    (version : ℕ) (tag : List ℕ) (e : Entry) (after : List Taken) (behind : Phase) → Agrees made j past d m → is_spent past ≡ false
+    → e ≡ did_by actors.Reclaimer (Ewb f) (Moved page version tag) → open_start past f.0 ≡ Some x → x.loads ≡ None → version ≡ x.version
     → count_out d'.slots ≡ count_out d.slots → IsEnded made.first_epoch j past e after behind d' → GoesOnWith made past e m'
     → length m'.cpus ≡ length m.cpus → IsNextOf made j past d m e d' m'
-out_by made j past d d' m m' f page x tag e after behind a going entry opened writes same ended on cpus = record {
+out_by made j past d d' m m' f page x version tag e after behind a going entry opened writes drawn same ended on cpus = record {
   script = record { not_spent = going; next = rw entry refl };
   age = record {
     look = subst (λ (b : Entry). LookOf j past b.actor b.event) (sym entry) tt;
@@ -187,7 +188,7 @@ out_by made j past d d' m m' f page x tag e after behind a going entry opened wr
   };
   can = ended.kept.can;
   tries = ended.kept.tells;
-  starts = rw entry (x, opened, writes, refl);
+  starts = rw entry (x, opened, writes, drawn);
   tracking = rw entry record { stay = tt; track = tt };
   follows = on.shape;
   fits = on.fits;
@@ -206,16 +207,15 @@ out_next made j past d d' m m' taken (phases.Sealing next slot) told told' fault
     let w = r.stands.0 in
     let k = subst (λ o. IsSomeAnd o (λ one. IsStored one slot (state_of m) d told faults e (state_of m') d' told' faults'))
     (drop_get next taken w.one w.rest w.due) says in
-    let opened : open_start past w.one.frame.0 ≡ Some k.out.leaving.start =
-    sym (start_is r.follows.shape.columns w.one.frame.0) ∙ k.out.leaving.opened in
+    let its = started_as (state_of m) past r.follows.shape.columns w.one.frame.0 k.out.leaving.start k.out.leaving.opened in
     let page = subst (HasPages past) w.same r.pages.pages in
     let at : place past w.one.page ≡ Leaving w.one.frame.0 = (subst (AreInFrames past) w.due r.stands.1).0 in
     let frame : page.page.frame ≡ w.one.frame.0 = frames page.page.frame w.one.frame.0 (sym page.page.leaving ∙ at) in
     let write : is_write_start (open_start past w.one.frame.0) ≡ true = subst (λ n. is_write_start (open_start past n) ≡ true) frame
     page.page.write in
-    out_by made j past d d' m m' w.one.frame k.out.leaving.page.page k.out.leaving.start k.rec.tag e after behind a going k.out.entry opened
-    (none_loads k.out.leaving.start (ap is_write_start (sym opened) ∙ write)) (ap (λ (x : Driver). count_out x.slots) k.tables)
-    ended on cpus
+    out_by made j past d d' m m' w.one.frame k.out.leaving.page.page its.start k.out.leaving.start.version k.rec.tag e after behind a going
+    k.out.entry its.opened (none_loads its.start (ap is_write_start (sym its.opened) ∙ write))
+    (sym (ap (λ (y : BareStart). y.version) its.same)) (ap (λ (x : Driver). count_out x.slots) k.tables) ended on cpus
   where
     frames : (x y : ℕ) → Leaving x ≡ Leaving y → x ≡ y
     frames x y h = cc

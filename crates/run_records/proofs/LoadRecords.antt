@@ -19,10 +19,11 @@ use Rattle.sgx_types.specs.Flat.{header_at}
 use Rattle.sgx_types.specs.Frames.{least_free}
 use Rattle.sgx_types.specs.Making.{Making}
 use Rattle.sgx_types.specs.Sealed.{Sealed}
-use Rattle.sgx_types.specs.Starts.{Start, open_start}
+use Rattle.sgx_types.specs.Starts.{Start, open_start, BareStart}
 use Rattle.sgx_types.specs.Table.{first_of_row}
 use Rattle.sgx_types.proofs.Truths.{both_true, not_false}
 use Rattle.sgx_types.specs.Enclaves.{EnclavesAreFlat}
+use Rattle.sgx_types.proofs.Busy.{IsBareOf}
 use Rattle.seal_record.specs.Cipher.{tag}
 use Rattle.seal_record.specs.Row.{eld_row, is_header, same_header}
 use Rattle.job_grammar.specs.Jobs.{JobView}
@@ -38,6 +39,7 @@ use Rattle.active_list.specs.declared.page_states.PageState.TheVariants as state
 use Rattle.paging_laws.specs.State.{State}
 use Rattle.paging_laws.specs.Steps.{IsComing, IsReloaded, commit_row, did_by, refused_by}
 use Rattle.paging_laws.proofs.ColumnLaws.{enclave_seen, page_seen, start_is}
+use Rattle.paging_laws.proofs.SlotLaws.{started_as}
 use Rattle.paging_machine.specs.Parts.{Parts, state_of}
 use Rattle.driver_rules.specs.Places.{Loading}
 use Rattle.driver_rules.specs.Reclaims.{is_refused}
@@ -293,8 +295,8 @@ module _ (made : Making) (j : JobView) (past : List Entry) (calls : List Call) (
   given =
       ap (gift past calls) (sym frame_is) ∙ sym (k.store.gifts cpu.0 n page last) ∙ ap record_kept can.copy
 
-  opened : open_start past can.frame.0 ≡ Some coming.start
-  opened = sym (start_is r.follows.shape.columns can.frame.0) ∙ coming.opened
+  its : IsBareOf (open_start past can.frame.0) coming.start
+  its = started_as s past r.follows.shape.columns can.frame.0 coming.start coming.opened
 
   computed : tag s.key coming.start.version can.kept.header can.kept.cipher ≡ tag j.key coming.start.version can.kept.header can.kept.cipher
   computed =
@@ -324,9 +326,10 @@ module _ (made : Making) (j : JobView) (past : List Entry) (calls : List Call) (
       by_row X Y (Some refusal) row w =
           subst (λ (e : Entry). TellsRecord j.key past (gift past calls) e.event calls) (sym w.0)
           (some_and (λ start. IsSomeAnd (gift past calls can.frame.0) (IsUnfit j.key start refusal)) (open_start past can.frame.0)
-          coming.start opened
-          (some_and (IsUnfit j.key coming.start refusal) (gift past calls can.frame.0) can.kept given
-          (unfit_under j.key (tag s.key coming.start.version can.kept.header can.kept.cipher) refusal can.kept coming.start computed
+          its.start its.opened
+          (some_and (IsUnfit j.key its.start refusal) (gift past calls can.frame.0) can.kept given
+          (unfit_under j.key (tag s.key coming.start.version can.kept.header can.kept.cipher) refusal can.kept its.start
+          (computed ∙ ap (λ (y : BareStart). tag j.key y.version can.kept.header can.kept.cipher) (sym its.same))
           (row_unfit can.kept (tag s.key coming.start.version can.kept.header can.kept.cipher) (Some coming.header) refusal row))))
 
   -- .. with the call that it comes with

@@ -51,6 +51,7 @@ pub fn another_page_in_breaks_the_table()
     ensures { ¬ Along (RefusalRule (machine_of first_job)) other_page_in }
 {}
 
+#[tactic(auto, unfolding(sgx_types::specs::Counts::any_below))]
 pub fn a_second_start_from_a_slot_breaks_the_table()
     ensures { ¬ Along (RefusalRule (machine_of first_job)) second_start }
 {}

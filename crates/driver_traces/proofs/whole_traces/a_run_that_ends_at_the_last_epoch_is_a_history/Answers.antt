@@ -1,10 +1,10 @@
 use Rattle.std.proofs.Common.{refl}
 use lib.Count.{ones}
-use Rattle.sgx_types.specs.Counts.{count_below}
+use Rattle.sgx_types.specs.Counts.{any_below, count_below}
 use Rattle.driver_traces.specs.SpentTrace.{spent_job, spent_trace}
 use Rattle.driver_traces.proofs.FaultLaws.{whole_history}
 use Rattle.driver_traces.proofs.whole_traces.a_run_that_ends_at_the_last_epoch_is_a_history.Goals as goal
 
 pub returns : goal.returns
-unfolding count_below ones
+unfolding any_below count_below ones
 returns c = whole_history spent_job spent_trace refl
