@@ -182,7 +182,8 @@ module _ (c : Course) (told longer : Option (List Call)) (before spare : ℕ) (p
 
   -- all slots are not out where a page is tried
   no_slot : (at : Phase) → c.pass.phase ≡ at → AtTries at → AllOut c.driver.slots → ⊥
-  no_slot at is tries out = by_page (subst (λ phase. StandsFor c.job.start_epoch (past_of c) c.pass.taken.items phase (pass c.job (past_of c)))
+  no_slot at is tries out =
+      by_page (subst (λ phase. StandsFor c.job.start_epoch (past_of c) c.pass.taken.items phase (pass c.job (past_of c)))
       (is ∙ tries.same) k.stands)
     where
       by_page : StandsFor c.job.start_epoch (past_of c) c.pass.taken.items (phases.Tries tries.next tries.form tries.block)
@@ -196,7 +197,8 @@ module _ (c : Course) (told longer : Option (List Call)) (before spare : ℕ) (p
   -- kicks can be made
   by_kicks : (bits : ℕ) → IsStepped c told (turns.Kicks bits) p d m longer spare → IsOwnKicks behind bits longer spare
   by_kicks bits s =
-      let at = turn_leaves c.pass.taken.items p.taken.items c.driver d (turns.Kicks bits) p.phase c.pass.phase c.machine m s.says s.driver in
+      let at =
+      turn_leaves c.pass.taken.items p.taken.items c.driver d (turns.Kicks bits) p.phase c.pass.phase c.machine m s.says s.driver in
       let are = turn_tells (machine_of c.job) (past_of c) c.driver.slots (turns.Kicks bits)
       (pass_due c.job (past_of c) (is_kicked c.pass.phase) (pass c.job (past_of c))) s.due in
       let same : d ≡ c.driver = subst (λ phase. DriverSays phase c.driver d) at.same s.driver in
@@ -211,7 +213,8 @@ module _ (c : Course) (told longer : Option (List Call)) (before spare : ℕ) (p
           taken = c.pass.taken.items;
           next = at.next;
           block = at.block;
-          stands = subst (λ phase. StandsFor c.job.start_epoch (past_of c) c.pass.taken.items phase (pass c.job (past_of c))) at.same k.stands;
+          stands = subst (λ phase. StandsFor c.job.start_epoch (past_of c) c.pass.taken.items phase (pass c.job (past_of c)))
+              at.same k.stands;
           going = going;
           cpus = are.cpus;
           due = due;
@@ -232,7 +235,8 @@ module _ (c : Course) (told longer : Option (List Call)) (before spare : ℕ) (p
       → (cpus : List ℕ) × ((pass_due c.job (past_of c) (is_kicked c.pass.phase) (pass c.job (past_of c)) ≡ KicksAll cpus)
       × (pass_due c.job (past_of c) false (pass c.job (past_of c)) ≡ KicksAll cpus))
   kicks_due bits s =
-      let at = turn_leaves c.pass.taken.items p.taken.items c.driver d (turns.Kicks bits) p.phase c.pass.phase c.machine m s.says s.driver in
+      let at =
+      turn_leaves c.pass.taken.items p.taken.items c.driver d (turns.Kicks bits) p.phase c.pass.phase c.machine m s.says s.driver in
       let are = turn_tells (machine_of c.job) (past_of c) c.driver.slots (turns.Kicks bits)
       (pass_due c.job (past_of c) (is_kicked c.pass.phase) (pass c.job (past_of c))) s.due in (
         are.cpus,
@@ -245,11 +249,13 @@ module _ (c : Course) (told longer : Option (List Call)) (before spare : ℕ) (p
   next_of : (turn : PassTurn) → IsStepped c told turn p d m longer spare
       → OfEntry turn (λ e. IsNextOf (machine_of c.job) c.job (past_of c) c.driver c.machine e d m)
   next_of turn s =
-      turn_next (machine_of c.job) c.job (past_of c) c.driver d c.machine m c.pass.taken.items c.pass.phase turn k.book.turns.valid.some_version
+      turn_next (machine_of c.job) c.job (past_of c) c.driver d c.machine m c.pass.taken.items c.pass.phase turn
+      k.book.turns.valid.some_version
       k.book.agrees k.stands going s.due s.kept s.goes (goes_cpus c.machine m turn s.goes) s.shows
       (turn_counts c.pass.taken.items p.taken.items c.pass.phase p.phase c.driver d c.machine m turn s.says s.driver)
 
-  leaves_of : (turn : PassTurn) → IsStepped c told turn p d m longer spare → Leaves c.pass.taken.items p.taken.items c.pass.phase p.phase c.driver d turn
+  leaves_of : (turn : PassTurn) → IsStepped c told turn p d m longer spare
+      → Leaves c.pass.taken.items p.taken.items c.pass.phase p.phase c.driver d turn
   leaves_of turn s = turn_leaves c.pass.taken.items p.taken.items c.driver d turn p.phase c.pass.phase c.machine m s.says s.driver
 
   pub tells_of : (turn : PassTurn) → IsStepped c told turn p d m longer spare
@@ -258,7 +264,8 @@ module _ (c : Course) (told longer : Option (List Call)) (before spare : ℕ) (p
       (pass_due c.job (past_of c) (is_kicked c.pass.phase) (pass c.job (past_of c))) s.due
 
   flat_of : (turn : PassTurn) → IsStepped c told turn p d m longer spare → OfEntry turn (λ e. EnclavesAreFlat (e ∷ past_of c))
-  flat_of turn s = turn_flat (past_of c) c.pass.taken.items p.taken.items c.pass.phase p.phase c.driver d c.machine m turn s.says k.book.flat
+  flat_of turn s =
+      turn_flat (past_of c) c.pass.taken.items p.taken.items c.pass.phase p.phase c.driver d c.machine m turn s.says k.book.flat
 
   told_of : (turn : PassTurn) → IsStepped c told turn p d m longer spare
       → OfEntry turn (λ e. AreTold c.job (past_of c) e told longer c.driver d)
@@ -275,8 +282,10 @@ module _ (c : Course) (told longer : Option (List Call)) (before spare : ℕ) (p
   stands_spent : (e : Entry) → StaysAtTries c.pass.taken.items p.taken.items c.pass.phase p.phase → IsTrackSpent e ⊎ IsTrySpent e
       → StandsFor c.job.start_epoch (e ∷ past_of c) p.taken.items p.phase (pass_by c.job (past_of c) e.event (pass c.job (past_of c)))
   stands_spent e at spent =
-      let stood = subst (λ phase. StandsFor c.job.start_epoch (past_of c) c.pass.taken.items phase (pass c.job (past_of c))) at.same k.stands in
-      let stands = spent_stands c.job.start_epoch (past_of c) c.pass.taken.items at.next at.block (pass c.job (past_of c)) e at.form spent stood
+      let stood =
+      subst (λ phase. StandsFor c.job.start_epoch (past_of c) c.pass.taken.items phase (pass c.job (past_of c))) at.same k.stands in
+      let stands =
+      spent_stands c.job.start_epoch (past_of c) c.pass.taken.items at.next at.block (pass c.job (past_of c)) e at.form spent stood
       in
       subst (StandsFor c.job.start_epoch (e ∷ past_of c) p.taken.items p.phase)
       (sym (spent_pass c.job (past_of c) e (pass c.job (past_of c)) spent))
