@@ -171,7 +171,8 @@ load_one past f a g slot other s at_a at_g =
     ∙ loads_one (open_start past f) g g other (load_at past f g other s at_g) ∙ same_page-refl g
 
 -- no page is loading into a free frame
-pub free_no_load : (past : List Entry) (f : ℕ) (g : Page) (slot : SlotAt) → IsSound past → content past f ≡ Free → place past g ≡ Loading f slot → ⊥
+pub free_no_load : (past : List Entry) (f : ℕ) (g : Page) (slot : SlotAt) → IsSound past → content past f ≡ Free
+    → place past g ≡ Loading f slot → ⊥
 free_no_load past f g slot s free at =
     by_start (open_start past f) none load
   where
@@ -236,7 +237,8 @@ gifts_by past actor (Did (Eld n) (Moved page version tag)) calls g f slot s can 
       where
         by_frame : (b : Bool) → (n.0 == f) ≡ b → (if b then None else gift past calls f) ≡ last_put calls g
         by_frame true is =
-            absurd (false≢true (sym other ∙ load_one past f page g can.0 slot s (can.1 ∙ ap (λ m. Loading m can.0) (eqb-true n.0 f is)) told))
+            absurd (false≢true (sym other
+            ∙ load_one past f page g can.0 slot s (can.1 ∙ ap (λ m. Loading m can.0) (eqb-true n.0 f is)) told))
         by_frame false is = was f slot told
 gifts_by past actor (Did (Eld n) answer) calls g f slot s can c honest was at = absurd can
 gifts_by past actor (Refused (Eld n) refusal) calls g f slot s can c honest was at = by_load (is_load_of (open_start past n.0) g) refl at
@@ -264,7 +266,8 @@ gifts_by past actor (Did (Ewb n) (Moved page version tag)) calls g f slot s can 
     gone_no_load None p is k = cc
     gone_no_load (Some x) p is k = cc
 
-    by_page : (b : Bool) → same_page page g ≡ b → (if b then gone_to (open_start past n.0) (place past g) else place past g) ≡ Loading f slot
+    by_page : (b : Bool) → same_page page g ≡ b
+        → (if b then gone_to (open_start past n.0) (place past g) else place past g) ≡ Loading f slot
         → gift past (without_last calls) f ≡ last_put calls g
     by_page true mine told =
         absurd (gone_no_load (open_start past n.0) (place past g) (ap (place past) (sym (same_pages page g mine)) ∙ can.0) told)
