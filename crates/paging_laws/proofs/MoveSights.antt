@@ -1,22 +1,10 @@
 -- What the rows of the instructions that move pages see in the state is what they see by the entries.
-use Rattle.std.proofs.Common.{◌≡◌, ℕ, ◌==◌, ◌^◌, ◌⊎◌, inl, inr, not, Bool, true, false, cond, leb, refl, sym, ap, subst, ◌∙◌, Option, Some, None, MatchOption, is_some, List}
-use Rattle.std.proofs.lemmas.Bool.{false≢true, eq-eqb}
-use Rattle.std.proofs.lemmas.Slice.Eq.{bytes_eq-Decides}
-use Rattle.std.specs.Str.{bytes_eq}
+use Rattle.std.proofs.Common.{◌≡◌, ℕ, ◌==◌, ◌^◌, Bool, leb, refl, sym, ap, ◌∙◌, Option, Some, None, is_some, List}
 use Rattle.sgx_types.specs.declared.entries.Entry.{Entry}
 use Rattle.sgx_types.specs.declared.entries.Actor.{Actor}
-use Rattle.sgx_types.specs.declared.entries.Actor.TheVariants as actors
-use Rattle.sgx_types.specs.declared.entries.Action.{Action}
-use Rattle.sgx_types.specs.declared.entries.Action.TheVariants.{Create, Add, Extend, Init, Block, Track, EwbStart, Ewb, EldStart, Eld}
-use Rattle.sgx_types.specs.declared.entries.Answer.{Answer}
-use Rattle.sgx_types.specs.declared.entries.Answer.TheVariants as answers
+use Rattle.sgx_types.specs.declared.entries.Action.TheVariants.{Block, Track, EwbStart, EldStart}
 use Rattle.sgx_types.specs.declared.names.Frame.{Frame}
-use Rattle.sgx_types.specs.declared.names.Kind.{Kind}
-use Rattle.sgx_types.specs.declared.names.Perm.{Perm}
 use Rattle.sgx_types.specs.declared.names.SlotAt.{SlotAt}
-use Rattle.sgx_types.specs.declared.record.Header.{Header}
-use Rattle.sgx_types.specs.declared.refusals.Refusal.{Refusal}
-use Rattle.sgx_types.specs.declared.refusals.Refusal.TheVariants as why
 use Rattle.sgx_types.specs.ByEpochs.{up_to_block}
 use Rattle.sgx_types.specs.Enclaves.{EnclavesAreFlat}
 use Rattle.sgx_types.specs.Epochs.{block_epoch, epoch, epoch_in, epoch_of}
@@ -25,19 +13,11 @@ use Rattle.sgx_types.specs.Flat.{enclave_sight_of, flat}
 use Rattle.sgx_types.specs.declared.names.TheConstants.{LAST_EPOCH}
 use Rattle.sgx_types.specs.declared.names.Page.{Page}
 use Rattle.sgx_types.specs.Frames.{content, enclave_in}
-use Rattle.sgx_types.specs.Sealed.{Sealed, header_of}
 use Rattle.sgx_types.specs.Table.{DrainSight, EnclaveSight, FrameSight, SlotSight, block_row, eldstart_row, ewbstart_row, first_of_row, track_row}
 use Rattle.sgx_types.proofs.Keystone.{epochs_tell}
-use Rattle.sgx_types.specs.Making.{Making}
-use Rattle.seal_record.specs.Row.{same_header}
-use Rattle.epcm_entry.specs.Words.{words_of}
-use Rattle.seal_record.specs.Cipher.{cipher, tag}
-use Rattle.measure_log.specs.Rule.{IsExpected, IsOther}
 use Rattle.sgx_types.specs.Sights.{drain_sight_at, row_at, slot_sight_at, track_sight_at}
-use Rattle.paging_laws.specs.Guarded.{IsGuarded, WritesOut}
 use Rattle.paging_laws.specs.State.{making_of}
-use Rattle.paging_laws.specs.State.{State, after_eld, after_failed_eld, after_init, drain_sight, number_up_to, row_of, slot_sight, track_sight}
-use Rattle.paging_laws.specs.Steps.{CanApply, IsComing, IsDone, IsReloaded, IsStep, IsWrittenOut, commit_row, did_by, refused_by}
+use Rattle.paging_laws.specs.State.{State, drain_sight, number_up_to, row_of, slot_sight, track_sight}
 use Rattle.paging_laws.proofs.BuildLaws.{is_some-added_as}
 use Rattle.paging_laws.proofs.ShapeLaws.{drained_by, noting_agrees, older_agrees}
 use Rattle.paging_laws.specs.Columns.{HasColumns}

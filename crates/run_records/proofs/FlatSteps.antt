@@ -24,7 +24,7 @@ use Rattle.sgx_types.specs.Table.{add_row, create_row, first_of_row, init_row}
 use Rattle.sgx_types.proofs.Pages.{same_page-swap}
 use Rattle.page_history.proofs.FlatLaws.{event_kinds}
 use Rattle.measure_log.specs.Rule.{IsExpected, IsOther}
-use Rattle.paging_laws.specs.Columns.{EnclaveColumns, HasColumns}
+use Rattle.paging_laws.specs.Columns.{HasColumns}
 use Rattle.paging_laws.specs.State.{State, after_init, row_of, sight}
 use Rattle.paging_laws.specs.Steps.{IsDone, IsStep, did_by, refused_by}
 use Rattle.paging_laws.proofs.BuildLaws.{add_open, create_open, is_some-added_as}
