@@ -21,6 +21,7 @@ use Rattle.paging_laws.specs.State.{State, drain_sight, number_up_to, row_of, sl
 use Rattle.paging_laws.proofs.BuildLaws.{is_some-added_as}
 use Rattle.paging_laws.proofs.ShapeLaws.{drained_by, noting_agrees, older_agrees}
 use Rattle.paging_laws.specs.Columns.{HasColumns}
+use Rattle.paging_laws.specs.Guarded.{IsGuarded}
 use Rattle.paging_laws.proofs.ColumnLaws.{blocked_is, content_is, enclave_seen, epoch_is, next_version_is, page_seen, sight_is, version_is}
 use Rattle.paging_laws.proofs.SlotLaws.{slot_busy_is}
 

@@ -13,7 +13,7 @@ use Rattle.sgx_types.specs.declared.names.SlotAt.{SlotAt}
 use Rattle.sgx_types.specs.declared.refusals.Refusal.{Refusal}
 use Rattle.sgx_types.specs.Making.{Making}
 use Rattle.sgx_types.specs.Sealed.{Sealed}
-use Rattle.sgx_types.specs.Starts.{Start, open_start}
+use Rattle.sgx_types.specs.Starts.{Start, open_start, bare_start}
 use Rattle.sgx_types.specs.Table.{first_of_row}
 use Rattle.job_grammar.specs.Jobs.{JobView}
 use Rattle.seal_record.specs.Records.{Made, Unforged}
@@ -62,7 +62,8 @@ end_looks s t cpu f rec e is = by_row _ _ (first_of_row (commit_row s f.0 is.com
         rw k.0 record { earlier = λ calls. refl; makes = λ calls. refl; looks = λ opened records gifts. refl }
 
 -- a record that was given is looked at in the machine's words as in those of the run
-same_look : (o : Option Start) (records : List Made) (rec : Sealed) → looked_at o records (Some rec) ≡ laws.looked_at_by o records rec
+same_look : (o : Option Start) (records : List Made) (rec : Sealed) → looked_at o records (Some rec)
+    ≡ laws.looked_at_by (bare_start o) records rec
 same_look None records rec = refl
 same_look (Some start) records rec = refl
 

@@ -7,7 +7,7 @@ use Rattle.sgx_types.specs.declared.names.Memory.{Memory}
 use Rattle.sgx_types.specs.declared.names.Page.{Page}
 use Rattle.sgx_types.specs.declared.names.SlotAt.{SlotAt}
 use Rattle.sgx_types.specs.Making.{Making}
-use Rattle.sgx_types.specs.Starts.{Start, open_start}
+use Rattle.sgx_types.specs.Starts.{Start, open_start, BareStart, bare_start}
 use Rattle.io_edges.specs.declared.plans.PlanLine.{PlanLine}
 use Rattle.seal_record.specs.declared.unseal.UnsealWork.{UnsealWork}
 use Rattle.active_list.specs.Keeping.{Kept, kept_at, page_kept, record_kept}
@@ -32,6 +32,12 @@ use Rattle.run_turns.proofs.LoadCourse.{is_open}
 use Rattle.run_turns.proofs.SameLaws.{same_keeps, same_view}
 use Rattle.run_turns.proofs.ReportLaws.{cpu_stopped}
 use Rattle.run_turns.proofs.ViewLaws.{grown_seen, kept_on, plans_told}
+
+-- the version of a start is that of it without its place and its actor
+bare_version : (o : Option Start) (version : ℕ) → IsSomeAnd (bare_start o) (λ start. version ≡ start.version)
+    → IsSomeAnd o (λ start. version ≡ start.version)
+bare_version None version h = h
+bare_version (Some x) version h = h
 
 -- ---- works
 
@@ -65,8 +71,10 @@ module _ (c : Course) (told : Option (List Call)) (spare : ℕ) (cpu : Cpu) (wor
             frame = loads.0;
             page = kept.page;
             loads = loads.1;
-            version = subst (λ o. IsSomeAnd o (λ (start : Start). work.version ≡ start.version))
-                (sym w.opens.opened ∙ start_is r.follows.shape.columns w.frame.0 ∙ ap (open_start past) same) w.opens.version;
+            version = bare_version (open_start past loads.0) work.version
+                (subst (λ o. IsSomeAnd o (λ (start : BareStart). work.version ≡ start.version))
+                (sym w.opens.opened ∙ start_is r.follows.shape.columns w.frame.0 ∙ ap (λ n. bare_start (open_start past n)) same)
+                w.opens.version);
             given = given told loads.0 kept.page kept k.book.store loads.1 at w.opens.brought;
           }
 

@@ -12,11 +12,13 @@ use Rattle.sgx_types.specs.Frames.{Holds, is_page}
 use Rattle.sgx_types.specs.Layouts.{bytes_of}
 use Rattle.sgx_types.specs.Making.{Making}
 use Rattle.sgx_types.proofs.Pages.{same_page-refl}
+use Rattle.sgx_types.specs.Starts.{BareStart}
 use Rattle.io_edges.specs.declared.plans.PlanLine.{PlanLine}
 use Rattle.seal_record.specs.declared.seal.SealWork.{SealWork}
 use Rattle.backing_store.specs.Calls.{Call}
 use Rattle.paging_laws.specs.Steps.{SealsPage}
 use Rattle.paging_laws.proofs.ColumnLaws.{content_is, start_is}
+use Rattle.paging_laws.proofs.SlotLaws.{started_as}
 use Rattle.paging_machine.specs.Parts.{state_of}
 use Rattle.turn_rules.specs.Machines.{machine_of}
 use Rattle.job_grammar.specs.Jobs.{JobView}
@@ -66,12 +68,13 @@ seals_seen c told spare work plans noted k = by_phase c.pass.phase
     by_one (Some one) s =
         let shape = k.book.agrees.follows.shape in
         let page = s.leaving.page in
+        let its = started_as (state_of c.machine) (past_of c) shape.columns one.frame.0 s.leaving.start s.leaving.opened in
         record {
           key = s.key ∙ ap (λ (m : Making). m.key) shape.making;
           frame = one.frame.0;
-          start = s.leaving.start;
-          opened = sym (start_is shape.columns one.frame.0) ∙ s.leaving.opened;
-          version = s.version;
+          start = its.start;
+          opened = its.opened;
+          version = s.version ∙ sym (ap (λ (y : BareStart). y.version) its.same);
           page = page.page;
           held = ap (λ o. is_page o page.page) (sym (content_is shape.columns one.frame.0) ∙ page.held) ∙ same_page-refl page.page;
           header = header_held (machine_of c.job) c.job (past_of c) told c.driver c.machine c.turns one.frame.0 s.leaving.header k.book page

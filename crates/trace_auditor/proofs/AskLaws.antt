@@ -15,7 +15,8 @@ use Rattle.sgx_types.specs.declared.names.Memory.{Memory}
 use Rattle.sgx_types.specs.declared.names.Page.{Page}
 use Rattle.sgx_types.specs.Ends.{IsBack, IsNotBack}
 use Rattle.sgx_types.specs.Rules.{RefusalRule}
-use Rattle.sgx_types.specs.Starts.{Start, open_start}
+use Rattle.sgx_types.specs.Starts.{Start, open_start, BareStart, bare_start, without_place}
+use Rattle.sgx_types.proofs.Busy.{bare_of}
 use Rattle.seal_record.specs.Sealing.{made_by}
 use Rattle.seal_record.specs.declared.unseal.UnsealedWork.{UnsealedWork}
 use Rattle.job_grammar.specs.Jobs.{JobView}
@@ -57,10 +58,10 @@ action-inj e = cc
 none-some : {x : Action} → None ≡ Some x → ⊥
 none-some e = cc
 
-start-inj : {x y : Start} → Some x ≡ Some y → x ≡ y
+start-inj : {x y : BareStart} → Some x ≡ Some y → x ≡ y
 start-inj e = cc
 
-no-start : {x : Start} → None ≡ Some x → ⊥
+no-start : {x : BareStart} → None ≡ Some x → ⊥
 no-start e = cc
 
 no-page : {g : Page} → None ≡ Some g → ⊥
@@ -304,7 +305,8 @@ module _ (a : Auditing) (e : Entry) (can : CanAsk a e) where
 
   module _ (f : Frame) (own : action_of e.event ≡ Some (Eld f)) where
     -- the open start of the frame, by the machine and by the entries
-    opened : (start : Option starts.Start) → start_of start ≡ (state_of a.machine).start f.0 → start_of start ≡ open_start past f.0
+    opened : (start : Option starts.Start) → start_of start ≡ (state_of a.machine).start f.0
+        → start_of start ≡ bare_start (open_start past f.0)
     opened start is = is ∙ start_is can.trace.stands.shaped.shape.columns f.0
 
     -- no page comes back, and none is turned away, for which the frame does not wait
@@ -312,19 +314,20 @@ module _ (a : Auditing) (e : Entry) (can : CanAsk a e) where
         → FailsHere j past (Some e) rules.Refusal
     none_loaded start is none = refusal_fails j past e can.script (by_event e.event own)
       where
-        by_start : (o : Option starts.Start) (x : Start) (g : Page) → start_of o ≡ Some x → x.loads ≡ Some g → page_loaded o ≡ None → ⊥
+        by_start : (o : Option starts.Start) (x : Start) (g : Page) → start_of o ≡ Some (without_place x) → x.loads ≡ Some g
+            → page_loaded o ≡ None → ⊥
         by_start None x g at loads h = no-start at
-        by_start (Some o) x g at loads h = no-page (sym h ∙ ap (λ (y : Start). y.loads) (start-inj at) ∙ loads)
+        by_start (Some o) x g at loads h = no-page (sym h ∙ ap (λ (y : BareStart). y.loads) (start-inj at) ∙ loads)
 
         by_event : (event : Event) → action_of event ≡ Some (Eld f)
             → RefusalRule (machine_of j) past (record { actor = e.actor; event = event }) → ⊥
         by_event (Did action answer) same h =
             let back : IsBack past f.0 answer = rw (action-inj same) at h.1 in
-            by_start start back.ends.start back.page (opened start is ∙ back.ends.opened) back.ends.loads none
+            by_start start back.ends.start back.page (opened start is ∙ ap bare_start back.ends.opened) back.ends.loads none
         by_event (Refused action reason) same h =
             let back : IsNotBack past f.0 reason = subst (λ x. RefusalRule (machine_of j) past
             (record { actor = e.actor; event = Refused x reason })) (action-inj same) h in
-            by_start start back.ends.start back.page (opened start is ∙ back.ends.opened) back.ends.loads none
+            by_start start back.ends.start back.page (opened start is ∙ ap bare_start back.ends.opened) back.ends.loads none
         by_event (Age page look) same h = none-some same
         by_event (Kick cpu) same h = none-some same
         by_event (Bus page why) same h = none-some same
@@ -341,11 +344,10 @@ module _ (a : Auditing) (e : Entry) (can : CanAsk a e) where
         where
           by_start : (o : Option starts.Start) → start_of o ≡ (state_of a.machine).start f.0 → page_loaded o ≡ Some page → LoadsPage
           by_start None at h = absurd cc
-          by_start (Some o) at h = record {
-            begun = record { slot = o.slot; version = o.version; loads = o.loads };
-            at = sym (opened (Some o) at);
-            its = h;
-          }
+          by_start (Some o) at h =
+              let k = bare_of (open_start past f.0) (record { slot = o.slot; version = o.version; loads = o.loads })
+              (sym (opened (Some o) at)) in
+              record { begun = k.start; at = k.opened; its = ap (λ (y : BareStart). y.loads) k.same ∙ h }
 
       -- its record is kept, and is its own
       its_own : HasOwnRecord j.key past f.0 (records_of a.records page)

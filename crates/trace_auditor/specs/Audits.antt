@@ -3,7 +3,7 @@ use Rattle.std.specs.Prelude.{◌≡◌, ◌<◌, ◌^◌, true, List, ◌∷◌
 use Rattle.sgx_types.specs.declared.entries.Action.{Action}
 use Rattle.sgx_types.specs.declared.entries.Entry.{Entry}
 use Rattle.sgx_types.specs.declared.names.Frame.{Frame}
-use Rattle.sgx_types.specs.Starts.{open_start}
+use Rattle.sgx_types.specs.Starts.{bare_start, open_start}
 use Rattle.cached_translations.specs.declared.processor.Mode.{Mode}
 use Rattle.seal_record.specs.Sealing.{made_by}
 use Rattle.job_grammar.specs.Jobs.{JobView}
@@ -94,5 +94,5 @@ pub record CanFollow (j : JobView) (a : Auditing) (before : Mode) (start : Optio
   pub goes_on : GoesOn j (e ∷ past)
   pub records : KeepsRecords j.key (e ∷ past) (records_of a.records)
   pub stood : before ≡ mode_of m e.actor
-  pub opened : (f : Frame) → frame_ended e.event ≡ Some f → start_of start ≡ open_start past f.0
+  pub opened : (f : Frame) → frame_ended e.event ≡ Some f → start_of start ≡ bare_start (open_start past f.0)
   pub few : length past < 2 ^ 63
