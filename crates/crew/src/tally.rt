@@ -1,7 +1,7 @@
 //! How many entries each actor made.
 
-ghost use Rattle.std.specs.Prelude.{◌≡◌, ◌<◌, ℕ, IfOk, slice_index, vec_len};
-ghost use Rattle.crew.specs.Tallies.{IsTally, is_builder, is_cpu, is_reclaimer, made_by};
+ghost use Rattle.std.specs.Prelude.{IfOk};
+ghost use Rattle.crew.specs.Tallies.{IsFew, IsMore, IsTally};
 
 use sgx_types::entries::{Actor, Entry};
 use sgx_types::names::Memory;
@@ -16,63 +16,35 @@ pub struct Tally {
     pub reclaimer: u64,
 }
 
-/// Counts the entries of a trace of a job of so many processors.
+/// Counts the entries of a trace of a job of so many processors, in one walk.
 pub fn count(alloc: Global, entries: &[Entry], cpus: usize) -> Result<Tally, Memory>
     ensures { IfOk result (λ tally. IsTally entries.now cpus tally) }
 {
-    let builder = entries
-        .iter()
-        .filter(|entry| is_builder(&entry.actor))
-        .count() as u64;
-    let reclaimer = entries
-        .iter()
-        .filter(|entry| is_reclaimer(&entry.actor))
-        .count() as u64;
-    let cpus = count_cpus(alloc, entries, cpus)?;
-    Ok(Tally {
-        builder,
-        cpus,
-        reclaimer,
-    })
-}
-
-fn count_cpus(alloc: Global, entries: &[Entry], cpus: usize) -> Result<Vec<u64>, Memory>
-    ensures each { IfOk result (λ numbers. vec_len numbers ≡ cpus) }
-    ensures processors { IfOk result (λ numbers. (p : ℕ) → p < cpus → slice_index numbers.items p ≡ made_by (is_cpu p) entries.now) }
-{
-    let mut numbers = Vec::new(alloc);
-    for cpu in 0..cpus {
-        numbers.push(count_cpu(entries, cpu))?;
+    let mut tally = Tally {
+        builder: 0,
+        cpus: vec![in alloc; 0; cpus]?,
+        reclaimer: 0,
+    };
+    for entry in entries {
+        tally.note(entry.actor);
     }
-    Ok(numbers)
+    Ok(tally)
 }
 
-fn count_cpu(entries: &[Entry], cpu: usize) -> u64
-    ensures { result ≡ made_by (is_cpu cpu) entries.now }
-{
-    entries
-        .iter()
-        .filter(|entry| is_cpu(cpu, &entry.actor))
-        .count() as u64
-}
-
-fn is_builder(actor: &Actor) -> bool
-    ensures { result ≡ is_builder actor.now }
-{
-    matches!(actor, Actor::Builder)
-}
-
-fn is_reclaimer(actor: &Actor) -> bool
-    ensures { result ≡ is_reclaimer actor.now }
-{
-    matches!(actor, Actor::Reclaimer)
-}
-
-fn is_cpu(cpu: usize, actor: &Actor) -> bool
-    ensures { result ≡ is_cpu cpu actor.now }
-{
-    match *actor {
-        Actor::Cpu(number) => usize::from(number.0) == cpu,
-        Actor::Builder | Actor::Reclaimer => false,
+impl Tally {
+    // One entry more of an actor.
+    fn note(&mut self, actor: Actor)
+        requires { IsFew self.old }
+        ensures { IsMore actor self.old self.new }
+    {
+        match actor {
+            Actor::Builder => self.builder += 1,
+            Actor::Cpu(cpu) => {
+                if let Some(number) = self.cpus.get_mut(usize::from(cpu.0)) {
+                    *number += 1;
+                }
+            }
+            Actor::Reclaimer => self.reclaimer += 1,
+        }
     }
 }

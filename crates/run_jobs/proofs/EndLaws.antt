@@ -1,16 +1,11 @@
 -- How a run ended is told by whether some entry tells it.
-use Rattle.std.proofs.Common.{◌≡◌, ℕ, ◌<◌, Bool, true, false, ◌||◌, if◌then◌else◌, List, [], ◌∷◌, length, refl, sym, ap, subst, ◌∙◌, reverse}
+use Rattle.std.proofs.Common.{◌≡◌, Bool, true, false, ◌||◌, if◌then◌else◌, List, [], ◌∷◌, refl, sym, ap, ◌∙◌, reverse}
 use Rattle.std.specs.List.{list_any}
 use Rattle.std.proofs.lemmas.List.Sorted.{IsPermutation-reverse, list_any-IsPermutation}
 use Rattle.sgx_types.specs.declared.entries.Entry.{Entry}
-use Rattle.job_grammar.specs.Jobs.{JobView}
-use Rattle.driver_rules.specs.Scripts.{IsDone, IsEnded}
 use Rattle.driver_rules.specs.Stops.{is_bus, is_spent, spends}
-use Rattle.honest_store.proofs.DoneLaws.{all_done}
 use Rattle.run_book.specs.Lost.{AllCameBack}
-use Rattle.run_jobs.specs.Ends.{IsEndOf, tells_loss, tells_spent}
-use Rattle.run_jobs.specs.declared.ends.End.{End}
-use Rattle.run_jobs.specs.declared.ends.End.TheVariants as ends
+use Rattle.run_jobs.specs.Ends.{tells_loss, tells_spent}
 
 -- ---- in either order
 

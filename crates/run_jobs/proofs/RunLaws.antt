@@ -1,12 +1,11 @@
 -- A book that has ended is a whole run.
-use Rattle.std.proofs.Common.{◌≡◌, ◌≢◌, ℕ, ◌<◌, List, [], ◌∷◌, Option, Some, None, length, refl, subst}
+use Rattle.std.proofs.Common.{◌≡◌, ◌≢◌, ℕ, ◌<◌, List, Option, Some, None, length, subst}
 use Rattle.std.specs.Prelude.{IfSome}
 use Rattle.sgx_types.specs.declared.entries.Entry.{Entry}
-use Rattle.sgx_types.specs.Rules.{Along}
 use Rattle.io_edges.specs.declared.plans.PlanLine.{PlanLine}
 use Rattle.job_grammar.specs.Jobs.{JobView}
 use Rattle.backing_store.specs.Calls.{Call}
-use Rattle.driver_rules.specs.Scripts.{IsDone, IsEnded, ScriptRule}
+use Rattle.driver_rules.specs.Scripts.{IsDone, IsEnded}
 use Rattle.honest_store.proofs.DoneLaws.{all_done}
 use Rattle.run_book.specs.Lost.{AllCameBack}
 use Rattle.run_history.specs.Given.{UnforgedRun}

@@ -1,7 +1,7 @@
 //! How a run ended.
 
-ghost use Rattle.run_jobs.specs.Ends.{IsEndOf, tells_loss, tells_spent};
-ghost use Rattle.std.specs.List.{list_any};
+ghost use Rattle.driver_rules.specs.Stops.{is_bus, spends};
+ghost use Rattle.run_jobs.specs.Ends.{IsEndOf};
 ghost use Rattle.std.specs.Prelude.{◌≡◌, reverse};
 
 use sgx_types::entries::{Entry, Event};
@@ -20,39 +20,36 @@ pub enum End {
     Spent,
 }
 
-/// How a run ended whose entries these are, oldest first.
+/// How a run ended whose entries these are, oldest first, in one walk.
 pub fn end_of(entries: &[Entry]) -> End
     ensures { IsEndOf (reverse entries.now) result }
 {
-    if has_spent(entries) {
-        End::Spent
-    } else if has_loss(entries) {
-        End::Bus
-    } else {
-        End::Done
+    let mut is_lost = false;
+    for entry in entries {
+        if has_spent(&entry.event) {
+            return End::Spent;
+        }
+        is_lost = is_lost || has_loss(&entry.event);
     }
+    if is_lost { End::Bus } else { End::Done }
 }
 
 // Whether an epoch or a version was used up.
-fn has_spent(entries: &[Entry]) -> bool
-    ensures { result ≡ list_any tells_spent entries.now }
+fn has_spent(event: &Event) -> bool
+    ensures { result ≡ spends event.now }
 {
-    entries.iter().any(|entry| {
-        matches!(
-            entry.event,
-            Event::Refused {
-                why: Refusal::EpochSpent | Refusal::VersionSpent,
-                ..
-            }
-        )
-    })
+    matches!(
+        event,
+        Event::Refused {
+            why: Refusal::EpochSpent | Refusal::VersionSpent,
+            ..
+        }
+    )
 }
 
 // Whether a page could not be reloaded.
-fn has_loss(entries: &[Entry]) -> bool
-    ensures { result ≡ list_any tells_loss entries.now }
+fn has_loss(event: &Event) -> bool
+    ensures { result ≡ is_bus event.now }
 {
-    entries
-        .iter()
-        .any(|entry| matches!(entry.event, Event::Bus { .. }))
+    matches!(event, Event::Bus { .. })
 }
