@@ -65,13 +65,14 @@ pub alike : (action : Action) (e made : Entry) → action_of e.event ≡ Some ac
 alike action e made own is same =
     λ i. record { actor = is.actor_is i; event = sym (ends_alike e.event made.event action own is.action_is same) i }
 
-pub taken : (s t : State) (action : Action) (e made : Entry) (more : List Made) → action_of e.event ≡ Some action → IsMadeOf e.actor action made
-    → same_end e.event made.event ≡ true → GoesOnWith s made more t → GoesOnWith s e more t
+pub taken : (s t : State) (action : Action) (e made : Entry) (more : List Made) → action_of e.event ≡ Some action
+    → IsMadeOf e.actor action made → same_end e.event made.event ≡ true → GoesOnWith s made more t → GoesOnWith s e more t
 taken s t action e made more own is same goes = subst (λ x. GoesOnWith s x more t) (alike action e made own is same) goes
 
 pub with_none : (s t : State) (e : Entry) → ((k : Making) (past : List Entry) (records : List Made) → StandsWithAllRules k s past records
     → StandsWithAllRules k t (e ∷ past) records) → GoesOnWith s e [] t
-with_none s t e goes k past records h = subst (λ all. StandsWithAllRules k t (e ∷ past) all) (sym (append-nil records)) (goes k past records h)
+with_none s t e goes k past records h =
+    subst (λ all. StandsWithAllRules k t (e ∷ past) all) (sym (append-nil records)) (goes k past records h)
 
 -- ---- an entry that is another
 

@@ -117,8 +117,8 @@ no_pass past (Tries g rest form) action r own h = no_try past g action r own h
 -- ---- the rule that is told
 
 module _ (j : JobView) (past : List Entry) (action : Action) (own : is_of_cpus action ≡ true) where
-  done_form : (answer : Answer) (b : Bool) → has_form action answer ≡ b → ScriptRule j past (done action answer) → first j past action ≡ None
-      → FailsHere j past (Some (done action answer)) (rule_outside None (Did action answer))
+  done_form : (answer : Answer) (b : Bool) → has_form action answer ≡ b → ScriptRule j past (done action answer)
+      → first j past action ≡ None → FailsHere j past (Some (done action answer)) (rule_outside None (Did action answer))
   done_form answer true is script none =
       subst (λ b. FailsHere j past (Some (done action answer)) (outside.rule_of_done b)) (sym is)
       (flat_fails j past (done action answer) script (none, has_its_form past action answer is) (not_flat j past action answer own none))

@@ -81,7 +81,8 @@ IsDoneBack _ f = ⊥
 -- where a frame waits for the page of this record, the entry is taken, or breaks this rule first
 abbrev pub TakesBack : State → Entry → Frame → Sealed → State → Back → Type 0
 TakesBack s e f rec t (backs.Broken rule) = (j : JobView) (past : List Entry) (records : List Made)
-    → StandsWithAllRules (machine_of j) s past records → IsOwnRecord j.key past f.0 rec → ScriptRule j past e → FailsHere j past (Some e) rule
+    → StandsWithAllRules (machine_of j) s past records → IsOwnRecord j.key past f.0 rec → ScriptRule j past e
+    → FailsHere j past (Some e) rule
 TakesBack s e f rec t backs.Here = ((k : Making) (past : List Entry) (records : List Made)
     → StandsWithAllRules k s past records → IsOwnRecord k.key past f.0 rec → StandsWithAllRules k t (e ∷ past) records)
     × IsDoneBack e.event f

@@ -15,9 +15,9 @@ use run_history::rules::Rule;
 use sgx_types::entries::{Action, Entry, Event};
 use sgx_types::refusals::Refusal;
 
-/// The rule that an entry of the reclaimer breaks first whose instruction is a processor's. No machine makes it: its row is looked at as who
-/// is inside no enclave sees it. An entry that tells otherwise than the row breaks Refusal. Else one that was done breaks Flat, since flat
-/// memory takes such an instruction from processors alone, and one that was refused breaks Age, since no pass has it.
+/// The rule that an entry of the reclaimer breaks first whose instruction is a processor's. No machine makes it: its row is looked at as
+/// who is inside no enclave sees it. An entry that tells otherwise than the row breaks Refusal. Else one that was done breaks Flat, since
+/// flat memory takes such an instruction from processors alone, and one that was refused breaks Age, since no pass has it.
 pub fn broken_outside(machine: &Machine, entry: &Entry, action: &Action) -> Rule
     requires own { action_of entry.now.event ≡ Some action.now }
     requires of_cpus { is_of_cpus action.now ≡ true }

@@ -188,8 +188,8 @@ own_apart j past c ev h k =
     (subst (λ b. is_some (stay_after (move_by ev) b past (stay past c.0)) ≡ true) (own_is c.0) k))
 
 -- behind a reply it holds nothing
-pub own_reply : (j : JobView) (past : List Entry) (c : Cpu) (ev : Event) → HoldsThree j past c.0 → is_reply (is_interrupted past c.0) ev ≡ true
-    → HoldsThree j (own_past past c ev) c.0
+pub own_reply : (j : JobView) (past : List Entry) (c : Cpu) (ev : Event) → HoldsThree j past c.0
+    → is_reply (is_interrupted past c.0) ev ≡ true → HoldsThree j (own_past past c ev) c.0
 own_reply j past c ev h k = record {
   held = λ g among. absurd (false≢true (subst (λ pages. is_among pages g ≡ true) dropped among));
   interrupted = rw (own_is c.0) (reply_step (is_interrupted past c.0) ev (stay past c.0) (interruption past c.0) h.interrupted k);

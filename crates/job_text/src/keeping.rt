@@ -43,7 +43,7 @@ impl JobDraft {
         requires { HasNoFault self.old (says.Reg first count perm value plain) }
         ensures { IfOk result (λ _. self.new ≡ keep number self.old (says.Reg first count perm value plain)) }
     {
-        let _pages = self.pages_here();
+        prove!(self.pages_here() <= 4096);
         self.add_page(PageLine::Reg {
             first: first as u32,
             count: count as u32,
@@ -65,7 +65,7 @@ impl JobDraft {
         requires { HasNoFault self.old (says.Tcs page ossa nssa plain) }
         ensures { IfOk result (λ _. self.new ≡ keep number self.old (says.Tcs page ossa nssa plain)) }
     {
-        let _pages = self.pages_here();
+        prove!(self.pages_here() <= 4096);
         let line = TcsLine {
             line: number,
             enclave: self.enclaves.len(),
@@ -144,7 +144,7 @@ impl JobDraft {
         ensures enclave { result.enclave ≤ 8 }
         ensures number { result.number < 4096 }
     {
-        let _enclaves = &self.enclaves;
+        prove!(self.enclaves.len() <= 8);
         let number = match self.enclave(usize::from(page.enclave)) {
             Some(enclave) => enclave.small(page.number),
             None => 0,

@@ -74,7 +74,8 @@ epa_brings s past a f allowed stands =
 -- ---- create
 
 -- the row of `create` in flat memory, whatever frame is given
-pub create_open : (enclave base size : ℕ) (is_created : Bool) (v : FrameSight) → first_of_row (create_row enclave base size is_created v) ≡ None
+pub create_open : (enclave base size : ℕ) (is_created : Bool) (v : FrameSight)
+    → first_of_row (create_row enclave base size is_created v) ≡ None
     → first_of_row (create_row enclave base size is_created open_frame) ≡ None
 create_open enclave base size is_created v allowed =
     let none = none_holds (create_row enclave base size is_created v) allowed in

@@ -8,12 +8,11 @@ use Rattle.sgx_types.specs.declared.entries.Event.{Event}
 use Rattle.sgx_types.specs.declared.entries.Event.TheVariants.{Did}
 use Rattle.sgx_types.specs.declared.names.Page.{Page}
 use Rattle.sgx_types.specs.declared.names.SlotAt.{SlotAt}
-use Rattle.sgx_types.specs.Flat.{flat, words_of}
+use Rattle.sgx_types.specs.Flat.{bytes_at, flat, words_of}
 use Rattle.sgx_types.specs.Rules.{Along}
 use Rattle.sgx_types.specs.Sealed.{Sealed}
 use Rattle.sgx_types.specs.Starts.{BareStart}
 use Rattle.sgx_types.specs.Making.{Making}
-use Rattle.sgx_types.specs.Layouts.{bytes_of}
 use Rattle.epcm_entry.specs.Words as words
 use Rattle.seal_record.specs.Cipher.{cipher}
 use Rattle.seal_record.specs.Records.{Given, Made}
@@ -29,10 +28,10 @@ use Rattle.paging_laws.specs.State.{State}
 pub record HasBytes (key : List ℕ) (past : List Entry) (g : Page) (under : ℕ) (one : Made) : Type 0 where
   pub made : IsMade key past one
   pub version : one.version ≡ under
-  pub cipher : one.cipher ≡ cipher key under (bytes_of (words_of (flat past) g))
-  pub size : length (bytes_of (words_of (flat past) g)) ≡ 4096
+  pub cipher : one.cipher ≡ cipher key under (bytes_at past g)
+  pub size : length (bytes_at past g) ≡ 4096
   -- its words are those of its bytes
-  pub back : words.words_of (bytes_of (words_of (flat past) g)) ≡ words_of (flat past) g
+  pub back : words.words_of (bytes_at past g) ≡ words_of (flat past) g
 
 -- the record of each page that is outside has the page's flat bytes
 abbrev pub OutsideBytes : List ℕ → List Entry → Type 0

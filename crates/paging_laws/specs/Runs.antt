@@ -31,7 +31,8 @@ pub data Run : State → List Entry → List Made → List Given → Type 0 wher
   written : (s t : State) (past : List Entry) (made : List Made) (given : List Given) (actor : Actor) (f : Frame) (rec : Sealed) (e : Entry)
       → Run s past made given → IsSafe s → IsSafe t → s.is_sealing f.0 ≡ true → IsWrittenOut s actor f e rec t
       → Run t (e ∷ past) (made ++ given_out e.event rec) given
-  reloaded : (s t : State) (past : List Entry) (made : List Made) (given : List Given) (actor : Actor) (f : Frame) (rec : Sealed) (e : Entry)
+  reloaded : (s t : State) (past : List Entry) (made : List Made) (given : List Given) (actor : Actor) (f : Frame) (rec : Sealed)
+      (e : Entry)
       → Run s past made given → IsSafe s → IsSafe t → is_loading (s.content f.0) ≡ true → IsReloaded s actor f rec e t
       → Run t (e ∷ past) made (given ++ looked_at s f.0 made rec)
   noted : (s : State) (past : List Entry) (made : List Made) (given : List Given) (e : Entry) → Run s past made given → IsSafe s

@@ -10,8 +10,7 @@ use Rattle.sgx_types.specs.declared.entries.Event.TheVariants.{Did, Refused}
 use Rattle.sgx_types.specs.declared.names.Page.{Page}
 use Rattle.sgx_types.specs.declared.refusals.Refusal.{Refusal}
 use Rattle.sgx_types.specs.declared.refusals.Refusal.TheVariants as why
-use Rattle.sgx_types.specs.Flat.{flat, header_at, words_of}
-use Rattle.sgx_types.specs.Layouts.{bytes_of}
+use Rattle.sgx_types.specs.Flat.{bytes_at, header_at}
 use Rattle.sgx_types.specs.Sealed.{Sealed}
 use Rattle.sgx_types.specs.Starts.{Start, open_start}
 use Rattle.seal_record.specs.Cipher.{cipher, tag}
@@ -68,7 +67,7 @@ StoreTrue j past plans told = IfSome told (λ calls. (plans ≡ j.plans) × Stor
 -- ---- the bytes of what was put
 
 abbrev pub HasFlatBytes : List ℕ → List Entry → Page → ℕ → List Call → Type 0
-HasFlatBytes key past g version (Put page rec failed ∷ calls) = rec.cipher ≡ cipher key version (bytes_of (words_of (flat past) g))
+HasFlatBytes key past g version (Put page rec failed ∷ calls) = rec.cipher ≡ cipher key version (bytes_at past g)
 HasFlatBytes key past g version _ = ⊥
 
 abbrev pub PutsBytes : List ℕ → List Entry → Event → List Call → Type 0

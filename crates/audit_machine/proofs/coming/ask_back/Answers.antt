@@ -7,8 +7,8 @@ use Rattle.audit_machine.proofs.coming.ask_back.Goals as goal
 
 pub returns-then-not-is_coming-clause-takes : goal.returns-then-not-is_coming-clause-takes
 returns-then-not-is_coming-clause-takes c =
-    λ j past records h own script. none_comes _ c.args.entry.now c.args.frame c.requires.own (sym c.is_coming.ensures ∙ c.if-not-is_coming.true) j past
-    records h script
+    λ j past records h own script. none_comes _ c.args.entry.now c.args.frame c.requires.own
+    (sym c.is_coming.ensures ∙ c.if-not-is_coming.true) j past records h script
 
 pub returns-in-Refused-clause-takes : goal.returns-in-Refused-clause-takes
 returns-in-Refused-clause-takes c =

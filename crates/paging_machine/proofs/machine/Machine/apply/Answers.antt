@@ -48,8 +48,9 @@ returns-clause-shape c =
     c.self-2.inside c.row.new.self c.self-2.view_is c.self-2.invariant (c.in_ok-entry.ensures {u = tt}).step
 
 pub returns-clause-fits : goal.returns-clause-fits
-returns-clause-fits c = fits c.self.inside c.args.self.now c.args.actor c.args.action.now c.in_ok-entry.entry c.self.view_is c.self.invariant
-    c.requires (state_of c.row.new.self) (c.in_ok-entry.ensures {u = tt}).step
+returns-clause-fits c =
+    fits c.self.inside c.args.self.now c.args.actor c.args.action.now c.in_ok-entry.entry c.self.view_is c.self.invariant c.requires
+    (state_of c.row.new.self) (c.in_ok-entry.ensures {u = tt}).step
 
 pub returns-clause-history : goal.returns-clause-history
 returns-clause-history c =
@@ -57,5 +58,6 @@ returns-clause-history c =
     c.self-2.inside c.row.new.self c.self-2.view_is c.self-2.invariant (c.in_ok-entry.ensures {u = tt}).step
 
 pub returns-clause-making : goal.returns-clause-making
-returns-clause-making c = step_making (state_of c.args.self.now) (state_of c.row.new.self) c.args.actor c.args.action.now c.in_ok-entry.entry
+returns-clause-making c =
+    step_making (state_of c.args.self.now) (state_of c.row.new.self) c.args.actor c.args.action.now c.in_ok-entry.entry
     (c.in_ok-entry.ensures {u = tt}).step

@@ -148,8 +148,8 @@ returns-clause-back c = λ making past records upholds brings.
     let h = c.self.invariant in
     let k = is_refused c in
     let t = kept_as _ _ k.leaves.state k.leaves.kept in
-    reloaded_told (state_of (parts_of c.self.inside)) _ making past records c.args.actor c.args.frame c.args.work.rec c.refused.result h.sound
-    h.guarded t.sound t.guarded (rw (← c.self.view_is) at c.requires) k.back (rw (← c.self.view_is) at upholds)
+    reloaded_told (state_of (parts_of c.self.inside)) _ making past records c.args.actor c.args.frame c.args.work.rec c.refused.result
+    h.sound h.guarded t.sound t.guarded (rw (← c.self.view_is) at c.requires) k.back (rw (← c.self.view_is) at upholds)
     (rw (← c.self.view_is) at brings)
 
 pub returns-clause-making : goal.returns-clause-making

@@ -119,7 +119,7 @@ returns-clause-step c =
           (refused_step _ _ _ _ (row ∙ sym w.in-Err.ensures.row) (
             w.result-is ∙ w.refused-in-Err.ensures,
             ap state_of
-                (seats_same d d.epc e p x c.eexit.new.secs t c.eexit.new.track v c.eexit.new.cpu h.table found track there refl kept.0 kept.1
-                kept.2),
+                (seats_same d d.epc e p x c.eexit.new.secs t c.eexit.new.track v c.eexit.new.cpu h.table found track there refl
+                kept.0 kept.1 kept.2),
           )))
     ]
