@@ -97,9 +97,12 @@ shows_eldstart j keeper past a f page slot answer can sound s =
     shows_same j keeper past (entry_of a (Did (EldStart f page slot) answer)) s
     (λ m. not_array past f.0 m (IsLoading page) can.0 refl) s.made
     (same_eldstart past a f page slot answer can sound)
-    (λ t free. (refl, idle_started past f.0
-    (record { slot = slot; version = version_told answer; loads = Some page; place = length past; actor = a }) t
-    (out_apart keeper slot t (s.used page slot (ap (slot_at (open_start past)) can.1)) free)))
+    (λ t free. (
+      refl,
+      idle_started past f.0
+          (record { slot = slot; version = version_told answer; loads = Some page; place = length past; actor = a }) t
+          (out_apart keeper slot t (s.used page slot (ap (slot_at (open_start past)) can.1)) free),
+    ))
 
 -- a frame that loads is no version array page
 loading_no_array : (c : Content) → is_loading c ≡ true → is_va c ≡ false
@@ -172,8 +175,11 @@ shows_ewbstart j old new past a f slot answer page at none sound takes s = recor
     by_empty t true is c free k = cc
     by_empty t false is true free k = cc
     by_empty t false is false free k =
-        let before = s.empty t free in (before.0, idle_started past f.0
-        (record { slot = slot; version = version_told answer; loads = None; place = length past; actor = a }) t is before.1)
+        let before = s.empty t free in (
+          before.0,
+          idle_started past f.0
+              (record { slot = slot; version = version_told answer; loads = None; place = length past; actor = a }) t is before.1,
+        )
 
 -- its end leaves the slot with the page
 pub shows_ewb : (j : JobView) (keeper : Keeper) (past : List Entry) (a : Actor) (f : Frame) (page : Page) (version : ℕ) (tag : List ℕ)
