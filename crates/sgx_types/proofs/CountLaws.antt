@@ -1,8 +1,8 @@
 -- Laws of counts below a number.
-use Rattle.std.proofs.Common.{◌≡◌, ℕ, zero, suc, ◌<◌, ◌==◌, ◌||◌, Bool, true, false, refl, ap, sym, ◌∙◌, subst, ◌⊎◌, inl, inr, ⊎_elim, arith}
+use Rattle.std.proofs.Common.{◌≡◌, ℕ, zero, suc, ◌<◌, ◌==◌, ◌||◌, Bool, true, false, refl, ap, sym, ◌∙◌, ◌⊎◌, inl, inr, ⊎_elim, arith}
 use Rattle.std.proofs.lemmas.Bool.{eqb-true, eqb-false}
 use Rattle.sgx_types.specs.Counts.{any_below, count_below}
-use Rattle.sgx_types.proofs.Truths.{neither, tested}
+use Rattle.sgx_types.proofs.Truths.{tested}
 
 -- tests that agree have one count
 pub count_below-agrees : (p q : ℕ → Bool) → ((k : ℕ) → p k ≡ q k) → (n : ℕ) → count_below p n ≡ count_below q n

@@ -1,5 +1,5 @@
 -- What may start to go out of a frame: a page that is drained.
-use Rattle.std.proofs.Common.{◌≡◌, ℕ, true, false, refl, sym, ap, ◌∙◌, Option, Some, None, List}
+use Rattle.std.proofs.Common.{◌≡◌, ℕ, true, refl, sym, ap, ◌∙◌, None, List}
 use Rattle.std.proofs.lemmas.Bool.{false≢true}
 use Rattle.sgx_types.specs.declared.entries.Entry.{Entry}
 use Rattle.sgx_types.specs.Eviction.{block_place, is_drained, is_drained_from}
@@ -15,7 +15,7 @@ goes_out past n drained = by_content (content past n) refl
 
     by_content : (c : Content) → content past n ≡ c → GoesOut past n c
     by_content Free held = none (ap enclave_in held)
-    by_content IsVa held = none (ap enclave_in held)
+    by_content (IsVa number) held = none (ap enclave_in held)
     by_content (SecsOf enclave) held = none (ap enclave_in held)
     by_content (Holds page kind perm) held = drained
     by_content (IsLoading page) held = none (ap enclave_in held)
@@ -23,7 +23,7 @@ goes_out past n drained = by_content (content past n) refl
 -- and what goes out is drained
 pub goes_drained : (past : List Entry) (n : ℕ) (c : Content) → GoesOut past n c → is_drained past n ≡ true
 goes_drained past n Free goes = absurd goes
-goes_drained past n IsVa goes = absurd goes
+goes_drained past n (IsVa number) goes = absurd goes
 goes_drained past n (SecsOf enclave) goes = absurd goes
 goes_drained past n (Holds page kind perm) goes = goes
 goes_drained past n (IsLoading page) goes = absurd goes

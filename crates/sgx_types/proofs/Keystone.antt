@@ -5,11 +5,8 @@ use Rattle.sgx_types.specs.declared.entries.Entry.{Entry}
 use Rattle.sgx_types.specs.declared.entries.Event.{Event}
 use Rattle.sgx_types.specs.declared.entries.Event.TheVariants.{Did}
 use Rattle.sgx_types.specs.declared.entries.Action.TheVariants.{Track, Block}
-use Rattle.sgx_types.specs.declared.names.Page.{Page}
-use Rattle.sgx_types.specs.declared.names.Kind.{Kind}
-use Rattle.sgx_types.specs.declared.names.Perm.{Perm}
 use Rattle.sgx_types.specs.Counts.{count_below}
-use Rattle.sgx_types.specs.Frames.{Content, Put, put_by, added, content, enclave_in, held_after, is_put, is_block}
+use Rattle.sgx_types.specs.Frames.{Before, Content, Put, put_by, made_before, content, enclave_in, held_after, is_put, is_block}
 use Rattle.sgx_types.specs.Processors.{Move, Enters, Leaves, Keeps, Stay, move_by, is_by, stay, stay_after}
 use Rattle.sgx_types.specs.Epochs.{epoch, noted, noted_after, is_track, block_epoch, epoch_in, last_track, is_before, is_in_before, older_at}
 use Rattle.sgx_types.specs.Eviction.{block_place, earlier_or, track_behind, keeps_back, number_kept_back, kept_back, kept_back_from, is_drained, is_drained_from}
@@ -136,11 +133,11 @@ BlockedAt first past n enclave _ _ = ⊥
 
 -- a block puts nothing and tracks nothing
 record IsBlockOnly (e : Event) : Type 0 where
-  pub puts : (kinds : Page → Option (Kind × Perm)) → put_by e kinds ≡ None
+  pub puts : (before : Before) → put_by e before ≡ None
   pub tracks : (n : ℕ) → is_track e n ≡ false
 
 block_only : (e : Event) → IsBlockOnly e ⊎ ((n : ℕ) → is_block e n ≡ false)
-block_only (Did (Block f) answer) = inl (record { puts = λ kinds. refl; tracks = λ n. refl })
+block_only (Did (Block f) answer) = inl (record { puts = λ before. refl; tracks = λ n. refl })
 block_only _ = inr (λ n. refl)
 
 held_same : (put : Option Put) (n : ℕ) (c : Content) → is_put put n ≡ false → held_after put n c ≡ c
@@ -162,25 +159,25 @@ pub blocked_at : (first : ℕ) (past : List Entry) (n enclave : ℕ) → enclave
     → BlockedAt first past n enclave (block_place past n) (block_epoch first past n)
 blocked_at first [] n enclave h = tt
 blocked_at first (e ∷ past) n enclave h =
-    by_cases (is_block e.event n) refl (block_only e.event) (is_put (put_by e.event (added past)) n) refl (block_place past n)
+    by_cases (is_block e.event n) refl (block_only e.event) (is_put (put_by e.event (made_before past)) n) refl (block_place past n)
     (block_epoch first past n)
     (blocked_at first past n enclave)
   where
     by_cases : (b : Bool) → is_block e.event n ≡ b → IsBlockOnly e.event ⊎ ((m : ℕ) → is_block e.event m ≡ false) → (c : Bool)
-        → is_put (put_by e.event (added past)) n ≡ c
+        → is_put (put_by e.event (made_before past)) n ≡ c
         → (j b' : Option ℕ) → (enclave_in (content past n) ≡ Some enclave → BlockedAt first past n enclave j b')
         → BlockedAt first (e ∷ past) n enclave (cond b (Some (length past)) (cond c None j))
         (cond b (Some (epoch_in first past n)) (cond c None b'))
     by_cases true is (inl only) c put j b before = record {
       below = omega arith;
       counted =
-          let here : enclave_in (content past n) ≡ Some enclave = rw (only.puts (added past)) at h in
+          let here : enclave_in (content past n) ≡ Some enclave = rw (only.puts (made_before past)) at h in
           rw (here, only.tracks enclave, none_behind past enclave (length past) (omega arith)) (omega arith);
     }
     by_cases true is (inr none) c put j b before = absurd (false≢true (sym (none n) ∙ is))
     by_cases false is k true put j b before = tt
     by_cases false is k false put j b before =
-        BlockedAt-more first e past n enclave j b (before (rw (held_same (put_by e.event (added past)) n (content past n) put) at h))
+        BlockedAt-more first e past n enclave j b (before (rw (held_same (put_by e.event (made_before past)) n (content past n) put) at h))
 
 -- a stay keeps a blocked page back exactly where its noted epoch is at most the block's
 pub keeps_back-noted : (first : ℕ) (past : List Entry) (n enclave j b : ℕ) → IsBlockedAt first past n enclave j b → (o : Option ℕ)

@@ -1,5 +1,6 @@
 pub mod Busy
 pub mod Chunks
+pub mod Contents
 pub mod CountLaws
 pub mod Goings
 pub mod Keystone

@@ -1,5 +1,5 @@
 -- Facts on the tests of pages and of slots.
-use Rattle.std.proofs.Common.{◌≡◌, ◌==◌, ℕ, Bool, true, refl}
+use Rattle.std.proofs.Common.{◌≡◌, ◌==◌, ℕ, true, refl}
 use Rattle.std.proofs.lemmas.Bool.{eqb-true, eq-eqb}
 use Rattle.sgx_types.specs.declared.names.Page.{Page}
 use Rattle.sgx_types.specs.declared.names.SlotAt.{SlotAt}

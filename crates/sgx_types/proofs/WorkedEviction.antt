@@ -1,6 +1,6 @@
 -- Blocks, tracks and slots at a small machine: page 2 of enclave 1 is in frame 4, and processor 0 is inside with a translation
 -- of it.
-use Rattle.std.proofs.Common.{◌≡◌, ℕ, Bool, true, false, List, [], ◌∷◌, Option, Some, None, refl}
+use Rattle.std.proofs.Common.{◌≡◌, ℕ, Bool, true, false, List, [], ◌∷◌, Some, None, refl}
 use Rattle.sgx_types.specs.declared.entries.Entry.{Entry}
 use Rattle.sgx_types.specs.declared.entries.Event.TheVariants.{Did, Refused}
 use Rattle.sgx_types.specs.declared.entries.Actor.{Actor}
@@ -17,7 +17,7 @@ use Rattle.sgx_types.specs.declared.names.Kind.TheVariants as kinds
 use Rattle.sgx_types.specs.declared.names.Perm.{Perm}
 use Rattle.sgx_types.specs.declared.names.SlotAt.{SlotAt}
 use Rattle.sgx_types.specs.Counts.{any_below, count_below}
-use Rattle.sgx_types.specs.Frames.{Free, IsLoading, Holds, content, is_sealing, page_at}
+use Rattle.sgx_types.specs.Frames.{Free, IsVa, IsLoading, Holds, content, is_sealing, page_at}
 use Rattle.sgx_types.specs.Epochs.{epoch, older_at, newer_at, block_epoch}
 use Rattle.sgx_types.specs.Eviction.{is_drained, kept_back}
 use Rattle.sgx_types.specs.Slots.{version_in, is_slot_busy, next_version}
@@ -177,3 +177,13 @@ page_is_back = refl
 -- the old block counts no more
 not_blocked : block_epoch 1 reloaded 5 ≡ None
 not_blocked = refl
+
+-- each version array page has a number of its own, in the order in which they were made
+abbrev second_array : List Entry
+second_array = did Builder (actions.Epa (frame 6)) answers.Plain ∷ reloaded
+
+one_has_zero : content second_array 0 ≡ IsVa 0
+one_has_zero = refl
+
+next_has_one : content second_array 6 ≡ IsVa 1
+next_has_one = refl

@@ -6,7 +6,7 @@ use Rattle.sgx_types.specs.declared.entries.Event.{Event}
 use Rattle.sgx_types.specs.declared.entries.Event.TheVariants.{Did}
 use Rattle.sgx_types.specs.declared.entries.Action.TheVariants.{Track}
 use Rattle.sgx_types.specs.Counts.{count_below}
-use Rattle.sgx_types.specs.Frames.{put_by, added, content, enclave_in, is_put, is_block}
+use Rattle.sgx_types.specs.Frames.{put_by, made_before, content, enclave_in, is_put, is_block}
 use Rattle.sgx_types.specs.Processors.{Move, Enters, move_by, is_by, Stay, stay}
 
 abbrev pub is_track : Event → ℕ → Bool
@@ -40,7 +40,7 @@ abbrev pub block_epoch : ℕ → List Entry → ℕ → Option ℕ
 block_epoch first [] n = None
 block_epoch first (e ∷ past) n =
     if is_block e.event n then Some (epoch_in first past n)
-    else if is_put (put_by e.event (added past)) n then None
+    else if is_put (put_by e.event (made_before past)) n then None
     else block_epoch first past n
 
 -- ---- how many processors are inside, and since when

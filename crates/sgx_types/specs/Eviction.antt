@@ -3,7 +3,7 @@
 use Rattle.std.specs.Prelude.{ℕ, ◌==◌, ◌&&◌, Bool, false, if◌then◌else◌, List, [], ◌∷◌, Option, Some, None, length, nat_lt, is_some}
 use Rattle.sgx_types.specs.declared.entries.Entry.{Entry}
 use Rattle.sgx_types.specs.Counts.{count_below}
-use Rattle.sgx_types.specs.Frames.{put_by, added, content, enclave_in, is_put, is_block}
+use Rattle.sgx_types.specs.Frames.{put_by, made_before, content, enclave_in, is_put, is_block}
 use Rattle.sgx_types.specs.Processors.{Stay, stay}
 use Rattle.sgx_types.specs.Epochs.{is_track, is_in}
 
@@ -12,7 +12,7 @@ abbrev pub block_place : List Entry → ℕ → Option ℕ
 block_place [] n = None
 block_place (e ∷ past) n =
     if is_block e.event n then Some (length past)
-    else if is_put (put_by e.event (added past)) n then None
+    else if is_put (put_by e.event (made_before past)) n then None
     else block_place past n
 
 -- the place that was found before, else this one where it is one

@@ -9,11 +9,11 @@ use Rattle.sgx_types.specs.declared.names.Page.{Page}
 use Rattle.sgx_types.specs.declared.names.Kind.{Kind}
 use Rattle.sgx_types.specs.declared.names.Perm.{Perm}
 
--- what a frame holds: nothing, a version array page, an enclave's SECS, a TCS or REG page as it was added, or nothing yet but the
--- page that it waits for
+-- what a frame holds: nothing, a version array page by its number (the first one made has 0), an enclave's SECS, a TCS or REG page
+-- as it was added, or nothing yet but the page that it waits for
 pub data Content : Type 0 where
   Free : Content
-  IsVa : Content
+  IsVa : (number : ℕ) → Content
   SecsOf : (enclave : ℕ) → Content
   Holds : (page : Page) → (kind : Kind) → (perm : Perm) → Content
   IsLoading : (page : Page) → Content
@@ -38,6 +38,23 @@ abbrev pub added : List Entry → Page → Option (Kind × Perm)
 added [] g = None
 added (e ∷ past) g = added_by e.event g (added past g)
 
+abbrev pub vas_after : Event → ℕ → ℕ
+vas_after (Did (Epa f) answer) before = before + 1
+vas_after _ before = before
+
+-- how many version array pages were made
+abbrev pub vas_made : List Entry → ℕ
+vas_made [] = 0
+vas_made (e ∷ past) = vas_after e.event (vas_made past)
+
+-- what was made before an event: the kind and permissions with which each page was added, and how many version array pages
+pub record Before : Type 0 where
+  pub added : Page → Option (Kind × Perm)
+  pub vas : ℕ
+
+abbrev pub made_before : List Entry → Before
+made_before past = record { added = added past; vas = vas_made past }
+
 -- a frame, and what it holds from now on
 pub record Put : Type 0 where
   pub frame : ℕ
@@ -50,16 +67,16 @@ reloaded page None = IsLoading page
 reloaded page (Some k) = Holds page k.0 k.1
 
 -- the frame whose content an event puts or takes
-abbrev pub put_by : Event → (Page → Option (Kind × Perm)) → Option Put
-put_by (Did (Epa f) answer) kinds = Some (record { frame = f.0; content = IsVa })
-put_by (Did (Create enclave f base size) answer) kinds = Some (record { frame = f.0; content = SecsOf enclave })
-put_by (Did (Add enclave number f kind perm init) answer) kinds =
+abbrev pub put_by : Event → Before → Option Put
+put_by (Did (Epa f) answer) before = Some (record { frame = f.0; content = IsVa before.vas })
+put_by (Did (Create enclave f base size) answer) before = Some (record { frame = f.0; content = SecsOf enclave })
+put_by (Did (Add enclave number f kind perm init) answer) before =
     Some (record { frame = f.0; content = Holds (page_at enclave number) kind perm })
-put_by (Did (EldStart f page slot) answer) kinds = Some (record { frame = f.0; content = IsLoading page })
-put_by (Did (Ewb f) answer) kinds = Some (record { frame = f.0; content = Free })
-put_by (Did (Eld f) (Moved page version tag)) kinds = Some (record { frame = f.0; content = reloaded page (kinds page) })
-put_by (Refused (Eld f) why) kinds = Some (record { frame = f.0; content = Free })
-put_by _ kinds = None
+put_by (Did (EldStart f page slot) answer) before = Some (record { frame = f.0; content = IsLoading page })
+put_by (Did (Ewb f) answer) before = Some (record { frame = f.0; content = Free })
+put_by (Did (Eld f) (Moved page version tag)) before = Some (record { frame = f.0; content = reloaded page (before.added page) })
+put_by (Refused (Eld f) why) before = Some (record { frame = f.0; content = Free })
+put_by _ before = None
 
 abbrev pub held_after : Option Put → ℕ → Content → Content
 held_after None n before = before
@@ -68,7 +85,7 @@ held_after (Some put) n before = if put.frame == n then put.content else before
 -- what a frame holds, by the last entry that put or took its content
 abbrev pub content : List Entry → ℕ → Content
 content [] n = Free
-content (e ∷ past) n = held_after (put_by e.event (added past)) n (content past n)
+content (e ∷ past) n = held_after (put_by e.event (made_before past)) n (content past n)
 
 abbrev pub sealing_after : Event → ℕ → Bool → Bool
 sealing_after (Did (EwbStart f slot) answer) n before = if f.0 == n then true else before
@@ -91,12 +108,12 @@ is_block _ n = false
 -- whether the page in a frame was blocked since it came there
 abbrev pub is_blocked : List Entry → ℕ → Bool
 is_blocked [] n = false
-is_blocked (e ∷ past) n = is_block e.event n || (not (is_put (put_by e.event (added past)) n) && is_blocked past n)
+is_blocked (e ∷ past) n = is_block e.event n || (not (is_put (put_by e.event (made_before past)) n) && is_blocked past n)
 
 -- the TCS or REG page that a frame holds
 abbrev pub page_of : Content → Option Page
 page_of Free = None
-page_of IsVa = None
+page_of (IsVa number) = None
 page_of (SecsOf enclave) = None
 page_of (Holds page kind perm) = Some page
 page_of (IsLoading page) = None

@@ -194,7 +194,7 @@ pub record EndsWriteOut (o : Option Start) (version : ℕ) : Type 0 where
 -- what may start to go out of a frame, by what the frame holds: a TCS or REG page that is drained, and nothing else
 abbrev pub GoesOut : List Entry → ℕ → Content → Type 0
 GoesOut past n Free = ⊥
-GoesOut past n IsVa = ⊥
+GoesOut past n (IsVa number) = ⊥
 GoesOut past n (SecsOf enclave) = ⊥
 GoesOut past n (Holds page kind perm) = is_drained past n ≡ true
 GoesOut past n (IsLoading page) = ⊥

@@ -73,7 +73,7 @@ is_secs (SecsOf enclave) = true
 is_secs _ = false
 
 abbrev pub is_va : Content → Bool
-is_va IsVa = true
+is_va (IsVa number) = true
 is_va _ = false
 
 -- the permissions of the page in a frame, None where no page is there
