@@ -13,7 +13,7 @@ use Rattle.epcm_entry.specs.Epc.{EpcFrame, entry_at}
 
 abbrev pub content_of : Page → Kind → Perm → Content
 content_of page kinds.Secs perm = SecsOf page.enclave
-content_of page kinds.Va perm = IsVa
+content_of page kinds.Va perm = IsVa page.number
 content_of page kinds.Tcs perm = Holds page kinds.Tcs perm
 content_of page kinds.Reg perm = Holds page kinds.Reg perm
 

@@ -1,5 +1,5 @@
 -- Each page that was added has one live copy, and frames and slots hold nothing else.
-use Rattle.std.proofs.Common.{◌≡◌, ℕ, ◌<◌, ◌≤◌, ◌==◌, Bool, true, false, cond, refl, sym, ap, subst, ◌∙◌, arith, Option, Some, None, option_map, is_some, List, [], ◌∷◌, Any}
+use Rattle.std.proofs.Common.{◌≡◌, ℕ, ◌<◌, ◌≤◌, ◌==◌, Bool, true, false, cond, refl, sym, ap, subst, ◌∙◌, arith, Option, Some, None, is_some, List, [], ◌∷◌, Any}
 use Rattle.std.proofs.lemmas.Bool.{cond_both, false≢true, eqb-true, eq-eqb}
 use Rattle.sgx_types.specs.declared.entries.Entry.{Entry}
 use Rattle.sgx_types.specs.declared.entries.Event.{Event}
@@ -28,6 +28,7 @@ use Rattle.sgx_types.specs.Ends.{EndsIn}
 use Rattle.page_history.specs.Once.{DrawnOnce, Gone, IsGone, KeepsMoves, StartsApart, gone, gone_after}
 use Rattle.page_history.proofs.DrawnLaws.{drawn_once}
 use Rattle.page_history.proofs.FlatLaws.{added_flat}
+use Rattle.sgx_types.proofs.Contents.{one_page, vacant}
 use Rattle.sgx_types.proofs.Pages.{same_page-refl, same_pages, same_slots}
 use Rattle.sgx_types.proofs.Rows.{none_holds}
 use Rattle.page_history.proofs.OpenStarts.{any_head, any_rest, entry_of}
@@ -37,14 +38,6 @@ use Rattle.page_history.proofs.StartLaws.{starts_apart}
 
 same_slot-refl : (a : SlotAt) → same_slot a a ≡ true
 same_slot-refl a = rw (eq-eqb a.frame.0 a.frame.0 refl, eq-eqb a.index a.index refl) refl
-
--- a frame holds one page
-one_page : (c : Content) (a b : Page) → is_page c a ≡ true → is_page c b ≡ true → a ≡ b
-one_page (Holds page kind perm) a b h k = sym (same_pages page a h) ∙ same_pages page b k
-one_page Free a b h k = cc
-one_page IsVa a b h k = cc
-one_page (SecsOf e) a b h k = cc
-one_page (IsLoading page) a b h k = cc
 
 -- a page stands in no two frames
 one_frame : (past : List Entry) → OneLiveCopy past → (m n : ℕ) (g : Page) → is_page (content past m) g ≡ true
@@ -135,14 +128,6 @@ whose_copy first past live drawn s g more out =
     rw (← pages) there.1
 
 -- ---- what the rows say
-
--- a frame that is not valid holds no page
-vacant : (c : Content) → is_valid c ≡ false → (g : Page) → is_page c g ≡ false
-vacant Free none g = refl
-vacant (IsLoading page) none g = refl
-vacant IsVa none g = cc
-vacant (SecsOf enclave) none g = cc
-vacant (Holds page kind perm) none g = cc
 
 -- what the row of `add` says of the page and its frame
 record Adds (is_added : Bool) (v : FrameSight) : Type 0 where
@@ -466,7 +451,7 @@ live_more k past e low keeps refusal fresh live = by_event e.event refusal fresh
         → FreshRule k.first_version past (entry_of a ev) → IsLive (entry_of a ev ∷ past)
     by_event (Did (Epa f) answer) refusal fresh =
         let none = none_holds (epa_row (sight_at k.frames past f.0)) refusal.0 in
-        live_still past _ (λ g. refl) (unpaged past f.0 IsVa (λ g. refl) (vacant (content past f.0) none.1.1.0)) (λ s. refl) (λ g. refl)
+        live_still past _ (λ g. refl) (unpaged past f.0 (IsVa _) (λ g. refl) (vacant (content past f.0) none.1.1.0)) (λ s. refl) (λ g. refl)
         live
     by_event (Did (Create enclave f base size) answer) refusal fresh =
         let none = none_holds (create_row enclave base size _ (sight_at k.frames past f.0)) refusal.0 in

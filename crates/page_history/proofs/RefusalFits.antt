@@ -21,7 +21,8 @@ use Rattle.sgx_types.specs.Rules.{Along, Fits, FitsRule, LoadsAwayRule, NamesFra
 use Rattle.sgx_types.specs.Sights.{enclave_of_stay, row_at, sight_at, stay_of}
 use Rattle.sgx_types.specs.Slots.{is_slot_busy}
 use Rattle.sgx_types.specs.Starts.{LoadsAreApart, Start, is_load_of, loads_page, open_start, version_told}
-use Rattle.sgx_types.specs.Table.{EnclaveSight, FrameSight, add_row, fill_row, is_busy, is_enclave, is_lawful, is_loading, is_valid}
+use Rattle.sgx_types.specs.Table.{EnclaveSight, FrameSight, add_row, fill_row, is_busy, is_enclave, is_lawful}
+use Rattle.sgx_types.proofs.Contents.{free_there}
 use Rattle.sgx_types.proofs.Pages.{same_page-refl, same_pages}
 use Rattle.sgx_types.proofs.Rows.{NoneHolds, none_holds, none_refused}
 use Rattle.sgx_types.proofs.Truths.{neither, not_false}
@@ -30,15 +31,6 @@ use Rattle.page_history.proofs.FlatLaws.{TakesAdds, added_next}
 use Rattle.page_history.proofs.OpenStarts.{entry_of}
 
 -- ---- what rows say of frames
-
--- a frame that is neither busy nor valid is free
-free_there : (c : Content) (sealing : Bool) → (sealing || is_loading c) ≡ false → is_valid c ≡ false → c ≡ Free
-free_there Free sealing idle none = refl
-free_there IsVa sealing idle none = cc
-free_there (SecsOf enclave) sealing idle none = cc
-free_there (Holds page kind perm) sealing idle none = cc
-free_there (IsLoading page) true idle none = cc
-free_there (IsLoading page) false idle none = cc
 
 -- what the row of `add` says
 record Adds (frames : ℕ) (past : List Entry) (is_added : Bool) (f : ℕ) : Type 0 where
@@ -247,7 +239,7 @@ module _ (k : Making) (past : List Entry) (a : Actor) (refusals : Along (Refusal
       → LoadsAwayRule past (entry_of a (Did action answer)) → KeepsFrames k.frames (entry_of a (Did action answer) ∷ past)
   done_keeps (Epa f) answer refusal away =
       keeps_more k.frames past _ (row_fits k past a (Epa f) refl (none_holds (row_at k past a (Epa f)) refusal.0))
-      (put_stands k.frames (added past) (content past) (open_start past) f.0 h.stand IsVa (λ g here. cc here)) h
+      (put_stands k.frames (added past) (content past) (open_start past) f.0 h.stand (IsVa _) (λ g here. cc here)) h
   done_keeps (Create enclave f base size) answer refusal away =
       keeps_more k.frames past _
       (row_fits k past a (Create enclave f base size) refl (none_holds (row_at k past a (Create enclave f base size)) refusal.0))

@@ -1,5 +1,5 @@
 -- Each open start has its slot for itself.
-use Rattle.std.proofs.Common.{◌≡◌, ℕ, zero, suc, ◌<◌, ◌==◌, Bool, true, false, cond, refl, sym, ap, ◌∙◌, subst, Option, Some, None, option_map, is_some, List, [], ◌∷◌, length, ◌||◌, nat_le, nat_lt, ◌⊎◌, inl, inr, ⊎_elim, arith}
+use Rattle.std.proofs.Common.{◌≡◌, ℕ, zero, suc, ◌<◌, ◌==◌, Bool, true, false, cond, refl, sym, ap, ◌∙◌, subst, Option, Some, None, is_some, List, [], ◌∷◌, length, ◌||◌, nat_le, nat_lt, ◌⊎◌, inl, inr, ⊎_elim, arith}
 use Rattle.std.proofs.lemmas.Bool.{cond_both, eqb-true, eq-eqb, false≢true, leb-false}
 use Rattle.sgx_types.specs.declared.entries.Action.TheVariants.{Epa, Create, Add, EwbStart, Ewb, EldStart, Eld}
 use Rattle.sgx_types.specs.declared.entries.Actor.{Actor}
@@ -205,7 +205,7 @@ starts_still k past actor (Did (Epa f) answer) refusal answers h =
     let row = none_holds (row_at k past actor (Epa f)) refusal.0 in
     kept_apart k.frames past (entry_of actor (Did (Epa f) answer))
     (record { opens = λ actor place n o. refl; versions = λ opened slot v. refl }) (λ g is. is)
-    (λ n g loads. taken_idle k past f.0 n g IsVa row.1.0 loads) h
+    (λ n g loads. taken_idle k past f.0 n g (IsVa _) row.1.0 loads) h
 starts_still k past actor (Did (Create enclave f base size) answer) refusal answers h =
     let row = none_holds (row_at k past actor (Create enclave f base size)) refusal.0 in
     kept_apart k.frames past (entry_of actor (Did (Create enclave f base size) answer))
