@@ -114,7 +114,7 @@ reg_has_perm (Holds page kinds.Secs perm) is = cc
 reg_has_perm (Holds page kinds.Tcs perm) is = cc
 reg_has_perm (Holds page kinds.Va perm) is = cc
 reg_has_perm Free is = cc
-reg_has_perm IsVa is = cc
+reg_has_perm (IsVa number) is = cc
 reg_has_perm (SecsOf x) is = cc
 reg_has_perm (IsLoading page) is = cc
 

@@ -11,10 +11,11 @@ use Rattle.sgx_types.specs.declared.names.Frame.{Frame}
 use Rattle.sgx_types.specs.declared.names.Page.{Page}
 use Rattle.sgx_types.specs.declared.names.Kind.{Kind}
 use Rattle.sgx_types.specs.declared.names.Perm.{Perm}
-use Rattle.sgx_types.specs.Frames.{Content, Free, IsVa, SecsOf, Holds, IsLoading, content, page_at, same_page}
-use Rattle.sgx_types.specs.Table.{FrameSight, is_busy, is_valid, is_loading, is_enclave, is_lawful, epa_row, create_row, add_row, EnclaveSight, first_of_row}
+use Rattle.sgx_types.specs.Frames.{Content, Free, IsVa, SecsOf, Holds, content, page_at, same_page}
+use Rattle.sgx_types.specs.Table.{FrameSight, is_busy, is_valid, is_enclave, is_lawful, epa_row, create_row, add_row, EnclaveSight, first_of_row}
 use Rattle.sgx_types.specs.Flat.{FlatEnclave, FlatPage, FlatMemory, added_as, flat, open_frame, enclave_sight_of, first_words, with_page, marked}
 use Rattle.sgx_types.specs.Layouts.{flags_of}
+use Rattle.sgx_types.proofs.Contents.{free_there}
 use Rattle.sgx_types.proofs.Rows.{none_holds, none_refused}
 use Rattle.sgx_types.proofs.Truths.{neither}
 use Rattle.sgx_types.proofs.Pages.{same_page-at, same_pages}
@@ -32,15 +33,6 @@ use Rattle.paging_laws.specs.Steps.{did_by}
 use Rattle.paging_laws.proofs.NextEntry.{BringsDone}
 use Rattle.paging_laws.proofs.ColumnLaws.{added_flat, enclave_flat}
 
--- a frame that is neither busy nor valid is free
-pub is_free_frame : (c : Content) (sealing : Bool) → (sealing || is_loading c) ≡ false → is_valid c ≡ false → c ≡ Free
-is_free_frame Free sealing idle none = refl
-is_free_frame IsVa sealing idle none = cc
-is_free_frame (SecsOf enclave) sealing idle none = cc
-is_free_frame (Holds page kind perm) sealing idle none = cc
-is_free_frame (IsLoading page) true idle none = cc
-is_free_frame (IsLoading page) false idle none = cc
-
 -- ---- a frame that is put
 
 -- one that comes to hold no page has no page's words
@@ -57,7 +49,7 @@ pub epa_brings : (s : State) (past : List Entry) (a : Actor) (f : Frame) → fir
     → BringsDone s (after_epa s f.0) past a (Epa f) Plain
 epa_brings s past a f allowed stands =
     let none = none_holds (epa_row (sight s f.0)) allowed in
-    let free = is_free_frame (s.content f.0) (s.is_sealing f.0) none.1.0 none.1.1.0 in
+    let free = free_there (s.content f.0) (s.is_sealing f.0) none.1.0 none.1.1.0 in
     record {
       form = refl;
       taken = refl;
@@ -66,7 +58,7 @@ epa_brings s past a f allowed stands =
       memory = record {
         enclaves = stands.memory.enclaves;
         cpus = stands.memory.cpus;
-        words = words_put s.content s.words (flat past) f.0 IsVa (λ g kind perm at. cc at) stands.memory.words;
+        words = words_put s.content s.words (flat past) f.0 (IsVa s.vas_made) (λ g kind perm at. cc at) stands.memory.words;
         measure = stands.memory.measure;
       };
     }
@@ -91,7 +83,7 @@ create_brings s past a enclave f base size begun allowed holds stands =
     let none = none_holds (create_row enclave base size (is_some (s.enclaves enclave)) (sight s f.0)) allowed in
     let range = neither (leb s.frames f.0) (not (is_enclave enclave))
     (neither (leb s.frames f.0 || not (is_enclave enclave)) (not (is_lawful base size)) none.0).0 in
-    let free = is_free_frame (s.content f.0) (s.is_sealing f.0) none.1.1.0 none.1.1.1.0 in
+    let free = free_there (s.content f.0) (s.is_sealing f.0) none.1.1.0 none.1.1.1.0 in
     let k = stands.memory in
     let new : s.enclaves enclave ≡ None = none_there (s.enclaves enclave) none.1.0 in
     let no_log : log past enclave ≡ [] = rw new at (k.measure enclave) in
@@ -205,7 +197,7 @@ pub add_brings : (s : State) (past : List Entry) (a : Actor) (enclave number : �
 add_brings s past a enclave number f kind perm init longer allowed takes stands =
     let g = page_at enclave number in
     let k = adds number kind perm init (enclave_sight_of (s.enclaves enclave)) (is_some (s.added g)) (sight s f.0) allowed in
-    let free = is_free_frame (s.content f.0) (s.is_sealing f.0) k.idle k.empty in
+    let free = free_there (s.content f.0) (s.is_sealing f.0) k.idle k.empty in
     let same_added : is_some (s.added g) ≡ is_some ((flat past).pages g) = ap is_some (added_flat stands g)
     ∙ is_some-added_as ((flat past).pages g) in
     let new : (flat past).pages g ≡ None = none_there ((flat past).pages g) (sym same_added ∙ k.new) in

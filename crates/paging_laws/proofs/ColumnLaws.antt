@@ -6,7 +6,7 @@ use Rattle.sgx_types.specs.declared.names.SlotAt.{SlotAt}
 use Rattle.sgx_types.specs.Enclaves.{EnclavesAreFlat, created}
 use Rattle.sgx_types.specs.Epochs.{block_epoch, epoch, epoch_in, noted}
 use Rattle.sgx_types.specs.Flat.{added_as, flat}
-use Rattle.sgx_types.specs.Frames.{added, content, is_block, is_blocked, is_put, is_sealing, put_by}
+use Rattle.sgx_types.specs.Frames.{added, content, is_block, is_blocked, is_put, is_sealing, made_before, put_by}
 use Rattle.sgx_types.specs.Processors.{stay, translations}
 use Rattle.sgx_types.specs.Sights.{sight_at}
 use Rattle.sgx_types.specs.Slots.{next_version, version_in}
@@ -57,7 +57,7 @@ added_is h g i = (h.enclaves i).added g
 -- a page was blocked since it came into its frame exactly where its block has an epoch
 has_block : (first : ℕ) (past : List Entry) (n : ℕ) → is_some (block_epoch first past n) ≡ is_blocked past n
 has_block first [] n = refl
-has_block first (e ∷ past) n = by_event (is_block e.event n) (is_put (put_by e.event (added past)) n) (has_block first past n)
+has_block first (e ∷ past) n = by_event (is_block e.event n) (is_put (put_by e.event (made_before past)) n) (has_block first past n)
   where
     by_event : (b c : Bool) → is_some (block_epoch first past n) ≡ is_blocked past n
         → is_some (cond b (Some (epoch_in first past n)) (cond c None (block_epoch first past n))) ≡ (b || (not c && is_blocked past n))

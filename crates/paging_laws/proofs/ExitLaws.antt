@@ -16,7 +16,7 @@ use Rattle.sgx_types.specs.Flat.{FlatCpu, Inside, flat, fields_in, left, saved, 
 use Rattle.paging_laws.specs.State.{State, row_of, cssa_in, rewritten, with_saved, after_exit, after_aex, is_seated_by}
 use Rattle.paging_laws.specs.Stands.{IsSound, inside_of_stay, next_save, Shows, Stands, cpu_shown, enclaves_flat, enclaves_seen}
 use Rattle.paging_laws.proofs.TestLaws.{equal}
-use Rattle.paging_laws.proofs.Contents.{one_page, tcs_there, tcs_no_reg}
+use Rattle.paging_laws.proofs.Contents.{one_named, tcs_there, tcs_no_reg}
 use Rattle.paging_laws.proofs.SoundLaws.{sound-left, sized-rewritten, seat_at}
 use Rattle.paging_laws.proofs.WordLaws.{once_in_state, length-with_cssa, shows_changed}
 use Rattle.paging_laws.proofs.ProcessorLaws.{mode_in_flat, seated_in_flat}
@@ -96,7 +96,7 @@ other_frames s p q mine seat sound other is_mine is =
       apart mine.ssa_frame seat.tcs_frame (λ same. tcs_no_reg (s.content seat.tcs_frame) k.tcs_kind (rw same at h.ssa_kind)),
       apart mine.tcs_frame seat.tcs_frame
           (λ same.
-          let pages = one_page (s.content seat.tcs_frame) _ _ (rw same at h.tcs_page) k.tcs_page in
+          let pages = one_named (s.content seat.tcs_frame) _ _ (rw same at h.tcs_page) k.tcs_page in
           let one = sound.apart p q mine seat is_mine is pages in
           false≢true (sym other ∙ equal p q one)),
     )

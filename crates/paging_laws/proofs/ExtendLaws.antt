@@ -1,5 +1,5 @@
 -- The row of `extend`: the measurement of the page's enclave takes in the block that the entries log.
-use Rattle.std.proofs.Common.{◌≡◌, ℕ, ◌+◌, ◌*◌, leb, ltb, true, false, refl, sym, ap, ◌∙◌, Some, None, List, is_some}
+use Rattle.std.proofs.Common.{◌≡◌, ℕ, ◌+◌, ◌*◌, leb, ltb, false, refl, sym, ap, ◌∙◌, Some, None, List}
 use Rattle.std.specs.Int.{w64, to_le_bytes}
 use Rattle.std.specs.List.{flat_map}
 use Rattle.std.specs.Option.{IsSomeAnd}
@@ -51,7 +51,7 @@ logs s past f chunk g stands is = by_content (s.content f) refl is
         record { enclave = q.enclave; block = eextend_block (4096 * q.number + 256 * chunk) (chunk_of (bytes_of (s.words f)) chunk) } in
         l)) same
     by_content Free e k = cc
-    by_content IsVa e k = cc
+    by_content (IsVa number) e k = cc
     by_content (SecsOf enclave) e k = cc
     by_content (IsLoading page) e k = cc
 

@@ -1,6 +1,6 @@
 -- No page comes to stand in two frames, as long as each load is of a page that is away.
-use Rattle.std.proofs.Common.{◌≡◌, ℕ, ◌<◌, ◌≤◌, ◌==◌, inl, inr, Bool, true, false, cond, refl, sym, ap, subst, ◌∙◌, Option, Some, None, IfSome, List, [], ◌∷◌, MatchOption, is_some, length}
-use Rattle.std.proofs.lemmas.Bool.{cond_both, false≢true, eqb-true, eq-eqb}
+use Rattle.std.proofs.Common.{◌≡◌, ℕ, ◌<◌, ◌≤◌, inl, inr, true, false, refl, sym, ap, subst, ◌∙◌, Option, Some, None, IfSome, List, ◌∷◌, MatchOption, is_some, length}
+use Rattle.std.proofs.lemmas.Bool.{false≢true, eq-eqb}
 use Rattle.sgx_types.specs.declared.entries.Entry.{Entry}
 use Rattle.sgx_types.specs.declared.entries.Actor.{Actor}
 use Rattle.sgx_types.specs.declared.entries.Action.{Action}
@@ -15,8 +15,8 @@ use Rattle.sgx_types.specs.declared.names.Perm.{Perm}
 use Rattle.sgx_types.specs.declared.names.SlotAt.{SlotAt}
 use Rattle.sgx_types.specs.declared.refusals.Refusal.{Refusal}
 use Rattle.sgx_types.specs.Frames.{Content, Free, IsVa, SecsOf, Holds, IsLoading, added, content, is_page, page_at, reloaded, same_page}
-use Rattle.sgx_types.specs.Starts.{BareStart, Start, bare_start, open_start, opened_by, is_load_of, loads_page, version_told}
-use Rattle.sgx_types.specs.Rules.{Along, FitsRule, LoadsAwayRule, NoPageTwice}
+use Rattle.sgx_types.specs.Starts.{BareStart, Start, bare_start, open_start, is_load_of, loads_page, version_told}
+use Rattle.sgx_types.specs.Rules.{FitsRule, LoadsAwayRule, NoPageTwice}
 use Rattle.sgx_types.specs.Table.{is_loading, first_of_row}
 use Rattle.sgx_types.specs.Sealed.{Sealed}
 use Rattle.epcm_entry.specs.Words.{words_of}
@@ -78,7 +78,7 @@ unadded_away s past columns guarded framed g new n = (
     by_content : (c : Content) → s.content n ≡ c → is_page c g ≡ false
     by_content (Holds page kind perm) e = other page (framed n page kind perm e)
     by_content Free e = refl
-    by_content IsVa e = refl
+    by_content (IsVa number) e = refl
     by_content (SecsOf enclave) e = refl
     by_content (IsLoading page) e = refl
 
@@ -123,7 +123,7 @@ module _ (s : State) (past : List Entry) (a : Actor) (guarded : IsGuarded s) (fr
       → LoadsAwayRule past (did_by a action answer) → FitsRule s.frames past (did_by a action answer)
       → FitsApart s.frames (did_by a action answer ∷ past)
   done_fits (Epa f) answer allowed other away rule =
-      fits_more s.frames past _ rule (put_apart (content past) (open_start past) f.0 IsVa (λ g held. cc) (apart_in s.frames past h)) h
+      fits_more s.frames past _ rule (put_apart (content past) (open_start past) f.0 (IsVa _) (λ g held. cc) (apart_in s.frames past h)) h
   done_fits (Create enclave f base size) answer allowed other away rule =
       fits_more s.frames past _ rule (put_apart (content past) (open_start past) f.0 (SecsOf enclave) (λ g held. cc)
       (apart_in s.frames past h)) h

@@ -1,5 +1,5 @@
 -- The frames that a done instruction names are of the EPC, and what takes a frame takes a free one, whatever a driver loads.
-use Rattle.std.proofs.Common.{◌≡◌, ℕ, ◌<◌, ◌==◌, inl, inr, true, cond, refl, sym, ap, ◌∙◌, Option, Some, None, MatchOption, is_some, List, [], ◌∷◌, length}
+use Rattle.std.proofs.Common.{◌≡◌, ℕ, ◌<◌, ◌==◌, inl, inr, true, cond, refl, ap, Option, Some, None, MatchOption, is_some, List, [], ◌∷◌, length}
 use Rattle.std.proofs.lemmas.Bool.{cond_both, false≢true, eqb-true}
 use Rattle.sgx_types.specs.declared.entries.Entry.{Entry}
 use Rattle.sgx_types.specs.declared.entries.Event.{Event}
@@ -19,7 +19,6 @@ use Rattle.seal_record.specs.Cipher.{cipher}
 use Rattle.paging_laws.specs.Columns.{HasColumns}
 use Rattle.paging_laws.specs.State.{State, row_of, after_eld, after_failed_eld}
 use Rattle.paging_laws.specs.Steps.{CanApply, IsDone, IsReloaded, IsStep, IsWrittenOut, commit_row, did_by, refused_by}
-use Rattle.paging_laws.proofs.ColumnLaws.{start_is}
 use Rattle.paging_laws.proofs.SlotLaws.{started_as}
 use Rattle.paging_laws.proofs.RowLaws.{row_fits, step_entry, IsEntryOf}
 

@@ -10,10 +10,10 @@ use Rattle.sgx_types.specs.declared.names.Perm.{Perm}
 use Rattle.sgx_types.specs.declared.names.SlotAt.{SlotAt}
 use Rattle.sgx_types.specs.Epochs.{epoch_of}
 use Rattle.sgx_types.specs.Flat.{FlatEnclave}
-use Rattle.sgx_types.specs.Frames.{Content, Free, IsVa, SecsOf, Holds, IsLoading, enclave_in, same_page}
+use Rattle.sgx_types.specs.Frames.{Content, Free, SecsOf, Holds, IsLoading, enclave_in, same_page}
 use Rattle.sgx_types.specs.Processors.{Seat}
 use Rattle.sgx_types.specs.Starts.{BareStart}
-use Rattle.sgx_types.specs.Table.{is_loading}
+use Rattle.sgx_types.specs.Table.{is_loading, is_va}
 use Rattle.sgx_types.proofs.Truths.{apart}
 use Rattle.measure_log.specs.declared.measure.Measure.{Measure}
 use Rattle.cached_translations.specs.declared.cache.Translation.{Translation}
@@ -61,6 +61,23 @@ guarded_acc s p acc h = guarded_beside s s.words s.enclaves s.measure (with_acc 
 pub guarded_extend : (s : State) (enclave : ℕ) (longer : Measure) → IsGuarded s → IsGuarded (after_extend s enclave longer)
 guarded_extend s enclave longer h =
     guarded_beside s s.words s.enclaves (after_extend s enclave longer).measure s.acc s.version_in s.next_version h
+
+-- .. and of how many version array pages were made
+pub guarded_made : (s : State) (made : ℕ) → IsGuarded s → IsGuarded (record s { vas_made = made })
+guarded_made s made h = record {
+  few = h.few;
+  noted = h.noted;
+  blocks = h.blocks;
+  sealing = h.sealing;
+  taken = λ g busy. let k = h.taken g busy in record { cpu = k.cpu; by = k.by };
+  opened = h.opened;
+  written = h.written;
+  loaded = h.loaded;
+  held = h.held;
+  apart = h.apart;
+  kinds = h.kinds;
+  goes_out = h.goes_out;
+}
 
 -- .. and whether an enclave is initialised
 pub guarded_init : (s : State) (enclave : ℕ) → IsGuarded s → IsGuarded (after_init s enclave)
@@ -118,7 +135,7 @@ module _ (s : State) (f : ℕ) (content : ℕ → Content) (blocked : ℕ → Op
   -- the frame held no version array page, and is not blocked and not on its way out then; its start, if it has one, is open
   pub record IsPut : Type 0 where
     pub same : (n : ℕ) → (f == n) ≡ false → IsSame n
-    pub unpaged : s.content f ≡ IsVa → ⊥
+    pub unpaged : is_va (s.content f) ≡ false
     pub unblocked : blocked f ≡ None
     pub settled : is_sealing f ≡ false
     pub opened : IfSome (start f) (IsOpen s.content s.added)
@@ -164,7 +181,10 @@ module _ (s : State) (f : ℕ) (content : ℕ → Content) (blocked : ℕ → Op
     where
       still_open : (x : BareStart) → IsOpen s.content s.added x → IsOpen content s.added x
       still_open x o = record {
-        paged = (k.same x.slot.frame.0 (apart f x.slot.frame.0 (λ same. k.unpaged (ap s.content same ∙ o.paged)))).held ∙ o.paged;
+        paged =
+            let other = apart f x.slot.frame.0
+            (λ same. false≢true (sym k.unpaged ∙ ap (λ n. is_va (s.content n)) same ∙ o.paged)) in
+            ap is_va (k.same x.slot.frame.0 other).held ∙ o.paged;
         within = o.within;
         loads = o.loads;
       }
@@ -180,7 +200,7 @@ guarded_put s f c words h free settled =
     guarded_words t words
     (guarded_frame s f t.content t.blocked s.is_sealing s.start s.is_slot_busy h (record {
       same = λ n e. record { held = rw e refl; blocked_at = rw e refl; sealing = refl; start_of = refl };
-      unpaged = λ va. cc (free, va);
+      unpaged = ap is_va free;
       unblocked = rw (equal f f refl) refl;
       settled = stays_in s f h (rw free refl);
       opened = h.opened f;

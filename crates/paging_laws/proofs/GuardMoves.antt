@@ -15,14 +15,14 @@ use Rattle.sgx_types.specs.Processors.{Seat}
 use Rattle.sgx_types.specs.Slots.{same_slot}
 use Rattle.sgx_types.specs.Starts.{BareStart}
 use Rattle.sgx_types.specs.Table.{is_loading, is_out_of_range, is_secs, is_va, block_row, track_row, ewbstart_row, eldstart_row, first_of_row}
+use Rattle.sgx_types.proofs.Contents.{enclave_no_va, free_there}
 use Rattle.sgx_types.proofs.Rows.{none_holds}
 use Rattle.sgx_types.proofs.Truths.{both_true, neither, not_false}
 use Rattle.cached_translations.specs.declared.cache.Translation.{Translation}
 use Rattle.paging_laws.specs.State.{State, sight, is_noting, number_noting, epoch_in, track_sight, slot_sight, drain_sight, has_passed, is_version_spent, after_block, after_track, after_ewbstart, after_eldstart, after_ewb, after_eld, after_failed_eld}
 use Rattle.paging_laws.specs.Stands.{IsTranslation, IsSeated, IsSound}
 use Rattle.paging_laws.specs.Guarded.{IsNoEarlier, HasNoted, IsDrainedAt, IsOpen, WritesOut, Loads, IsGuarded}
-use Rattle.paging_laws.proofs.TestLaws.{there_at, there_then, equal, each_there, each_there_at}
-use Rattle.paging_laws.proofs.BuildLaws.{is_free_frame}
+use Rattle.paging_laws.proofs.TestLaws.{there_at, there_then, equal, each_there}
 use Rattle.paging_laws.proofs.SoundLaws.{seat_at}
 use Rattle.paging_laws.proofs.GuardCpus.{noted_at, unblocked}
 use Rattle.paging_laws.proofs.GuardLaws.{each_frame, no_start, stays_in, guarded_beside, guarded_frame}
@@ -155,24 +155,16 @@ pub record StartsOut (s : State) (f : ℕ) (slot : SlotAt) : Type 0 where
   pub idle : s.is_sealing f ≡ false
   pub still : is_loading (s.content f) ≡ false
   pub ours : is_some (enclave_in (s.content f)) ≡ true
-  pub paged : s.content slot.frame.0 ≡ IsVa
+  pub paged : is_va (s.content slot.frame.0) ≡ true
   pub within : slot.index < 512
   pub blocked : is_some (s.blocked f) ≡ true
   pub drained : has_passed s (enclave_in (s.content f)) (s.blocked f) ≡ true
-
--- a frame that shows as a version array page is one
-va_there : (c : Content) → is_va c ≡ true → c ≡ IsVa
-va_there IsVa h = refl
-va_there Free h = cc h
-va_there (SecsOf enclave) h = cc h
-va_there (Holds page kind perm) h = cc h
-va_there (IsLoading page) h = cc h
 
 -- a frame that holds something else than an SECS or a version array page holds a page of an enclave
 page_there : (c : Content) → is_loading c ≡ false → is_free c ≡ false → is_secs c ≡ false → is_va c ≡ false → is_some (enclave_in c) ≡ true
 page_there (Holds page kind perm) waits free secs va = refl
 page_there Free waits free secs va = cc free
-page_there IsVa waits free secs va = cc va
+page_there (IsVa number) waits free secs va = cc va
 page_there (SecsOf enclave) waits free secs va = cc secs
 page_there (IsLoading page) waits free secs va = cc waits
 
@@ -195,7 +187,7 @@ starts_out s f slot allowed =
       idle = idle.0;
       still = idle.1;
       ours = page_there (s.content f) idle.1 none.1.1.0 own.0 own.1;
-      paged = va_there (s.content slot.frame.0) (not_false _ of_kind.1);
+      paged = not_false _ of_kind.1;
       within = let low = ltb-false 511 slot.index (neither _ (ltb 511 slot.index) none.0).1 in omega (arith, low);
       blocked = not_false _ none.1.1.1.1.0;
       drained = not_false _ none.1.1.1.1.1.0;
@@ -207,7 +199,7 @@ pub record StartsIn (s : State) (f : ℕ) (page : Page) (slot : SlotAt) : Type 0
   pub slot_idle : s.is_slot_busy slot ≡ false
   pub free : s.content f ≡ Free
   pub added : is_some (s.added page) ≡ true
-  pub paged : s.content slot.frame.0 ≡ IsVa
+  pub paged : is_va (s.content slot.frame.0) ≡ true
   pub within : slot.index < 512
 
 pub starts_in : (s : State) (f : ℕ) (page : Page) (slot : SlotAt)
@@ -220,9 +212,9 @@ starts_in s f page slot allowed =
     record {
       low = in_epc s f slot none.0;
       slot_idle = (neither _ (s.is_slot_busy slot) none.1.1.1.0).1;
-      free = is_free_frame (s.content f) (s.is_sealing f) (neither _ (s.is_slot_busy slot) none.1.1.1.0).0 none.1.1.1.1.0;
+      free = free_there (s.content f) (s.is_sealing f) (neither _ (s.is_slot_busy slot) none.1.1.1.0).0 none.1.1.1.1.0;
       added = not_false _ none.1.1.0;
-      paged = va_there (s.content slot.frame.0) (not_false _ none.1.1.1.1.1.0);
+      paged = not_false _ none.1.1.1.1.1.0;
       within = let low = ltb-false 511 slot.index (neither _ (ltb 511 slot.index) none.0).1 in omega (arith, low);
     }
 
@@ -292,7 +284,7 @@ guarded_eldstart s f page slot allowed h =
     s.enclaves s.measure s.acc s.version_in s.next_version
     (guarded_frame s f t.content t.blocked s.is_sealing t.start t.is_slot_busy h (record {
       same = λ n e. record { held = rw e refl; blocked_at = rw e refl; sealing = refl; start_of = rw e refl };
-      unpaged = λ va. let free = k.free in cc (free, va);
+      unpaged = ap is_va k.free;
       unblocked = rw here refl;
       settled = stays_in s f h (rw k.free refl);
       opened = rw here (record { paged = k.paged; within = k.within; loads = k.added });
@@ -307,7 +299,7 @@ guarded_eldstart s f page slot allowed h =
 ended : (s : State) (f : ℕ) (content : ℕ → Content) (blocked : ℕ → Option ℕ) (is_sealing : ℕ → Bool) (start : BareStart)
     → s.start f ≡ Some start → IsGuarded s
     → ((n : ℕ) → (f == n) ≡ false → (content n ≡ s.content n) × (blocked n ≡ s.blocked n) × (is_sealing n ≡ s.is_sealing n))
-    → (s.content f ≡ IsVa → ⊥) → blocked f ≡ None → is_sealing f ≡ false → ((g : Page) → content f ≡ IsLoading g → ⊥)
+    → is_va (s.content f) ≡ false → blocked f ≡ None → is_sealing f ≡ false → ((g : Page) → content f ≡ IsLoading g → ⊥)
     → IsGuarded (record s {
       content = content;
       blocked = blocked;
@@ -330,7 +322,7 @@ ended s f content blocked is_sealing start is h same unpaged unblocked settled d
     })
 
 -- .. which is free then
-freed : (s : State) (f : ℕ) (start : BareStart) → s.start f ≡ Some start → (s.content f ≡ IsVa → ⊥) → IsGuarded s
+freed : (s : State) (f : ℕ) (start : BareStart) → s.start f ≡ Some start → is_va (s.content f) ≡ false → IsGuarded s
     → IsGuarded (after_failed_eld s f start)
 freed s f start is unpaged h =
     let t = after_failed_eld s f start in
@@ -352,13 +344,13 @@ pub guarded_ewb : (s : State) (f : ℕ) (start : BareStart) → s.start f ≡ So
 guarded_ewb s f start is leaving h =
     let t = after_failed_eld s f start in
     guarded_beside t t.words t.enclaves t.measure t.acc (after_ewb s f start).version_in t.next_version
-    (freed s f start is (λ va. false≢true (rw va at (h.goes_out f leaving))) h)
+    (freed s f start is (enclave_no_va (s.content f) (h.goes_out f leaving)) h)
 
 -- a load is refused
 pub guarded_failed_eld : (s : State) (f : ℕ) (start : BareStart) (g : Page) → s.start f ≡ Some start → s.content f ≡ IsLoading g
     → IsGuarded s
     → IsGuarded (after_failed_eld s f start)
-guarded_failed_eld s f start g is waits h = freed s f start is (λ va. cc (waits, va)) h
+guarded_failed_eld s f start g is waits h = freed s f start is (ap is_va waits) h
 
 -- a page is back
 pub guarded_eld : (s : State) (f : ℕ) (start : BareStart) (page : Page) (kind : Kind) (perm : Perm) (words : List ℕ) (g : Page)
@@ -369,5 +361,5 @@ guarded_eld s f start page kind perm words g is waits h =
     let here : (f == f) ≡ true = equal f f refl in
     guarded_beside (record s { content = t.content; blocked = t.blocked; start = t.start; is_slot_busy = t.is_slot_busy }) t.words
     s.enclaves s.measure s.acc t.version_in s.next_version
-    (ended s f t.content t.blocked s.is_sealing start is h (λ n e. (rw e refl, rw e refl, refl)) (λ va. cc (waits, va)) (rw here refl)
+    (ended s f t.content t.blocked s.is_sealing start is h (λ n e. (rw e refl, rw e refl, refl)) (ap is_va waits) (rw here refl)
     (stays_in s f h (rw waits refl)) (λ w again. let page_is : Holds page kind perm ≡ IsLoading w = rw here at again in cc page_is))

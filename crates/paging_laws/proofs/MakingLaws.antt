@@ -1,5 +1,5 @@
 -- No instruction and no commit changes what the machine was made with.
-use Rattle.std.proofs.Common.{◌≡◌, ℕ, refl, ap, ◌∙◌, ◌⊎◌, inl, inr, Option, Some, None, MatchOption, List}
+use Rattle.std.proofs.Common.{◌≡◌, ℕ, refl, ap, ◌∙◌, ◌⊎◌, inl, inr, Option, Some, None, MatchOption}
 use Rattle.sgx_types.specs.declared.entries.Entry.{Entry}
 use Rattle.sgx_types.specs.declared.entries.Actor.{Actor}
 use Rattle.sgx_types.specs.declared.entries.Actor.TheVariants as actors

@@ -1,5 +1,5 @@
 -- The ends of starts, in the state and by the entries: which page a commit names, and when a load is refused.
-use Rattle.std.proofs.Common.{◌≡◌, ℕ, ◌==◌, not, Bool, true, false, cond, refl, sym, ap, ◌∙◌, Option, Some, None, List}
+use Rattle.std.proofs.Common.{◌≡◌, ℕ, not, Bool, true, false, cond, refl, sym, ap, ◌∙◌, Option, Some, None, List}
 use Rattle.std.proofs.lemmas.Bool.{false≢true, eq-eqb}
 use Rattle.std.proofs.lemmas.Slice.Eq.{bytes_eq-Decides}
 use Rattle.std.specs.Str.{bytes_eq}
@@ -29,7 +29,7 @@ use Rattle.paging_laws.specs.Guarded.{IsGuarded, WritesOut}
 use Rattle.paging_laws.specs.Stands.{Stands}
 use Rattle.paging_laws.specs.State.{State, after_eld, after_failed_eld}
 use Rattle.paging_laws.specs.Steps.{CanApply, IsComing, IsWrittenOut, commit_row, did_by, refused_by}
-use Rattle.paging_laws.proofs.ColumnLaws.{added_flat, content_is, enclave_flat, start_is}
+use Rattle.paging_laws.proofs.ColumnLaws.{added_flat, content_is, enclave_flat}
 use Rattle.paging_laws.proofs.SlotLaws.{started_as}
 
 -- the ends of starts

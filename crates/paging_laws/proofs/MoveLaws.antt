@@ -1,10 +1,7 @@
 -- The instructions that move pages: what each brings where it is done, and each commit.
 use Rattle.std.proofs.Common.{◌≡◌, ℕ, ◌<◌, ◌==◌, true, false, cond, refl, sym, ap, ◌∙◌, Option, Some, None, MatchOption, is_some, List}
-use Rattle.std.proofs.lemmas.Bool.{false≢true}
 use Rattle.sgx_types.specs.declared.entries.Entry.{Entry}
 use Rattle.sgx_types.specs.declared.entries.Actor.{Actor}
-use Rattle.sgx_types.specs.declared.entries.Actor.TheVariants as actors
-use Rattle.sgx_types.specs.declared.entries.Action.{Action}
 use Rattle.sgx_types.specs.declared.entries.Action.TheVariants.{Block, Track, EwbStart, Ewb, EldStart, Eld}
 use Rattle.sgx_types.specs.declared.entries.Answer.TheVariants as answers
 use Rattle.sgx_types.specs.declared.names.Frame.{Frame}
@@ -28,7 +25,7 @@ use Rattle.paging_laws.specs.Guarded.{IsGuarded}
 use Rattle.paging_laws.proofs.MoveEnds.{IsDoneBack, IsRefusedBack, ends_back, ends_out, ends_refused, same_value}
 use Rattle.paging_laws.proofs.BuildLaws.{words_put}
 use Rattle.paging_laws.proofs.NextEntry.{Brings, BringsDone, done_brings, brings_as}
-use Rattle.paging_laws.proofs.ColumnLaws.{added_flat, start_is, version_is}
+use Rattle.paging_laws.proofs.ColumnLaws.{added_flat, version_is}
 use Rattle.paging_laws.proofs.SlotLaws.{started_as}
 use Rattle.sgx_types.specs.declared.names.SlotAt.{SlotAt}
 

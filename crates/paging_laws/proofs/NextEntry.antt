@@ -1,5 +1,5 @@
 -- What the entry of a step brings, so that a state that stands for its entries and keeps the rules goes on to.
-use Rattle.std.proofs.Common.{◌≡◌, true, sym, ap, subst, ◌∙◌, None, List, ◌∷◌, refl}
+use Rattle.std.proofs.Common.{◌≡◌, true, sym, subst, ◌∙◌, None, List, ◌∷◌, refl}
 use Rattle.sgx_types.specs.declared.entries.Entry.{Entry}
 use Rattle.sgx_types.specs.declared.entries.Event.TheVariants.{Did}
 use Rattle.sgx_types.specs.declared.entries.Actor.{Actor}

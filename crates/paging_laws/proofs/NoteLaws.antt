@@ -3,9 +3,7 @@ use Rattle.std.proofs.Common.{◌≡◌, ℕ, refl, List, ◌∷◌}
 use Rattle.sgx_types.specs.declared.entries.Actor.{Actor}
 use Rattle.sgx_types.specs.declared.entries.Entry.{Entry}
 use Rattle.sgx_types.specs.declared.entries.Event.{Event}
-use Rattle.sgx_types.specs.declared.entries.Event.TheVariants.{Did, Refused, Age, Kick, Bus}
-use Rattle.sgx_types.specs.declared.names.Page.{Page}
-use Rattle.sgx_types.specs.declared.names.SlotAt.{SlotAt}
+use Rattle.sgx_types.specs.declared.entries.Event.TheVariants.{Did, Refused}
 use Rattle.sgx_types.specs.Fresh.{ReloadRule}
 use Rattle.sgx_types.specs.Making.{Making}
 use Rattle.sgx_types.specs.Rules.{EvictRule, FitsRule, RisingRule, StaleRule}
@@ -20,7 +18,7 @@ use Rattle.paging_laws.specs.State.{State}
 use Rattle.paging_laws.proofs.FitLaws.{fits_same}
 use Rattle.paging_laws.proofs.NextEntry.{Brings}
 use Rattle.paging_laws.proofs.ShapeColumns.{IsQuiet}
-use Rattle.paging_laws.proofs.ShapeLaws.{IsNextTo, held_by, shaped_more}
+use Rattle.paging_laws.proofs.ShapeLaws.{held_by, shaped_more}
 use Rattle.paging_laws.proofs.ShapeRows.{quiet_next}
 
 -- an entry of an actor

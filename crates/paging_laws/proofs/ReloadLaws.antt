@@ -30,7 +30,7 @@ use Rattle.seal_record.specs.Records.{Given, Made, Tagged, Unforged, given_of, m
 use Rattle.seal_record.proofs.CipherLaws.{cipher_twice}
 use Rattle.seal_record.proofs.RecordLaws.{fitting_made}
 use Rattle.page_history.specs.Copies.{InSlot, copy}
-use Rattle.sgx_types.specs.Fresh.{IsLastOut, ReloadRule}
+use Rattle.sgx_types.specs.Fresh.{ReloadRule}
 use Rattle.sgx_types.proofs.Busy.{IsBareOf}
 use Rattle.page_history.specs.Once.{Gone, IsMade, IsOfPage, KeepsMoves, MadeOnce}
 use Rattle.seal_record.specs.Sealing.{SealedRule, made_by}
@@ -41,7 +41,7 @@ use Rattle.page_history.proofs.StartLaws.{starts_apart}
 use Rattle.paging_laws.specs.Histories.{BringsBack, OutsideBytes, StandsWithAllRules, looked_at, looked_at_by}
 use Rattle.paging_laws.specs.State.{State, after_eld, making_of}
 use Rattle.paging_laws.specs.Steps.{IsComing, IsReloaded, commit_row, did_by}
-use Rattle.paging_laws.proofs.ColumnLaws.{enclave_flat, start_is}
+use Rattle.paging_laws.proofs.ColumnLaws.{enclave_flat}
 use Rattle.paging_laws.proofs.SlotLaws.{started_as}
 
 -- ---- the page of a header

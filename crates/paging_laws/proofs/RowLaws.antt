@@ -28,7 +28,7 @@ use Rattle.sgx_types.specs.declared.entries.AccessOp.{AccessOp}
 use Rattle.sgx_types.specs.declared.entries.Answer.TheVariants as answers
 use Rattle.paging_laws.specs.State.{State, making_of, enter_sight, seat_enclave, is_closed, row_of, row_outside, translation, sight}
 use Rattle.paging_laws.specs.Stands.{Stands, IsSound}
-use Rattle.paging_laws.proofs.BuildLaws.{is_some-added_as, is_free_frame, adds}
+use Rattle.paging_laws.proofs.BuildLaws.{is_some-added_as, adds}
 use Rattle.paging_laws.proofs.Contents.{tcs_there}
 use Rattle.paging_laws.proofs.ProcessorLaws.{mode_by_entries, enclave_by_entries}
 use Rattle.paging_laws.proofs.EntryLaws.{by_fields, enter_saves, enter_saved, resume_saves, resume_saved, enter_sight_of, enters}
@@ -42,6 +42,7 @@ use Rattle.paging_laws.specs.Columns.{HasColumns}
 use Rattle.paging_laws.specs.Guarded.{IsGuarded}
 use Rattle.std.proofs.lemmas.Bool.{leb-false}
 use Rattle.sgx_types.specs.declared.entries.Answer.{Answer}
+use Rattle.sgx_types.proofs.Contents.{free_there}
 use Rattle.sgx_types.proofs.Rows.{none_holds}
 use Rattle.sgx_types.proofs.Truths.{neither, tested}
 
@@ -305,7 +306,7 @@ measure_told s past a _ r refused = tt
 
 free_in : (s : State) (past : List Entry) → HasColumns s past → (f : ℕ) → (s.is_sealing f || is_loading (s.content f)) ≡ false
     → is_valid (s.content f) ≡ false → content past f ≡ Free
-free_in s past columns f idle empty = sym (content_is columns f) ∙ is_free_frame (s.content f) (s.is_sealing f) idle empty
+free_in s past columns f idle empty = sym (content_is columns f) ∙ free_there (s.content f) (s.is_sealing f) idle empty
 
 -- the two frames of a start
 start_names : (frames f slot : ℕ) (other : Bool) → ((leb frames f || leb frames slot) || other) ≡ false → (f < frames) × (slot < frames)

@@ -1,9 +1,7 @@
 -- Each row and each commit leaves the machine's columns as the longer list of entries has them.
-use Rattle.std.proofs.Common.{◌≡◌, ℕ, ◌+◌, ◌==◌, Bool, true, false, cond, refl, sym, ap, ◌∙◌, Option, Some, None, option_map, List, [], ◌∷◌, map, length}
+use Rattle.std.proofs.Common.{◌≡◌, ℕ, ◌+◌, ◌==◌, Bool, true, false, cond, refl, sym, ap, ◌∙◌, Option, Some, None, List, [], ◌∷◌, map, length}
 use Rattle.std.proofs.lemmas.Bool.{cond_both, eqb-true}
 use Rattle.sgx_types.specs.declared.entries.Entry.{Entry}
-use Rattle.sgx_types.specs.declared.entries.Event.{Event}
-use Rattle.sgx_types.specs.declared.entries.Event.TheVariants.{Did, Refused}
 use Rattle.sgx_types.specs.declared.entries.Actor.{Actor}
 use Rattle.sgx_types.specs.declared.entries.Actor.TheVariants as actors
 use Rattle.sgx_types.specs.declared.entries.Action.{Action}
@@ -21,20 +19,19 @@ use Rattle.sgx_types.specs.declared.names.SlotAt.{SlotAt}
 use Rattle.sgx_types.specs.declared.refusals.Refusal.{Refusal}
 use Rattle.sgx_types.specs.Epochs.{epoch, epoch_of, noted}
 use Rattle.sgx_types.specs.Flat.{marked}
-use Rattle.sgx_types.specs.Frames.{Content, Free, IsVa, SecsOf, Holds, IsLoading, added, enclave_in, page_at, is_sealing, reloaded, same_page}
+use Rattle.sgx_types.specs.Frames.{Content, Free, IsVa, SecsOf, Holds, IsLoading, added, enclave_in, page_at, is_sealing, reloaded}
 use Rattle.sgx_types.specs.Processors.{Seat, stay, stay_from, with_filled, translations}
 use Rattle.sgx_types.specs.Sights.{seat_of}
-use Rattle.sgx_types.specs.Slots.{is_slot_busy, names_slot, open_slot, same_slot, slot_of}
-use Rattle.sgx_types.specs.Starts.{BareStart, Start, bare_start, open_start, opened_by, version_told}
-use Rattle.sgx_types.proofs.Truths.{eqb-swap}
+use Rattle.sgx_types.specs.Slots.{names_slot, open_slot, same_slot, slot_of}
+use Rattle.sgx_types.specs.Starts.{BareStart, Start, bare_start, open_start}
 use Rattle.sgx_types.proofs.Pages.{same_page-swap}
 use Rattle.measure_log.specs.declared.measure.Measure.{Measure}
 use Rattle.cached_translations.specs.declared.cache.Translation.{Translation}
 use Rattle.cached_translations.specs.Translations.{with_translation}
-use Rattle.paging_laws.specs.Columns.{FrameColumns, CpuColumns, SlotColumns, HasColumns, frames_by, cpus_by, slots_by, slots_of, enclaves_by, noted_inside, without_perm, seat_of_stay}
+use Rattle.paging_laws.specs.Columns.{FrameColumns, CpuColumns, SlotColumns, HasColumns, frames_by, cpus_by, slots_by, enclaves_by, noted_inside, without_perm, seat_of_stay}
 use Rattle.paging_laws.proofs.ColumnLaws.{sealing_is, start_is, inside_is, noted_is, translations_are, epoch_is, added_is}
 use Rattle.paging_laws.proofs.SlotLaws.{started_as}
-use Rattle.paging_laws.specs.State.{State, with_saved, without_start, after_epa, after_create, after_add, after_init, after_enter, after_resume, after_exit, after_aex, after_fill, after_block, after_track, after_ewbstart, after_eldstart, after_ewb, after_eld, after_failed_eld}
+use Rattle.paging_laws.specs.State.{State, with_saved, after_epa, after_create, after_add, after_init, after_enter, after_resume, after_exit, after_aex, after_fill, after_block, after_track, after_ewbstart, after_eldstart, after_ewb, after_eld, after_failed_eld}
 use Rattle.paging_laws.specs.Steps.{did_by, refused_by}
 use Rattle.paging_laws.proofs.TranslationLaws.{with_translation-map}
 
@@ -188,7 +185,12 @@ left s past p h =
 module _ (s : State) (past : List Entry) (h : HasColumns s past) where
   -- a version array page is put into a frame
   pub epa_columns : (a : Actor) (f : Frame) (answer : Answer) → HasColumns (after_epa s f.0) (did_by a (Epa f) answer ∷ past)
-  epa_columns a f answer = record { frames = ap (put f.0 IsVa) h.frames; cpus = h.cpus; slots = h.slots; enclaves = h.enclaves }
+  epa_columns a f answer = record {
+    frames = λ i. put f.0 (IsVa (h.enclaves i).vas_made) (h.frames i);
+    cpus = h.cpus;
+    slots = h.slots;
+    enclaves = λ i. record (h.enclaves i) { vas_made = (h.enclaves i).vas_made + 1 };
+  }
 
   -- an enclave is created, and its SECS put into a frame
   pub create_columns : (a : Actor) (enclave : ℕ) (f : Frame) (base size : ℕ) (begun : Measure) (answer : Answer)

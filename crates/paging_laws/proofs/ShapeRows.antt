@@ -37,7 +37,7 @@ use Rattle.paging_laws.specs.State.{making_of}
 use Rattle.paging_laws.specs.Stands.{IsUsable, IsSound}
 use Rattle.paging_laws.specs.State.{State, sight, slot_sight, drain_sight, is_version_spent, translation, perm_of_held, with_acc, with_saved, word_at, cssa_in, saved_word, after_epa, after_create, after_add, after_extend, after_init, after_enter, after_resume, after_exit, after_aex, after_fill, after_store, after_xadd, after_block, after_track, after_ewbstart, after_eldstart, after_ewb, after_eld, after_failed_eld, row_of}
 use Rattle.paging_laws.specs.Steps.{did_by, refused_by}
-use Rattle.paging_laws.proofs.ColumnLaws.{start_is, inside_is, translations_are, next_version_is}
+use Rattle.paging_laws.proofs.ColumnLaws.{inside_is, translations_are, next_version_is}
 use Rattle.paging_laws.proofs.SlotLaws.{started_as}
 use Rattle.paging_laws.proofs.SoundLaws.{seat_at, unused}
 use Rattle.paging_laws.proofs.ShapeColumns.{IsQuiet, is_eld, is_quiet, refused_quiet, did_quiet, quiet_columns, epa_columns, create_columns, add_columns, init_columns, enter_columns, resume_columns, exit_columns, aex_columns, fill_columns, block_columns, track_columns, ewbstart_columns, eldstart_columns, ewb_columns, eld_columns, failed_eld_columns}
@@ -58,7 +58,7 @@ unused_invalid s f none enclave u = by_content (s.content f) none u.ours
     by_content : (c : Content) → is_valid c ≡ false → enclave_in c ≡ Some enclave → ⊥
     by_content (Holds page kind perm) is ours = cc
     by_content Free is ours = cc
-    by_content IsVa is ours = cc
+    by_content (IsVa number) is ours = cc
     by_content (SecsOf e) is ours = cc
     by_content (IsLoading page) is ours = cc
 
@@ -178,7 +178,7 @@ module _ (s : State) (past : List Entry) (sound : IsSound s) (h : HasColumns s p
       record {
         making = refl;
         columns = epa_columns s past h a f answers.Plain;
-        held = held_put s past sound h held f.0 IsVa (unused_invalid s f.0 none.1.1.0);
+        held = held_put s past sound h held f.0 (IsVa _) (unused_invalid s f.0 none.1.1.0);
         access = tt;
         evict = tt;
         rising = tt;

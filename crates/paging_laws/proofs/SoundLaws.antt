@@ -12,7 +12,7 @@ use Rattle.cached_translations.specs.declared.cache.Translation.{Translation}
 use Rattle.paging_laws.specs.State.{State, with_content, with_inside, rewritten, after_exit, is_seated_by}
 use Rattle.paging_laws.specs.Stands.{IsUsable, IsTranslation, IsSeated, AreByOneTcs, IsSound}
 use Rattle.paging_laws.proofs.TestLaws.{each_there, each_there_at, equal}
-use Rattle.paging_laws.proofs.Contents.{one_page, tcs_no_reg}
+use Rattle.paging_laws.proofs.Contents.{one_named, tcs_no_reg}
 
 pub seat_at : (s : State) → IsSound s → (p : ℕ) (seat : Seat) → s.inside p ≡ Some seat
     → IsSeated s.content s.is_sealing s.words (s.cache p) seat
@@ -104,7 +104,7 @@ sound-inside s p seat acc words sound idle new kept sized = record {
     seated q other is h =
         let elsewhere : (seat.tcs_frame == other.tcs_frame) ≡ false =
         apart seat.tcs_frame other.tcs_frame (λ same.
-        free_of q other is (one_page (s.content other.tcs_frame) _ _ (rw same at new.tcs_page) h.tcs_page)) in
+        free_of q other is (one_named (s.content other.tcs_frame) _ _ (rw same at new.tcs_page) h.tcs_page)) in
         record {
           tcs = h.tcs;
           tcs_page = h.tcs_page;

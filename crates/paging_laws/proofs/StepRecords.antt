@@ -32,7 +32,7 @@ use Rattle.paging_laws.specs.Shape.{ShapeWithRules}
 use Rattle.paging_laws.specs.Stands.{IsSound, Stands}
 use Rattle.paging_laws.specs.State.{State, after_eld, after_failed_eld}
 use Rattle.paging_laws.specs.Steps.{CanApply, IsLeaving, IsReloaded, IsStep, IsWrittenOut, commit_row, did_by, refused_by}
-use Rattle.paging_laws.proofs.ColumnLaws.{enclave_flat, start_is}
+use Rattle.paging_laws.proofs.ColumnLaws.{enclave_flat}
 use Rattle.paging_laws.proofs.SlotLaws.{started_as}
 use Rattle.paging_laws.proofs.OutsideLaws.{KeepsOutside, did_keeps, did_made, did_sealed, is_ewb, outside_more, refused_keeps, keeps_as}
 use Rattle.paging_laws.proofs.RowLaws.{step_entry, IsEntryOf}

@@ -1,10 +1,7 @@
 -- Facts on tests, rows and places.
-use Rattle.std.proofs.Common.{rules, ◌≡◌, ℕ, ◌==◌, ◌&&◌, ◌||◌, not, Bool, true, false, cond, refl, sym, ◌∙◌, Option, Some, None, IfSome, IsSomeAnd, is_some, is_none, List, [], ◌∷◌, ◌⊎◌, inl, inr}
-use Rattle.std.proofs.lemmas.Bool.{eqb-true, eq-eqb, false≢true}
+use Rattle.std.proofs.Common.{◌≡◌, ℕ, ◌==◌, ◌||◌, Bool, true, false, refl, Option, Some, None, IfSome, IsSomeAnd, is_some, is_none, List, [], ◌∷◌}
+use Rattle.std.proofs.lemmas.Bool.{eq-eqb}
 use Rattle.sgx_types.specs.declared.entries.Entry.{Entry}
-use Rattle.sgx_types.specs.declared.names.Page.{Page}
-use Rattle.sgx_types.specs.Frames.{page_at, same_page}
-use Rattle.sgx_types.specs.Table.{Case, first_of_row}
 use Rattle.sgx_types.specs.Rules.{AtEachPlace}
 
 pub last_place : (P : List Entry → Type 0) (past : List Entry) → AtEachPlace P past → P past

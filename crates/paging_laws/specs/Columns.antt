@@ -9,7 +9,7 @@ use Rattle.sgx_types.specs.declared.names.SlotAt.{SlotAt}
 use Rattle.sgx_types.specs.Enclaves.{created}
 use Rattle.sgx_types.specs.Epochs.{block_epoch, epoch, noted}
 use Rattle.sgx_types.specs.Flat.{FlatEnclave}
-use Rattle.sgx_types.specs.Frames.{Content, added, content, is_sealing}
+use Rattle.sgx_types.specs.Frames.{Content, added, content, is_sealing, vas_made}
 use Rattle.sgx_types.specs.Processors.{BareTranslation, Seat, Stay, stay, translations}
 use Rattle.sgx_types.specs.Slots.{next_version, version_in}
 use Rattle.sgx_types.specs.Starts.{BareStart, bare_start, open_start}
@@ -46,11 +46,12 @@ pub record SlotColumns : Type 0 where
   pub version_in : SlotAt → ℕ
   pub next_version : ℕ
 
--- the enclaves that were created, their epochs, and what their pages were added as
+-- the enclaves that were created, their epochs, what their pages were added as, and how many version array pages were made
 pub record EnclaveColumns : Type 0 where
   pub enclaves : ℕ → Option FlatEnclave
   pub epoch : ℕ → ℕ
   pub added : Page → Option (Kind × Perm)
+  pub vas_made : ℕ
 
 -- .. of a state
 abbrev pub frames_of : State → FrameColumns
@@ -63,7 +64,7 @@ abbrev pub slots_of : State → SlotColumns
 slots_of s = record { version_in = s.version_in; next_version = s.next_version }
 
 abbrev pub enclaves_of : State → EnclaveColumns
-enclaves_of s = record { enclaves = s.enclaves; epoch = s.epoch; added = s.added }
+enclaves_of s = record { enclaves = s.enclaves; epoch = s.epoch; added = s.added; vas_made = s.vas_made }
 
 -- .. and by the entries, from the first epoch and the first version on
 abbrev pub frames_by : ℕ → List Entry → FrameColumns
@@ -85,7 +86,7 @@ abbrev pub slots_by : ℕ → List Entry → SlotColumns
 slots_by first past = record { version_in = version_in past; next_version = next_version first past }
 
 abbrev pub enclaves_by : ℕ → List Entry → EnclaveColumns
-enclaves_by first past = record { enclaves = created past; epoch = epoch first past; added = added past }
+enclaves_by first past = record { enclaves = created past; epoch = epoch first past; added = added past; vas_made = vas_made past }
 
 -- each column is what the entries say
 pub record HasColumns (s : State) (past : List Entry) : Type 0 where

@@ -8,10 +8,10 @@ use Rattle.sgx_types.specs.declared.names.Kind.TheVariants as kinds
 use Rattle.sgx_types.specs.declared.names.Page.{Page}
 use Rattle.sgx_types.specs.declared.names.Perm.{Perm}
 use Rattle.sgx_types.specs.declared.names.SlotAt.{SlotAt}
-use Rattle.sgx_types.specs.Frames.{Content, IsVa, IsLoading, enclave_in, page_at}
+use Rattle.sgx_types.specs.Frames.{Content, IsLoading, enclave_in, page_at}
 use Rattle.sgx_types.specs.Processors.{Seat}
 use Rattle.sgx_types.specs.Starts.{BareStart}
-use Rattle.sgx_types.specs.Table.{is_loading}
+use Rattle.sgx_types.specs.Table.{is_loading, is_va}
 use Rattle.cached_translations.specs.declared.cache.Translation.{Translation}
 use Rattle.paging_laws.specs.State.{State, epoch_in}
 
@@ -51,7 +51,7 @@ IsPaged _ = ⊥
 
 -- a start names a slot of a version array page, and loads a page that was added
 pub record IsOpen (content : ℕ → Content) (added : Page → Option (Kind × Perm)) (start : BareStart) : Type 0 where
-  pub paged : content start.slot.frame.0 ≡ IsVa
+  pub paged : is_va (content start.slot.frame.0) ≡ true
   pub within : start.slot.index < 512
   pub loads : IfSome start.loads (λ g. is_some (added g) ≡ true)
 

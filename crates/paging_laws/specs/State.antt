@@ -35,6 +35,8 @@ pub record State : Type 0 where
   pub words : ℕ → List ℕ
   pub enclaves : ℕ → Option FlatEnclave
   pub added : Page → Option (Kind × Perm)
+  -- how many version array pages were made
+  pub vas_made : ℕ
   pub is_busy : Page → Bool
   pub measure : ℕ → Option Measure
   pub inside : ℕ → Option Seat
@@ -67,6 +69,7 @@ fresh frames cpus key first_epoch first_version = record {
   words = λ n. zero_words;
   enclaves = λ e. None;
   added = λ g. None;
+  vas_made = 0;
   is_busy = λ g. false;
   measure = λ e. None;
   inside = λ p. None;
@@ -221,7 +224,7 @@ with_content s f c = record s {
 }
 
 abbrev pub after_epa : State → ℕ → State
-after_epa s f = with_content s f IsVa
+after_epa s f = record (with_content s f (IsVa s.vas_made)) { vas_made = s.vas_made + 1 }
 
 abbrev pub after_create : State → ℕ → ℕ → ℕ → ℕ → Measure → State
 after_create s enclave f base size begun = record (with_content s f (SecsOf enclave)) {

@@ -1,5 +1,5 @@
 -- One instruction of the machine, or the commit of one: its entry and the state after it, exactly by its row.
-use Rattle.std.specs.Prelude.{ℕ, ◌≡◌, ◌<◌, ◌+◌, ◌*◌, ◌/◌, ◌⊎◌, Bool, true, false, List, Option, Some, MatchOption, unwrap_or}
+use Rattle.std.specs.Prelude.{ℕ, ◌≡◌, ◌<◌, ◌+◌, ◌*◌, ◌/◌, ◌⊎◌, Bool, true, List, Option, Some, MatchOption, unwrap_or}
 use Rattle.std.specs.Option.{IsSomeAnd}
 use Rattle.sgx_types.specs.declared.entries.Entry.{Entry}
 use Rattle.sgx_types.specs.declared.entries.Event.TheVariants.{Did, Refused}
