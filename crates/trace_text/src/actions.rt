@@ -11,7 +11,7 @@ use crate::room::ACTION_ROOM;
 use sgx_types::entries::{AccessOp, Action, PageInit};
 use sgx_types::names::{Frame, Kind, Memory, Page, Perm, SlotAt};
 use text_words::words::Word::{Decimal, Digest, Enclave, Hexadecimal, Name};
-use text_words::words::push_words;
+use text_words::words::{push_spaced, push_words};
 
 /// Writes an instruction's words: its name, and its operands in their order.
 pub(crate) fn push_action(action: &Action, onto: &mut Vec<u8>) -> Result<(), Memory>
@@ -52,7 +52,7 @@ pub(crate) fn push_action(action: &Action, onto: &mut Vec<u8>) -> Result<(), Mem
         Action::Exit => push_words(&[Name("exit")], onto),
         Action::Aex { cause } => push_words(&[Name("aex"), Name(cause_name(cause))], onto),
         Action::Fill { number, frame } => push_fill(number, frame, onto),
-        Action::Load { off } => push_words(&[Name("load"), Hexadecimal(off)], onto),
+        Action::Load { off } => push_load(off, onto),
         Action::Store { off, value } => push_write("store", off, value, onto),
         Action::Xadd { off, value } => push_write("xadd", off, value, onto),
         Action::Set { value } => push_words(&[Name("set"), Decimal(value)], onto),
@@ -200,6 +200,16 @@ fn push_fill(number: u32, frame: Frame, onto: &mut Vec<u8>) -> Result<(), Memory
     push_words(&[Name("fill"), Decimal(number.into()), frame.into()], onto)
 }
 
+// Nearly all lines are accesses, so the words of these are written one by one, with no list of them.
+fn push_load(off: u64, onto: &mut Vec<u8>) -> Result<(), Memory>
+    ensures text { OnOk result (onto.new.items ≡ with_words onto.old.items (action_words (Action.Load off))) }
+    ensures full { OnErr result (LacksRoom ACTION_ROOM onto.old) }
+    ensures room { OnOk result (UsesRoom ACTION_ROOM onto.old onto.new) }
+{
+    push_spaced(Name("load"), onto)?;
+    push_spaced(Hexadecimal(off), onto)
+}
+
 fn push_write(name: &'static str, off: u64, value: u64, onto: &mut Vec<u8>) -> Result<(), Memory>
     ensures text { OnOk result (
         onto.new.items ≡ with_words onto.old.items
@@ -207,7 +217,9 @@ fn push_write(name: &'static str, off: u64, value: u64, onto: &mut Vec<u8>) -> R
     ensures full { OnErr result (LacksRoom (length name.now + 300) onto.old) }
     ensures room { OnOk result (UsesRoom (length name.now + 300) onto.old onto.new) }
 {
-    push_words(&[Name(name), Hexadecimal(off), Decimal(value)], onto)
+    push_spaced(Name(name), onto)?;
+    push_spaced(Hexadecimal(off), onto)?;
+    push_spaced(Decimal(value), onto)
 }
 
 fn push_pf(access: AccessOp, off: u64, onto: &mut Vec<u8>) -> Result<(), Memory>

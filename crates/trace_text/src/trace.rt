@@ -13,7 +13,7 @@ use sgx_types::names::Memory;
 use sgx_types::refusals::Refusal;
 use std::alloc::Global;
 use text_words::words::Word::{Decimal, Digest, Enclave, Name};
-use text_words::words::{push_line, push_word, push_words};
+use text_words::words::{push_line, push_spaced, push_word, push_words};
 
 /// The text of a trace, whose entries are given oldest first.
 #[tactic(auto, using(crate::proofs::EntryLaws::entries_text_more), unfolding(crate::specs::TraceText::trace_of))]
@@ -91,22 +91,22 @@ fn push_event(event: &Event, onto: &mut Vec<u8>) -> Result<(), Memory>
     ensures full { OnErr result (LacksRoom EVENT_ROOM onto.old) }
     ensures room { OnOk result (UsesRoom EVENT_ROOM onto.old onto.new) }
 {
-    match *event {
+    match event {
         Event::Did { action, answer } => {
-            push_action(&action, onto)?;
-            push_answer(&answer, onto)
+            push_action(action, onto)?;
+            push_answer(answer, onto)
         }
         Event::Refused { action, why } => {
             push_words(&[Name("refused")], onto)?;
-            push_action(&action, onto)?;
-            push_refusal(&why, onto)
+            push_action(action, onto)?;
+            push_refusal(why, onto)
         }
         Event::Age { page, look } => push_words(
             &[
                 Name("age"),
                 Enclave(page.enclave.into()),
                 Decimal(page.number.into()),
-                Name(look_name(look)),
+                Name(look_name(*look)),
             ],
             onto,
         ),
@@ -116,7 +116,7 @@ fn push_event(event: &Event, onto: &mut Vec<u8>) -> Result<(), Memory>
                 Name("bus"),
                 Enclave(page.enclave.into()),
                 Decimal(page.number.into()),
-                Name(stop_name(why)),
+                Name(stop_name(*why)),
             ],
             onto,
         ),
@@ -131,7 +131,7 @@ fn push_answer(answer: &Answer, onto: &mut Vec<u8>) -> Result<(), Memory>
     match *answer {
         Answer::Plain => Ok(()),
         Answer::Cssa(count) => push_words(&[Decimal(count.into())], onto),
-        Answer::Value(value) => push_words(&[Decimal(value)], onto),
+        Answer::Value(value) => push_spaced(Decimal(value), onto),
         Answer::Hash(digest) => push_words(&[Digest(digest)], onto),
         Answer::Version(version) => push_words(&[Decimal(version)], onto),
         Answer::Moved { page, version, tag } => push_words(
