@@ -39,8 +39,8 @@ fn digit(value: u64) -> u8
     }
 }
 
-// The digits are made from the last to the first. Base 2 has the most, 64. Where the base is known, no division is left of it: so the
-// functions on the way to here stand in their callers.
+// The digits are made from the last to the first. Base 2 has the most, 64. Where the base is known, no division by it is left: so this
+// function, and what writes one word by it, stand in their callers.
 #[inline(always)]
 #[tactic(auto, using(crate::proofs::Digits::one_more, crate::proofs::Digits::last_one, crate::proofs::Digits::all_written))]
 fn push_digits(number: u64, base: u64, onto: &mut Vec<u8>) -> Result<(), Memory>
@@ -131,7 +131,6 @@ pub fn push_spaced(word: Word, onto: &mut Vec<u8>) -> Result<(), Memory>
 }
 
 /// Writes words with a space before each.
-#[inline(always)]
 #[tactic(auto, using(crate::proofs::LineLaws::with_words_more, crate::proofs::RoomLaws::room_laws))]
 pub fn push_words(words: &[Word], onto: &mut Vec<u8>) -> Result<(), Memory>
     ensures text { OnOk result (onto.new.items ≡ with_words onto.old.items (map word_text words.now)) }
