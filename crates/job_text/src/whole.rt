@@ -61,7 +61,7 @@ impl JobDraft {
     }
 
     /// Whether there is no `epc` line, no enclave or no processor.
-    fn is_incomplete(&self) -> bool
+    pub(crate) fn is_incomplete(&self) -> bool
         ensures { result ≡ is_incomplete self.now }
     {
         self.epc.is_none() || self.enclaves.is_empty() || self.scripts.is_empty()

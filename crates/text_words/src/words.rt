@@ -1,6 +1,6 @@
 //! Words that are printed.
 
-ghost use Rattle.std.specs.Prelude.{◌≡◌, ◌+◌, ◌≤◌, ◌<◌, ◌∷◌, ◌++◌, false, map, OnErr, OnOk};
+ghost use Rattle.std.specs.Prelude.{◌≡◌, ◌+◌, ◌≤◌, ◌<◌, [], ◌∷◌, ◌++◌, false, map, OnErr, OnOk};
 ghost use Rattle.std.specs.Fmt.{digits, digit_glyph};
 ghost use Rattle.text_words.specs.Words.{digest_word, enclave_word, hexadecimal, line_text, with_words, word_text};
 ghost use Rattle.text_words.specs.Room.{LacksRoom, UsesRoom, word_room, words_room};
@@ -27,6 +27,7 @@ impl From<Frame> for Word {
     }
 }
 
+#[inline(always)]
 fn digit(value: u64) -> u8
     requires { value < 16 }
     ensures { result ≡ digit_glyph false value }
@@ -38,7 +39,9 @@ fn digit(value: u64) -> u8
     }
 }
 
-// The digits are made from the last to the first. Base 2 has the most, 64.
+// The digits are made from the last to the first. Base 2 has the most, 64. Where the base is known, no division by it is left: so this
+// function, and what writes one word by it, stand in their callers.
+#[inline(always)]
 #[tactic(auto, using(crate::proofs::Digits::one_more, crate::proofs::Digits::last_one, crate::proofs::Digits::all_written))]
 fn push_digits(number: u64, base: u64, onto: &mut Vec<u8>) -> Result<(), Memory>
     requires least { 2 ≤ base }
@@ -62,6 +65,7 @@ fn push_digits(number: u64, base: u64, onto: &mut Vec<u8>) -> Result<(), Memory>
     Ok(())
 }
 
+#[inline(always)]
 fn push_hexadecimal(number: u64, onto: &mut Vec<u8>) -> Result<(), Memory>
     ensures text { OnOk result (onto.new.items ≡ onto.old.items ++ hexadecimal number) }
     ensures full { OnErr result (LacksRoom 66 onto.old) }
@@ -97,6 +101,7 @@ fn push_digest(digest: [u8; 32], onto: &mut Vec<u8>) -> Result<(), Memory>
 }
 
 /// Writes a word, with no space before it.
+#[inline(always)]
 pub fn push_word(word: Word, onto: &mut Vec<u8>) -> Result<(), Memory>
     ensures text { OnOk result (onto.new.items ≡ onto.old.items ++ word_text word) }
     ensures full { OnErr result (LacksRoom (word_room word) onto.old) }
@@ -112,6 +117,17 @@ pub fn push_word(word: Word, onto: &mut Vec<u8>) -> Result<(), Memory>
         Word::Enclave(enclave) => push_enclave(enclave, onto),
         Word::Digest(digest) => push_digest(digest, onto),
     }
+}
+
+/// Writes a word with a space before it.
+#[inline(always)]
+pub fn push_spaced(word: Word, onto: &mut Vec<u8>) -> Result<(), Memory>
+    ensures text { OnOk result (onto.new.items ≡ with_words onto.old.items (word_text word ∷ [])) }
+    ensures full { OnErr result (LacksRoom (1 + word_room word) onto.old) }
+    ensures room { OnOk result (UsesRoom (1 + word_room word) onto.old onto.new) }
+{
+    onto.push(b' ')?;
+    push_word(word, onto)
 }
 
 /// Writes words with a space before each.

@@ -8,19 +8,20 @@ ghost use Rattle.trace_text.specs.TraceText.{action_words, init_words};
 
 use crate::names::{access_name, cause_name, kind_name, perms_name};
 use crate::room::ACTION_ROOM;
-use sgx_types::entries::{AccessOp, Action, PageInit};
+use sgx_types::entries::{AccessOp, Action, Cause, PageInit};
 use sgx_types::names::{Frame, Kind, Memory, Page, Perm, SlotAt};
 use text_words::words::Word::{Decimal, Digest, Enclave, Hexadecimal, Name};
-use text_words::words::push_words;
+use text_words::words::{push_spaced, push_words};
 
-/// Writes an instruction's words: its name, and its operands in their order.
+/// Writes an instruction's words: its name, and its operands in their order. Each list of words is made in a function of its own, since a
+/// function pays at its entry for those of all its arms.
 pub(crate) fn push_action(action: &Action, onto: &mut Vec<u8>) -> Result<(), Memory>
     ensures text { OnOk result (onto.new.items ≡ with_words onto.old.items (action_words action.now)) }
     ensures full { OnErr result (LacksRoom ACTION_ROOM onto.old) }
     ensures room { OnOk result (UsesRoom ACTION_ROOM onto.old onto.new) }
 {
     match *action {
-        Action::Epa { frame } => push_words(&[Name("epa"), frame.into()], onto),
+        Action::Epa { frame } => push_framed("epa", frame, onto),
         Action::Create {
             enclave,
             frame,
@@ -49,14 +50,14 @@ pub(crate) fn push_action(action: &Action, onto: &mut Vec<u8>) -> Result<(), Mem
             tcs_frame,
             ssa_frame,
         } => push_entering("resume", enclave, tcs, tcs_frame, ssa_frame, onto),
-        Action::Exit => push_words(&[Name("exit")], onto),
-        Action::Aex { cause } => push_words(&[Name("aex"), Name(cause_name(cause))], onto),
+        Action::Exit => push_spaced(Name("exit"), onto),
+        Action::Aex { cause } => push_aex(cause, onto),
         Action::Fill { number, frame } => push_fill(number, frame, onto),
-        Action::Load { off } => push_words(&[Name("load"), Hexadecimal(off)], onto),
+        Action::Load { off } => push_load(off, onto),
         Action::Store { off, value } => push_write("store", off, value, onto),
         Action::Xadd { off, value } => push_write("xadd", off, value, onto),
-        Action::Set { value } => push_words(&[Name("set"), Decimal(value)], onto),
-        Action::Plus { value } => push_words(&[Name("plus"), Decimal(value)], onto),
+        Action::Set { value } => push_valued("set", value, onto),
+        Action::Plus { value } => push_valued("plus", value, onto),
         Action::Pf { op, off } => push_pf(op, off, onto),
         Action::OutLoad { enclave, off } => push_outload(enclave, off, onto),
         Action::OutStore {
@@ -64,13 +65,51 @@ pub(crate) fn push_action(action: &Action, onto: &mut Vec<u8>) -> Result<(), Mem
             off,
             value,
         } => push_outstore(enclave, off, value, onto),
-        Action::Block { frame } => push_words(&[Name("block"), frame.into()], onto),
-        Action::Track { enclave } => push_words(&[Name("track"), Enclave(enclave.into())], onto),
+        Action::Block { frame } => push_framed("block", frame, onto),
+        Action::Track { enclave } => push_track(enclave, onto),
         Action::EwbStart { frame, slot } => push_ewbstart(frame, slot, onto),
-        Action::Ewb { frame } => push_words(&[Name("ewb"), frame.into()], onto),
+        Action::Ewb { frame } => push_framed("ewb", frame, onto),
         Action::EldStart { frame, page, slot } => push_eldstart(frame, page, slot, onto),
-        Action::Eld { frame } => push_words(&[Name("eld"), frame.into()], onto),
+        Action::Eld { frame } => push_framed("eld", frame, onto),
     }
+}
+
+/// An instruction with a frame alone.
+fn push_framed(name: &'static str, frame: Frame, onto: &mut Vec<u8>) -> Result<(), Memory>
+    ensures text { OnOk result (
+        onto.new.items ≡ with_words onto.old.items (name.now ∷ decimal frame.0 ∷ [])) }
+    ensures full { OnErr result (LacksRoom (length name.now + 300) onto.old) }
+    ensures room { OnOk result (UsesRoom (length name.now + 300) onto.old onto.new) }
+{
+    push_words(&[Name(name), frame.into()], onto)
+}
+
+/// An instruction with a value alone.
+fn push_valued(name: &'static str, value: u64, onto: &mut Vec<u8>) -> Result<(), Memory>
+    ensures text { OnOk result (
+        onto.new.items ≡ with_words onto.old.items (name.now ∷ decimal value ∷ [])) }
+    ensures full { OnErr result (LacksRoom (length name.now + 300) onto.old) }
+    ensures room { OnOk result (UsesRoom (length name.now + 300) onto.old onto.new) }
+{
+    push_words(&[Name(name), Decimal(value)], onto)
+}
+
+fn push_aex(cause: Cause, onto: &mut Vec<u8>) -> Result<(), Memory>
+    ensures text { OnOk result (
+        onto.new.items ≡ with_words onto.old.items (action_words (Action.Aex cause))) }
+    ensures full { OnErr result (LacksRoom ACTION_ROOM onto.old) }
+    ensures room { OnOk result (UsesRoom ACTION_ROOM onto.old onto.new) }
+{
+    push_words(&[Name("aex"), Name(cause_name(cause))], onto)
+}
+
+fn push_track(enclave: u16, onto: &mut Vec<u8>) -> Result<(), Memory>
+    ensures text { OnOk result (
+        onto.new.items ≡ with_words onto.old.items (action_words (Action.Track enclave))) }
+    ensures full { OnErr result (LacksRoom ACTION_ROOM onto.old) }
+    ensures room { OnOk result (UsesRoom ACTION_ROOM onto.old onto.new) }
+{
+    push_words(&[Name("track"), Enclave(enclave.into())], onto)
 }
 
 fn push_create(
@@ -200,6 +239,16 @@ fn push_fill(number: u32, frame: Frame, onto: &mut Vec<u8>) -> Result<(), Memory
     push_words(&[Name("fill"), Decimal(number.into()), frame.into()], onto)
 }
 
+// Nearly all lines are accesses, so the words of these are written one by one, with no list of them.
+fn push_load(off: u64, onto: &mut Vec<u8>) -> Result<(), Memory>
+    ensures text { OnOk result (onto.new.items ≡ with_words onto.old.items (action_words (Action.Load off))) }
+    ensures full { OnErr result (LacksRoom ACTION_ROOM onto.old) }
+    ensures room { OnOk result (UsesRoom ACTION_ROOM onto.old onto.new) }
+{
+    push_spaced(Name("load"), onto)?;
+    push_spaced(Hexadecimal(off), onto)
+}
+
 fn push_write(name: &'static str, off: u64, value: u64, onto: &mut Vec<u8>) -> Result<(), Memory>
     ensures text { OnOk result (
         onto.new.items ≡ with_words onto.old.items
@@ -207,7 +256,9 @@ fn push_write(name: &'static str, off: u64, value: u64, onto: &mut Vec<u8>) -> R
     ensures full { OnErr result (LacksRoom (length name.now + 300) onto.old) }
     ensures room { OnOk result (UsesRoom (length name.now + 300) onto.old onto.new) }
 {
-    push_words(&[Name(name), Hexadecimal(off), Decimal(value)], onto)
+    push_spaced(Name(name), onto)?;
+    push_spaced(Hexadecimal(off), onto)?;
+    push_spaced(Decimal(value), onto)
 }
 
 fn push_pf(access: AccessOp, off: u64, onto: &mut Vec<u8>) -> Result<(), Memory>

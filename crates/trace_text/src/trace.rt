@@ -8,12 +8,12 @@ ghost use Rattle.text_words.specs.Words.{with_words};
 use crate::actions::push_action;
 use crate::names::{fault_name, look_name, refusal_name, stop_name};
 use crate::room::{ACTOR_ROOM, ANSWER_ROOM, EVENT_ROOM, LONGEST_LINE, SPELLING_ROOM};
-use sgx_types::entries::{Actor, Answer, Entry, Event};
-use sgx_types::names::Memory;
+use sgx_types::entries::{Action, Actor, Answer, BusWhy, Entry, Event, Look};
+use sgx_types::names::{Cpu, Memory, Page};
 use sgx_types::refusals::Refusal;
 use std::alloc::Global;
 use text_words::words::Word::{Decimal, Digest, Enclave, Name};
-use text_words::words::{push_line, push_word, push_words};
+use text_words::words::{push_line, push_spaced, push_word, push_words};
 
 /// The text of a trace, whose entries are given oldest first.
 #[tactic(auto, using(crate::proofs::EntryLaws::entries_text_more), unfolding(crate::specs::TraceText::trace_of))]
@@ -85,42 +85,78 @@ fn push_actor(actor: &Actor, onto: &mut Vec<u8>) -> Result<(), Memory>
     }
 }
 
+// A function pays at its entry for the lists of words of all its arms, so each arm with a list of them is one of its own.
 #[tactic(auto, using(text_words::proofs::LineLaws::with_words_append))]
 fn push_event(event: &Event, onto: &mut Vec<u8>) -> Result<(), Memory>
     ensures text { OnOk result (onto.new.items ≡ with_words onto.old.items (event_words event.now)) }
     ensures full { OnErr result (LacksRoom EVENT_ROOM onto.old) }
     ensures room { OnOk result (UsesRoom EVENT_ROOM onto.old onto.new) }
 {
-    match *event {
+    match event {
         Event::Did { action, answer } => {
-            push_action(&action, onto)?;
-            push_answer(&answer, onto)
+            push_action(action, onto)?;
+            push_answer(answer, onto)
         }
-        Event::Refused { action, why } => {
-            push_words(&[Name("refused")], onto)?;
-            push_action(&action, onto)?;
-            push_refusal(&why, onto)
-        }
-        Event::Age { page, look } => push_words(
-            &[
-                Name("age"),
-                Enclave(page.enclave.into()),
-                Decimal(page.number.into()),
-                Name(look_name(look)),
-            ],
-            onto,
-        ),
-        Event::Kick { cpu } => push_words(&[Name("kick"), Decimal(cpu.0.into())], onto),
-        Event::Bus { page, why } => push_words(
-            &[
-                Name("bus"),
-                Enclave(page.enclave.into()),
-                Decimal(page.number.into()),
-                Name(stop_name(why)),
-            ],
-            onto,
-        ),
+        Event::Refused { action, why } => push_refused(action, why, onto),
+        Event::Age { page, look } => push_age(*page, *look, onto),
+        Event::Kick { cpu } => push_kick(*cpu, onto),
+        Event::Bus { page, why } => push_bus(*page, *why, onto),
     }
+}
+
+#[tactic(auto, using(text_words::proofs::LineLaws::with_words_append))]
+fn push_refused(action: &Action, why: &Refusal, onto: &mut Vec<u8>) -> Result<(), Memory>
+    ensures text { OnOk result (
+        onto.new.items ≡ with_words onto.old.items (event_words (Event.Refused action.now why.now))) }
+    ensures full { OnErr result (LacksRoom EVENT_ROOM onto.old) }
+    ensures room { OnOk result (UsesRoom EVENT_ROOM onto.old onto.new) }
+{
+    push_spaced(Name("refused"), onto)?;
+    push_action(action, onto)?;
+    push_refusal(why, onto)
+}
+
+fn push_age(page: Page, look: Look, onto: &mut Vec<u8>) -> Result<(), Memory>
+    ensures text { OnOk result (
+        onto.new.items ≡ with_words onto.old.items (event_words (Event.Age page look))) }
+    ensures full { OnErr result (LacksRoom EVENT_ROOM onto.old) }
+    ensures room { OnOk result (UsesRoom EVENT_ROOM onto.old onto.new) }
+{
+    push_words(
+        &[
+            Name("age"),
+            Enclave(page.enclave.into()),
+            Decimal(page.number.into()),
+            Name(look_name(look)),
+        ],
+        onto,
+    )
+}
+
+fn push_kick(cpu: Cpu, onto: &mut Vec<u8>) -> Result<(), Memory>
+    ensures text { OnOk result (
+        onto.new.items ≡ with_words onto.old.items (event_words (Event.Kick cpu))) }
+    ensures full { OnErr result (LacksRoom EVENT_ROOM onto.old) }
+    ensures room { OnOk result (UsesRoom EVENT_ROOM onto.old onto.new) }
+{
+    push_words(&[Name("kick"), Decimal(cpu.0.into())], onto)
+}
+
+fn push_bus(page: Page, why: BusWhy, onto: &mut Vec<u8>) -> Result<(), Memory>
+    ensures text { OnOk result (
+        onto.new.items ≡ with_words onto.old.items (event_words (Event.Bus page why))) }
+    ensures full { OnErr result (LacksRoom EVENT_ROOM onto.old) }
+    ensures room { OnOk result (UsesRoom EVENT_ROOM onto.old onto.new) }
+{
+    push_words(
+        &[
+            Name("bus"),
+            Enclave(page.enclave.into()),
+            Decimal(page.number.into()),
+            Name(stop_name(why)),
+        ],
+        onto,
+    )
 }
 
 fn push_answer(answer: &Answer, onto: &mut Vec<u8>) -> Result<(), Memory>
@@ -130,21 +166,39 @@ fn push_answer(answer: &Answer, onto: &mut Vec<u8>) -> Result<(), Memory>
 {
     match *answer {
         Answer::Plain => Ok(()),
-        Answer::Cssa(count) => push_words(&[Decimal(count.into())], onto),
-        Answer::Value(value) => push_words(&[Decimal(value)], onto),
-        Answer::Hash(digest) => push_words(&[Digest(digest)], onto),
-        Answer::Version(version) => push_words(&[Decimal(version)], onto),
-        Answer::Moved { page, version, tag } => push_words(
-            &[
-                Enclave(page.enclave.into()),
-                Decimal(page.number.into()),
-                Decimal(version),
-                Digest(tag),
-            ],
-            onto,
-        ),
-        Answer::Pf(fault) => push_words(&[Name(fault_name(fault))], onto),
+        Answer::Cssa(count) => push_spaced(Decimal(count.into()), onto),
+        Answer::Value(value) => push_spaced(Decimal(value), onto),
+        Answer::Hash(digest) => push_hash(digest, onto),
+        Answer::Version(version) => push_spaced(Decimal(version), onto),
+        Answer::Moved { page, version, tag } => push_moved(page, version, tag, onto),
+        Answer::Pf(fault) => push_spaced(Name(fault_name(fault)), onto),
     }
+}
+
+fn push_hash(digest: [u8; 32], onto: &mut Vec<u8>) -> Result<(), Memory>
+    ensures text { OnOk result (
+        onto.new.items ≡ with_words onto.old.items (answer_words (Answer.Hash digest))) }
+    ensures full { OnErr result (LacksRoom ANSWER_ROOM onto.old) }
+    ensures room { OnOk result (UsesRoom ANSWER_ROOM onto.old onto.new) }
+{
+    push_words(&[Digest(digest)], onto)
+}
+
+fn push_moved(page: Page, version: u64, tag: [u8; 32], onto: &mut Vec<u8>) -> Result<(), Memory>
+    ensures text { OnOk result (
+        onto.new.items ≡ with_words onto.old.items (answer_words (Answer.Moved page version tag))) }
+    ensures full { OnErr result (LacksRoom ANSWER_ROOM onto.old) }
+    ensures room { OnOk result (UsesRoom ANSWER_ROOM onto.old onto.new) }
+{
+    push_words(
+        &[
+            Enclave(page.enclave.into()),
+            Decimal(page.number.into()),
+            Decimal(version),
+            Digest(tag),
+        ],
+        onto,
+    )
 }
 
 /// Writes a refusal's name and its numbers.

@@ -1,13 +1,9 @@
-use Rattle.std.proofs.Common.{arith, sym, ◌∙◌}
-use Rattle.job_text.proofs.LineLoop.{lines_of-few}
+use Rattle.std.proofs.Common.{sym, ◌∙◌}
 use Rattle.job_text.proofs.ReadLaws.{read_long, read_fault, read_whole}
 use Rattle.job_text.proofs.reader.read_job.Goals as goal
 
 pub returns-then-bytes-gt-MOST_BYTES : goal.returns-then-bytes-gt-MOST_BYTES
 returns-then-bytes-gt-MOST_BYTES c = read_long c.args.bytes.now c.if-bytes-gt-MOST_BYTES.true
-
-pub overflow_add-line_count : goal.overflow_add-line_count
-overflow_add-line_count c = omega (arith, c.line_count.ensures, lines_of-few c.args.bytes.now, c.if-bytes-gt-MOST_BYTES.false)
 
 pub returns-in-Err : goal.returns-in-Err
 returns-in-Err c =
@@ -17,11 +13,12 @@ returns-in-Err c =
 pub returns-in-Ok-2 : goal.returns-in-Ok-2
 returns-in-Ok-2 c =
     let read = rw c.in-Ok.is at c.in_ok-draft.ensures.reads in
-    let whole = rw (c.in-Ok-2.is, c.line_count.ensures) at c.in_ok-job.ensures in
-    read_whole c.args.bytes.now _ c.if-bytes-gt-MOST_BYTES.false read ∙ sym whole
+    let whole = rw c.in-Ok-2.is at c.in_ok-job.ensures in
+    read_whole c.args.bytes.now _ c.if-bytes-gt-MOST_BYTES.false read ∙ sym (whole ∙ c.line_after-after.ensures)
 
 pub returns-in-Err-2 : goal.returns-in-Err-2
 returns-in-Err-2 c =
     let read = rw c.in-Ok.is at c.in_ok-draft.ensures.reads in
-    let whole = rw (c.in-Err-2.is, c.line_count.ensures) at c.in_ok-job.ensures in
-    rw c.refusal_of-in-Err-2.ensures (read_whole c.args.bytes.now _ c.if-bytes-gt-MOST_BYTES.false read ∙ sym whole)
+    let whole = rw c.in-Err-2.is at c.in_ok-job.ensures in
+    rw c.refusal_of-in-Err-2.ensures
+    (read_whole c.args.bytes.now _ c.if-bytes-gt-MOST_BYTES.false read ∙ sym (whole ∙ c.line_after-after.ensures))
