@@ -20,7 +20,7 @@ use Rattle.version_array.specs.declared.va_page.VaSlot.{VaSlot}
 use Rattle.version_array.specs.Slots.{IsSlot, with_busy, with_version, is_busy_at}
 use Rattle.version_array.specs.Versions.{is_spent_at}
 use Rattle.version_array.proofs.TableLaws.{slot_kept}
-use Rattle.sgx_types.proofs.Truths.{neither}
+use Rattle.sgx_types.proofs.Contents.{invalid_no_va, loading_no_va}
 use Rattle.sgx_types.proofs.Truths.{neither}
 use Rattle.evict_reload.specs.Sights.{AreVaPages, slot_sight}
 use Rattle.evict_reload.specs.Effects.{with_ended, with_plain}
@@ -31,20 +31,6 @@ use Rattle.evict_reload.proofs.PageLaws.{pages-with_entry, pages-with_words, pag
 first_fails : (b : Bool) (r : Refusal) (rest : Option Refusal) → cond b (Some r) rest ≡ None → (b ≡ false) × (rest ≡ None)
 first_fails true r rest e = cc
 first_fails false r rest e = (refl, e)
-
-not_va : (content : Content) → is_valid content ≡ false → is_va content ≡ false
-not_va Free e = refl
-not_va IsVa e = e
-not_va (SecsOf enclave) e = refl
-not_va (Holds page kind perm) e = refl
-not_va (IsLoading page) e = refl
-
-loading_is_not_va : (content : Content) → is_loading content ≡ true → is_va content ≡ false
-loading_is_not_va Free e = refl
-loading_is_not_va IsVa e = sym e
-loading_is_not_va (SecsOf enclave) e = refl
-loading_is_not_va (Holds page kind perm) e = refl
-loading_is_not_va (IsLoading page) e = refl
 
 -- a frame and a slot that are not past their end
 record InRange (epc : List EpcFrame) (f : ℕ) (slot : SlotAt) : Type 0 where
@@ -78,7 +64,7 @@ after_start_in epc epc' va va' f page slot enclave added (Ok version) pages row 
     let range = in_range epc va f slot a.0 in
     let at : IsSlot va slot = is_slot epc va slot pages (not-false (is_va (sight_in epc slot.frame.0).content) e.0) range.index in
     rw (loads, marks) (pages-with_slot (with_loading epc f page) va slot _
-    (pages-with_entry epc va f (views.Loading page) pages range.frame (sym (not_va (sight_in epc f).content d.0))) at)
+    (pages-with_entry epc va f (views.Loading page) pages range.frame (sym (invalid_no_va (sight_in epc f).content d.0))) at)
 
 -- the start of EWB
 pub after_start_out : (epc epc' : List EpcFrame) (va va' : List (Option (List VaSlot))) (f : ℕ) (slot : SlotAt) (drain : DrainSight)
@@ -114,7 +100,7 @@ reloaded epc va f page None plain pages low loading reg = pages
 reloaded epc va f page (Some x) plain pages low loading reg =
     pages-with_words (with_page epc f page x.0 x.1) va f (words_of plain)
     (pages-with_entry epc va f (holding page x.0 x.1) pages low
-    (ap (λ kind. is_va (held (holding page kind x.1))) reg ∙ sym (loading_is_not_va (sight_in epc f).content loading)))
+    (ap (λ kind. is_va (held (holding page kind x.1))) reg ∙ sym (loading_no_va (sight_in epc f).content loading)))
 
 -- the commit of ELDU, of a page that was added as a REG page
 pub after_commit_in : (epc epc' : List EpcFrame) (va va' : List (Option (List VaSlot))) (f : ℕ) (slot : SlotAt) (page : Page)
@@ -125,7 +111,7 @@ pub after_commit_in : (epc epc' : List EpcFrame) (va va' : List (Option (List Va
     → AreVaPages epc' va'
 after_commit_in epc epc' va va' f slot page added plain (Err refusal) loads ends same pages at low loading reg =
     rw (same.0, same.1) (pages-with_slot (cleared epc f) va slot _
-    (pages-cleared epc va f pages low (loading_is_not_va (sight_in epc f).content loading)) at)
+    (pages-cleared epc va f pages low (loading_no_va (sight_in epc f).content loading)) at)
 after_commit_in epc epc' va va' f slot page added plain (Ok done) loads ends same pages at low loading reg =
     rw (loads, ends) (ended (with_plain epc f page added plain) va slot 0 (reloaded epc va f page added plain pages low loading reg) at)
 

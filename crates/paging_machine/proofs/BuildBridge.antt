@@ -1,8 +1,8 @@
 -- The machine's parts after a row that builds an enclave, and the state that they make.
-use Rattle.std.proofs.Common.{◌≡◌, ℕ, ◌/◌, ◌<◌, ◌≤◌, ◌==◌, ◌||◌, Bool, true, false, not, cond, leb, refl, sym, ap, ◌∙◌, Option, Some, None, List, length, set, is_some, length-set}
+use Rattle.std.proofs.Common.{◌≡◌, ℕ, ◌+◌, ◌/◌, ◌<◌, ◌≤◌, ◌==◌, ◌||◌, Bool, true, false, not, cond, leb, refl, sym, ap, ◌∙◌, Option, Some, None, List, length, set, is_some, length-set, ⊎_elim}
 use Rattle.std.specs.Prelude.{slice_index_or}
-use Rattle.std.proofs.lemmas.Bool.{cond_both, eqb-true, leb-false, leb-true, ltb-true}
-use Rattle.std.proofs.lemmas.List.{length-replicate}
+use Rattle.std.proofs.lemmas.Bool.{cases_lt, cond_both, eqb-true, false≢true, leb-false, leb-true, ltb-true}
+use Rattle.std.proofs.lemmas.List.{get_or_past, length-replicate}
 use Rattle.sgx_types.specs.declared.entries.PageInit.{PageInit}
 use Rattle.sgx_types.specs.declared.entries.PageInit.TheVariants as inits
 use Rattle.sgx_types.specs.declared.names.Page.{Page}
@@ -10,16 +10,17 @@ use Rattle.sgx_types.specs.declared.names.Kind.{Kind}
 use Rattle.sgx_types.specs.declared.names.Kind.TheVariants as kinds
 use Rattle.sgx_types.specs.declared.names.Perm.{Perm}
 use Rattle.sgx_types.specs.declared.names.SlotAt.{SlotAt}
-use Rattle.sgx_types.specs.Frames.{Free, Holds, page_at}
+use Rattle.sgx_types.specs.Frames.{Free, Holds, IsVa, page_at}
 use Rattle.sgx_types.specs.Table as table
 use Rattle.sgx_types.specs.Table.{epa_row, create_row, add_row, first_of_row}
 use Rattle.sgx_types.specs.Flat.{first_words, marked}
+use Rattle.sgx_types.proofs.Contents.{free_there}
 use Rattle.sgx_types.proofs.Rows.{none_holds}
 use Rattle.sgx_types.proofs.Truths.{both_true, neither, not_false}
 use Rattle.epcm_entry.specs.declared.entry_view.EntryView.{EntryView}
 use Rattle.epcm_entry.specs.declared.entry_view.EntryView.TheVariants as views
 use Rattle.epcm_entry.specs.EntryView.{is_valid, holding, block_of, goes_out}
-use Rattle.epcm_entry.specs.Epc.{EpcFrame, entry_at, with_page}
+use Rattle.epcm_entry.specs.Epc.{EpcFrame, entry_at, free_frame, with_page}
 use Rattle.epcm_entry.specs.Sights.{held, content_of, sight_in}
 use Rattle.epcm_entry.proofs.Columns.{length-with_entry, entry_at-with_entry, words_at-with_entry}
 use Rattle.secs_state.specs.Secs.{SecsState, page_count, created, with_init}
@@ -30,9 +31,9 @@ use Rattle.measure_log.specs.declared.measure.Measure.{Measure}
 use Rattle.enclave_build.specs.Build.{with_secs, with_added, with_resident}
 use Rattle.enclave_build.proofs.Columns.{length-with_secs, entry_at-with_secs, words_at-with_secs, length-with_added, entry_at-with_added, words_at-with_added}
 use Rattle.version_array.specs.declared.va_page.VaSlot.{VaSlot}
-use Rattle.version_array.specs.Slots.{empty_slot, page_slots, slot_in, version_in, is_busy_at}
+use Rattle.version_array.specs.Slots.{empty_slot, page_slots, pages_made, slot_in, version_in, is_busy_at}
 use Rattle.version_array.specs.Slots.{page_at as page_at_va, with_page as with_va_page}
-use Rattle.version_array.proofs.TableLaws.{version_in-with_page, is_busy_at-with_page}
+use Rattle.version_array.proofs.TableLaws.{made-with_page, made_below, version_in-with_page, is_busy_at-with_page}
 use Rattle.evict_reload.specs.Sights.{AreVaPages}
 use Rattle.evict_reload.proofs.PageLaws.{pages-with_entry, pages-with_words}
 use Rattle.paging_laws.specs.Guarded.{IsPaged}
@@ -41,7 +42,6 @@ use Rattle.paging_machine.specs.Parts.{Parts, enclave_of, added_in, is_busy_in, 
 use Rattle.paging_machine.specs.Whole.{IsSecsOf, IsTable}
 use Rattle.paging_laws.proofs.TestLaws.{none_there}
 use Rattle.paging_machine.proofs.Columns.{like, through, same_at, numbered, enclave_column, enclave_kept, page_column, measure_set}
-use Rattle.paging_laws.proofs.BuildLaws.{is_free_frame}
 
 -- ---- a frame that a row takes
 
@@ -65,7 +65,7 @@ takes epc f within idle empty = record {
   low = leb-false _ _ within;
   idle = (neither (goes_out (entry_at epc f)) (table.is_loading (held (entry_at epc f))) idle).0;
   vacant = sym (valid_held (entry_at epc f)) ∙ empty;
-  free = is_free_frame (held (entry_at epc f)) (goes_out (entry_at epc f)) idle empty;
+  free = free_there (held (entry_at epc f)) (goes_out (entry_at epc f)) idle empty;
 }
 
 -- what the columns show of a taken frame
@@ -109,19 +109,35 @@ busy_kept va f slot none =
     ∙ cond_both (f == slot.frame.0) false (is_busy_at va slot) (λ v. v ≡ is_busy_at va slot)
     (λ e. sym (ap (λ (x : VaSlot). x.busy) (no_slot va slot (ap (page_at_va va) (sym (eqb-true f slot.frame.0 e)) ∙ none)))) (λ _. refl)
 
-pub epa_state : (d : Parts) (f : ℕ) (page : Page) (perm : Perm) → AreVaPages d.epc d.va → Takes d.epc f
+-- .. and is one page more
+made_more : (va : List (Option (List VaSlot))) (f : ℕ) → page_at_va va f ≡ None → pages_made (with_va_page va f) ≡ pages_made va + 1
+made_more va f none = made-with_page va f ∙ ap (λ page. pages_made va + cond (is_some page) 0 1) none
+
+-- there are no more version array pages than frames
+pub few_pages : (d : Parts) → AreVaPages d.epc d.va → pages_made d.va ≤ length d.epc
+few_pages d pages =
+    made_below (length d.epc) d.va (λ n has.
+    ⊎_elim
+    (λ (low : n < length d.epc). low)
+    (λ (past : length d.epc ≤ n). absurd
+    (false≢true (sym (ap (λ (x : EpcFrame). table.is_va (held x.entry)) (get_or_past d.epc n free_frame past)) ∙ sym (pages n) ∙ has)))
+    (cases_lt n (length d.epc)))
+
+pub epa_state : (d : Parts) (f : ℕ) (page : Page) (perm : Perm) → AreVaPages d.epc d.va → Takes d.epc f → page.number ≡ pages_made d.va
     → state_of (record d { epc = with_page d.epc f page kinds.Va perm; va = with_va_page d.va f }) ≡ after_epa (state_of d) f
-epa_state d f page perm pages k =
+epa_state d f page perm pages k numbered =
     let v = holding page kinds.Va perm in
     let none = no_page d.epc d.va f pages k in
     let entries : (n : ℕ) → entry_at (with_page d.epc f page kinds.Va perm) n ≡ cond (f == n) v (entry_at d.epc n) =
     λ n. entry_at-with_entry d.epc f n v k.low in
     λ i. record (after_epa (state_of d) f) {
       frames = length-with_entry d.epc f v i;
-      content = λ n. put_content d.epc (with_page d.epc f page kinds.Va perm) f page kinds.Va perm k entries n i;
+      content = λ n. (put_content d.epc (with_page d.epc f page kinds.Va perm) f page kinds.Va perm k entries n
+          ∙ ap (λ m. cond (f == n) (IsVa m) (held (entry_at d.epc n))) numbered) i;
       blocked = λ n. put_blocked d.epc (with_page d.epc f page kinds.Va perm) f page kinds.Va perm k entries n i;
       is_sealing = λ n. put_sealing d.epc (with_page d.epc f page kinds.Va perm) f page kinds.Va perm k entries n i;
       words = λ n. words_at-with_entry d.epc f n v i;
+      vas_made = made_more d.va f none i;
       version_in = λ slot. version_kept d.va f slot none i;
       is_slot_busy = λ slot. busy_kept d.va f slot none i;
     }

@@ -28,7 +28,7 @@ use Rattle.measure_log.specs.Rule.{IsOther}
 use Rattle.sgx_types.specs.Frames.{page_of}
 use Rattle.enclave_build.specs.Build.{Appends, with_added, with_resident, block_in, chunk_block, is_expected, measured_row, unless_measured}
 use Rattle.version_array.specs.declared.va_page.VaSlot.{VaSlot}
-use Rattle.version_array.specs.Slots.{with_page as with_va_page}
+use Rattle.version_array.specs.Slots.{pages_made as pages_in, with_page as with_va_page}
 use Rattle.version_array.proofs.TableLaws.{IsVaTable-with_page}
 use Rattle.evict_reload.proofs.PageLaws.{pages-with_va}
 use Rattle.paging_machine.specs.declared.machine.Machine.TheInside.{Inside}
@@ -37,7 +37,7 @@ use Rattle.paging_machine.specs.Parts.{Parts, enclave_of, added_in, state_of}
 use Rattle.paging_machine.specs.Whole.{IsTable, IsWhole, parts_of}
 use Rattle.paging_laws.specs.Steps.{IsStep, IsExtended, IsJudged, refused_by}
 use Rattle.paging_machine.proofs.Columns.{get_or-default, numbered}
-use Rattle.paging_machine.proofs.KeptStates.{kept_put}
+use Rattle.paging_machine.proofs.KeptStates.{kept_epa}
 use Rattle.paging_machine.proofs.BuildBridge.{Takes, epa_state, adds, add_state, extend_state}
 use Rattle.paging_machine.proofs.WholeMachines.{Leaves, kept_of, done_step, refused_step}
 
@@ -55,13 +55,13 @@ measure_there measures e read y low at is = get_or-default measures e None read 
 
 -- a version array page is put into a frame, and into the table
 pub epa_leaves : (m : Inside) → IsWhole m → (f : ℕ) (page : Page) (perm : Perm) (epc : List EpcFrame) (va : List (Option (List VaSlot)))
-    → Takes m.epc f → epc ≡ with_page m.epc f page kinds.Va perm → va ≡ with_va_page m.va f
+    → Takes m.epc f → page.number ≡ pages_in m.va → epc ≡ with_page m.epc f page kinds.Va perm → va ≡ with_va_page m.va f
     → Leaves (record (parts_of m) { epc = epc; va = va }) (after_epa (state_of (parts_of m)) f)
-epa_leaves m h f page perm epc va k put paged =
+epa_leaves m h f page perm epc va k numbered put paged =
     rw (put, paged)
     (record {
-      state = epa_state (parts_of m) f page perm h.pages k;
-      kept = kept_put (state_of (parts_of m)) f IsVa (λ g kind perm at. cc at) (λ g at. cc at) k.free (kept_of m h);
+      state = epa_state (parts_of m) f page perm h.pages k numbered;
+      kept = kept_epa (state_of (parts_of m)) f k.free (kept_of m h);
       processors = h.processors;
       places = h.places;
       table = h.table;
@@ -101,7 +101,7 @@ add_written d g f kind perm init x x' longer epc table found nine allowed put re
 enclave_held : (c : Content) (g : Page) → page_of c ≡ Some g → enclave_in c ≡ Some g.enclave
 enclave_held (Holds page kind perm) g is = let same : page ≡ g = cc is in ap (λ (q : Page). Some q.enclave) same
 enclave_held Free g is = cc is
-enclave_held IsVa g is = cc is
+enclave_held (IsVa number) g is = cc is
 enclave_held (SecsOf enclave) g is = cc is
 enclave_held (IsLoading page) g is = cc is
 
@@ -111,7 +111,7 @@ block_held : (c : Content) (bytes : List ℕ) (chunk : ℕ) (g : Page) → page_
 block_held (Holds page kind perm) bytes chunk g is =
     let same : page ≡ g = cc is in ap (λ (q : Page). eextend_block (4096 * q.number + 256 * chunk) (chunk_of bytes chunk)) same
 block_held Free bytes chunk g is = cc is
-block_held IsVa bytes chunk g is = cc is
+block_held (IsVa number) bytes chunk g is = cc is
 block_held (SecsOf enclave) bytes chunk g is = cc is
 block_held (IsLoading page) bytes chunk g is = cc is
 

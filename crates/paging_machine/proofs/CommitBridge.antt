@@ -13,11 +13,12 @@ use Rattle.sgx_types.specs.declared.names.Kind.{Kind}
 use Rattle.sgx_types.specs.declared.names.Kind.TheVariants as kinds
 use Rattle.sgx_types.specs.declared.names.Perm.{Perm}
 use Rattle.sgx_types.specs.declared.refusals.Refusal.{Refusal}
-use Rattle.sgx_types.specs.Frames.{Content, Free, IsVa, SecsOf, Holds, IsLoading, enclave_in}
+use Rattle.sgx_types.specs.Frames.{Holds}
 use Rattle.sgx_types.specs.Sealed.{Sealed, header_of}
 use Rattle.sgx_types.specs.Starts.{BareStart}
 use Rattle.sgx_types.specs.Table as table
 use Rattle.sgx_types.specs.Table.{first_of_row}
+use Rattle.sgx_types.proofs.Contents.{enclave_no_va, loading_no_va}
 use Rattle.epcm_entry.specs.declared.entry_view.EntryView.{EntryView}
 use Rattle.epcm_entry.specs.declared.entry_view.EntryView.TheVariants as views
 use Rattle.epcm_entry.specs.EntryView.{holding, goes_out}
@@ -72,7 +73,7 @@ writable m h f start low at =
     record {
       low = low;
       there = rw h.start_places low;
-      is_slot = record { paged = h.pages start.slot.frame.0 ∙ ap table.is_va is.paged; within = is.within };
+      is_slot = record { paged = h.pages start.slot.frame.0 ∙ is.paged; within = is.within };
     }
 
 -- the same start
@@ -80,14 +81,6 @@ one_start : (o : Option BareStart) (a b : BareStart) → o ≡ Some a → o ≡ 
 one_start o a b p q = let same : Some a ≡ Some b = sym p ∙ q in cc same
 
 -- ---- EWB
-
--- a frame whose page goes out holds no version array page
-no_va : (c : Content) → is_some (enclave_in c) ≡ true → table.is_va c ≡ false
-no_va Free h = refl
-no_va IsVa h = cc h
-no_va (SecsOf enclave) h = refl
-no_va (Holds page kind perm) h = refl
-no_va (IsLoading page) h = refl
 
 pub ewb_leaves : (m : Inside) → IsWhole m → (f : ℕ) (start : BareStart) (d' : Parts) → (state_of (parts_of m)).is_sealing f ≡ true
     → (state_of (parts_of m)).start f ≡ Some start → d' ≡ written_parts (parts_of m) f start
@@ -105,7 +98,7 @@ ewb_leaves m h f start d' leaves at done =
       tracked = h.tracked;
       slots = table_ended d.va start.slot start.version h.slots k.is_slot;
       pages = pages_ended d.va start.slot start.version h.slots k.is_slot (cleared d.epc f)
-          (pages-cleared d.epc d.va f h.pages k.low (no_va (held (entry_at d.epc f)) (h.guarded.goes_out f leaves)));
+          (pages-cleared d.epc d.va f h.pages k.low (enclave_no_va (held (entry_at d.epc f)) (h.guarded.goes_out f leaves)));
       start_places = length-set d.starts f _ ∙ h.start_places ∙ sym (length-cleared d.epc f);
     })
 
@@ -186,14 +179,6 @@ waits m h f start page at loads =
         → IfSome (added_in o page.number) (λ k. IsPaged k.0) → Waits (parts_of m) page
     by_state None there is kind = cc is
     by_state (Some x) there is kind = by_added x there (added_at x page.number) (ap (λ o. added_in o page.number) there) is kind
-
--- a frame that waits holds no version array page
-loading_no_va : (c : Content) → table.is_loading c ≡ true → table.is_va c ≡ false
-loading_no_va Free h = refl
-loading_no_va IsVa h = cc h
-loading_no_va (SecsOf enclave) h = refl
-loading_no_va (Holds page kind perm) h = refl
-loading_no_va (IsLoading page) h = refl
 
 waits_idle : (v : EntryView) → table.is_loading (held v) ≡ true → goes_out v ≡ false
 waits_idle views.Free h = refl

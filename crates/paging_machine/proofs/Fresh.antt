@@ -64,6 +64,7 @@ made_state frames cpus key epoch version = λ i. record {
   words = λ n. ap (λ (x : EpcFrame). x.words) (like frames n free_frame) i;
   enclaves = λ e. ap enclave_of (no_enclave e) i;
   added = λ g. ap (λ o. added_in o g.number) (no_enclave g.enclave) i;
+  vas_made = 0;
   is_busy = λ g. ap (λ o. is_busy_in o g.number) (no_enclave g.enclave) i;
   measure = λ e. like {X = Option Measure} 9 e None i;
   inside = λ p. ap (λ x. seat_of_mode x.mode) (like cpus p idle) i;

@@ -1,26 +1,26 @@
 -- What the rows that build, and those that move pages, keep of a state: created enclaves have measurements, pages in frames
 -- were added, translations lead to frames, processors inside stand on pages of their enclave, and only drained pages go out.
 use Rattle.paging_laws.proofs.Contents.{waits_for}
-use Rattle.std.proofs.Common.{◌≡◌, ℕ, ◌==◌, Bool, true, false, cond, refl, subst, sym, List, length, Option, Some, None, is_some}
+use Rattle.std.proofs.Common.{◌≡◌, ℕ, ◌+◌, ◌==◌, Bool, true, false, cond, refl, subst, sym, List, length, Option, Some, None, is_some}
 use Rattle.std.proofs.lemmas.Bool.{cond_both}
 use Rattle.sgx_types.specs.declared.entries.PageInit.{PageInit}
 use Rattle.sgx_types.specs.declared.names.Page.{Page}
 use Rattle.sgx_types.specs.declared.names.Kind.{Kind}
 use Rattle.sgx_types.specs.declared.names.Perm.{Perm}
 use Rattle.sgx_types.specs.declared.names.SlotAt.{SlotAt}
-use Rattle.sgx_types.specs.Frames.{Content, Free, SecsOf, Holds, IsLoading, same_page}
+use Rattle.sgx_types.specs.Frames.{Content, Free, IsVa, SecsOf, Holds, IsLoading, same_page}
 use Rattle.sgx_types.specs.Flat.{FlatEnclave, marked, enclave_sight_of}
 use Rattle.sgx_types.specs.Starts.{BareStart}
 use Rattle.sgx_types.specs.Table.{block_row, track_row, ewbstart_row, eldstart_row, first_of_row, is_loading}
 use Rattle.sgx_types.proofs.Pages.{same_page-at}
 use Rattle.measure_log.specs.declared.measure.Measure.{Measure}
-use Rattle.paging_laws.specs.State.{State, sight, track_sight, slot_sight, drain_sight, is_version_spent, with_content, after_create, after_add, after_extend, after_init, after_block, after_track, after_ewbstart, after_eldstart, after_ewb, after_eld, after_failed_eld}
+use Rattle.paging_laws.specs.State.{State, sight, track_sight, slot_sight, drain_sight, is_version_spent, with_content, after_epa, after_create, after_add, after_extend, after_init, after_block, after_track, after_ewbstart, after_eldstart, after_ewb, after_eld, after_failed_eld}
 use Rattle.paging_laws.specs.Stands.{IsSound, IsMeasured, IsFramed}
 use Rattle.paging_laws.specs.Guarded.{IsPaged, IsGuarded}
 use Rattle.paging_machine.specs.Whole.{IsWithin}
 use Rattle.paging_laws.proofs.SoundLaws.{sound-put}
 use Rattle.paging_laws.proofs.BuildLaws.{sound_add}
-use Rattle.paging_laws.proofs.GuardLaws.{guarded_put, guarded_create, guarded_add, guarded_extend, guarded_init}
+use Rattle.paging_laws.proofs.GuardLaws.{guarded_put, guarded_made, guarded_create, guarded_add, guarded_extend, guarded_init}
 use Rattle.paging_laws.proofs.PagingSound.{sound_block, sound_track, sound_ewbstart, sound_eldstart, sound_ewb, sound_eld, sound_failed_eld}
 use Rattle.paging_laws.proofs.GuardMoves.{guarded_block, guarded_track, guarded_ewbstart, guarded_eldstart, guarded_ewb, guarded_eld, guarded_failed_eld}
 
@@ -40,14 +40,16 @@ framed_put : (s : State) (f : ℕ) (c : Content) → ((g : Page) (kind : Kind) (
 framed_put s f c none h n g kind perm = cond_both (f == n) c (s.content n) (λ v. v ≡ Holds g kind perm → is_some (s.added g) ≡ true)
     (λ _ at. absurd (none g kind perm at)) (λ _. h n g kind perm)
 
-pub kept_put : (s : State) (f : ℕ) (c : Content) → ((g : Page) (kind : Kind) (perm : Perm) → c ≡ Holds g kind perm → ⊥)
-    → ((g : Page) → c ≡ IsLoading g → ⊥) → s.content f ≡ Free → IsKept s → IsKept (with_content s f c)
-kept_put s f c none settled free h = record {
+-- a frame that comes to hold a version array page
+pub kept_epa : (s : State) (f : ℕ) → s.content f ≡ Free → IsKept s → IsKept (after_epa s f)
+kept_epa s f free h = record {
   measured = h.measured;
-  framed = framed_put s f c none h.framed;
+  framed = framed_put s f (IsVa s.vas_made) (λ g kind perm at. cc at) h.framed;
   within = h.within;
-  sound = sound-put s f c s.words h.sound free (λ n other. refl) h.sound.sized;
-  guarded = guarded_put s f c s.words h.guarded free settled;
+  sound = let k = sound-put s f (IsVa s.vas_made) s.words h.sound free (λ n other. refl) h.sound.sized in
+      record { seated = k.seated; busy = k.busy; apart = k.apart; sized = k.sized };
+  guarded = guarded_made (with_content s f (IsVa s.vas_made)) (s.vas_made + 1)
+      (guarded_put s f (IsVa s.vas_made) s.words h.guarded free (λ g at. cc at));
 }
 
 pub kept_create : (s : State) (e f base size : ℕ) (begun : Measure) → s.content f ≡ Free → IsKept s

@@ -9,11 +9,12 @@ use Rattle.sgx_types.specs.declared.names.SlotAt.{SlotAt}
 use Rattle.sgx_types.specs.declared.names.Kind.{Kind}
 use Rattle.sgx_types.specs.declared.names.Kind.TheVariants as kinds
 use Rattle.sgx_types.specs.declared.names.Perm.{Perm}
-use Rattle.sgx_types.specs.Frames.{Content, Free, IsVa, SecsOf, Holds, IsLoading, enclave_in, is_free}
+use Rattle.sgx_types.specs.Frames.{Holds, enclave_in, is_free}
 use Rattle.sgx_types.specs.Slots.{same_slot}
 use Rattle.sgx_types.specs.Starts.{BareStart}
 use Rattle.sgx_types.specs.Table as table
 use Rattle.sgx_types.specs.Table.{DrainSight, first_of_row, block_row, track_row, ewbstart_row, eldstart_row, EnclaveSight}
+use Rattle.sgx_types.proofs.Contents.{invalid_no_va}
 use Rattle.sgx_types.proofs.Rows.{none_holds}
 use Rattle.sgx_types.proofs.Truths.{neither}
 use Rattle.epcm_entry.specs.declared.entry_view.EntryView.{EntryView}
@@ -29,9 +30,9 @@ use Rattle.track_epoch.specs.Tracking.{Tracking, tracked}
 use Rattle.track_epoch.specs.Tracks.{track_of, with_track}
 use Rattle.track_epoch.proofs.TracksLaws.{length-with_track, track_of-with_track}
 use Rattle.version_array.specs.declared.va_page.VaSlot.{VaSlot}
-use Rattle.version_array.specs.Slots.{IsSlot, IsVaTable, version_in, is_busy_at, with_busy, with_version}
+use Rattle.version_array.specs.Slots.{IsSlot, IsVaTable, pages_made, version_in, is_busy_at, with_busy, with_version}
 use Rattle.version_array.specs.Versions.{is_spent_at}
-use Rattle.version_array.proofs.TableLaws.{version_in-with_version, is_busy_at-with_version, version_in-with_busy, is_busy_at-with_busy, slot_kept, IsVaTable-with_slot}
+use Rattle.version_array.proofs.TableLaws.{made-with_busy, made-with_version, version_in-with_version, is_busy_at-with_version, version_in-with_busy, is_busy_at-with_busy, slot_kept, IsVaTable-with_slot}
 use Rattle.evict_reload.specs.Effects.{epoch_of, with_blocked, with_next, with_tracked, with_ended}
 use Rattle.evict_reload.specs.Sights as parts
 use Rattle.evict_reload.specs.Sights.{AreVaPages, IsNumbered, track_seen}
@@ -178,6 +179,9 @@ module _ (va : List (Option (List VaSlot))) (slot : SlotAt) (version : ℕ) (is 
   busy_ended other = is_busy_at-with_busy (with_version va slot version) slot other false written there
       ∙ ap (cond (same_slot slot other) false) (is_busy_at-with_version va slot other version is at)
 
+  pub made_ended : pages_made (with_ended va slot version) ≡ pages_made va
+  made_ended = made-with_busy (with_version va slot version) slot false there ∙ made-with_version va slot version at
+
   pub pages_ended : (epc : List EpcFrame) → AreVaPages epc va → AreVaPages epc (with_ended va slot version)
   pages_ended epc pages = pages-with_slot epc (with_version va slot version) slot
       (record { version = version_in (with_version va slot version) slot; busy = false })
@@ -226,6 +230,7 @@ ewbstart_state d f slot is k valid =
       is_sealing = λ n. (entry_column d.epc (with_sealing d.epc f) f v entries goes_out n
           ∙ ap (λ b. cond (f == n) b (goes_out (entry_at d.epc n))) (goes_out-outgoing (entry_at d.epc f) valid)) i;
       words = λ n. words_at-with_entry d.epc f n v i;
+      vas_made = made-with_busy d.va slot true k.is_slot i;
       version_in = λ other. version_in-with_busy d.va slot other true is k.is_slot i;
       is_slot_busy = λ other. is_busy_at-with_busy d.va slot other true is k.is_slot i;
       start = λ n. start_column d.starts f n (Some (record { slot = slot; version = d.versions; loads = None })) k.there i;
@@ -250,6 +255,7 @@ eldstart_state d f page slot is k idle =
       blocked = λ n. entry_column d.epc (with_loading d.epc f page) f (views.Loading page) entries block_of n i;
       is_sealing = λ n. entry_kept d.epc (with_loading d.epc f page) f (views.Loading page) entries goes_out n (sym idle) i;
       words = λ n. words_at-with_entry d.epc f n (views.Loading page) i;
+      vas_made = made-with_busy d.va slot true k.is_slot i;
       version_in = λ other. version_in-with_busy d.va slot other true is k.is_slot i;
       is_slot_busy = λ other. is_busy_at-with_busy d.va slot other true is k.is_slot i;
       start = λ n. start_column d.starts f n (Some (record { slot = slot; version = version_in d.va slot; loads = Some page })) k.there i;
@@ -271,6 +277,7 @@ ewb_state d f start is k =
       blocked = λ n. entry_column d.epc (cleared d.epc f) f views.Free entries block_of n i;
       is_sealing = λ n. entry_column d.epc (cleared d.epc f) f views.Free entries goes_out n i;
       words = λ n. words_at-cleared d.epc f n k.low i;
+      vas_made = made_ended d.va start.slot start.version is k.is_slot i;
       version_in = λ other. version_ended d.va start.slot start.version is k.is_slot other i;
       is_slot_busy = λ other. busy_ended d.va start.slot start.version is k.is_slot other i;
       start = λ n. start_column d.starts f n None k.there i;
@@ -290,6 +297,7 @@ failed_state d f start is k =
       blocked = λ n. entry_column d.epc (cleared d.epc f) f views.Free entries block_of n i;
       is_sealing = λ n. entry_column d.epc (cleared d.epc f) f views.Free entries goes_out n i;
       words = λ n. words_at-cleared d.epc f n k.low i;
+      vas_made = made-with_busy d.va start.slot false k.is_slot i;
       version_in = λ other. version_in-with_busy d.va start.slot other false is k.is_slot i;
       is_slot_busy = λ other. is_busy_at-with_busy d.va start.slot other false is k.is_slot i;
       start = λ n. start_column d.starts f n None k.there i;
@@ -322,6 +330,7 @@ eld_state d f start page kind perm words is k idle paged =
       is_sealing = λ n. entry_kept d.epc (with_words epc f words) f v entries goes_out n (sym idle) i;
       words = λ n. (words_at-with_words epc f n words (rw (length-with_entry d.epc f v) k.low)
           ∙ ap (cond (f == n) words) (words_at-with_entry d.epc f n v)) i;
+      vas_made = made_ended d.va start.slot 0 is k.is_slot i;
       version_in = λ other. version_ended d.va start.slot 0 is k.is_slot other i;
       is_slot_busy = λ other. busy_ended d.va start.slot 0 is k.is_slot other i;
       start = λ n. start_column d.starts f n None k.there i;
@@ -469,13 +478,6 @@ ewbstart_leaves m h f slot d' allowed done =
     })
 
 -- the start of ELDU
-not_va : (c : Content) → table.is_valid c ≡ false → table.is_va c ≡ false
-not_va Free e = refl
-not_va IsVa e = cc e
-not_va (SecsOf enclave) e = refl
-not_va (Holds page kind perm) e = refl
-not_va (IsLoading page) e = refl
-
 pub record ComesIn (d : Parts) (f : ℕ) (slot : SlotAt) : Type 0 where
   pub found : IsFound d f slot
   pub not_va : table.is_va (held (entry_at d.epc f)) ≡ false
@@ -487,7 +489,7 @@ comes d f slot enclave added pages places allowed =
     let none = none_holds (eldstart_row (sight_in d.epc f) enclave added (parts.slot_sight d.epc d.va slot)) allowed in
     record {
       found = found d f slot pages places none.0 none.1.1.1.0 (not-false _ none.1.1.1.1.1.0);
-      not_va = not_va (held (entry_at d.epc f)) none.1.1.1.1.0;
+      not_va = invalid_no_va (held (entry_at d.epc f)) none.1.1.1.1.0;
     }
 
 pub eldstart_leaves : (m : Inside) → IsWhole m → (f : ℕ) (page : Page) (slot : SlotAt) (d' : Parts)

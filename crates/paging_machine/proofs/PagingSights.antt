@@ -117,7 +117,7 @@ frame_numbered d f eight framed = by_content ((state_of d).content f) (framed f)
     by_content : (c : Content) → ((g : Page) (kind : Kind) (perm : Perm) → c ≡ Holds g kind perm → is_some ((state_of d).added g) ≡ true)
         → IsNumbered c
     by_content Free h = tt
-    by_content IsVa h = tt
+    by_content (IsVa number) h = tt
     by_content (SecsOf enclave) h = tt
     by_content (Holds page kind perm) h = added_numbered d.secs page eight (h page kind perm refl)
     by_content (IsLoading page) h = tt

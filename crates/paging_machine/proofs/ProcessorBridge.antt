@@ -62,7 +62,7 @@ page_added s framed n g is = by_content (s.content n) refl is
     by_content : (c : Content) → s.content n ≡ c → is_page c g ≡ true → is_some (s.added g) ≡ true
     by_content (Holds page kind perm) e k = let same : page ≡ g = same_pages page g k in rw (← same) (framed n page kind perm e)
     by_content Free e k = cc
-    by_content IsVa e k = cc
+    by_content (IsVa number) e k = cc
     by_content (SecsOf enclave) e k = cc
     by_content (IsLoading page) e k = cc
 
@@ -79,7 +79,7 @@ pages_made d framed n g is = by_content ((state_of d).content n) refl is
     by_content (Holds page kind perm) e k =
         let same : page ≡ g = cc in by_enclave (enclave_at d.secs g.enclave) g.number (rw same at (framed n page kind perm e))
     by_content Free e k = cc
-    by_content IsVa e k = cc
+    by_content (IsVa number) e k = cc
     by_content (SecsOf enclave) e k = cc
     by_content (IsLoading page) e k = cc
 
@@ -99,7 +99,7 @@ frame_added d e n x table found framed = by_content (held (entry_at d.epc n)) (f
         (let ours : page.enclave ≡ e = same ∙ (table.own e x found).number in
         added_there d.secs page.enclave page.number x (h page kind perm refl) (ap (enclave_at d.secs) ours ∙ found))
     by_content Free h = tt
-    by_content IsVa h = tt
+    by_content (IsVa number) h = tt
     by_content (SecsOf enclave) h = tt
     by_content (IsLoading page) h = tt
 

@@ -19,7 +19,7 @@ use Rattle.measure_log.specs.declared.measure.Measure.{Measure}
 use Rattle.track_epoch.specs.Tracking.{Tracking, starting_at}
 use Rattle.track_epoch.specs.Tracks.{track_of}
 use Rattle.version_array.specs.declared.va_page.VaSlot.{VaSlot}
-use Rattle.version_array.specs.Slots.{is_busy_at as is_slot_busy_at, version_in}
+use Rattle.version_array.specs.Slots.{is_busy_at as is_slot_busy_at, pages_made, version_in}
 use Rattle.sgx_types.specs.Starts.{BareStart}
 use Rattle.paging_machine.specs.declared.starts.Start as starts
 use Rattle.paging_laws.specs.State.{State}
@@ -118,6 +118,7 @@ state_of d = record {
   words = λ n. words_at d.epc n;
   enclaves = λ e. enclave_of (enclave_at d.secs e);
   added = λ g. added_in (enclave_at d.secs g.enclave) g.number;
+  vas_made = pages_made d.va;
   is_busy = λ g. is_busy_in (enclave_at d.secs g.enclave) g.number;
   measure = λ e. slice_index_or d.measures e None;
   inside = λ p. seat_of_mode (cpu_at d p).mode;

@@ -62,8 +62,15 @@ impl Machine {
         ensures refused { OnErr result (self.new ≡ self.old) }
         ensures cpus { length self.new.cpus ≡ length self.old.cpus }
     {
+        let made = self.va.made();
+        prove!(made <= u64::from(self.epc.frames()));
         self.va.epa(alloc, frame)?;
-        self.epc.set(frame, NO_PAGE, Kind::Va, Perm::NONE);
+        // Its number, by how many were made before it. It is of no enclave.
+        let page = Page {
+            enclave: 0,
+            number: made as u32,
+        };
+        self.epc.set(frame, page, Kind::Va, Perm::NONE);
         Ok(())
     }
 
@@ -174,8 +181,3 @@ fn absent(epc: &Epc, frame: Frame) -> Refusal
         Refusal::BadRange
     }
 }
-
-const NO_PAGE: Page = Page {
-    enclave: 0,
-    number: 0,
-};

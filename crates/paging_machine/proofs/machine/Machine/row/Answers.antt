@@ -1,0 +1,10 @@
+use Rattle.std.proofs.Common.{sym, subst}
+use Rattle.sgx_types.specs.declared.entries.Action.{Action}
+use Rattle.paging_laws.specs.Steps.{IsStep}
+use Rattle.paging_machine.specs.Parts.{state_of}
+use Rattle.paging_machine.proofs.machine.Machine.row.Goals as goal
+
+pub returns-in_default-EwbStart-clause-step : goal.returns-in_default-EwbStart-clause-step
+returns-in_default-EwbStart-clause-step c =
+    subst (λ (action : Action). IsStep (state_of c.args.self.now) c.args.actor action c.ewb_start-entry.result (state_of c.ewb_start-entry.new.self))
+    (sym c.in_default-EwbStart.is-1) c.ewb_start-entry.ensures.step
