@@ -21,6 +21,7 @@ use Rattle.sgx_types.specs.Making.{Making}
 use Rattle.sgx_types.specs.Rules.{RefusalRule}
 use Rattle.sgx_types.specs.Sights.{drain_sight_at, sight_at, slot_sight_at}
 use Rattle.sgx_types.specs.Table.{DrainSight, FrameSight, SlotSight, ewbstart_row, first_of_row, is_busy, is_out_of_range, is_secs, is_va}
+use Rattle.sgx_types.proofs.Contents.{page_enclave}
 use Rattle.job_grammar.specs.declared.jobs.Marks.{Marks}
 use Rattle.job_grammar.specs.Jobs.{JobView}
 use Rattle.paging_machine.specs.Parts.{Parts}
@@ -30,7 +31,6 @@ use Rattle.driver_rules.specs.Passes.{Between, Blocking, Pass, Tries, free_count
 use Rattle.driver_rules.specs.Places.{Leaving, active, place}
 use Rattle.driver_laws.proofs.SoundLaws.{entry_of}
 use Rattle.driver_laws.proofs.StillLaws.{holds_here}
-use Rattle.driver_laws.proofs.TrackLaws.{page_enclave}
 use Rattle.driver_laws.specs.Kinds.{CanMove}
 use Rattle.driver_laws.specs.Stages.{HasPages}
 use Rattle.driver_laws.specs.Tracks.{OwnRule}

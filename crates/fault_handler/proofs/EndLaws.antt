@@ -2,7 +2,7 @@
 use Rattle.std.proofs.Common.{◌≡◌, ℕ, ◌+◌, ◌<◌, not, Bool, true, false, if◌then◌else◌, List, [], ◌∷◌, Option, None, Some, MatchOption, ⊎_elim, ◌⊎◌, inl, inr, length, map, is_some, refl, sym, ap, subst, ◌∙◌, arith}
 use Rattle.std.proofs.lemmas.Bool.{eq-eqb, false≢true}
 use Rattle.std.specs.Str.{bytes_eq}
-use Rattle.sgx_types.proofs.Pages.{same_pages}
+use Rattle.sgx_types.proofs.Pages.{same_page-refl, same_pages}
 use Rattle.sgx_types.specs.declared.entries.Action.TheVariants.{Eld}
 use Rattle.sgx_types.specs.declared.entries.Actor.TheVariants as actors
 use Rattle.sgx_types.specs.declared.entries.Answer.TheVariants.{Moved}
@@ -14,12 +14,11 @@ use Rattle.sgx_types.specs.declared.names.Page.{Page}
 use Rattle.sgx_types.specs.declared.names.SlotAt.{SlotAt}
 use Rattle.sgx_types.specs.declared.refusals.Refusal.{Refusal}
 use Rattle.sgx_types.specs.declared.refusals.Refusal.TheVariants as why
-use Rattle.sgx_types.specs.Frames.{Content, Free, Holds, IsLoading, IsVa, SecsOf, content, same_page}
+use Rattle.sgx_types.specs.Frames.{content, same_page}
 use Rattle.sgx_types.specs.Making.{Making}
 use Rattle.sgx_types.specs.Sealed.{Sealed}
 use Rattle.sgx_types.specs.Starts.{Start, open_start, BareStart}
-use Rattle.sgx_types.specs.Table as table
-use Rattle.sgx_types.specs.Table.{first_of_row}
+use Rattle.sgx_types.specs.Table.{first_of_row, is_loading}
 use Rattle.sgx_types.proofs.Busy.{IsBareOf}
 use Rattle.epcm_entry.specs.Words.{words_of}
 use Rattle.job_grammar.specs.Jobs.{JobView}
@@ -43,9 +42,8 @@ use Rattle.driver_rules.specs.Reclaims.{is_refused}
 use Rattle.driver_rules.specs.Turns.{Fails, Loads, fails_with, last_of, load_of}
 use Rattle.driver_laws.specs.Agrees.{Listed, loaded_by, marked}
 use Rattle.driver_laws.specs.Kinds.{CanMove}
-use Rattle.driver_laws.specs.Sound.{is_absent, is_load_start, is_loading, once_here, slot_at, times}
+use Rattle.driver_laws.specs.Sound.{is_absent, is_load_start, once_here, slot_at, times}
 use Rattle.driver_laws.proofs.LoadLaws.{loading_place}
-use Rattle.driver_laws.proofs.PlaceLaws.{same_page-refl}
 use Rattle.driver_tables.specs.declared.driver.Driver.{Driver}
 use Rattle.driver_tables.specs.Tables.{ShowsTables, listed, place_in}
 use Rattle.driver_tables.proofs.LoadShowLaws.{shows_bus, shows_load_end, shows_load_refused}
@@ -142,18 +140,11 @@ module _ (made : Making) (j : JobView) (past : List Entry) (d : Driver) (m : Par
   copy : IsKeptFor (kept_at d.kept cpu.0) page
   copy = kept_for (kept_at d.kept cpu.0) page (r.shows.copies cpu.0 ∙ ap loaded_by last)
 
-  waits : table.is_loading ((state_of m).content n) ≡ true
+  waits : is_loading ((state_of m).content n) ≡ true
   waits =
-      ap table.is_loading (content_is r.follows.shape.columns n) ∙ tests (content past n) ∙ sym (r.sound.places.loading n)
+      ap is_loading (content_is r.follows.shape.columns n) ∙ sym (r.sound.places.loading n)
       ∙ by_start (open_start past n) opens
     where
-      tests : (c : Content) → table.is_loading c ≡ is_loading c
-      tests Free = refl
-      tests IsVa = refl
-      tests (SecsOf e) = refl
-      tests (Holds g kind perm) = refl
-      tests (IsLoading g) = refl
-
       by_start : (o : Option Start) → load_of o ≡ Some page → is_load_start o ≡ true
       by_start None h = cc
       by_start (Some x) h = ap is_some h
@@ -173,7 +164,7 @@ module _ (made : Making) (j : JobView) (past : List Entry) (d : Driver) (m : Par
     room = room;
     kept = copy.rec;
     copy = copy.kept;
-    waits = subst (λ k. table.is_loading ((state_of m).content k) ≡ true) (sym state_is.number) waits;
+    waits = subst (λ k. is_loading ((state_of m).content k) ≡ true) (sym state_is.number) waits;
   }
 
 -- ---- the entry

@@ -13,13 +13,13 @@ use Rattle.active_list.specs.Holds.{is_held as is_held_by}
 use Rattle.active_list.specs.Listing as listing
 use Rattle.active_list.specs.Ring.{pages_of}
 use Rattle.sgx_types.specs.Making.{Making}
+use Rattle.sgx_types.proofs.Pages.{same_page-refl}
 use Rattle.driver_rules.specs.Ages.{head_of}
 use Rattle.driver_rules.specs.Dues.{is_look}
 use Rattle.driver_laws.specs.Agrees.{Listed, marked}
 use Rattle.driver_rules.specs.Holds.{is_held}
 use Rattle.driver_rules.specs.Passes.{Between, Scan, pass}
 use Rattle.driver_rules.specs.Places.{active, is_young}
-use Rattle.driver_laws.proofs.PlaceLaws.{same_page-refl}
 use Rattle.driver_tables.specs.declared.driver.Driver.{Driver}
 use Rattle.reclaim_worker.specs.declared.turns.PassTurn.{PassTurn}
 use Rattle.reclaim_worker.specs.declared.turns.Phase.{Phase}

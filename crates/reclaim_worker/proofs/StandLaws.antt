@@ -18,11 +18,11 @@ use Rattle.sgx_types.specs.Making.{Making}
 use Rattle.driver_rules.specs.Passes as passes
 use Rattle.driver_rules.specs.Passes.{Between, Blocking, Pass, Scan, Tries, keepers, pass, scan_on, taken_by}
 use Rattle.driver_laws.specs.Tracks.{IsTracked, KeepsTracks}
-use Rattle.driver_laws.proofs.TrackLaws.{page_enclave}
 use Rattle.std.proofs.lemmas.Bool.{eq-eqb}
 use Rattle.sgx_types.specs.declared.names.SlotAt.{SlotAt}
 use Rattle.sgx_types.specs.declared.refusals.Refusal.TheVariants as why
 use Rattle.sgx_types.specs.Eviction.{is_drained, kept_back}
+use Rattle.sgx_types.proofs.Contents.{page_enclave}
 use Rattle.reclaim_worker.specs.declared.turns.Form.{Form}
 use Rattle.reclaim_worker.specs.declared.turns.Form.TheVariants as forms
 use Rattle.driver_rules.specs.Places.{Leaving, active, place}

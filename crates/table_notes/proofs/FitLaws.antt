@@ -17,7 +17,7 @@ use Rattle.sgx_types.specs.declared.names.Perm.{Perm}
 use Rattle.sgx_types.specs.declared.names.Page.{Page}
 use Rattle.sgx_types.specs.Frames.{page_at, same_page}
 use Rattle.sgx_types.specs.Making.{Making}
-use Rattle.sgx_types.specs.Table.{first_of_row}
+use Rattle.sgx_types.specs.Table.{first_of_row, is_va}
 use Rattle.cached_translations.specs.declared.processor.Mode.{Mode}
 use Rattle.job_grammar.specs.Jobs.{JobView}
 use Rattle.active_list.specs.declared.ring.Listed as ring
@@ -28,7 +28,7 @@ use Rattle.paging_laws.specs.Steps.{did_by}
 use Rattle.paging_machine.specs.Parts.{Parts, cpu_at, state_of}
 use Rattle.driver_rules.specs.Places.{active}
 use Rattle.driver_rules.specs.Scripts.{ScriptRule}
-use Rattle.driver_laws.specs.Agrees.{Listed, is_va, marked}
+use Rattle.driver_laws.specs.Agrees.{Listed, marked}
 use Rattle.driver_laws.specs.Sound.{once_here, times}
 use Rattle.driver_laws.proofs.StepLaws.{builds_by}
 use Rattle.driver_tables.specs.declared.driver.Driver.{Driver}

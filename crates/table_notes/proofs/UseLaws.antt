@@ -1,7 +1,6 @@
 -- The pages that a processor uses by an instruction that it has done are those that the tables find, and each was added.
 use Rattle.std.proofs.Common.{◌≡◌, ◌≢◌, ℕ, ◌+◌, ◌-◌, ◌/◌, ◌%◌, ◌^◌, ◌<◌, ◌==◌, ◌||◌, Bool, true, false, List, Option, Some, None, is_some, refl, sym, ap, subst, ◌∙◌, arith}
 use Rattle.std.proofs.lemmas.Bool.{eq-eqb}
-use Rattle.sgx_types.proofs.Pages.{same_pages}
 use Rattle.sgx_types.proofs.Rows.{none_holds}
 use Rattle.sgx_types.proofs.Truths.{not_false}
 use Rattle.sgx_types.specs.declared.entries.Action.{Action}
@@ -14,7 +13,7 @@ use Rattle.sgx_types.specs.declared.names.Page.{Page}
 use Rattle.sgx_types.specs.declared.names.Perm.{Perm}
 use Rattle.sgx_types.specs.declared.refusals.Refusal.TheVariants as why
 use Rattle.sgx_types.specs.Flat.{at_offset}
-use Rattle.sgx_types.specs.Frames.{Content, Free, Holds, IsLoading, IsVa, SecsOf, content, is_page, page_at, same_page}
+use Rattle.sgx_types.specs.Frames.{content, is_page, page_at, same_page}
 use Rattle.sgx_types.specs.Making.{Making}
 use Rattle.sgx_types.specs.Processors.{Seat, Stay, stay}
 use Rattle.sgx_types.specs.Sights.{seat_of}
@@ -33,6 +32,7 @@ use Rattle.paging_laws.proofs.EntryLaws.{enters as enters_by_row}
 use Rattle.paging_machine.specs.Parts.{Parts, cpu_at, seat_of_mode, state_of}
 use Rattle.driver_rules.specs.Places.{Absent, Away, Here, Leaving, Loading, Place, frame_here, is_of_stay, is_offset_of_stay, place, uses}
 use Rattle.driver_laws.specs.Sound.{is_absent, stands_in}
+use Rattle.driver_laws.proofs.PlaceLaws.{holds_one}
 use Rattle.driver_tables.specs.declared.driver.Driver.{Driver}
 use Rattle.driver_steps.specs.Agrees.{Agrees}
 use Rattle.turn_tables.specs.declared.turns.Turns.{Turns}
@@ -60,14 +60,6 @@ stands_there (Here f) n h = let same : f ≡ n = cc in eq-eqb f n same
 stands_there (Leaving f) n h = cc
 stands_there (Loading f slot) n h = cc
 stands_there (Away slot) n h = cc
-
--- a frame that holds a page holds no other
-holds_one : (c : Content) (h g : Page) → is_page c h ≡ true → is_page c g ≡ same_page h g
-holds_one (Holds page kind perm) h g k = ap (λ x. same_page x g) (same_pages page h k)
-holds_one Free h g k = cc
-holds_one IsVa h g k = cc
-holds_one (SecsOf e) h g k = cc
-holds_one (IsLoading page) h g k = cc
 
 -- ---- who is inside
 

@@ -14,9 +14,10 @@ use Rattle.sgx_types.specs.declared.entries.Event.{Event}
 use Rattle.sgx_types.specs.declared.names.Cpu.{Cpu}
 use Rattle.sgx_types.specs.declared.names.Frame.{Frame}
 use Rattle.sgx_types.specs.declared.names.Page.{Page}
-use Rattle.sgx_types.specs.Frames.{Content, Free, Holds, IsLoading, IsVa, SecsOf, content, is_page, page_at, same_page}
+use Rattle.sgx_types.specs.Frames.{Content, content, is_page, page_at, same_page}
 use Rattle.sgx_types.specs.Processors.{Stay, stay}
 use Rattle.sgx_types.proofs.Pages.{same_page-refl, same_page-swap, same_pages}
+use Rattle.sgx_types.proofs.Contents.{held_page}
 use Rattle.cached_translations.specs.declared.processor.Mode.{Mode}
 use Rattle.cached_translations.specs.declared.processor.Mode.TheVariants.{Inside, Outside}
 use Rattle.job_grammar.specs.declared.jobs.Op.{Op}
@@ -130,11 +131,7 @@ one_same None g = refl
 one_same (Some x) g = refl
 
 page_in_is : (c : Content) (g x : Page) → is_page c g ≡ true → is_among (page_in c) x ≡ (same_page g x || false)
-page_in_is (Holds page kind perm) g x h = ap (λ y. same_page y x || false) (same_pages page g h)
-page_in_is Free g x h = cc
-page_in_is IsVa g x h = cc
-page_in_is (SecsOf e) g x h = cc
-page_in_is (IsLoading page) g x h = cc
+page_in_is c g x h = ap (λ y. is_among (page_in y) x) (held_page c g h).holds
 
 stands_there : (at : Place) (n : ℕ) → frame_here at ≡ Some n → stands_in at n ≡ true
 stands_there Absent n h = cc

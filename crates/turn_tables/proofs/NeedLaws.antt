@@ -19,10 +19,11 @@ use Rattle.sgx_types.specs.declared.names.Page.{Page}
 use Rattle.sgx_types.specs.declared.names.SlotAt.{SlotAt}
 use Rattle.sgx_types.specs.declared.refusals.Refusal.{Refusal}
 use Rattle.sgx_types.specs.Flat.{at_offset}
-use Rattle.sgx_types.specs.Frames.{Content, Free, Holds, IsLoading, IsVa, SecsOf, added, content, is_page, least_free, page_at, same_page}
+use Rattle.sgx_types.specs.Frames.{Content, added, content, is_page, least_free, page_at, same_page}
 use Rattle.sgx_types.specs.Processors.{Stay, holds_number, stay, translations}
 use Rattle.sgx_types.specs.Table.{is_lawful_access}
 use Rattle.sgx_types.proofs.Pages.{same_page-refl, same_pages}
+use Rattle.sgx_types.proofs.Contents.{held_page}
 use Rattle.job_grammar.specs.declared.jobs.Op.{Op}
 use Rattle.job_grammar.specs.declared.jobs.Op.TheVariants as ops
 use Rattle.job_grammar.specs.Jobs.{JobView}
@@ -203,12 +204,9 @@ module _ (j : JobView) (past : List Entry) (p : ℕ) (sound : IsSound past) (h :
       stands (Away slot) k = cc
 
       held : (c : Content) → is_page c g ≡ true → AllThere past (page_in c)
-      held (Holds page kind perm) k =
-          one_there past page (subst (There past) (sym (same_pages page g k)) (here_there (place past g) (frame_there (place past g) n is)))
-      held Free k = none_there past
-      held IsVa k = none_there past
-      held (SecsOf e) k = none_there past
-      held (IsLoading page) k = none_there past
+      held c k =
+          subst (λ x. AllThere past (page_in x)) (sym (held_page c g k).holds)
+          (one_there past g (here_there (place past g) (frame_there (place past g) n is)))
 
   fits_resume : (why : Why) (e t : ℕ) (save : Option Page) → save ≡ save_to_resume j past e t → (tf sf : Option ℕ)
       → frame_here (place past (page_at e t)) ≡ tf → save_frame past (page_at e t) save ≡ sf
