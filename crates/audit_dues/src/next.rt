@@ -8,7 +8,7 @@ ghost use Rattle.paging_machine.specs.Parts.{state_of};
 ghost use Rattle.driver_rules.specs.Decided.{is_action, is_fetch, is_stop, same_reason};
 ghost use Rattle.audit_dues.specs.Next.{ends_fetch, next_by, slot_seen};
 
-use crate::same::{same_action, same_page};
+use crate::same::same_action;
 use active_list::page_states::PageState;
 use driver_tables::driver::Driver;
 use paging_machine::machine::Machine;
@@ -73,7 +73,7 @@ fn is_stop(page: Page, why: BusWhy, event: &Event) -> bool
         Event::Bus {
             page: told,
             why: reason,
-        } => same_page(told, page) && same_reason(reason, why),
+        } => told == page && same_reason(reason, why),
         _ => false,
     }
 }
@@ -96,8 +96,7 @@ fn is_fetch(page: Page, slot: SlotAt, free: Option<Frame>, event: &Event) -> boo
     ensures { result ≡ is_fetch page slot (option_map (λ f. f.0) free) event.now }
 {
     match event {
-        Event::Bus { page: told, why } => ends_fetch(*why, free.is_some())
-            && same_page(*told, page),
+        Event::Bus { page: told, why } => ends_fetch(*why, free.is_some()) && *told == page,
         Event::Did { action, .. } | Event::Refused { action, .. } => match free {
             Some(frame) => same_action(action, &Action::EldStart { frame, page, slot }),
             None => false,

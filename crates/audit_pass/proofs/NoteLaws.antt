@@ -35,6 +35,7 @@ use Rattle.driver_laws.specs.Kinds.{CanMove}
 use Rattle.driver_laws.specs.Stages.{HasPages}
 use Rattle.driver_laws.specs.Tracks.{OwnRule}
 use Rattle.driver_tables.specs.declared.driver.Driver.{Driver}
+use Rattle.driver_tables.proofs.ListLaws.{lengths}
 use Rattle.driver_steps.specs.Agrees.{Agrees}
 use Rattle.audit_pass.specs.declared.stages.Form.{Form}
 use Rattle.audit_pass.specs.declared.stages.Form.TheVariants as forms
@@ -46,7 +47,7 @@ use Rattle.audit_pass.specs.Noted.{after_kick, behind, decided, gone_by, gone_on
 use Rattle.audit_pass.specs.Standing.{AreInFrames, IsForm, StandsAt, StandsFor}
 use Rattle.audit_pass.specs.Viewed.{TraceView, form_in, pages_in, pass_by, tries_of}
 use Rattle.audit_pass.proofs.FrameLaws.{form_stays, frames_behind, frames_quiet, others_stand}
-use Rattle.audit_pass.proofs.ListLaws.{behind_last, behind_more, drop_next, get_drop, head, lengths}
+use Rattle.audit_pass.proofs.ListLaws.{behind_last, behind_more, drop_next, get_drop, head}
 use Rattle.audit_pass.proofs.LookLaws.{look_stands}
 use Rattle.audit_pass.proofs.TryLaws.{KeepsIn, kept_in}
 

@@ -2,10 +2,8 @@
 
 ghost use Rattle.std.specs.Prelude.{◌≡◌};
 ghost use Rattle.audit_rules.specs.Same.{is_bare, same_answer, same_end, same_fault, same_numbers, same_refusal};
-ghost use Rattle.sgx_types.specs.Frames.{same_page};
 
 use sgx_types::entries::{Answer, Event, PfWhy};
-use sgx_types::names::Page;
 use sgx_types::refusals::{Refusal, code};
 
 /// Whether two events of one instruction end alike: both done with one answer, or both refused for one reason, with its numbers.
@@ -17,13 +15,6 @@ pub fn same_end(one: &Event, other: &Event) -> bool
         (Event::Refused { why, .. }, Event::Refused { why: found, .. }) => same_refusal(why, found),
         _ => false,
     }
-}
-
-/// Whether two pages are one.
-pub fn same_page(one: Page, other: Page) -> bool
-    ensures { result ≡ same_page one other }
-{
-    one.enclave == other.enclave && one.number == other.number
 }
 
 fn same_answer(one: Answer, other: Answer) -> bool
@@ -42,7 +33,7 @@ fn same_answer(one: Answer, other: Answer) -> bool
                 version: then,
                 tag: other,
             },
-        ) => same_page(page, next) && version == then && tag == other,
+        ) => page == next && version == then && tag == other,
         (Answer::Pf(m), Answer::Pf(n)) => same_fault(m, n),
         _ => false,
     }

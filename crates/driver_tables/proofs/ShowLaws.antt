@@ -38,8 +38,17 @@ use Rattle.driver_laws.proofs.MarkLaws.{is_markless, listed-held, listed-noroom,
 use Rattle.driver_laws.proofs.MoveLaws.{place-ewb, place-ewb-other, place-held, place-noroom, place-quiet, place-taken, place-taken-other, place-young}
 use Rattle.driver_laws.proofs.SoundLaws.{entry_of, head_here}
 use Rattle.driver_tables.specs.declared.driver.Driver.{Driver}
-use Rattle.driver_tables.specs.Moves.{IsLooked, IsTaken, leaving_of}
+use Rattle.driver_tables.specs.Moves.{IsLooked, IsTaken, frame_in, leaving_of}
 use Rattle.driver_tables.specs.Tables.{ShowsTables, listed, place_in}
+
+-- the frame of a page that is here
+pub here_frame : (state : PageState) (n : ℕ) → place_in state ≡ Here n → (frame_in state).0 ≡ n
+here_frame (states.Here f) n h = cc
+here_frame states.Absent n h = cc
+here_frame (states.Leaving f) n h = cc
+here_frame (states.Loading f slot) n h = cc
+here_frame (states.Away slot) n h = cc
+here_frame (states.Lost slot) n h = cc
 
 -- ---- in general
 
