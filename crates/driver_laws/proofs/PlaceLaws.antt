@@ -8,8 +8,8 @@ use Rattle.sgx_types.specs.declared.names.Perm.{Perm}
 use Rattle.sgx_types.specs.declared.names.SlotAt.{SlotAt}
 use Rattle.sgx_types.specs.Frames.{Content, Free, Holds, IsLoading, is_page, same_page}
 use Rattle.sgx_types.specs.Starts.{Start, is_load_of, loads_page}
-use Rattle.driver_rules.specs.Places.{Absent, Away, Here, Leaving, Loading, Place, after_look, back_to, gone_to, leaves}
-use Rattle.driver_laws.specs.Sound.{PlacesAreFrames, is_load_start, is_write_start, load_slot, slot_if, slot_loading, stands_in}
+use Rattle.driver_rules.specs.Places.{Absent, Away, Here, Leaving, Loading, Place, after_look, back_to, frame_here, gone_to, leaves}
+use Rattle.driver_laws.specs.Sound.{PlacesAreFrames, is_absent, is_load_start, is_write_start, load_slot, slot_if, slot_loading, stands_in}
 use Rattle.sgx_types.specs.declared.entries.Look.{Look}
 use Rattle.sgx_types.specs.declared.entries.Look.TheVariants as looks
 use Rattle.sgx_types.specs.declared.entries.Actor.{Actor}
@@ -21,6 +21,22 @@ use Rattle.sgx_types.specs.Table.{is_loading}
 -- a frame that holds a page holds no other
 pub holds_one : (c : Content) (a b : Page) → is_page c a ≡ true → is_page c b ≡ same_page a b
 holds_one c a b h = ap (λ x. is_page x b) (held_page c a h).holds
+
+-- a page that is here stands in its frame
+pub stands_there : (at : Place) (n : ℕ) → frame_here at ≡ Some n → stands_in at n ≡ true
+stands_there Absent n h = cc
+stands_there (Here f) n h = let same : f ≡ n = cc in eq-eqb f n same
+stands_there (Leaving f) n h = cc
+stands_there (Loading f slot) n h = cc
+stands_there (Away slot) n h = cc
+
+-- .. and is not absent
+pub here_there : (at : Place) (n : ℕ) → frame_here at ≡ Some n → is_absent at ≡ false
+here_there Absent n h = cc
+here_there (Here f) n h = refl
+here_there (Leaving f) n h = refl
+here_there (Loading f slot) n h = refl
+here_there (Away slot) n h = refl
 
 -- what is no start of a load has no slot of one
 pub no_load_slot : (o : Option Start) (g : Page) → is_load_start o ≡ false → load_slot o g ≡ None

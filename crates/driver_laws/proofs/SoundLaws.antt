@@ -23,6 +23,8 @@ use Rattle.sgx_types.specs.Frames.{Holds, IsVa, SecsOf, added, content, page_at,
 use Rattle.sgx_types.specs.Slots.{open_slot, version_in}
 use Rattle.sgx_types.specs.Starts.{Start, is_load_of, open_start, version_told}
 use Rattle.sgx_types.proofs.Pages.{same_page-refl}
+use Rattle.sgx_types.specs.Table.{is_lawful_access}
+use Rattle.sgx_types.specs.declared.entries.AccessOp.{AccessOp}
 use Rattle.driver_rules.specs.Ages.{head_of}
 use Rattle.driver_laws.specs.Kinds.{CanMove}
 use Rattle.driver_rules.specs.Places.{Absent, Away, Here, Leaving, Loading, Place, active, after_look, back_to, gone_to, is_here, leaves, place, to_tail}
@@ -332,3 +334,19 @@ stays_sound past e can s = by_event e.event can
     by_event (Did (Ewb f) answer) k = absurd k
     by_event (Did (Eld f) answer) k = absurd k
     by_event _ k = record { places = s.places; list = s.list; apart = s.apart; versions = s.versions; added = s.added }
+
+-- ---- pages that were added
+
+-- a page with lawful accesses is not absent
+pub lawful_there : (past : List Entry) (g : Page) (op : AccessOp) → IsSound past → is_lawful_access (added past g) op ≡ true
+    → is_absent (place past g) ≡ false
+lawful_there past g op sound k = by_added (added past g) k (sound.added g)
+  where
+    by_test : (b : Bool) → true ≡ not b → b ≡ false
+    by_test true n = cc
+    by_test false n = refl
+
+    by_added : (o : Option (Kind × Perm)) → is_lawful_access o op ≡ true → is_some o ≡ not (is_absent (place past g))
+        → is_absent (place past g) ≡ false
+    by_added None m is = cc
+    by_added (Some x) m is = by_test (is_absent (place past g)) is
