@@ -5,7 +5,7 @@ ghost use Rattle.sgx_types.specs.declared.entries.Event.{Event};
 ghost use Rattle.sgx_types.specs.Frames.{least_free};
 ghost use Rattle.turn_rules.specs.Script.{action_of};
 ghost use Rattle.paging_machine.specs.Parts.{state_of};
-ghost use Rattle.driver_rules.specs.Decided.{is_action, is_fetch, is_stop, same_reason};
+ghost use Rattle.driver_rules.specs.Decided.{is_action, is_fetch, is_stop};
 ghost use Rattle.audit_dues.specs.Next.{ends_fetch, next_by, slot_seen};
 
 use crate::same::same_action;
@@ -73,20 +73,7 @@ fn is_stop(page: Page, why: BusWhy, event: &Event) -> bool
         Event::Bus {
             page: told,
             why: reason,
-        } => told == page && same_reason(reason, why),
-        _ => false,
-    }
-}
-
-fn same_reason(one: BusWhy, other: BusWhy) -> bool
-    ensures { result ≡ same_reason one other }
-{
-    match (one, other) {
-        (BusWhy::GetFailed, BusWhy::GetFailed) => true,
-        (BusWhy::NoRecord, BusWhy::NoRecord) => true,
-        (BusWhy::PutFailed, BusWhy::PutFailed) => true,
-        (BusWhy::Mac, BusWhy::Mac) => true,
-        (BusWhy::Header, BusWhy::Header) => true,
+        } => told == page && reason == why,
         _ => false,
     }
 }

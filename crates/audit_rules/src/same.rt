@@ -1,9 +1,9 @@
 //! Whether two entries of one instruction end alike.
 
 ghost use Rattle.std.specs.Prelude.{◌≡◌};
-ghost use Rattle.audit_rules.specs.Same.{is_bare, same_answer, same_end, same_fault, same_numbers, same_refusal};
+ghost use Rattle.audit_rules.specs.Same.{is_bare, same_answer, same_end, same_numbers, same_refusal};
 
-use sgx_types::entries::{Answer, Event, PfWhy};
+use sgx_types::entries::{Answer, Event};
 use sgx_types::refusals::{Refusal, code};
 
 /// Whether two events of one instruction end alike: both done with one answer, or both refused for one reason, with its numbers.
@@ -34,18 +34,7 @@ fn same_answer(one: Answer, other: Answer) -> bool
                 tag: other,
             },
         ) => page == next && version == then && tag == other,
-        (Answer::Pf(m), Answer::Pf(n)) => same_fault(m, n),
-        _ => false,
-    }
-}
-
-fn same_fault(one: PfWhy, other: PfWhy) -> bool
-    ensures { result ≡ same_fault one other }
-{
-    match (one, other) {
-        (PfWhy::Absent, PfWhy::Absent) => true,
-        (PfWhy::WrongType, PfWhy::WrongType) => true,
-        (PfWhy::NoPerm, PfWhy::NoPerm) => true,
+        (Answer::Pf(m), Answer::Pf(n)) => m == n,
         _ => false,
     }
 }
