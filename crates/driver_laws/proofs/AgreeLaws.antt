@@ -20,7 +20,7 @@ use Rattle.sgx_types.specs.declared.names.Page.{Page}
 use Rattle.sgx_types.specs.declared.names.SlotAt.{SlotAt}
 use Rattle.sgx_types.specs.declared.refusals.Refusal.{Refusal}
 use Rattle.sgx_types.specs.Frames.{Content, Free, Holds, IsLoading, IsVa, SecsOf, added, content, page_at, reloaded, same_page, vas_made}
-use Rattle.sgx_types.specs.Slots.{is_slot_busy, names_slot, open_slot, same_slot, version_in, IsIdle}
+use Rattle.sgx_types.specs.Slots.{names_slot, open_slot, same_slot, version_in, IsIdle}
 use Rattle.sgx_types.specs.Starts.{Start, open_start, version_told}
 use Rattle.version_array.specs.Keeper.{Adds, Gives, Keeper, Takes, is_added, is_out}
 use Rattle.job_grammar.specs.Jobs.{JobView, va_pages}

@@ -14,7 +14,7 @@ use Rattle.sgx_types.specs.declared.names.Page.{Page}
 use Rattle.sgx_types.specs.declared.names.SlotAt.{SlotAt}
 use Rattle.sgx_types.specs.Epochs.{is_before, is_in_before, is_track, last_track}
 use Rattle.sgx_types.specs.Eviction.{block_place, earlier_or, is_drained, is_drained_from, keeps_back, number_kept_back, track_behind}
-use Rattle.sgx_types.specs.Frames.{content, is_block, is_blocked, is_page, is_put, made_before, put_by, same_page}
+use Rattle.sgx_types.specs.Frames.{Free, content, is_block, is_blocked, is_page, is_put, made_before, put_by, same_page}
 use Rattle.sgx_types.specs.Starts.{is_load_of, open_start}
 use Rattle.sgx_types.specs.Processors.{Enters, Keeps, Leaves, Move, Stay, is_by, move_by, stay, stay_after}
 use Rattle.sgx_types.proofs.Contents.{load_no_page, page_enclave}
