@@ -5,3 +5,4 @@ pub mod FirstLaws
 pub mod OtherShowLaws
 pub mod HeldLaws
 pub mod ListLaws
+pub mod BuildLaws

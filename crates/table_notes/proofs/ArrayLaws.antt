@@ -62,9 +62,9 @@ use Rattle.driver_laws.proofs.BuiltLaws.{added_has_pages}
 use Rattle.driver_tables.specs.Counts.{page_counts}
 use Rattle.driver_tables.specs.Tables.{IsNew}
 use Rattle.driver_tables.specs.declared.driver.Driver.{Driver}
+use Rattle.driver_tables.proofs.BuildLaws.{add_placed, arrays_before}
 use Rattle.table_notes.specs.Arrays.{KeepsArrays, is_move}
 use Rattle.table_notes.specs.Plain.{is_reclaimer}
-use Rattle.table_notes.proofs.BuildLaws.{add_placed, arrays_before}
 use Rattle.table_notes.proofs.EntryLaws.{ages, is_init}
 
 -- ---- room

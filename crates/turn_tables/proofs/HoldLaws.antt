@@ -39,6 +39,7 @@ use Rattle.driver_laws.proofs.SoundLaws.{entry_of}
 use Rattle.driver_laws.proofs.ThreeLaws.{three_most}
 use Rattle.driver_laws.proofs.PlaceLaws.{stands_there}
 use Rattle.driver_tables.proofs.HeldLaws.{SetsHolds, holds_of_builder, holds_of_cpu, holds_stay, sets_holds}
+use Rattle.driver_tables.proofs.BuildLaws.{extended_placed}
 use Rattle.turn_tables.specs.declared.cpu_turns.Interruption as kept
 use Rattle.turn_tables.specs.declared.holding.HeldPages.{HeldPages}
 use Rattle.turn_tables.specs.declared.turns.Turns.{Turns}
@@ -52,7 +53,6 @@ use Rattle.turn_tables.proofs.LineLaws.{op_valid}
 use Rattle.turn_tables.proofs.LookLaws.{IsSeen, looks_are}
 use Rattle.turn_tables.proofs.NeedLaws.{Fits, fits_entry}
 use Rattle.turn_tables.proofs.OnceLaws.{holds_all, holds_if, join_all, join_if, longer_if, once_all, once_if, or_right, pigeons}
-use Rattle.turn_tables.proofs.PlacedLaws.{extended_placed}
 
 -- ---- what is held of a list
 
