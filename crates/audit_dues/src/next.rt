@@ -5,10 +5,10 @@ ghost use Rattle.sgx_types.specs.declared.entries.Event.{Event};
 ghost use Rattle.sgx_types.specs.Frames.{least_free};
 ghost use Rattle.turn_rules.specs.Script.{action_of};
 ghost use Rattle.paging_machine.specs.Parts.{state_of};
-ghost use Rattle.driver_rules.specs.Decided.{is_action, is_fetch, is_stop, same_reason};
+ghost use Rattle.driver_rules.specs.Decided.{is_action, is_fetch, is_stop};
 ghost use Rattle.audit_dues.specs.Next.{ends_fetch, next_by, slot_seen};
 
-use crate::same::{same_action, same_page};
+use crate::same::same_action;
 use active_list::page_states::PageState;
 use driver_tables::driver::Driver;
 use paging_machine::machine::Machine;
@@ -73,20 +73,7 @@ fn is_stop(page: Page, why: BusWhy, event: &Event) -> bool
         Event::Bus {
             page: told,
             why: reason,
-        } => same_page(told, page) && same_reason(reason, why),
-        _ => false,
-    }
-}
-
-fn same_reason(one: BusWhy, other: BusWhy) -> bool
-    ensures { result ≡ same_reason one other }
-{
-    match (one, other) {
-        (BusWhy::GetFailed, BusWhy::GetFailed) => true,
-        (BusWhy::NoRecord, BusWhy::NoRecord) => true,
-        (BusWhy::PutFailed, BusWhy::PutFailed) => true,
-        (BusWhy::Mac, BusWhy::Mac) => true,
-        (BusWhy::Header, BusWhy::Header) => true,
+        } => told == page && reason == why,
         _ => false,
     }
 }
@@ -96,8 +83,7 @@ fn is_fetch(page: Page, slot: SlotAt, free: Option<Frame>, event: &Event) -> boo
     ensures { result ≡ is_fetch page slot (option_map (λ f. f.0) free) event.now }
 {
     match event {
-        Event::Bus { page: told, why } => ends_fetch(*why, free.is_some())
-            && same_page(*told, page),
+        Event::Bus { page: told, why } => ends_fetch(*why, free.is_some()) && *told == page,
         Event::Did { action, .. } | Event::Refused { action, .. } => match free {
             Some(frame) => same_action(action, &Action::EldStart { frame, page, slot }),
             None => false,

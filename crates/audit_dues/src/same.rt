@@ -1,93 +1,10 @@
-//! Whether two instructions are the same. A derived comparison says less of a type that is made of others.
+//! Whether two instructions are the same. The comparison that is derived for `Action` says too little of its operands.
 
 ghost use Rattle.std.specs.Prelude.{◌≡◌};
-ghost use Rattle.sgx_types.specs.Frames.{same_page};
-ghost use Rattle.sgx_types.specs.Slots.{same_slot};
-ghost use Rattle.driver_rules.specs.Same.{same_access, same_action, same_cause, same_digest, same_init, same_kind, same_perm};
+ghost use Rattle.driver_rules.specs.Same.{same_action, same_perm};
 
-use sgx_types::entries::{AccessOp, Action, Cause, PageInit};
-use sgx_types::names::{Kind, Page, Perm, SlotAt};
-
-/// Whether two pages are the same.
-pub fn same_page(one: Page, other: Page) -> bool
-    ensures { result ≡ same_page one other }
-{
-    one.enclave == other.enclave && one.number == other.number
-}
-
-/// Whether two slots are the same.
-pub fn same_slot(one: SlotAt, other: SlotAt) -> bool
-    ensures { result ≡ same_slot one other }
-{
-    one.frame.0 == other.frame.0 && one.index == other.index
-}
-
-fn same_perm(one: Perm, other: Perm) -> bool
-    ensures { result ≡ same_perm one other }
-{
-    one.r == other.r && one.w == other.w && one.x == other.x
-}
-
-fn same_kind(one: Kind, other: Kind) -> bool
-    ensures { result ≡ same_kind one other }
-{
-    match (one, other) {
-        (Kind::Secs, Kind::Secs) => true,
-        (Kind::Tcs, Kind::Tcs) => true,
-        (Kind::Reg, Kind::Reg) => true,
-        (Kind::Va, Kind::Va) => true,
-        _ => false,
-    }
-}
-
-fn same_init(one: PageInit, other: PageInit) -> bool
-    ensures { result ≡ same_init one other }
-{
-    match (one, other) {
-        (PageInit::Words(value), PageInit::Words(other)) => value == other,
-        (
-            PageInit::Tcs { ossa, nssa },
-            PageInit::Tcs {
-                ossa: first,
-                nssa: count,
-            },
-        ) => ossa == first && nssa == count,
-        _ => false,
-    }
-}
-
-fn same_cause(one: Cause, other: Cause) -> bool
-    ensures { result ≡ same_cause one other }
-{
-    match (one, other) {
-        (Cause::Timer, Cause::Timer) => true,
-        (Cause::Fault, Cause::Fault) => true,
-        (Cause::Kick, Cause::Kick) => true,
-        (Cause::End, Cause::End) => true,
-        _ => false,
-    }
-}
-
-fn same_access(one: AccessOp, other: AccessOp) -> bool
-    ensures { result ≡ same_access one other }
-{
-    match (one, other) {
-        (AccessOp::Load, AccessOp::Load) => true,
-        (AccessOp::Store, AccessOp::Store) => true,
-        (AccessOp::Xadd, AccessOp::Xadd) => true,
-        _ => false,
-    }
-}
-
-fn same_digest(one: Option<[u8; 32]>, other: Option<[u8; 32]>) -> bool
-    ensures { result ≡ same_digest one other }
-{
-    match (one, other) {
-        (None, None) => true,
-        (Some(one), Some(other)) => one == other,
-        _ => false,
-    }
-}
+use sgx_types::entries::Action;
+use sgx_types::names::Perm;
 
 /// Whether two instructions are the same, with their operands.
 pub fn same_action(one: &Action, other: &Action) -> bool
@@ -130,9 +47,9 @@ pub fn same_action(one: &Action, other: &Action) -> bool
             enclave == e
                 && number == n
                 && frame.0 == f.0
-                && same_kind(kind, k)
+                && kind == k
                 && same_perm(perm, p)
-                && same_init(init, i)
+                && init == i
         }
         (Action::Extend { frame, chunk }, Action::Extend { frame: f, chunk: c }) => {
             frame.0 == f.0 && chunk == c
@@ -143,7 +60,7 @@ pub fn same_action(one: &Action, other: &Action) -> bool
                 enclave: e,
                 expect: x,
             },
-        ) => enclave == e && same_digest(expect, x),
+        ) => enclave == e && expect == x,
         (
             Action::Enter {
                 enclave,
@@ -173,7 +90,7 @@ pub fn same_action(one: &Action, other: &Action) -> bool
             },
         ) => enclave == e && tcs == t && tcs_frame.0 == tf.0 && ssa_frame.0 == sf.0,
         (Action::Exit, Action::Exit) => true,
-        (Action::Aex { cause }, Action::Aex { cause: c }) => same_cause(cause, c),
+        (Action::Aex { cause }, Action::Aex { cause: c }) => cause == c,
         (
             Action::Fill { number, frame },
             Action::Fill {
@@ -187,7 +104,7 @@ pub fn same_action(one: &Action, other: &Action) -> bool
         (Action::Xadd { off, value }, Action::Xadd { off: o, value: v }) => off == o && value == v,
         (Action::Set { value }, Action::Set { value: v }) => value == v,
         (Action::Plus { value }, Action::Plus { value: v }) => value == v,
-        (Action::Pf { op, off }, Action::Pf { op: p, off: o }) => same_access(op, p) && off == o,
+        (Action::Pf { op, off }, Action::Pf { op: p, off: o }) => op == p && off == o,
         (Action::OutLoad { enclave, off }, Action::OutLoad { enclave: e, off: o }) => {
             enclave == e && off == o
         }
@@ -206,7 +123,7 @@ pub fn same_action(one: &Action, other: &Action) -> bool
         (Action::Block { frame }, Action::Block { frame: f }) => frame.0 == f.0,
         (Action::Track { enclave }, Action::Track { enclave: e }) => enclave == e,
         (Action::EwbStart { frame, slot }, Action::EwbStart { frame: f, slot: s }) => {
-            frame.0 == f.0 && same_slot(slot, s)
+            frame.0 == f.0 && slot == s
         }
         (Action::Ewb { frame }, Action::Ewb { frame: f }) => frame.0 == f.0,
         (
@@ -216,8 +133,14 @@ pub fn same_action(one: &Action, other: &Action) -> bool
                 page: p,
                 slot: s,
             },
-        ) => frame.0 == f.0 && same_page(page, p) && same_slot(slot, s),
+        ) => frame.0 == f.0 && page == p && slot == s,
         (Action::Eld { frame }, Action::Eld { frame: f }) => frame.0 == f.0,
         _ => false,
     }
+}
+
+fn same_perm(one: Perm, other: Perm) -> bool
+    ensures { result ≡ same_perm one other }
+{
+    one == other
 }

@@ -26,13 +26,14 @@ use Rattle.driver_tables.proofs.HeldLaws.{held_same}
 use Rattle.driver_tables.specs.declared.driver.Driver.{Driver}
 use Rattle.driver_tables.specs.Held.{ShowsHolds}
 use Rattle.driver_tables.specs.Tables.{ShowsTables}
+use Rattle.driver_tables.proofs.ListLaws.{head_marks, heads}
 use Rattle.audit_pass.specs.declared.stages.Stage.{Stage}
 use Rattle.audit_pass.specs.declared.stages.Stage.TheVariants as stages
 use Rattle.audit_pass.specs.declared.stages.Taken.{Taken}
 use Rattle.audit_pass.specs.Standing.{AreInFrames, StandsAt}
 use Rattle.audit_pass.specs.Told.{age_told, in_pass, in_tries, is_in_block, is_in_tries, look_is_right, looks_right}
 use Rattle.audit_pass.specs.Viewed.{TraceView, form_in, pages_in, pass_by, tries_of, waiting_by}
-use Rattle.audit_pass.proofs.ListLaws.{get_drop, head, head_marks, heads}
+use Rattle.audit_pass.proofs.ListLaws.{get_drop, head}
 
 -- ---- looks
 

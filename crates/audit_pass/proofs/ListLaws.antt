@@ -1,20 +1,6 @@
--- The place in a list up to which something is done, and the list of the tables.
-use Rattle.std.proofs.Common.{◌≡◌, ℕ, zero, suc, ◌+◌, ◌<◌, ◌≤◌, nat_lt, ◌||◌, ◌&&◌, Bool, true, false, refl, sym, ◌∙◌, ap, List, [], ◌∷◌}
-use Rattle.std.proofs.Common.{Option, Some, None, drop, length, map, slice_get, arith}
-use Rattle.std.specs.List.{list_any}
-use Rattle.sgx_types.proofs.Pages.{same_page-refl, same_pages}
-use Rattle.sgx_types.specs.declared.entries.Entry.{Entry}
-use Rattle.sgx_types.specs.declared.names.Page.{Page}
-use Rattle.sgx_types.specs.Frames.{same_page}
-use Rattle.active_list.specs.declared.ring.Listed as ring
-use Rattle.active_list.specs.Listing as listing
-use Rattle.driver_rules.specs.Ages.{head_of}
-use Rattle.driver_rules.specs.Places.{is_young}
-use Rattle.driver_laws.specs.Agrees.{Listed, marked}
-use Rattle.driver_tables.specs.Tables.{listed}
+-- The place in a list up to which something is done.
+use Rattle.std.proofs.Common.{◌≡◌, ℕ, zero, suc, ◌+◌, ◌<◌, ◌≤◌, nat_lt, true, false, refl, ap, List, [], ◌∷◌, Option, Some, None, drop, length, slice_get, arith}
 use Rattle.audit_pass.specs.Noted.{behind}
-
--- ---- places
 
 abbrev pub head : {A : Type 0} → List A → Option A
 head [] = None
@@ -57,64 +43,3 @@ behind_more n xs x ys h =
     let low = before_end (n + 1) xs x ys h in
     let more : nat_lt (n + 1) (length xs) ≡ true = grind (arith, low) in
     rw more refl
-
--- ---- the list
-
-abbrev pub AreListed : List Entry → List ring.Listed → List Page → Type 0
-AreListed past xs ys = map listed xs ≡ map (marked past) ys
-
-one_page : (past : List Entry) (x : ring.Listed) (g : Page) → listed x ≡ marked past g → (x.page ≡ g) × (x.young ≡ is_young past g)
-one_page past x g h = (ap (λ (l : Listed). l.page) h, ap (λ (l : Listed). l.young) h)
-
-abbrev front : Listed → List Listed → Listed
-front d [] = d
-front d (l ∷ ls) = l
-
-first_of : (past : List Entry) (x : ring.Listed) (xs : List ring.Listed) (g : Page) (gs : List Page) → AreListed past (x ∷ xs) (g ∷ gs)
-    → (listed x ≡ marked past g) × AreListed past xs gs
-first_of past x xs g gs h = (ap (front (listed x)) h, ap (drop 1) h)
-
-pub lengths : (past : List Entry) (xs : List ring.Listed) (ys : List Page) → AreListed past xs ys → length xs ≡ length ys
-lengths past [] [] h = refl
-lengths past (x ∷ xs) (y ∷ ys) h = ap suc (lengths past xs ys (first_of past x xs y ys h).1)
-lengths past [] (y ∷ ys) h = cc
-lengths past (x ∷ xs) [] h = cc
-
-pub heads : (past : List Entry) (xs : List ring.Listed) (ys : List Page) → AreListed past xs ys → listing.head_of xs ≡ head_of ys
-heads past [] [] h = refl
-heads past (x ∷ xs) (g ∷ gs) h = ap Some (one_page past x g (first_of past x xs g gs h).0).0
-heads past [] (g ∷ gs) h = cc
-heads past (x ∷ xs) [] h = cc
-
--- the mark of a page is the one in the list
-marks : (past : List Entry) (g : Page) (xs : List ring.Listed) (ys : List Page) → AreListed past xs ys
-    → listing.is_young xs g ≡ (list_any (same_page g) ys && is_young past g)
-marks past g [] [] h = refl
-marks past g (x ∷ xs) (y ∷ ys) h =
-    let two = first_of past x xs y ys h in
-    let one = one_page past x y two.0 in
-    rw (one.0, one.1, marks past g xs ys two.1) (by_page (same_page g y) refl)
-  where
-    joined : (b c : Bool) → (c || (b && c)) ≡ c
-    joined true true = refl
-    joined true false = refl
-    joined false true = refl
-    joined false false = refl
-
-    by_page : (b : Bool) → same_page g y ≡ b → ((b && is_young past y) || (list_any (same_page g) ys && is_young past g)) ≡
-        ((b || list_any (same_page g) ys) && is_young past g)
-    by_page true is = ap (λ z. is_young past z || (list_any (same_page g) ys && is_young past g)) (sym (same_pages g y is))
-        ∙ joined (list_any (same_page g) ys) (is_young past g)
-    by_page false is = refl
-marks past g [] (y ∷ ys) h = cc
-marks past g (x ∷ xs) [] h = cc
-
-pub head_marks : (past : List Entry) (xs : List ring.Listed) (ys : List Page) (g : Page) → AreListed past xs ys
-    → listing.head_of xs ≡ Some g → listing.is_young xs g ≡ is_young past g
-head_marks past xs ys g h at_head = marks past g xs ys h
-    ∙ ap (λ b. b && is_young past g) (is_listed ys (sym (heads past xs ys h) ∙ at_head))
-  where
-    is_listed : (zs : List Page) → head_of zs ≡ Some g → list_any (same_page g) zs ≡ true
-    is_listed [] k = cc
-    is_listed (z ∷ zs) k =
-        let same : z ≡ g = cc in ap (λ y. same_page g y || list_any (same_page g) zs) same ∙ rw (same_page-refl g) refl

@@ -10,8 +10,6 @@ use Rattle.sgx_types.specs.declared.entries.Look.{Look}
 use Rattle.sgx_types.specs.declared.entries.Look.TheVariants as looks
 use Rattle.sgx_types.specs.declared.names.Page.{Page}
 use Rattle.job_grammar.specs.Jobs.{JobView}
-use Rattle.active_list.specs.declared.page_states.PageState.{PageState}
-use Rattle.active_list.specs.declared.page_states.PageState.TheVariants as states
 use Rattle.active_list.specs.States.{state_of}
 use Rattle.driver_rules.specs.Ages.{head_of}
 use Rattle.driver_rules.specs.Passes as passes
@@ -21,14 +19,16 @@ use Rattle.driver_laws.proofs.MoveLaws.{place-taken}
 use Rattle.driver_laws.proofs.SoundLaws.{entry_of, head_here}
 use Rattle.driver_laws.specs.Sound.{IsSound, is_absent}
 use Rattle.driver_tables.specs.declared.driver.Driver.{Driver}
-use Rattle.driver_tables.specs.Tables.{ShowsTables, place_in}
+use Rattle.driver_tables.specs.Tables.{ShowsTables}
+use Rattle.driver_tables.proofs.ListLaws.{heads}
+use Rattle.driver_tables.specs.Moves.{frame_in}
+use Rattle.driver_tables.proofs.ShowLaws.{here_frame}
 use Rattle.audit_pass.specs.declared.stages.Stage.{Stage}
 use Rattle.audit_pass.specs.declared.stages.Taken.{Taken}
-use Rattle.audit_pass.specs.Noted.{after_look, frame_in, looked_on, taken_by, with_frame, with_taken}
+use Rattle.audit_pass.specs.Noted.{after_look, looked_on, taken_by, with_frame, with_taken}
 use Rattle.audit_pass.specs.Standing.{AreInFrames, StandsFor}
 use Rattle.audit_pass.specs.Viewed.{pages_in}
 use Rattle.audit_pass.proofs.FrameLaws.{frames_stay}
-use Rattle.audit_pass.proofs.ListLaws.{heads}
 
 pages_append : (xs ys : List Taken) → pages_in (xs ++ ys) ≡ pages_in xs ++ pages_in ys
 pages_append [] ys = refl
@@ -45,14 +45,6 @@ scan_stands : (first : ℕ) (past : List Entry) (kicks : List ℕ) (left : ℕ) 
 scan_stands first past kicks zero [] h room = record { same = refl; frames = tt; stage = tt }
 scan_stands first past kicks zero (t ∷ ts) h room = record { same = refl; frames = h; stage = tt }
 scan_stands first past kicks (suc left) taken h room = record { same = refl; frames = h; stage = room }
-
-here_frame : (state : PageState) (n : ℕ) → place_in state ≡ Here n → (frame_in state).0 ≡ n
-here_frame (states.Here f) n h = cc
-here_frame states.Absent n h = cc
-here_frame (states.Leaving f) n h = cc
-here_frame (states.Loading f slot) n h = cc
-here_frame (states.Away slot) n h = cc
-here_frame (states.Lost slot) n h = cc
 
 -- what a look takes
 record IsTakenBy (past : List Entry) (page : Page) (look : Look) (one : Option Taken) : Type 0 where

@@ -21,6 +21,7 @@ use Rattle.sgx_types.specs.Making.{Making}
 use Rattle.sgx_types.specs.Rules.{RefusalRule}
 use Rattle.sgx_types.specs.Sights.{drain_sight_at, sight_at, slot_sight_at}
 use Rattle.sgx_types.specs.Table.{DrainSight, FrameSight, SlotSight, ewbstart_row, first_of_row, is_busy, is_out_of_range, is_secs, is_va}
+use Rattle.sgx_types.proofs.Contents.{page_enclave}
 use Rattle.job_grammar.specs.declared.jobs.Marks.{Marks}
 use Rattle.job_grammar.specs.Jobs.{JobView}
 use Rattle.paging_machine.specs.Parts.{Parts}
@@ -30,11 +31,11 @@ use Rattle.driver_rules.specs.Passes.{Between, Blocking, Pass, Tries, free_count
 use Rattle.driver_rules.specs.Places.{Leaving, active, place}
 use Rattle.driver_laws.proofs.SoundLaws.{entry_of}
 use Rattle.driver_laws.proofs.StillLaws.{holds_here}
-use Rattle.driver_laws.proofs.TrackLaws.{page_enclave}
 use Rattle.driver_laws.specs.Kinds.{CanMove}
 use Rattle.driver_laws.specs.Stages.{HasPages}
 use Rattle.driver_laws.specs.Tracks.{OwnRule}
 use Rattle.driver_tables.specs.declared.driver.Driver.{Driver}
+use Rattle.driver_tables.proofs.ListLaws.{lengths}
 use Rattle.driver_steps.specs.Agrees.{Agrees}
 use Rattle.audit_pass.specs.declared.stages.Form.{Form}
 use Rattle.audit_pass.specs.declared.stages.Form.TheVariants as forms
@@ -46,7 +47,7 @@ use Rattle.audit_pass.specs.Noted.{after_kick, behind, decided, gone_by, gone_on
 use Rattle.audit_pass.specs.Standing.{AreInFrames, IsForm, StandsAt, StandsFor}
 use Rattle.audit_pass.specs.Viewed.{TraceView, form_in, pages_in, pass_by, tries_of}
 use Rattle.audit_pass.proofs.FrameLaws.{form_stays, frames_behind, frames_quiet, others_stand}
-use Rattle.audit_pass.proofs.ListLaws.{behind_last, behind_more, drop_next, get_drop, head, lengths}
+use Rattle.audit_pass.proofs.ListLaws.{behind_last, behind_more, drop_next, get_drop, head}
 use Rattle.audit_pass.proofs.LookLaws.{look_stands}
 use Rattle.audit_pass.proofs.TryLaws.{KeepsIn, kept_in}
 

@@ -14,6 +14,7 @@ use Rattle.sgx_types.specs.Epochs.{block_epoch, epoch, noted}
 use Rattle.sgx_types.specs.Frames.{content}
 use Rattle.sgx_types.specs.Making.{Making}
 use Rattle.sgx_types.specs.Processors.{Stay, stay}
+use Rattle.sgx_types.proofs.Contents.{page_enclave}
 use Rattle.job_grammar.specs.Jobs.{JobView}
 use Rattle.cached_translations.specs.declared.processor.Mode.{Mode}
 use Rattle.cached_translations.specs.declared.processor.Mode.TheVariants as modes
@@ -26,7 +27,7 @@ use Rattle.driver_rules.specs.Decided.{beside_of, form_of, is_in_form, is_kick_o
 use Rattle.driver_rules.specs.Passes.{Tries, keepers, noting_from, pass}
 use Rattle.driver_laws.proofs.EpochLaws.{block_epoch_before}
 use Rattle.driver_laws.proofs.KickLaws.{keepers_by_epochs}
-use Rattle.driver_laws.proofs.TrackLaws.{page_enclave, waiting_holds}
+use Rattle.driver_laws.proofs.TrackLaws.{waiting_holds}
 use Rattle.driver_laws.specs.Sound.{IsSound}
 use Rattle.driver_laws.specs.Tracks.{IsTracked, KeepsTracks}
 use Rattle.driver_tables.specs.declared.driver.Driver.{Driver}

@@ -10,19 +10,16 @@ use Rattle.sgx_types.specs.declared.entries.Event.{Event}
 use Rattle.sgx_types.specs.declared.entries.Event.TheVariants.{Age, Bus, Did, Kick, Refused}
 use Rattle.sgx_types.specs.declared.entries.Look.{Look}
 use Rattle.sgx_types.specs.declared.entries.Look.TheVariants as looks
-use Rattle.sgx_types.specs.declared.names.Frame.{Frame}
 use Rattle.sgx_types.specs.declared.names.Page.{Page}
 use Rattle.sgx_types.specs.declared.refusals.Refusal.{Refusal}
 use Rattle.sgx_types.specs.declared.refusals.Refusal.TheVariants as why
-use Rattle.turn_rules.specs.Script.{frame_at}
 use Rattle.job_grammar.specs.declared.jobs.Marks.{Marks}
-use Rattle.active_list.specs.declared.page_states.PageState.{PageState}
-use Rattle.active_list.specs.declared.page_states.PageState.TheVariants as states
 use Rattle.active_list.specs.Listing.{head_of}
 use Rattle.active_list.specs.States.{state_of}
 use Rattle.paging_machine.specs.Parts.{Parts}
 use Rattle.driver_rules.specs.Passes.{works_with}
 use Rattle.driver_tables.specs.declared.driver.Driver.{Driver}
+use Rattle.driver_tables.specs.Moves.{frame_in}
 use Rattle.audit_pass.specs.declared.stages.Form.{Form}
 use Rattle.audit_pass.specs.declared.stages.Form.TheVariants as forms
 use Rattle.audit_pass.specs.declared.stages.Stage.{Stage}
@@ -36,11 +33,6 @@ abbrev pub behind : ℕ → ℕ → Option ℕ
 behind place count = if nat_lt (place + 1) count then Some (place + 1) else None
 
 -- ---- looks
-
-abbrev pub frame_in : PageState → Frame
-frame_in (states.Here f) = f
-frame_in (states.Leaving f) = f
-frame_in _ = frame_at 0
 
 abbrev pub with_frame : Driver → Option Page → Option Taken
 with_frame d None = None

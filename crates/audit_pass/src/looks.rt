@@ -2,16 +2,15 @@
 
 ghost use Rattle.std.specs.Prelude.{◌≡◌};
 ghost use Rattle.driver_rules.specs.Dues.{is_look};
-ghost use Rattle.sgx_types.specs.Frames.{same_page};
 ghost use Rattle.active_list.specs.Listing.{head_of};
 ghost use Rattle.audit_pass.specs.Told.{look_is_right, looks_right};
-ghost use Rattle.audit_pass.specs.Noted.{frame_in, taken_by};
+ghost use Rattle.audit_pass.specs.Noted.{taken_by};
 
 use crate::stages::Taken;
-use active_list::page_states::PageState;
 use driver_tables::driver::Driver;
+use driver_tables::moves::frame_in;
 use sgx_types::entries::{Event, Look};
-use sgx_types::names::{Frame, Page};
+use sgx_types::names::Page;
 
 /// Whether a look is at the head of the list, and told what is so of it. Events of other kinds are right.
 pub(crate) fn looks_right(driver: &Driver, event: Event) -> bool
@@ -30,16 +29,10 @@ fn look_is_right(driver: &Driver, page: Page, look: Look) -> bool
         Some(head) => {
             let held = driver.active.is_held(head);
             let young = driver.active.young(head);
-            same_page(head, page) && is_look(held, young, look)
+            head == page && is_look(held, young, look)
         }
         None => false,
     }
-}
-
-fn same_page(a: Page, b: Page) -> bool
-    ensures { result ≡ same_page a b }
-{
-    a.enclave == b.enclave && a.number == b.number
 }
 
 // Whether a look tells what is so of a page: a held page as held, else a young one as young.
@@ -64,15 +57,4 @@ pub(crate) fn taken_by(driver: &Driver, look: Look) -> Option<Taken>
     let page = driver.active.head()?;
     let frame = frame_in(driver.states.state(page));
     Some(Taken { page, frame })
-}
-
-// The frame of a page that stands in one.
-fn frame_in(state: PageState) -> Frame
-    ensures { result ≡ frame_in state }
-{
-    match state {
-        PageState::Here(frame) => frame,
-        PageState::Leaving(frame) => frame,
-        _ => Frame(0),
-    }
 }

@@ -1,11 +1,9 @@
 //! How far a pass is behind an entry.
 
 ghost use Rattle.std.specs.Prelude.{◌≡◌};
-ghost use Rattle.driver_rules.specs.Passes.{works_with};
 ghost use Rattle.audit_pass.specs.Noted.{after_block, after_done, after_kick, after_look, after_page, after_refused, behind, not_tracked};
 
 use crate::stages::{Form, Stage};
-use job_grammar::jobs::Marks;
 use sgx_types::entries::Action;
 use sgx_types::refusals::Refusal;
 
@@ -73,20 +71,6 @@ pub(crate) fn after_kick(place: usize, kicks: usize) -> Form
         Some(next) => Form::Kicks { next },
         None => Form::Third,
     }
-}
-
-/// Whether the reclaimer works, with so many frames free: it begins below the low mark, stops from the high mark on, and else goes on
-/// as before.
-pub(crate) fn works_with(marks: Marks, free: u32, before: bool) -> bool
-    ensures { result ≡ works_with marks free before }
-{
-    if free < marks.low {
-        return true;
-    }
-    if free >= marks.high {
-        return false;
-    }
-    before
 }
 
 // The next page to block, or the first one to write out.

@@ -16,11 +16,12 @@ ghost use Rattle.audit_pass.specs.Viewed.{new_view};
 
 use crate::keepers::{find_keepers, first_keeper};
 use crate::looks::{looks_right, taken_by};
-use crate::moves::{after_done, after_kick, after_look, after_refused, works_with};
+use crate::moves::{after_done, after_kick, after_look, after_refused};
 use crate::stages::{Form, Stage, Taken};
 use crate::tries::{
     is_end, is_in_tries, is_kick_of, is_kick_or_try, is_last_try, is_track_of, is_try,
 };
+use driver_rules::marks::works_with;
 use driver_tables::driver::Driver;
 use job_grammar::jobs::Marks;
 use paging_machine::machine::Machine;

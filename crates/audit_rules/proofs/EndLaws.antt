@@ -1,6 +1,6 @@
 -- Two ends of one write-out, and two of one load: which rule the one breaks that is not the machine's.
 use Rattle.std.specs.Prelude.{◌==◌, if◌then◌else◌}
-use Rattle.std.proofs.Common.{◌≡◌, ℕ, Bool, true, false, refl, sym, ap, subst, ◌∙◌, ◌⊎◌, inl, inr, List, Option, None, Some}
+use Rattle.std.proofs.Common.{◌≡◌, ℕ, Bool, true, false, refl, sym, ap, subst, ◌∙◌, ◌⊎◌, inl, inr, List, Option, Some}
 use Rattle.std.proofs.lemmas.Bool.{eqb-true, eq-eqb}
 use Rattle.sgx_types.specs.declared.entries.Entry.{Entry}
 use Rattle.sgx_types.specs.declared.entries.Event.TheVariants.{Did}
@@ -14,20 +14,18 @@ use Rattle.sgx_types.specs.declared.names.Page.{Page}
 use Rattle.sgx_types.specs.declared.names.Perm.{Perm}
 use Rattle.sgx_types.specs.Ends.{EndsIn, EndsOut, IsBack}
 use Rattle.sgx_types.specs.Flat.{flat}
-use Rattle.sgx_types.specs.Fresh.{IsLastOut, Out, last_out}
-use Rattle.sgx_types.specs.Frames.{Content, Holds, content, same_page}
-use Rattle.sgx_types.specs.Rules.{EndsWriteOut, RefusalRule}
+use Rattle.sgx_types.specs.Fresh.{IsLastOut, Out}
+use Rattle.sgx_types.specs.Frames.{Holds, same_page}
+use Rattle.sgx_types.specs.Rules.{EndsWriteOut}
 use Rattle.sgx_types.specs.Sealed.{Sealed}
 use Rattle.sgx_types.specs.Starts.{Start, open_start}
 use Rattle.sgx_types.proofs.Pages.{same_pages, same_page-refl}
 use Rattle.sgx_types.proofs.Truths.{tested}
 use Rattle.seal_record.specs.Sealing.{IsSealed}
 use Rattle.job_grammar.specs.Jobs.{JobView}
-use Rattle.turn_rules.specs.Machines.{machine_of}
 use Rattle.driver_rules.specs.Scripts.{ScriptRule}
-use Rattle.run_history.specs.declared.rules.Rule.{Rule}
 use Rattle.run_history.specs.declared.rules.Rule.TheVariants as rules
-use Rattle.run_history.specs.Histories.{FailsHere, Says}
+use Rattle.run_history.specs.Histories.{FailsHere}
 use Rattle.audit_rules.specs.Rivals.{KeepsMachines, rule_back, rule_out}
 use Rattle.audit_rules.proofs.OrderLaws.{evict_fails, fresh_fails, refusal_fails, sealed_fails}
 

@@ -1,5 +1,5 @@
 -- The test of a form holds exactly where the row's form is.
-use Rattle.std.proofs.Common.{◌≡◌, ℕ, Bool, true, false, refl, sym, ◌∙◌, List}
+use Rattle.std.proofs.Common.{◌≡◌, ℕ, Bool, true, false, refl, List}
 use Rattle.sgx_types.specs.declared.entries.Entry.{Entry}
 use Rattle.sgx_types.specs.declared.entries.Action.{Action}
 use Rattle.sgx_types.specs.declared.entries.Action.TheVariants.{Epa, Create, Add, Extend, Init, Enter, Resume, Exit, Aex, Fill, Load, Store, Xadd, Set, Plus, Pf, OutLoad, OutStore, Block, Track, EwbStart, Ewb, EldStart, Eld}

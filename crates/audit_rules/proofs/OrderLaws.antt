@@ -1,5 +1,5 @@
 -- A rule fails at an entry, and the rules before it hold there.
-use Rattle.std.proofs.Common.{◌≡◌, ℕ, ◌<◌, List, Some, arith, refl}
+use Rattle.std.proofs.Common.{◌<◌, List, Some, arith, refl}
 use Rattle.sgx_types.specs.declared.entries.Entry.{Entry}
 use Rattle.sgx_types.specs.Fresh.{FreshRule}
 use Rattle.sgx_types.specs.Rules.{EvictRule, FlatRule, RefusalRule}

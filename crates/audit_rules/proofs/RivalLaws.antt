@@ -4,10 +4,9 @@ use Rattle.std.proofs.Common.{◌≡◌, ℕ, Bool, true, false, refl, sym, ap, 
 use Rattle.sgx_types.specs.declared.entries.Entry.{Entry}
 use Rattle.sgx_types.specs.declared.entries.Event.{Event}
 use Rattle.sgx_types.specs.declared.entries.Event.TheVariants.{Did, Refused}
-use Rattle.sgx_types.specs.declared.entries.Event.TheVariants as events
 use Rattle.sgx_types.specs.declared.entries.Actor.{Actor}
 use Rattle.sgx_types.specs.declared.entries.Action.{Action}
-use Rattle.sgx_types.specs.declared.entries.Action.TheVariants.{Epa, Create, Add, Extend, Init, Enter, Resume, Exit, Aex, Fill, Load, Store, Xadd, Set, Plus, Pf, OutLoad, OutStore, Block, Track, EwbStart, Ewb, EldStart, Eld}
+use Rattle.sgx_types.specs.declared.entries.Action.TheVariants.{Init, Enter, Resume, Load, Xadd, Plus, Pf, OutLoad, EwbStart, Ewb, EldStart, Eld}
 use Rattle.sgx_types.specs.declared.entries.Answer.{Answer}
 use Rattle.sgx_types.specs.declared.entries.Answer.TheVariants as answers
 use Rattle.sgx_types.specs.declared.refusals.Refusal.{Refusal}
@@ -27,7 +26,7 @@ use Rattle.run_history.specs.Histories.{FailsHere}
 use Rattle.audit_rules.specs.Forms.{has_form, is_hash}
 use Rattle.audit_rules.specs.Rivals.{AreRivals, KeepsMachines, is_load_refused, rule_of, rule_of_allowed, rule_of_answer, rule_of_denied, rule_of_done, rule_of_formed, rule_of_reasons}
 use Rattle.audit_rules.proofs.EndLaws.{other_back, other_out}
-use Rattle.audit_rules.proofs.FormLaws.{cssa_is, fault_is, has_its_form, hash_is, is_of_its_form, value_is, version_is}
+use Rattle.audit_rules.proofs.FormLaws.{has_its_form, is_of_its_form}
 use Rattle.audit_rules.proofs.OrderLaws.{flat_fails, fresh_fails, measure_fails, refusal_fails}
 
 clash : {x : Refusal} (o : Option Refusal) → o ≡ None → o ≡ Some x → ⊥

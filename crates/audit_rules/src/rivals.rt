@@ -9,7 +9,6 @@ ghost use Rattle.audit_rules.specs.Rivals.{AreRivals, KeepsMachines, rule_back, 
 ghost use Rattle.audit_rules.specs.Rivals.{rule_of_denied, rule_of_done, rule_of_formed, rule_of_reasons, rule_out};
 
 use crate::forms::has_form;
-use crate::same::same_page;
 use run_history::rules::Rule;
 use sgx_types::entries::{Action, Answer, Entry, Event};
 use sgx_types::refusals::Refusal;
@@ -91,7 +90,7 @@ fn rule_out(answer: Answer, right: Answer) -> Rule
     else {
         return Rule::Refusal;
     };
-    if !same_page(page, g) {
+    if page != g {
         return Rule::Refusal;
     }
     if version == v {
@@ -108,7 +107,7 @@ fn rule_back(answer: Answer, right: Answer) -> Rule
     let (Answer::Moved { page, .. }, Answer::Moved { page: g, .. }) = (answer, right) else {
         return Rule::Refusal;
     };
-    if same_page(page, g) {
+    if page == g {
         Rule::Fresh
     } else {
         Rule::Refusal

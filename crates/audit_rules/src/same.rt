@@ -1,11 +1,9 @@
 //! Whether two entries of one instruction end alike.
 
 ghost use Rattle.std.specs.Prelude.{◌≡◌};
-ghost use Rattle.audit_rules.specs.Same.{is_bare, same_answer, same_end, same_fault, same_numbers, same_refusal};
-ghost use Rattle.sgx_types.specs.Frames.{same_page};
+ghost use Rattle.audit_rules.specs.Same.{is_bare, same_answer, same_end, same_numbers, same_refusal};
 
-use sgx_types::entries::{Answer, Event, PfWhy};
-use sgx_types::names::Page;
+use sgx_types::entries::{Answer, Event};
 use sgx_types::refusals::{Refusal, code};
 
 /// Whether two events of one instruction end alike: both done with one answer, or both refused for one reason, with its numbers.
@@ -17,13 +15,6 @@ pub fn same_end(one: &Event, other: &Event) -> bool
         (Event::Refused { why, .. }, Event::Refused { why: found, .. }) => same_refusal(why, found),
         _ => false,
     }
-}
-
-/// Whether two pages are one.
-pub fn same_page(one: Page, other: Page) -> bool
-    ensures { result ≡ same_page one other }
-{
-    one.enclave == other.enclave && one.number == other.number
 }
 
 fn same_answer(one: Answer, other: Answer) -> bool
@@ -42,19 +33,8 @@ fn same_answer(one: Answer, other: Answer) -> bool
                 version: then,
                 tag: other,
             },
-        ) => same_page(page, next) && version == then && tag == other,
-        (Answer::Pf(m), Answer::Pf(n)) => same_fault(m, n),
-        _ => false,
-    }
-}
-
-fn same_fault(one: PfWhy, other: PfWhy) -> bool
-    ensures { result ≡ same_fault one other }
-{
-    match (one, other) {
-        (PfWhy::Absent, PfWhy::Absent) => true,
-        (PfWhy::WrongType, PfWhy::WrongType) => true,
-        (PfWhy::NoPerm, PfWhy::NoPerm) => true,
+        ) => page == next && version == then && tag == other,
+        (Answer::Pf(m), Answer::Pf(n)) => m == n,
         _ => false,
     }
 }

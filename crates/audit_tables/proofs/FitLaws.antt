@@ -26,13 +26,13 @@ use Rattle.driver_rules.specs.Places.{active, place}
 use Rattle.driver_laws.specs.Sound.{is_absent, once_here, slot_at}
 use Rattle.driver_laws.proofs.SoundLaws.{head_here}
 use Rattle.driver_tables.specs.declared.driver.Driver.{Driver}
+use Rattle.driver_tables.proofs.ListLaws.{heads, not_listed}
 use Rattle.driver_steps.specs.Agrees.{Agrees}
 use Rattle.turn_tables.specs.declared.turns.Turns.{Turns}
 use Rattle.audit_laws.proofs.AgreeLaws.{agrees_by_rules}
 use Rattle.audit_tables.specs.Followed.{CanFollow}
 use Rattle.audit_tables.specs.Following.{FitsAway, FitsEnd, FitsEnded, FitsEvent, FitsGone, FitsLoad, FitsLook, FitsMove, FitsRefused}
 use Rattle.audit_tables.proofs.LawfulLaws.{IsLawful, lawful}
-use Rattle.audit_tables.proofs.ListLaws.{heads, not_listed}
 use Rattle.audit_tables.proofs.StartLaws.{IsOfLoad, open_load, slot_left}
 
 module _ (j : JobView) (past : List Entry) (d : Driver) (m : Parts) (agrees : Agrees (machine_of j) j past d m) where
@@ -53,7 +53,7 @@ module _ (j : JobView) (past : List Entry) (d : Driver) (m : Parts) (agrees : Ag
 
   look_fits : (page : Page) → head_of (active past) ≡ Some page → FitsLook d page
   look_fits page head = record {
-    head = heads d.active.pages past (active past) page agrees.shows.list head;
+    head = heads past d.active.pages (active past) agrees.shows.list ∙ head;
     placed = in_list page (head_there page head);
     counts = agrees.shows.counts;
   }
@@ -72,7 +72,7 @@ module _ (j : JobView) (past : List Entry) (d : Driver) (m : Parts) (agrees : Ag
     room = has_room c low;
     placed = in_list page (ap is_absent k.at);
     counts = agrees.shows.counts;
-    absent = not_listed d.active.pages past (active past) page agrees.shows.list (agrees.sound.list page ∙ ap once_here k.at);
+    absent = not_listed past d.active.pages (active past) page agrees.shows.list (agrees.sound.list page ∙ ap once_here k.at);
     out = agrees.shows.slots.used page k.start.slot (ap (slot_at (open_start past)) k.at);
   }
 

@@ -1,4 +1,3 @@
-mod ListLaws
 mod StartLaws
 mod LawfulLaws
 mod FitLaws

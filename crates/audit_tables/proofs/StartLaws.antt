@@ -1,5 +1,5 @@
 -- The open start that an entry ends, as it is asked of the machine, and the slot that a start names.
-use Rattle.std.proofs.Common.{◌≡◌, ℕ, Bool, true, false, List, Option, Some, None, nat_lt, refl, sym, ap, ◌∙◌, arith}
+use Rattle.std.proofs.Common.{Bool, List, None, Option, Some, ap, arith, false, nat_lt, refl, true, ℕ, ◌∙◌, ◌≡◌}
 use Rattle.std.proofs.lemmas.Bool.{eq-eqb, lt-ltb, ltb-false}
 use Rattle.sgx_types.proofs.Pages.{same_pages}
 use Rattle.sgx_types.proofs.Rows.{NoneHolds, none_holds}
@@ -10,17 +10,17 @@ use Rattle.sgx_types.specs.declared.entries.Entry.{Entry}
 use Rattle.sgx_types.specs.declared.names.Frame.{Frame}
 use Rattle.sgx_types.specs.declared.names.Page.{Page}
 use Rattle.sgx_types.specs.declared.names.SlotAt.{SlotAt}
-use Rattle.sgx_types.specs.Frames.{Content, IsVa, content, same_page}
+use Rattle.sgx_types.specs.Frames.{content, same_page}
 use Rattle.sgx_types.specs.Making.{Making}
 use Rattle.sgx_types.specs.Sights.{drain_sight_at, row_at, sight_at, slot_sight_at}
 use Rattle.sgx_types.specs.Starts.{BareStart, Start, bare_start, loads_page, open_start, without_place}
-use Rattle.sgx_types.specs.Table.{ewbstart_row, first_of_row, is_va as is_va_in}
+use Rattle.sgx_types.specs.Table.{ewbstart_row, first_of_row, is_va}
 use Rattle.job_grammar.specs.Jobs.{JobView}
 use Rattle.version_array.specs.Keeper.{Keeper, is_out}
 use Rattle.paging_machine.specs.declared.starts.Start as starts
 use Rattle.paging_machine.specs.Parts.{start_of}
 use Rattle.driver_rules.specs.Places.{Loading, place}
-use Rattle.driver_laws.specs.Agrees.{ShowsSlots, is_va}
+use Rattle.driver_laws.specs.Agrees.{ShowsSlots}
 use Rattle.driver_laws.specs.Sound.{IsSound, load_slot, slot_if, slot_loading, slot_of}
 use Rattle.audit_tables.specs.Naming.{IsLeft}
 
@@ -83,10 +83,6 @@ open_load past f page slot s sound at opened = by_start s refl named
 
 -- ---- the slot of a write-out
 
-same_va : (c : Content) → is_va_in c ≡ is_va c
-same_va IsVa = refl
-same_va _ = refl
-
 below_end : (i : ℕ) → nat_lt 511 i ≡ false → nat_lt i 512 ≡ true
 below_end i h = lt-ltb i 512 (let low = ltb-false 511 i h in omega (arith, low))
 
@@ -99,7 +95,7 @@ named_row : (k : Making) (past : List Entry) (f : Frame) (slot : SlotAt) (is_spe
     → NoneHolds (ewbstart_row (sight_at k.frames past f.0) (slot_sight_at k.frames past slot)
     (drain_sight_at k.first_epoch past f.0) is_spent) → IsNamed past slot
 named_row k past f slot is_spent none = record {
-  array = sym (same_va (content past slot.frame.0)) ∙ not_false (is_va_in (content past slot.frame.0)) (neither _ _ none.1.1.1.0).1;
+  array = not_false (is_va (content past slot.frame.0)) (neither _ _ none.1.1.1.0).1;
   within = below_end slot.index (neither _ (nat_lt 511 slot.index) none.0).1;
 }
 

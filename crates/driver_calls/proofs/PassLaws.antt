@@ -1,7 +1,7 @@
 -- The entries of a pass come with the calls that it made.
 use Rattle.std.proofs.Common.{◌≡◌, inl, inr, ℕ, zero, suc, ◌≤◌, Bool, true, false, if◌then◌else◌, cond, refl, sym, ◌∙◌, ap, subst, List, [], ◌∷◌, Option, Some, None, MatchOption, length, min, sum, slice_get, arith, count_by}
 use Rattle.std.specs.Option.{IsSomeAnd}
-use Rattle.sgx_types.proofs.Pages.{same_page-swap}
+use Rattle.sgx_types.proofs.Pages.{same_page-refl, same_page-swap}
 use Rattle.sgx_types.specs.declared.entries.Action.{Action}
 use Rattle.sgx_types.specs.declared.entries.Action.TheVariants.{Block, Track, EwbStart, EldStart, Ewb}
 use Rattle.sgx_types.specs.declared.entries.Actor.TheVariants as actors
@@ -41,7 +41,6 @@ use Rattle.driver_rules.specs.declared.waits.Why.{Why}
 use Rattle.driver_rules.specs.declared.waits.Why.TheVariants as waits
 use Rattle.driver_rules.specs.Places.{Leaving, place}
 use Rattle.driver_laws.specs.Sound.{is_absent}
-use Rattle.driver_laws.proofs.PlaceLaws.{same_page-refl}
 use Rattle.driver_tables.specs.declared.driver.Driver.{Driver}
 use Rattle.driver_tables.specs.Moves.{IsLooked, leaving_of}
 use Rattle.reclaim_worker.specs.declared.turns.Form.{Form}

@@ -3,7 +3,7 @@ use Rattle.std.proofs.Common.{◌≡◌, ℕ, ◌==◌, ◌&&◌, ◌||◌, not,
 use Rattle.std.specs.List.{list_any}
 use Rattle.std.proofs.lemmas.Bool.{eqb-true, eq-eqb, false≢true}
 use Rattle.std.proofs.lemmas.List.Folds.{list_any-append}
-use Rattle.sgx_types.proofs.Pages.{same_pages, same_slots}
+use Rattle.sgx_types.proofs.Pages.{same_page-refl, same_pages, same_slots}
 use Rattle.sgx_types.specs.declared.entries.Action.TheVariants.{Epa, Create, Add, EwbStart, Ewb, EldStart, Eld}
 use Rattle.sgx_types.specs.declared.entries.Actor.{Actor}
 use Rattle.sgx_types.specs.declared.entries.Answer.{Answer}
@@ -19,18 +19,20 @@ use Rattle.sgx_types.specs.declared.names.Perm.{Perm}
 use Rattle.sgx_types.specs.declared.names.Page.{Page}
 use Rattle.sgx_types.specs.declared.names.SlotAt.{SlotAt}
 use Rattle.sgx_types.specs.declared.refusals.Refusal.{Refusal}
-use Rattle.sgx_types.specs.Frames.{Content, Free, Holds, IsLoading, IsVa, SecsOf, added, content, is_page, page_at, reloaded, same_page}
-use Rattle.sgx_types.specs.Slots.{is_slot_busy, names_slot, open_slot, same_slot, version_in, IsIdle}
+use Rattle.sgx_types.specs.Frames.{Content, Free, Holds, IsLoading, IsVa, SecsOf, added, content, page_at, reloaded, same_page, vas_made}
+use Rattle.sgx_types.specs.Slots.{names_slot, open_slot, same_slot, version_in, IsIdle}
 use Rattle.sgx_types.specs.Starts.{Start, open_start, version_told}
 use Rattle.version_array.specs.Keeper.{Adds, Gives, Keeper, Takes, is_added, is_out}
 use Rattle.job_grammar.specs.Jobs.{JobView, va_pages}
-use Rattle.driver_laws.specs.Agrees.{ShowsSlots, has_pages, is_va}
+use Rattle.driver_laws.specs.Agrees.{ShowsSlots, has_pages}
 use Rattle.driver_laws.specs.Kinds.{CanMove, is_quiet}
 use Rattle.driver_rules.specs.Places.{Leaving, Loading, place}
 use Rattle.sgx_types.specs.Slots.{slot_of as starts_slot}
 use Rattle.sgx_types.proofs.Busy.{idle_ended, idle_freed, idle_started}
-use Rattle.driver_laws.specs.Sound.{IsSound, is_loading, load_slot, slot_at, slot_loading, slot_of, stands_in}
-use Rattle.driver_laws.proofs.PlaceLaws.{load_slot_is, same_page-refl}
+use Rattle.sgx_types.specs.Table.{is_loading, is_va}
+use Rattle.sgx_types.proofs.Contents.{loading_no_va, page_is_no_other}
+use Rattle.driver_laws.specs.Sound.{IsSound, load_slot, slot_at, slot_loading, slot_of, stands_in}
+use Rattle.driver_laws.proofs.PlaceLaws.{load_slot_is}
 use Rattle.driver_laws.proofs.SlotLaws.{same_slot-refl}
 use Rattle.driver_laws.proofs.ThreeEntryLaws.{or_left, or_right}
 use Rattle.driver_laws.proofs.SoundLaws.{entry_of, load_start, named}
@@ -103,22 +105,6 @@ shows_eldstart j keeper past a f page slot answer can sound s =
           (record { slot = slot; version = version_told answer; loads = Some page; place = length past; actor = a }) t
           (out_apart keeper slot t (s.used page slot (ap (slot_at (open_start past)) can.1)) free),
     ))
-
--- a frame that loads is no version array page
-loading_no_array : (c : Content) → is_loading c ≡ true → is_va c ≡ false
-loading_no_array (IsLoading page) k = refl
-loading_no_array Free k = cc
-loading_no_array IsVa k = cc
-loading_no_array (SecsOf e) k = cc
-loading_no_array (Holds g kind perm) k = cc
-
--- the frame of a page is no version array page
-page_no_array : (c : Content) (g : Page) → is_page c g ≡ true → is_va c ≡ false
-page_no_array (Holds page kind perm) g h = refl
-page_no_array Free g h = cc
-page_no_array IsVa g h = cc
-page_no_array (SecsOf e) g h = cc
-page_no_array (IsLoading page) g h = cc
 
 -- ---- a page goes out
 
@@ -200,7 +186,7 @@ shows_ewb j keeper past a f page version tag can sound s =
     mine = s.used page x.slot before
 
     arrays : (n : ℕ) (b : Bool) → (f.0 == n) ≡ b → is_va (if b then Free else content past n) ≡ is_va (content past n)
-    arrays n true is = sym (page_no_array (content past n) page (sound.places.frames page n ∙ ap (λ q. stands_in q n) can.0 ∙ is))
+    arrays n true is = sym (page_is_no_other (content past n) page (sound.places.frames page n ∙ ap (λ q. stands_in q n) can.0 ∙ is)).va
     arrays n false is = refl
 
 -- ---- a page comes back
@@ -236,7 +222,7 @@ shows_eld j old new past a f page version tag slot loading sound gives s = recor
         → is_va (if b then reloaded page (added past page) else content past n) ≡ is_va (content past n)
     arrays n true is =
         by_kind (added past page)
-        ∙ sym (ap (λ m. is_va (content past m)) (sym (eqb-true f.0 n is)) ∙ loading_no_array (content past f.0) held)
+        ∙ sym (ap (λ m. is_va (content past m)) (sym (eqb-true f.0 n is)) ∙ loading_no_va (content past f.0) held)
       where
         held : is_loading (content past f.0) ≡ true
         held =
@@ -319,7 +305,7 @@ shows_refused j keeper past a f refusal can sound s =
     held = sym (sound.places.loading f.0) ∙ load_slot_is (open_start past f.0) page slot load
 
     arrays : (n : ℕ) (b : Bool) → (f.0 == n) ≡ b → is_va (if b then Free else content past n) ≡ is_va (content past n)
-    arrays n true is = sym (subst (λ m. is_va (content past m) ≡ false) (eqb-true f.0 n is) (loading_no_array (content past f.0) held))
+    arrays n true is = sym (subst (λ m. is_va (content past m) ≡ false) (eqb-true f.0 n is) (loading_no_va (content past f.0) held))
     arrays n false is = refl
 
 -- ---- the version array pages
@@ -346,7 +332,7 @@ shows_epa j old new past a f answer free none adds s = record {
     or_end true = refl
     or_end false = refl
 
-    by_frame : (n : ℕ) (b : Bool) → (f.0 == n) ≡ b → (is_added old n || ((f.0 == n) || false)) ≡ is_va (if b then IsVa else content past n)
+    by_frame : (n : ℕ) (b : Bool) → (f.0 == n) ≡ b → (is_added old n || ((f.0 == n) || false)) ≡ is_va (if b then IsVa (vas_made past) else content past n)
     by_frame n true is = rw is (or_end (is_added old n))
     by_frame n false is = rw is (or_false (is_added old n) ∙ s.frames n)
 

@@ -7,11 +7,12 @@ use Rattle.sgx_types.specs.declared.names.SlotAt.{SlotAt}
 use Rattle.sgx_types.specs.Frames.{Free, content, is_page}
 use Rattle.sgx_types.specs.Slots.{slot_of as slot_of_start}
 use Rattle.sgx_types.specs.Starts.{Start, open_start}
+use Rattle.sgx_types.proofs.Pages.{same_page-refl}
+use Rattle.sgx_types.specs.Table.{is_loading}
 use Rattle.driver_rules.specs.Places.{Away, Leaving, Loading, Place, place}
-use Rattle.driver_laws.specs.Sound.{IsSound, is_load_start, is_loading, is_write_start, load_slot, slot_at, slot_of, stands_in}
+use Rattle.driver_laws.specs.Sound.{IsSound, is_load_start, is_write_start, load_slot, slot_at, slot_of, stands_in}
 use Rattle.driver_laws.specs.Used.{StartsAlone}
 use Rattle.driver_laws.proofs.HistoryLaws.{loading_is}
-use Rattle.driver_laws.proofs.PlaceLaws.{same_page-refl}
 
 -- the frame from which a page goes, or into which it comes
 abbrev frame_moving : Place → Option ℕ

@@ -147,7 +147,8 @@ few_pages j past h =
 
 -- ---- a slot is left
 
-added_has_pages : (past : List Entry) (g : Page) → is_some (added past g) ≡ true → has_pages past ≡ true
+-- where a page was added, pages were
+pub added_has_pages : (past : List Entry) (g : Page) → is_some (added past g) ≡ true → has_pages past ≡ true
 added_has_pages [] g h = absurd (false≢true h)
 added_has_pages (e ∷ past) g h = by_event e.event h (added_has_pages past g)
   where

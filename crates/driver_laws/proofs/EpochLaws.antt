@@ -17,11 +17,12 @@ use Rattle.sgx_types.specs.Frames.{content, is_free}
 use Rattle.sgx_types.specs.Processors.{stay}
 use Rattle.sgx_types.specs.Sights.{drain_sight_at, sight_at, slot_sight_at}
 use Rattle.sgx_types.specs.Table.{DrainSight, FrameSight, SlotSight, ewbstart_row, first_of_row, is_busy, is_out_of_range, is_secs, is_va}
+use Rattle.sgx_types.proofs.Contents.{page_enclave}
 use Rattle.driver_rules.specs.Passes.{keepers, keepers_behind, keepers_from, keepers_in, keeps_from}
 use Rattle.driver_rules.specs.Places.{frame_leaving}
 use Rattle.driver_laws.specs.Sound.{IsSound}
 use Rattle.driver_laws.specs.Tracks.{IsCalm, IsTracked, IsUntracked, IsWaiting, TryTells}
-use Rattle.driver_laws.proofs.TrackLaws.{count_none, drained_waiting, first_last, last_low, page_enclave, waiting_holds}
+use Rattle.driver_laws.proofs.TrackLaws.{count_none, drained_waiting, first_last, last_low, waiting_holds}
 
 -- ---- the block's epoch
 

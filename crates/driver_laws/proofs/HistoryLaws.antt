@@ -26,7 +26,7 @@ use Rattle.sgx_types.specs.declared.names.Page.{Page}
 use Rattle.sgx_types.specs.declared.names.Perm.{Perm}
 use Rattle.sgx_types.specs.declared.names.SlotAt.{SlotAt}
 use Rattle.sgx_types.specs.Flat.{FlatPage, added_as, enclave_sight, flat}
-use Rattle.sgx_types.specs.Frames.{Content, Free, Holds, IsLoading, IsVa, SecsOf, content, free_from, is_free, is_page, least_free, page_at}
+use Rattle.sgx_types.specs.Frames.{Content, Free, Holds, content, free_from, is_free, is_page, least_free, page_at}
 use Rattle.sgx_types.specs.Rules.{FitsRule, RefusalRule}
 use Rattle.sgx_types.specs.Sights.{drain_sight_at, row_at, sight_at, slot_sight_at}
 use Rattle.sgx_types.specs.Slots.{is_slot_busy, next_version, version_in, IsIdle}
@@ -44,6 +44,8 @@ use Rattle.driver_laws.specs.Stages.{KeepsPages}
 use Rattle.driver_laws.proofs.StageLaws.{first_pages, pages_kept}
 use Rattle.sgx_types.specs.Slots.{slot_of as slot_of_start}
 use Rattle.sgx_types.proofs.Busy.{idle_apart, not_busy_idle}
+use Rattle.sgx_types.proofs.Pages.{same_page-refl}
+use Rattle.sgx_types.proofs.Contents.{free_is}
 use Rattle.driver_laws.specs.Sound.{IsSound, is_absent, load_slot, slot_at, slot_if, slot_loading, slot_of, stands_in, version_out}
 use Rattle.driver_laws.specs.Tracks.{KeepsTracks, is_reclaimers}
 use Rattle.driver_rules.specs.Dues.{Due, Ends, Fetches, Finished, IsFetch, IsNext, KicksAll, LooksAt, Makes, Reports, Stopped, TriesOut, Waits}
@@ -51,17 +53,10 @@ use Rattle.driver_rules.specs.Turns.{builder_due, cpu_due}
 use Rattle.driver_laws.proofs.EpochLaws.{try_tells}
 use Rattle.driver_laws.proofs.OwnLaws.{Plain, build_plain, due_plain, is_paging, script_own}
 use Rattle.driver_laws.proofs.PassLaws.{tracks_stay}
-use Rattle.driver_laws.proofs.PlaceLaws.{of_same, one_page, same_page-refl}
+use Rattle.driver_laws.proofs.PlaceLaws.{holds_one, of_same}
 use Rattle.driver_laws.proofs.SoundLaws.{stays_sound}
 
 -- ---- frames that are free
-
-free_is : (c : Content) → is_free c ≡ true → c ≡ Free
-free_is Free h = refl
-free_is IsVa h = cc
-free_is (SecsOf e) h = cc
-free_is (Holds page kind perm) h = cc
-free_is (IsLoading page) h = cc
 
 found_free : (held : ℕ → Content) (n count f : ℕ) → free_from held n count ≡ Some f → is_free (held f) ≡ true
 found_free held n zero f h = cc
@@ -230,8 +225,8 @@ end_frame j past f answer (Blocking todo taken) h = absurd h
 leaving_there : (past : List Entry) (f : ℕ) (g page : Page) (kind : Kind) (perm : Perm) → IsSound past → place past g ≡ Leaving f
     → content past f ≡ Holds page kind perm → place past page ≡ Leaving f
 leaving_there past f g page kind perm s at held =
-    of_same (place past) (Leaving f) g page at (one_page (content past f) g page
-    (s.places.frames g f ∙ ap (λ p. stands_in p f) at ∙ eq-eqb f f refl) (ap (λ c. is_page c page) held ∙ same_page-refl page))
+    of_same (place past) (Leaving f) g page at (sym (holds_one (content past f) g page
+    (s.places.frames g f ∙ ap (λ p. stands_in p f) at ∙ eq-eqb f f refl)) ∙ ap (λ c. is_page c page) held ∙ same_page-refl page)
 
 -- ---- each entry can move its page
 

@@ -17,6 +17,8 @@ use Rattle.sgx_types.specs.declared.refusals.Refusal.{Refusal}
 use Rattle.sgx_types.specs.Frames.{content, is_page}
 use Rattle.sgx_types.specs.Making.{Making}
 use Rattle.sgx_types.specs.Starts.{Start, open_start, opened_by, version_told}
+use Rattle.sgx_types.proofs.Pages.{same_page-refl}
+use Rattle.sgx_types.proofs.Contents.{page_is_no_other}
 use Rattle.driver_rules.specs.Places.{Leaving, Loading, place}
 use Rattle.driver_rules.specs.Scripts.{is_load}
 use Rattle.driver_rules.specs.Turns.{Fails, Last, Loads, Other, WasEnded, fails_with, last_by, last_of, load_of}
@@ -29,7 +31,6 @@ use Rattle.driver_laws.specs.Sound.{IsSound, is_load_start, load_slot, stands_in
 use Rattle.driver_laws.proofs.AloneLaws.{free_none}
 use Rattle.driver_laws.proofs.EndLaws.{their_rule}
 use Rattle.driver_laws.proofs.HistoryLaws.{can_move, driven_before, driven_sound, loading_is}
-use Rattle.driver_laws.proofs.PlaceLaws.{page_no_load, same_page-refl}
 use Rattle.driver_laws.proofs.StartedLaws.{fails_none}
 use Rattle.driver_laws.proofs.SoundLaws.{entry_of}
 
@@ -167,7 +168,7 @@ loading_place past n g s h = by_start (open_start past n) refl h
 
 -- a page's frame loads nothing
 standing_none : (past : List Entry) (n : ℕ) (g : Page) → IsSound past → place past g ≡ Leaving n → load_of (open_start past n) ≡ None
-standing_none past n g s at = by_start (open_start past n) (s.places.loading n ∙ page_no_load (content past n) g holds)
+standing_none past n g s at = by_start (open_start past n) (s.places.loading n ∙ (page_is_no_other (content past n) g holds).waits)
   where
     holds : is_page (content past n) g ≡ true
     holds = s.places.frames g n ∙ ap (λ p. stands_in p n) at ∙ eq-eqb n n refl

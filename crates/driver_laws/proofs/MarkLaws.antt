@@ -1,7 +1,7 @@
 -- The list with its marks, one entry longer.
 use Rattle.std.proofs.Common.{◌≡◌, ℕ, ◌+◌, ◌||◌, not, Bool, true, false, if◌then◌else◌, refl, sym, ◌∙◌, ap, subst, List, [], ◌∷◌, ◌++◌, drop, map, Some, arith}
 use Rattle.std.proofs.lemmas.Bool.{false≢true}
-use Rattle.sgx_types.proofs.Pages.{same_pages}
+use Rattle.sgx_types.proofs.Pages.{same_page-refl, same_pages}
 use Rattle.sgx_types.specs.declared.entries.Action.{Action}
 use Rattle.sgx_types.specs.declared.entries.Action.TheVariants.{Add, Enter, Resume, Fill, Load, Store, Xadd, Eld}
 use Rattle.sgx_types.specs.declared.entries.Actor.{Actor}
@@ -25,7 +25,6 @@ use Rattle.driver_rules.specs.Holds.{is_among}
 use Rattle.driver_laws.specs.Kinds.{CanMove}
 use Rattle.driver_rules.specs.Places.{Place, active, active_after, is_here, is_young, place, to_tail, uses, young_after}
 use Rattle.driver_laws.specs.Sound.{IsSound, once_here, times}
-use Rattle.driver_laws.proofs.PlaceLaws.{same_page-refl}
 use Rattle.driver_laws.proofs.SoundLaws.{entry_of}
 
 -- ---- lists

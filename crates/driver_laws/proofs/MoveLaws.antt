@@ -23,10 +23,11 @@ use Rattle.sgx_types.specs.declared.names.SlotAt.{SlotAt}
 use Rattle.sgx_types.specs.declared.refusals.Refusal.{Refusal}
 use Rattle.sgx_types.specs.Frames.{page_at, same_page}
 use Rattle.sgx_types.specs.Starts.{Start, open_start}
+use Rattle.sgx_types.proofs.Pages.{same_page-refl}
 use Rattle.driver_laws.specs.Kinds.{is_quiet}
 use Rattle.driver_rules.specs.Places.{Away, Here, Leaving, Loading, active, is_young, place, to_tail}
 use Rattle.driver_laws.specs.Sound.{IsSound, load_slot, slot_loading}
-use Rattle.driver_laws.proofs.PlaceLaws.{loads_one, same_page-refl}
+use Rattle.driver_laws.proofs.PlaceLaws.{loads_one}
 use Rattle.driver_laws.proofs.SoundLaws.{entry_of}
 
 -- ---- places

@@ -6,43 +6,37 @@ use Rattle.sgx_types.specs.declared.names.Kind.{Kind}
 use Rattle.sgx_types.specs.declared.names.Page.{Page}
 use Rattle.sgx_types.specs.declared.names.Perm.{Perm}
 use Rattle.sgx_types.specs.declared.names.SlotAt.{SlotAt}
-use Rattle.sgx_types.specs.Frames.{Content, Free, Holds, IsLoading, IsVa, SecsOf, is_page, same_page}
+use Rattle.sgx_types.specs.Frames.{Content, Free, Holds, IsLoading, is_page, same_page}
 use Rattle.sgx_types.specs.Starts.{Start, is_load_of, loads_page}
-use Rattle.driver_rules.specs.Places.{Absent, Away, Here, Leaving, Loading, Place, after_look, back_to, gone_to, leaves}
-use Rattle.driver_laws.specs.Sound.{PlacesAreFrames, is_load_start, is_loading, is_write_start, load_slot, slot_if, slot_loading, stands_in}
+use Rattle.driver_rules.specs.Places.{Absent, Away, Here, Leaving, Loading, Place, after_look, back_to, frame_here, gone_to, leaves}
+use Rattle.driver_laws.specs.Sound.{PlacesAreFrames, is_absent, is_load_start, is_write_start, load_slot, slot_if, slot_loading, stands_in}
 use Rattle.sgx_types.specs.declared.entries.Look.{Look}
 use Rattle.sgx_types.specs.declared.entries.Look.TheVariants as looks
 use Rattle.sgx_types.specs.declared.entries.Actor.{Actor}
+use Rattle.sgx_types.proofs.Contents.{held_page, load_no_page, page_is_no_other}
+use Rattle.sgx_types.specs.Table.{is_loading}
 
 -- ---- pages, contents and starts
 
-pub same_page-refl : (a : Page) → same_page a a ≡ true
-same_page-refl a = rw (eq-eqb a.enclave a.enclave refl, eq-eqb a.number a.number refl) refl
+-- a frame that holds a page holds no other
+pub holds_one : (c : Content) (a b : Page) → is_page c a ≡ true → is_page c b ≡ same_page a b
+holds_one c a b h = ap (λ x. is_page x b) (held_page c a h).holds
 
--- a frame holds one page
-pub one_page : (c : Content) (a b : Page) → is_page c a ≡ true → is_page c b ≡ true → same_page a b ≡ true
-one_page (Holds page kind perm) a b h k =
-    let same : a ≡ b = sym (same_pages page a h) ∙ same_pages page b k in subst (λ x. same_page a x ≡ true) same (same_page-refl a)
-one_page Free a b h k = cc
-one_page IsVa a b h k = cc
-one_page (SecsOf e) a b h k = cc
-one_page (IsLoading page) a b h k = cc
+-- a page that is here stands in its frame
+pub stands_there : (at : Place) (n : ℕ) → frame_here at ≡ Some n → stands_in at n ≡ true
+stands_there Absent n h = cc
+stands_there (Here f) n h = let same : f ≡ n = cc in eq-eqb f n same
+stands_there (Leaving f) n h = cc
+stands_there (Loading f slot) n h = cc
+stands_there (Away slot) n h = cc
 
--- a frame that holds a page loads none
-pub page_no_load : (c : Content) (a : Page) → is_page c a ≡ true → is_loading c ≡ false
-page_no_load (Holds page kind perm) a h = refl
-page_no_load Free a h = refl
-page_no_load IsVa a h = refl
-page_no_load (SecsOf e) a h = refl
-page_no_load (IsLoading page) a h = cc
-
--- .. and one that loads holds none
-pub load_no_page : (c : Content) (a : Page) → is_loading c ≡ true → is_page c a ≡ false
-load_no_page (Holds page kind perm) a h = cc
-load_no_page Free a h = refl
-load_no_page IsVa a h = refl
-load_no_page (SecsOf e) a h = refl
-load_no_page (IsLoading page) a h = refl
+-- .. and is not absent
+pub here_there : (at : Place) (n : ℕ) → frame_here at ≡ Some n → is_absent at ≡ false
+here_there Absent n h = cc
+here_there (Here f) n h = refl
+here_there (Leaving f) n h = refl
+here_there (Loading f slot) n h = refl
+here_there (Away slot) n h = refl
 
 -- what is no start of a load has no slot of one
 pub no_load_slot : (o : Option Start) (g : Page) → is_load_start o ≡ false → load_slot o g ≡ None
@@ -169,7 +163,7 @@ put_starting at held opened f a slot v q who s leaving = record {
     here = s.frames a f ∙ ap (λ x. stands_in x f) leaving ∙ eq-eqb f f refl
 
     no_load : is_loading (held f) ≡ false
-    no_load = page_no_load (held f) a here
+    no_load = (page_is_no_other (held f) a here).waits
 
     no_loads : (g : Page) → slot_loading (at g) f ≡ None
     no_loads g = sym (s.loads g f) ∙ no_load_slot (opened f) g (s.loading f ∙ no_load)
@@ -196,7 +190,7 @@ put_out at held opened f a x s leaving open_now = record {
     here = s.frames a f ∙ ap (λ y. stands_in y f) leaving ∙ eq-eqb f f refl
 
     no_load : is_loading (held f) ≡ false
-    no_load = page_no_load (held f) a here
+    no_load = (page_is_no_other (held f) a here).waits
 
     no_loads : (g : Page) → slot_loading (at g) f ≡ None
     no_loads g = sym (s.loads g f) ∙ no_load_slot (opened f) g (s.loading f ∙ no_load)
@@ -205,7 +199,7 @@ put_out at held opened f a x s leaving open_now = record {
     others g other = by_page (is_page (held f) g) refl
       where
         by_page : (b : Bool) → is_page (held f) g ≡ b → stands_in (at g) f ≡ false
-        by_page true is = absurd (false≢true (sym other ∙ one_page (held f) a g here is))
+        by_page true is = absurd (false≢true (sym other ∙ sym (holds_one (held f) a g here) ∙ is))
         by_page false is = sym (s.frames g f) ∙ is
 
     by_frame : (g : Page) (n : ℕ) (b c : Bool) → (f == n) ≡ b → same_page a g ≡ c

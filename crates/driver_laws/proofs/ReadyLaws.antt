@@ -10,10 +10,10 @@ use Rattle.sgx_types.specs.declared.entries.Event.{Event}
 use Rattle.sgx_types.specs.declared.entries.Event.TheVariants.{Did}
 use Rattle.sgx_types.specs.declared.names.Page.{Page}
 use Rattle.sgx_types.specs.declared.names.SlotAt.{SlotAt}
-use Rattle.sgx_types.specs.Frames.{Content, IsLoading, content, is_sealing}
+use Rattle.sgx_types.specs.Frames.{content, is_sealing}
 use Rattle.sgx_types.specs.Making.{Making}
 use Rattle.sgx_types.specs.Rules.{EvictRule, RefusalRule, RisingRule}
-use Rattle.sgx_types.specs.Table.{is_busy, is_loading as busy_content}
+use Rattle.sgx_types.specs.Table.{is_busy, is_loading}
 use Rattle.sgx_types.specs.Sights.{row_at, sight_at}
 use Rattle.sgx_types.specs.Slots.{is_draw, is_slot_busy, next_version, IsIdle}
 use Rattle.sgx_types.specs.Starts.{Start, open_start, version_told}
@@ -21,7 +21,7 @@ use Rattle.sgx_types.proofs.Busy.{idle_by}
 use Rattle.job_grammar.specs.Jobs.{JobView}
 use Rattle.driver_rules.specs.Places.{Away, place}
 use Rattle.driver_laws.specs.Driven.{IsDriven}
-use Rattle.driver_laws.specs.Sound.{IsSound, is_load_start, is_loading, is_write_start}
+use Rattle.driver_laws.specs.Sound.{IsSound, is_load_start, is_write_start}
 use Rattle.driver_laws.specs.Used.{SealingAreOpen, SlotsAreUsed, StartTells}
 use Rattle.driver_laws.proofs.HistoryLaws.{can_move, driven_before, driven_pages, driven_sound}
 use Rattle.driver_laws.proofs.SoundLaws.{entry_of}
@@ -52,10 +52,6 @@ idle_none past n s sealing no_write no_load = by_start (open_start past n) (sym 
     by_start None h k = refl
     by_start (Some x) h k = absurd (by_loads x.loads h k)
 
-table_loading : (c : Content) → busy_content c ≡ false → is_loading c ≡ false
-table_loading (IsLoading page) h = h
-table_loading _ h = refl
-
 -- by the rules what a write-out tells is so
 pub start_tells : (k : Making) (past : List Entry) (e : Entry) → 1 ≤ k.first_version → IsSound past → SealingAreOpen past
     → RefusalRule k past e → EvictRule past e → RisingRule k.first_version past e → StartTells past e.event
@@ -66,9 +62,9 @@ start_tells k past e positive s sealing = by_event e.event
     by_event (Did (EwbStart f slot) answer) refusal evict rising =
         let row = none_holds (row_at k past e.actor (EwbStart f slot)) refusal.0 in
         let idle = neither (is_busy (sight_at k.frames past f.0)) (is_slot_busy k.frames past slot) row.1.0 in
-        let two = neither (is_sealing past f.0) (busy_content (content past f.0)) idle.0 in
+        let two = neither (is_sealing past f.0) (is_loading (content past f.0)) idle.0 in
         let low = first_below k.first_version past in (
-          idle_none past f.0 s sealing two.0 (table_loading (content past f.0) two.1),
+          idle_none past f.0 s sealing two.0 two.1,
           subst (λ (x : Answer). 0 < version_told x) (sym rising) (omega (arith, low, positive)),
         )
     by_event (Did (Ewb f) (Moved page version tag)) refusal evict rising =

@@ -4,12 +4,12 @@ use Rattle.std.proofs.lemmas.Bool.{eq-eqb, eqb-true, false≢true, leb-true, ltb
 use Rattle.std.specs.List.{list_any}
 use Rattle.sgx_types.proofs.Rows.{none_refused}
 use Rattle.sgx_types.proofs.Truths.{both_true}
-use Rattle.sgx_types.specs.Frames.{Content, Free, Holds, IsLoading, IsVa, SecsOf, added, content, held_after, is_blocked, is_free, is_page, is_sealing, page_at, put_by, reloaded}
+use Rattle.sgx_types.specs.Frames.{Content, Free, Holds, IsLoading, IsVa, SecsOf, added, content, held_after, is_blocked, is_sealing, made_before, page_at, put_by, reloaded, vas_made}
 use Rattle.sgx_types.specs.Rules.{Along, FitsRule}
 use Rattle.sgx_types.specs.Sights.{sight_at, slot_sight_at}
 use Rattle.sgx_types.specs.Slots.{is_slot_busy, same_slot, version_in}
 use Rattle.sgx_types.specs.Starts.{open_start}
-use Rattle.sgx_types.specs.Table.{DrainSight, EnclaveSight, FrameSight, eldstart_row, ewbstart_row, first_of_row, is_busy, is_loading as busy_content, is_made, is_out_of_range, is_secs, is_va as is_va_in}
+use Rattle.sgx_types.specs.Table.{DrainSight, EnclaveSight, FrameSight, eldstart_row, ewbstart_row, first_of_row, is_busy, is_made, is_out_of_range, is_secs, is_va}
 use Rattle.sgx_types.specs.declared.entries.Action.TheVariants.{Add, Create, Eld, EldStart, Epa, Ewb}
 use Rattle.sgx_types.specs.declared.entries.Answer.TheVariants.{Moved}
 use Rattle.sgx_types.specs.declared.entries.Entry.{Entry}
@@ -20,10 +20,11 @@ use Rattle.sgx_types.specs.declared.names.Page.{Page}
 use Rattle.sgx_types.specs.declared.names.Perm.{Perm}
 use Rattle.sgx_types.specs.declared.names.SlotAt.{SlotAt}
 use Rattle.sgx_types.proofs.Busy.{idle_free}
+use Rattle.sgx_types.proofs.Contents.{IsNoOther, page_is_no_other}
 use Rattle.version_array.specs.Keeper.{Keeper, is_added, is_ours, is_out}
 use Rattle.job_grammar.specs.Jobs.{JobView}
 use Rattle.driver_rules.specs.Places.{Away, Leaving, place}
-use Rattle.driver_laws.specs.Agrees.{ShowsSlots, is_va}
+use Rattle.driver_laws.specs.Agrees.{ShowsSlots}
 use Rattle.driver_laws.specs.Sound.{IsSound, is_write_start, slot_at, slot_outside}
 use Rattle.driver_laws.specs.Stages.{IsTaken}
 use Rattle.driver_laws.specs.Used.{SealingAreOpen, SlotsAreUsed, left_to_refuse}
@@ -34,13 +35,9 @@ use Rattle.driver_laws.proofs.StillLaws.{holds_here}
 
 -- ---- version array pages
 
-same_va : (c : Content) → is_va_in c ≡ is_va c
-same_va IsVa = refl
-same_va _ = refl
-
 -- a version array page's slot stands in such a frame, and below its end
 record IsInPage (past : List Entry) (slot : SlotAt) : Type 0 where
-  pub array : not (is_va_in (content past slot.frame.0)) ≡ false
+  pub array : not (is_va (content past slot.frame.0)) ≡ false
   pub within : nat_lt 511 slot.index ≡ false
 
 in_page : (j : JobView) (keeper : Keeper) (past : List Entry) (slot : SlotAt) → ShowsSlots j keeper past → is_ours keeper slot ≡ true
@@ -48,7 +45,7 @@ in_page : (j : JobView) (keeper : Keeper) (past : List Entry) (slot : SlotAt) �
 in_page j keeper past slot shows ours =
     let two = both_true (is_added keeper slot.frame.0) (nat_lt slot.index 512) ours in
     record {
-      array = ap not (same_va (content past slot.frame.0) ∙ sym (shows.frames slot.frame.0) ∙ two.0);
+      array = ap not (sym (shows.frames slot.frame.0) ∙ two.0);
       within = by_test (nat_lt 511 slot.index) refl (ltb-true slot.index 512 two.1);
     }
   where
@@ -69,7 +66,7 @@ array_within frames (e ∷ past) n fits h = by_event e.event fits.0 h (array_wit
         by_test false k l = refl
         by_test true k l = let high = leb-true frames n k in absurd (omega (arith, high, l))
 
-    made : (f : ℕ) (b : Bool) → (f == n) ≡ b → f < frames → is_va (if b then IsVa else content past n) ≡ true
+    made : (f : ℕ) (b : Bool) → (f == n) ≡ b → f < frames → is_va (if b then IsVa (vas_made past) else content past n) ≡ true
         → (is_va (content past n) ≡ true → nat_le frames n ≡ false) → nat_le frames n ≡ false
     made f true is less k before = low f less is
     made f false is less k before = before k
@@ -84,7 +81,7 @@ array_within frames (e ∷ past) n fits h = by_event e.event fits.0 h (array_wit
     reloaded_none page (Some k) = refl
 
     by_event : (ev : Event) → FitsRule frames past (entry_of e.actor ev)
-        → is_va (held_after (put_by ev (added past)) n (content past n)) ≡ true
+        → is_va (held_after (put_by ev (made_before past)) n (content past n)) ≡ true
         → (is_va (content past n) ≡ true → nat_le frames n ≡ false) → nat_le frames n ≡ false
     by_event (Did (Epa f) answer) fit k before = made f.0 (f.0 == n) refl fit.0 k before
     by_event (Did (Create enclave f base size) answer) fit k before = other (SecsOf enclave) (f.0 == n) refl k before
@@ -132,20 +129,6 @@ load_goes frames j keeper past g slot f enclave s u sealing shows at free low sl
 
 -- ---- a try to write out
 
--- what a frame that holds a page is not
-record IsOfPage (c : Content) : Type 0 where
-  pub idle : busy_content c ≡ false
-  pub used : is_free c ≡ false
-  pub no_secs : is_secs c ≡ false
-  pub no_va : is_va_in c ≡ false
-
-of_page : (c : Content) (g : Page) → is_page c g ≡ true → IsOfPage c
-of_page (Holds page kind perm) g h = record { idle = refl; used = refl; no_secs = refl; no_va = refl }
-of_page Free g h = absurd (false≢true h)
-of_page IsVa g h = absurd (false≢true h)
-of_page (SecsOf e) g h = absurd (false≢true h)
-of_page (IsLoading page) g h = absurd (false≢true h)
-
 -- a try to write out a page that was taken and blocked, into a slot that is not out, is refused only for want of a track or of a version
 pub try_goes : (frames : ℕ) (j : JobView) (keeper : Keeper) (past : List Entry) (g : Page) (slot : SlotAt) (w : IsTaken past true g)
     (drain : DrainSight) (is_spent : Bool) → IsSound past → SealingAreOpen past → ShowsSlots j keeper past → is_ours keeper slot ≡ true
@@ -161,8 +144,8 @@ try_goes frames j keeper past g slot w drain is_spent s sealing shows ours free 
     page : IsInPage past slot
     page = in_page j keeper past slot shows ours
 
-    frame : IsOfPage (content past w.frame)
-    frame = of_page (content past w.frame) g (holds_here past g (Leaving w.frame) w.frame s w.leaving (eq-eqb w.frame w.frame refl))
+    frame : IsNoOther (content past w.frame)
+    frame = page_is_no_other (content past w.frame) g (holds_here past g (Leaving w.frame) w.frame s w.leaving (eq-eqb w.frame w.frame refl))
 
     near : is_out_of_range sight (slot_sight_at frames past slot) ≡ false
     near = rw (low, slot_low, page.within) refl
@@ -171,10 +154,10 @@ try_goes frames j keeper past g slot w drain is_spent s sealing shows ours free 
     settled = sealing w.frame ∙ ap is_write_start w.start
 
     idle : (is_busy sight || is_slot_busy frames past slot) ≡ false
-    idle = rw (settled, frame.idle, idle_free frames past slot (shows.empty slot free).1) refl
+    idle = rw (settled, frame.waits, idle_free frames past slot (shows.empty slot free).1) refl
 
-    kind : (is_secs (content past w.frame) || is_va_in (content past w.frame) || not (is_va_in (content past slot.frame.0))) ≡ false
-    kind = rw (frame.no_secs, frame.no_va, page.array) refl
+    kind : (is_secs (content past w.frame) || is_va (content past w.frame) || not (is_va (content past slot.frame.0))) ≡ false
+    kind = rw (frame.secs, frame.va, page.array) refl
 
     blocked : not (is_blocked past w.frame) ≡ false
     blocked = ap not w.block

@@ -1,7 +1,7 @@
 -- What each kind of entry leaves of the slots of pages, and of the versions in them.
 use Rattle.std.proofs.Common.{◌≡◌, ℕ, ◌==◌, ◌⊎◌, inl, inr, not, Bool, true, false, if◌then◌else◌, refl, sym, ◌∙◌, ap, subst, List, Option, Some, None, is_some}
 use Rattle.std.proofs.lemmas.Bool.{eqb-true, eq-eqb, false≢true}
-use Rattle.sgx_types.proofs.Pages.{same_pages, same_slots}
+use Rattle.sgx_types.proofs.Pages.{same_page-refl, same_slots}
 use Rattle.sgx_types.specs.Fresh.{Out}
 use Rattle.sgx_types.specs.declared.names.Page.{Page}
 use Rattle.sgx_types.specs.declared.names.SlotAt.{SlotAt}
@@ -11,8 +11,9 @@ use Rattle.sgx_types.specs.Starts.{Start, is_load_of}
 use Rattle.driver_rules.specs.Places.{Absent, Away, Here, Leaving, Loading, Place, back_to, gone_to, leaves}
 use Rattle.sgx_types.specs.Slots.{slot_of as slot_of_start}
 use Rattle.sgx_types.specs.declared.entries.Actor.{Actor}
+use Rattle.sgx_types.proofs.Contents.{one_page, page_is_no_other}
 use Rattle.driver_laws.specs.Sound.{PlacesAreFrames, SlotsAreApart, SlotsHaveVersions, is_load_start, is_write_start, slot_at, slot_outside, stands_in, version_out}
-use Rattle.driver_laws.proofs.PlaceLaws.{of_same, one_page, page_no_load, same_page-refl}
+use Rattle.driver_laws.proofs.PlaceLaws.{holds_one, of_same}
 
 -- ---- in general
 
@@ -56,11 +57,11 @@ none_open at held opened a f s here = by_start (opened f) refl
 
     by_loads : (start : Start) (loads : Option Page) → start.loads ≡ loads → opened f ≡ Some start → opened f ≡ None
     by_loads start (Some g) is now =
-        absurd (false≢true (sym (s.loading f ∙ page_no_load (held f) a holds) ∙ ap is_load_start now ∙ ap is_some is))
+        absurd (false≢true (sym (s.loading f ∙ (page_is_no_other (held f) a holds).waits) ∙ ap is_load_start now ∙ ap is_some is))
     by_loads start None is now =
         let w = s.writes f (ap is_write_start now ∙ ap (λ y. not (is_some y)) is) in
         let other : is_page (held f) w.0 ≡ true = s.frames w.0 f ∙ ap (λ y. stands_in y f) w.1 ∙ eq-eqb f f refl in
-        absurd (here_no_leaving (sym (of_same at (Here f) a w.0 here (one_page (held f) a w.0 holds other)) ∙ w.1))
+        absurd (here_no_leaving (sym (of_same at (Here f) a w.0 here (sym (holds_one (held f) a w.0 holds) ∙ other)) ∙ w.1))
       where
         here_no_leaving : Here f ≡ Leaving f → ⊥
         here_no_leaving k = cc
@@ -119,7 +120,7 @@ apart_starting at held opened f a slot v q who s leaving fresh h =
         → (slot_at opened (at g) ≡ Some t) ⊎ ((a ≡ g) × (slot ≡ t))
     by_frame g t n true is it k =
         let other : is_page (held f) g ≡ true = s.frames g f ∙ ap (λ y. stands_in y f) it ∙ rw (eqb-true f n is) (eq-eqb n n refl) in
-        inr (same_pages a g (one_page (held f) a g here other), cc)
+        inr (one_page (held f) a g here other, cc)
     by_frame g t n false is it k = inl (ap (slot_at opened) it ∙ k)
 
     by_place : (g : Page) (t : SlotAt) (p : Place) → at g ≡ p → slot_at now (at g) ≡ Some t

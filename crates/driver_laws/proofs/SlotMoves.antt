@@ -1,7 +1,7 @@
 -- Which slot each page has behind each kind of entry.
 use Rattle.std.proofs.Common.{◌≡◌, ℕ, ◌==◌, Bool, true, false, if◌then◌else◌, refl, sym, ◌∙◌, ap, List, ◌∷◌, Option, Some, None, length}
 use Rattle.std.proofs.lemmas.Bool.{eqb-true, eq-eqb, false≢true}
-use Rattle.sgx_types.proofs.Pages.{same_pages}
+use Rattle.sgx_types.proofs.Pages.{same_page-refl, same_pages}
 use Rattle.sgx_types.specs.declared.entries.Action.TheVariants.{Add, EwbStart, Ewb, EldStart, Eld}
 use Rattle.sgx_types.specs.declared.entries.Actor.{Actor}
 use Rattle.sgx_types.specs.declared.entries.Answer.{Answer}
@@ -22,8 +22,9 @@ use Rattle.sgx_types.specs.Starts.{Start, is_load_of, open_start, version_told}
 use Rattle.driver_laws.specs.Kinds.{CanMove}
 use Rattle.driver_rules.specs.Places.{Absent, Away, Here, Leaving, Loading, Place, after_look, back_to, gone_to, place}
 use Rattle.sgx_types.specs.Slots.{slot_of as starts_slot}
+use Rattle.sgx_types.proofs.Contents.{load_no_page}
 use Rattle.driver_laws.specs.Sound.{IsSound, slot_at, slot_of, stands_in}
-use Rattle.driver_laws.proofs.PlaceLaws.{load_no_page, one_page, same_page-refl}
+use Rattle.driver_laws.proofs.PlaceLaws.{holds_one}
 use Rattle.driver_laws.proofs.SlotLaws.{none_open}
 use Rattle.driver_laws.proofs.SoundLaws.{entry_of}
 use Rattle.driver_laws.proofs.StillLaws.{load_open}
@@ -68,7 +69,7 @@ stands past g f s at = s.places.frames g f ∙ ap (λ q. stands_in q f) at ∙ e
 -- .. and is the only one that does
 same_leaving : (past : List Entry) (g h : Page) (f : ℕ) → IsSound past → place past g ≡ Leaving f → place past h ≡ Leaving f
     → same_page g h ≡ true
-same_leaving past g h f s at_g at_h = one_page (content past f) g h (stands past g f s at_g) (stands past h f s at_h)
+same_leaving past g h f s at_g at_h = sym (holds_one (content past f) g h (stands past g f s at_g)) ∙ stands past h f s at_h
 
 -- no page leaves from a frame into which one comes
 loading_apart : (past : List Entry) (f : ℕ) (page h : Page) (slot : SlotAt) → IsSound past → place past page ≡ Loading f slot

@@ -19,15 +19,18 @@ use Rattle.sgx_types.specs.declared.names.Page.{Page}
 use Rattle.sgx_types.specs.declared.names.Perm.{Perm}
 use Rattle.sgx_types.specs.declared.names.SlotAt.{SlotAt}
 use Rattle.sgx_types.specs.declared.refusals.Refusal.{Refusal}
-use Rattle.sgx_types.specs.Frames.{Holds, IsVa, SecsOf, added, content, page_at, reloaded, same_page}
+use Rattle.sgx_types.specs.Frames.{Holds, IsVa, SecsOf, added, content, page_at, reloaded, same_page, vas_made}
 use Rattle.sgx_types.specs.Slots.{open_slot, version_in}
 use Rattle.sgx_types.specs.Starts.{Start, is_load_of, open_start, version_told}
+use Rattle.sgx_types.proofs.Pages.{same_page-refl}
+use Rattle.sgx_types.specs.Table.{is_lawful_access}
+use Rattle.sgx_types.specs.declared.entries.AccessOp.{AccessOp}
 use Rattle.driver_rules.specs.Ages.{head_of}
 use Rattle.driver_laws.specs.Kinds.{CanMove}
 use Rattle.driver_rules.specs.Places.{Absent, Away, Here, Leaving, Loading, Place, active, after_look, back_to, gone_to, is_here, leaves, place, to_tail}
 use Rattle.driver_laws.specs.Sound.{IsSound, ListIsHere, PlacesAreFrames, is_absent, load_slot, once_here, slot_at, slot_if, slot_loading, slot_outside, times}
 use Rattle.driver_laws.proofs.ListLaws.{list_longer, list_same, list_shorter, list_turned}
-use Rattle.driver_laws.proofs.PlaceLaws.{of_same, put_added, put_apart, put_back, put_loading, put_looked, put_out, put_refused, put_starting, same_page-refl}
+use Rattle.driver_laws.proofs.PlaceLaws.{of_same, put_added, put_apart, put_back, put_loading, put_looked, put_out, put_refused, put_starting}
 use Rattle.driver_laws.proofs.SlotLaws.{apart_back, apart_here, apart_loading, apart_out, apart_refused, apart_starting, apart_taken, none_open, outside_here, outside_loading, outside_refused, outside_taken, versions_back, versions_less, versions_out}
 
 -- an entry of some actor
@@ -39,7 +42,7 @@ entry_of actor event = record { actor = actor; event = event }
 pub sound_epa : (past : List Entry) (a : Actor) (f : Frame) (answer : Answer) → CanMove past (Did (Epa f) answer) → IsSound past
     → IsSound (entry_of a (Did (Epa f) answer) ∷ past)
 sound_epa past a f answer free s = record {
-  places = put_apart (place past) (content past) (open_start past) f.0 IsVa s.places free (λ g. refl) refl;
+  places = put_apart (place past) (content past) (open_start past) f.0 (IsVa (vas_made past)) s.places free (λ g. refl) refl;
   list = s.list;
   apart = s.apart;
   versions = s.versions;
@@ -331,3 +334,19 @@ stays_sound past e can s = by_event e.event can
     by_event (Did (Ewb f) answer) k = absurd k
     by_event (Did (Eld f) answer) k = absurd k
     by_event _ k = record { places = s.places; list = s.list; apart = s.apart; versions = s.versions; added = s.added }
+
+-- ---- pages that were added
+
+-- a page with lawful accesses is not absent
+pub lawful_there : (past : List Entry) (g : Page) (op : AccessOp) → IsSound past → is_lawful_access (added past g) op ≡ true
+    → is_absent (place past g) ≡ false
+lawful_there past g op sound k = by_added (added past g) k (sound.added g)
+  where
+    by_test : (b : Bool) → true ≡ not b → b ≡ false
+    by_test true n = cc
+    by_test false n = refl
+
+    by_added : (o : Option (Kind × Perm)) → is_lawful_access o op ≡ true → is_some o ≡ not (is_absent (place past g))
+        → is_absent (place past g) ≡ false
+    by_added None m is = cc
+    by_added (Some x) m is = by_test (is_absent (place past g)) is

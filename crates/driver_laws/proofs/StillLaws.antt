@@ -12,10 +12,11 @@ use Rattle.sgx_types.specs.declared.names.Page.{Page}
 use Rattle.sgx_types.specs.declared.names.SlotAt.{SlotAt}
 use Rattle.sgx_types.specs.Frames.{Free, content, is_blocked, is_page, same_page}
 use Rattle.sgx_types.specs.Starts.{is_load_of, open_start}
+use Rattle.sgx_types.proofs.Contents.{load_no_page}
 use Rattle.driver_laws.specs.Kinds.{CanMove}
 use Rattle.driver_rules.specs.Places.{Absent, Away, Leaving, Loading, Place, after_look, back_to, place}
 use Rattle.driver_laws.specs.Sound.{IsSound, is_load_start, load_slot, slot_loading, stands_in}
-use Rattle.driver_laws.proofs.PlaceLaws.{load_no_page, load_slot_is, of_same, one_page}
+use Rattle.driver_laws.proofs.PlaceLaws.{holds_one, load_slot_is, of_same}
 use Rattle.driver_laws.proofs.SoundLaws.{entry_of}
 use Rattle.driver_laws.specs.Stages.{touches}
 
@@ -66,7 +67,7 @@ frames_apart past g h p q n m s at_g in_n at_h in_m other = by_test (n == m) ref
     by_test true is =
         let one = holds_here past g p n s at_g in_n in
         let two = subst (λ k. is_page (content past k) h ≡ true) (sym (eqb-true n m is)) (holds_here past h q m s at_h in_m) in
-        absurd (false≢true (sym other ∙ one_page (content past n) g h one two))
+        absurd (false≢true (sym other ∙ sym (holds_one (content past n) g h one) ∙ two))
     by_test false is = is
 
 -- a page elsewhere is another page

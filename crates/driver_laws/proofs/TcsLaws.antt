@@ -4,7 +4,7 @@ use Rattle.std.specs.List.{list_any}
 use Rattle.std.proofs.lemmas.Bool.{eqb-true, eq-eqb, false≢true}
 use Rattle.std.proofs.lemmas.List.Folds.{list_any_at}
 use Rattle.std.proofs.lemmas.Option.{get_or_from_slice_get, slice_get_within}
-use Rattle.sgx_types.proofs.Pages.{same_pages}
+use Rattle.sgx_types.proofs.Pages.{same_page-refl, same_pages}
 use Rattle.sgx_types.specs.Making.{Making}
 use Rattle.sgx_types.specs.declared.entries.AccessOp.{AccessOp}
 use Rattle.sgx_types.specs.declared.entries.AccessOp.TheVariants as accesses
@@ -46,7 +46,6 @@ use Rattle.driver_rules.specs.Dues.{Due, Ends, Fetches, Finished, IsFetch, IsNex
 use Rattle.driver_rules.specs.Stops.{is_spent}
 use Rattle.driver_rules.specs.Turns.{Fails, Last, Loads, Other, WasEnded, accesses_by, builder_due, cpu_due, due_after, early_turn, enters, fetches, fills, first_away, inside_turn, is_built, is_kicked, is_last, last_of, op_turn, outside_turn, resumes, save_frame, stay_turn, step_turn, turn_due, with_pages}
 use Rattle.driver_laws.proofs.HistoryLaws.{driven_before, driven_sound}
-use Rattle.driver_laws.proofs.PlaceLaws.{same_page-refl}
 use Rattle.driver_laws.proofs.SoundLaws.{entry_of}
 use Rattle.driver_laws.proofs.ThreeEntryLaws.{three_others}
 use Rattle.driver_laws.proofs.ThreeLaws.{three_first, three_own}

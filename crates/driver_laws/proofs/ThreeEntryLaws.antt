@@ -2,7 +2,7 @@
 use Rattle.std.proofs.Common.{◌≡◌, ℕ, ◌+◌, ◌-◌, ◌==◌, ◌||◌, not, Bool, true, false, if◌then◌else◌, zero, suc, refl, sym, ◌∙◌, ap, subst, List, [], ◌∷◌, ◌++◌, Option, Some, None, is_some, arith}
 use Rattle.std.proofs.lemmas.Bool.{eq-eqb, false≢true}
 use Rattle.std.proofs.lemmas.List.Folds.{list_any-append}
-use Rattle.sgx_types.proofs.Pages.{same_pages}
+use Rattle.sgx_types.proofs.Pages.{same_page-refl, same_pages}
 use Rattle.sgx_types.specs.declared.entries.Action.{Action}
 use Rattle.sgx_types.specs.declared.entries.Action.TheVariants as actions
 use Rattle.sgx_types.specs.declared.entries.Actor.TheVariants as actors
@@ -11,13 +11,14 @@ use Rattle.sgx_types.specs.declared.entries.Cause.{Cause}
 use Rattle.sgx_types.specs.declared.entries.Cause.TheVariants as causes
 use Rattle.sgx_types.specs.declared.entries.Entry.{Entry}
 use Rattle.sgx_types.specs.declared.entries.Event.{Event}
-use Rattle.sgx_types.specs.declared.entries.Event.TheVariants.{Did, Refused, Kick}
+use Rattle.sgx_types.specs.declared.entries.Event.TheVariants.{Did, Refused}
 use Rattle.sgx_types.specs.declared.names.Cpu.{Cpu}
 use Rattle.sgx_types.specs.declared.names.Frame.{Frame}
 use Rattle.sgx_types.specs.declared.names.Page.{Page}
 use Rattle.sgx_types.specs.declared.refusals.Refusal.{Refusal}
-use Rattle.sgx_types.specs.Frames.{Content, Free, Holds, IsLoading, IsVa, SecsOf, content, is_page, page_at, same_page}
+use Rattle.sgx_types.specs.Frames.{Content, content, is_page, page_at, same_page}
 use Rattle.sgx_types.specs.Processors.{Enters, Keeps, Leaves, Move, Stay, is_by, move_by, stay, stay_after, stay_from}
+use Rattle.sgx_types.proofs.Contents.{held_page}
 use Rattle.job_grammar.specs.declared.jobs.Op.{Op}
 use Rattle.job_grammar.specs.declared.jobs.Op.TheVariants as ops
 use Rattle.job_grammar.specs.declared.jobs.PageLine.{PageLine}
@@ -29,7 +30,6 @@ use Rattle.driver_rules.specs.Needs.{Interruption, access_page, interrupted_by, 
 use Rattle.driver_rules.specs.Places.{is_here, place}
 use Rattle.driver_laws.specs.Three.{AreAmong, HoldsThree, pages_by, tcs_by, tcs_of, three, three_by}
 use Rattle.driver_rules.specs.Turns.{first_away}
-use Rattle.driver_laws.proofs.PlaceLaws.{same_page-refl}
 use Rattle.driver_laws.proofs.SoundLaws.{entry_of}
 
 -- ---- lists of pages
@@ -339,13 +339,11 @@ own_end j past c answer h done =
 
 pub page_in_among : (content : Content) (g : Page) (zs : List Page) → is_page content g ≡ true → is_among zs g ≡ true
     → AreAmong (page_in content) zs
-page_in_among (Holds page kind perm) g zs held there =
-    λ x k. or_true (same_page page x) false (is_among zs x ≡ true) k (λ m. subst (λ y. is_among zs y ≡ true)
-    (sym (same_pages page g held) ∙ same_pages page x m) there) (λ m. absurd (false≢true m))
-page_in_among Free g zs held there = none_among zs
-page_in_among IsVa g zs held there = none_among zs
-page_in_among (SecsOf e) g zs held there = none_among zs
-page_in_among (IsLoading page) g zs held there = none_among zs
+page_in_among content g zs held there = subst (λ c. AreAmong (page_in c) zs) (sym (held_page content g held).holds) one
+  where
+    one : AreAmong (g ∷ []) zs
+    one x k = or_true (same_page g x) false (is_among zs x ≡ true) k
+        (λ m. subst (λ y. is_among zs y ≡ true) (same_pages g x m) there) (λ m. absurd (false≢true m))
 
 pages_less : (j : JobView) (e t n : ℕ) (o : Op) → AreAmong (pages_by j e t n o) (pages_by j e t (n - 1 + 1) o)
 pages_less j e t n o = by_count n (tcs_line (lines_at j.enclaves e) t)

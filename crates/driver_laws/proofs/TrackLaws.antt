@@ -14,15 +14,16 @@ use Rattle.sgx_types.specs.declared.names.Page.{Page}
 use Rattle.sgx_types.specs.declared.names.SlotAt.{SlotAt}
 use Rattle.sgx_types.specs.Epochs.{is_before, is_in_before, is_track, last_track}
 use Rattle.sgx_types.specs.Eviction.{block_place, earlier_or, is_drained, is_drained_from, keeps_back, number_kept_back, track_behind}
-use Rattle.sgx_types.specs.Frames.{Content, Free, Holds, IsLoading, IsVa, SecsOf, added, content, enclave_in, is_block, is_blocked, is_page, is_put, put_by, same_page}
+use Rattle.sgx_types.specs.Frames.{Free, content, is_block, is_blocked, is_page, is_put, made_before, put_by, same_page}
 use Rattle.sgx_types.specs.Starts.{is_load_of, open_start}
 use Rattle.sgx_types.specs.Processors.{Enters, Keeps, Leaves, Move, Stay, is_by, move_by, stay, stay_after}
+use Rattle.sgx_types.proofs.Contents.{load_no_page, page_enclave}
 use Rattle.driver_laws.specs.Kinds.{CanMove}
 use Rattle.driver_rules.specs.Places.{Absent, Away, Leaving, Loading, Place, after_look, back_to, place}
 use Rattle.driver_laws.specs.Sound.{IsSound, load_slot, slot_loading, stands_in}
 use Rattle.driver_laws.specs.Tracks.{IsCalm, IsTracked, IsWaiting, moves_out}
 use Rattle.driver_laws.proofs.SoundLaws.{entry_of}
-use Rattle.driver_laws.proofs.PlaceLaws.{load_no_page, load_slot_is, of_same}
+use Rattle.driver_laws.proofs.PlaceLaws.{load_slot_is, of_same}
 
 -- ---- counts
 
@@ -80,7 +81,7 @@ first_last (e ∷ past) n from k h = by_earlier (track_behind past n from) refl 
 -- a block stands before the end
 pub block_low : (past : List Entry) (f b : ℕ) → block_place past f ≡ Some b → b < length past
 block_low [] f b h = cc
-block_low (e ∷ past) f b h = by_cases (is_block e.event f) (is_put (put_by e.event (added past)) f) h (block_low past f b)
+block_low (e ∷ past) f b h = by_cases (is_block e.event f) (is_put (put_by e.event (made_before past)) f) h (block_low past f b)
   where
     by_cases : (x y : Bool) → (if x then Some (length past) else if y then None else block_place past f) ≡ Some b
         → (block_place past f ≡ Some b → b < length past) → b < length (e ∷ past)
@@ -91,7 +92,7 @@ block_low (e ∷ past) f b h = by_cases (is_block e.event f) (is_put (put_by e.e
 -- a frame is blocked where it has a place of a block
 pub blocked_place : (past : List Entry) (f : ℕ) → is_blocked past f ≡ is_some (block_place past f)
 blocked_place [] f = refl
-blocked_place (e ∷ past) f = by_cases (is_block e.event f) (is_put (put_by e.event (added past)) f) (blocked_place past f)
+blocked_place (e ∷ past) f = by_cases (is_block e.event f) (is_put (put_by e.event (made_before past)) f) (blocked_place past f)
   where
     by_cases : (x y : Bool) → is_blocked past f ≡ is_some (block_place past f)
         → (x || (not y && is_blocked past f)) ≡ is_some (if x then Some (length past) else if y then None else block_place past f)
@@ -237,14 +238,6 @@ waiting_kept past e g f b s can stays w = by_event e.event can stays
     by_event _ k m = record { leaving = w.leaving; blocked = w.blocked }
 
 -- ---- drained
-
-pub page_enclave : (c : Content) (g : Page) → is_page c g ≡ true → enclave_in c ≡ Some g.enclave
-page_enclave (Holds page kind perm) g h =
-    ap Some (eqb-true page.enclave g.enclave (both_true (page.enclave == g.enclave) (page.number == g.number) h).0)
-page_enclave Free g h = cc
-page_enclave IsVa g h = cc
-page_enclave (SecsOf e) g h = cc
-page_enclave (IsLoading page) g h = cc
 
 -- what is asked of the frame of a waiting page
 pub drained_waiting : (past : List Entry) (g : Page) (f b : ℕ) → IsSound past → IsWaiting past g f b

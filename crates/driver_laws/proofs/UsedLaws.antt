@@ -1,6 +1,6 @@
 -- Slots stay used, one entry longer.
 use Rattle.std.proofs.Common.{◌≡◌, ℕ, ◌<◌, ◌==◌, Bool, true, false, if◌then◌else◌, refl, sym, ◌∙◌, ap, subst, List, [], ◌∷◌, Option, Some, None, length}
-use Rattle.std.proofs.lemmas.Bool.{eqb-true, eq-eqb, false≢true}
+use Rattle.std.proofs.lemmas.Bool.{eq-eqb, false≢true}
 use Rattle.sgx_types.proofs.Pages.{same_slots}
 use Rattle.sgx_types.specs.declared.entries.Action.TheVariants.{Add, EwbStart, Ewb, EldStart, Eld}
 use Rattle.sgx_types.specs.declared.entries.Actor.{Actor}
@@ -16,7 +16,7 @@ use Rattle.sgx_types.specs.declared.names.Page.{Page}
 use Rattle.sgx_types.specs.declared.names.SlotAt.{SlotAt}
 use Rattle.sgx_types.specs.declared.refusals.Refusal.{Refusal}
 use Rattle.sgx_types.specs.Frames.{page_at, same_page}
-use Rattle.sgx_types.specs.Slots.{is_slot_busy, names_slot, open_slot, same_slot, version_in}
+use Rattle.sgx_types.specs.Slots.{names_slot, open_slot, same_slot, version_in}
 use Rattle.sgx_types.specs.Starts.{Start, open_start, version_told}
 use Rattle.driver_rules.specs.Places.{Here, Place, after_look, gone_to, place}
 use Rattle.driver_laws.specs.Kinds.{CanMove}
@@ -24,7 +24,7 @@ use Rattle.driver_laws.specs.Sound.{IsSound, slot_at, slot_outside}
 use Rattle.driver_laws.specs.Used.{LoadsHaveFound, SlotsAreFilled, SlotsAreUsed, StartTells, WritesHaveDrawn}
 use Rattle.driver_laws.proofs.SlotLaws.{other_slot, outside_here, outside_loading, outside_refused, outside_taken, same_slot-refl}
 use Rattle.driver_laws.proofs.SoundLaws.{entry_of, load_start, named}
-use Rattle.driver_laws.proofs.AloneLaws.{alone, free_none}
+use Rattle.driver_laws.proofs.AloneLaws.{alone}
 
 -- ---- versions that were drawn
 

@@ -7,8 +7,9 @@ use Rattle.sgx_types.specs.declared.entries.Event.TheVariants.{Did}
 use Rattle.sgx_types.specs.declared.entries.Action.TheVariants.{Add}
 use Rattle.sgx_types.specs.declared.names.Page.{Page}
 use Rattle.sgx_types.specs.declared.names.SlotAt.{SlotAt}
-use Rattle.sgx_types.specs.Frames.{Content, IsVa, content, same_page}
+use Rattle.sgx_types.specs.Frames.{content, same_page}
 use Rattle.sgx_types.specs.Slots.{IsIdle, version_in}
+use Rattle.sgx_types.specs.Table.{is_va}
 use Rattle.version_array.specs.Keeper.{Keeper, is_added, is_out}
 use Rattle.job_grammar.specs.Jobs.{JobView, va_pages}
 use Rattle.driver_rules.specs.Places.{active, is_young}
@@ -38,10 +39,6 @@ abbrev pub listed_by : List Entry → List Listed
 listed_by past = map (marked past) (active past)
 
 -- ---- slots
-
-abbrev pub is_va : Content → Bool
-is_va IsVa = true
-is_va _ = false
 
 abbrev pub is_add : Event → Bool
 is_add (Did (Add enclave number f kind perm init) answer) = true

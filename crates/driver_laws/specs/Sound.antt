@@ -4,10 +4,11 @@ use Rattle.std.specs.Prelude.{ℕ, ◌≡◌, ◌==◌, ◌+◌, Bool, true, fal
 use Rattle.sgx_types.specs.declared.entries.Entry.{Entry}
 use Rattle.sgx_types.specs.declared.names.Page.{Page}
 use Rattle.sgx_types.specs.declared.names.SlotAt.{SlotAt}
-use Rattle.sgx_types.specs.Frames.{Content, IsLoading, added, content, is_page, same_page}
+use Rattle.sgx_types.specs.Frames.{Content, added, content, is_page, same_page}
 use Rattle.sgx_types.specs.Slots.{slot_of as slot_of_start, version_in}
 use Rattle.sgx_types.specs.Starts.{Start, is_load_of, open_start}
 use Rattle.sgx_types.specs.Fresh.{Out, last_out}
+use Rattle.sgx_types.specs.Table.{is_loading}
 use Rattle.driver_rules.specs.Places.{Absent, Away, Here, Leaving, Loading, Place, active, is_here, place}
 
 -- ---- places
@@ -39,10 +40,6 @@ is_load_start (Some start) = is_some start.loads
 abbrev pub is_write_start : Option Start → Bool
 is_write_start None = false
 is_write_start (Some start) = not (is_some start.loads)
-
-abbrev pub is_loading : Content → Bool
-is_loading (IsLoading page) = true
-is_loading _ = false
 
 -- by the place of each page, what each frame holds, and the open start of each frame
 pub record PlacesAreFrames (at : Page → Place) (held : ℕ → Content) (opened : ℕ → Option Start) : Type 0 where

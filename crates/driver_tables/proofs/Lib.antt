@@ -4,3 +4,5 @@ pub mod LoadShowLaws
 pub mod FirstLaws
 pub mod OtherShowLaws
 pub mod HeldLaws
+pub mod ListLaws
+pub mod BuildLaws

@@ -2,7 +2,7 @@
 use Rattle.std.proofs.Common.{◌≡◌, ℕ, ◌++◌, Bool, true, false, cond, List, [], ◌∷◌, None, Some, drop, length, map, sum, refl, sym, ap, subst, ◌∙◌}
 use Rattle.std.proofs.lemmas.Bool.{cond-true, cond-false, false≢true}
 use Rattle.std.proofs.lemmas.List.{length-set}
-use Rattle.sgx_types.proofs.Pages.{same_pages}
+use Rattle.sgx_types.proofs.Pages.{same_page-refl, same_pages}
 use Rattle.sgx_types.specs.declared.entries.Actor.TheVariants as actors
 use Rattle.sgx_types.specs.declared.entries.Action.TheVariants.{Ewb, EwbStart}
 use Rattle.sgx_types.specs.declared.entries.Answer.{Answer}
@@ -36,11 +36,19 @@ use Rattle.driver_laws.specs.Sound.{IsSound, is_absent}
 use Rattle.driver_laws.proofs.AgreeLaws.{is_slotless, shows_age, shows_ewb, shows_ewbstart, shows_quiet}
 use Rattle.driver_laws.proofs.MarkLaws.{is_markless, listed-held, listed-noroom, listed-quiet, listed-taken, listed-young}
 use Rattle.driver_laws.proofs.MoveLaws.{place-ewb, place-ewb-other, place-held, place-noroom, place-quiet, place-taken, place-taken-other, place-young}
-use Rattle.driver_laws.proofs.PlaceLaws.{same_page-refl}
 use Rattle.driver_laws.proofs.SoundLaws.{entry_of, head_here}
 use Rattle.driver_tables.specs.declared.driver.Driver.{Driver}
-use Rattle.driver_tables.specs.Moves.{IsLooked, IsTaken, leaving_of}
+use Rattle.driver_tables.specs.Moves.{IsLooked, IsTaken, frame_in, leaving_of}
 use Rattle.driver_tables.specs.Tables.{ShowsTables, listed, place_in}
+
+-- the frame of a page that is here
+pub here_frame : (state : PageState) (n : ℕ) → place_in state ≡ Here n → (frame_in state).0 ≡ n
+here_frame (states.Here f) n h = cc
+here_frame states.Absent n h = cc
+here_frame (states.Leaving f) n h = cc
+here_frame (states.Loading f slot) n h = cc
+here_frame (states.Away slot) n h = cc
+here_frame (states.Lost slot) n h = cc
 
 -- ---- in general
 

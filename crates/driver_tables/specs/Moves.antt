@@ -20,6 +20,12 @@ abbrev pub leaving_of : PageState → PageState
 leaving_of (Here f) = Leaving f
 leaving_of state = state
 
+-- the frame of a page that stands in one, the first for another
+abbrev pub frame_in : PageState → Frame
+frame_in (Here f) = f
+frame_in (Leaving f) = f
+frame_in state = record { 0 = 0 }
+
 -- a page that was loading is away in its slot
 abbrev pub slot_away : PageState → PageState
 slot_away (Loading f slot) = Away slot

@@ -9,7 +9,7 @@ ghost use Rattle.active_list.specs.States.{state_of, with_state};
 ghost use Rattle.active_list.specs.declared.page_states.PageState.TheVariants as states;
 ghost use Rattle.sgx_types.specs.declared.entries.Look.TheVariants as looks;
 ghost use Rattle.version_array.specs.Keeper.{is_out};
-ghost use Rattle.driver_tables.specs.Moves.{IsLooked, IsLoaded, leaving_of, slot_away};
+ghost use Rattle.driver_tables.specs.Moves.{IsLooked, IsLoaded, frame_in, leaving_of, slot_away};
 
 use crate::driver::Driver;
 use active_list::page_states::PageState;
@@ -90,5 +90,15 @@ fn leaving(state: PageState) -> PageState
     match state {
         PageState::Here(frame) => PageState::Leaving(frame),
         _ => state,
+    }
+}
+
+/// The frame of a page that stands in one. That of any other page is told as frame 0.
+pub fn frame_in(state: PageState) -> Frame
+    ensures { result ≡ frame_in state }
+{
+    match state {
+        PageState::Here(frame) | PageState::Leaving(frame) => frame,
+        _ => Frame(0),
     }
 }

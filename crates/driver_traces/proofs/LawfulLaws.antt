@@ -18,7 +18,7 @@ use Rattle.sgx_types.specs.declared.refusals.Refusal.{Refusal}
 use Rattle.sgx_types.specs.declared.refusals.Refusal.TheVariants as why
 use Rattle.sgx_types.specs.Ends.{EndsIn, EndsOut, IsNotBack}
 use Rattle.sgx_types.specs.Flat.{accepts, flat, flat_answer, is_visible}
-use Rattle.sgx_types.specs.Frames.{Content, Free, IsVa, SecsOf, Holds, IsLoading, content, is_free, same_page}
+use Rattle.sgx_types.specs.Frames.{Content, Free, Holds, IsLoading, IsVa, SecsOf, content, same_page}
 use Rattle.sgx_types.specs.Fresh.{FreshRule, Out, ReloadRule, last_out}
 use Rattle.sgx_types.specs.Making.{Making}
 use Rattle.sgx_types.specs.Rules.{EndsWriteOut, EvictRule, FitsRule, FlatRule, GoesOut, HasForm, NamesFrames, RefusalRule, RisingRule, StaleRule, TakesFree, case_of, seen_answer}
@@ -26,6 +26,7 @@ use Rattle.sgx_types.specs.Slots.{version_in}
 use Rattle.sgx_types.specs.Starts.{Start, loads_page, open_start}
 use Rattle.sgx_types.proofs.Pages.{same_pages}
 use Rattle.sgx_types.proofs.Truths.{both_true}
+use Rattle.sgx_types.proofs.Contents.{free_is}
 use Rattle.job_grammar.specs.Jobs.{JobView}
 use Rattle.turn_rules.specs.Machines.{machine_of}
 use Rattle.driver_rules.specs.Same.{same_numbers}
@@ -218,18 +219,11 @@ names_tell frames (EldStart f page slot) h = both_below f.0 slot.frame.0 frames 
 names_tell frames (Eld f) h = is_below f.0 frames h
 names_tell frames _ h = tt
 
-free : (held : Content) → is_free held ≡ true → held ≡ Free
-free Free h = refl
-free IsVa h = cc
-free (SecsOf enclave) h = cc
-free (Holds page kind perm) h = cc
-free (IsLoading page) h = cc
-
 takes_tell : (past : List Entry) (action : Action) → takes_free past action ≡ true → TakesFree past action
-takes_tell past (Epa f) h = free (content past f.0) h
-takes_tell past (Create enclave f base size) h = free (content past f.0) h
-takes_tell past (Add enclave number f kind perm init) h = free (content past f.0) h
-takes_tell past (EldStart f page slot) h = free (content past f.0) h
+takes_tell past (Epa f) h = free_is (content past f.0) h
+takes_tell past (Create enclave f base size) h = free_is (content past f.0) h
+takes_tell past (Add enclave number f kind perm init) h = free_is (content past f.0) h
+takes_tell past (EldStart f page slot) h = free_is (content past f.0) h
 takes_tell past _ h = tt
 
 fits_tell : (frames : ℕ) (past : List Entry) (a : Actor) (ev : Event) → keeps_fits frames past ev ≡ true
@@ -259,7 +253,7 @@ stale_tells past a _ h = tt
 out_tells : (past : List Entry) (n : ℕ) (held : Content) → goes_out past n held ≡ true → GoesOut past n held
 out_tells past n (Holds page kind perm) h = h
 out_tells past n Free h = false≢true h
-out_tells past n IsVa h = false≢true h
+out_tells past n (IsVa number) h = false≢true h
 out_tells past n (SecsOf enclave) h = false≢true h
 out_tells past n (IsLoading page) h = false≢true h
 

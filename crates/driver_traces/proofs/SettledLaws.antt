@@ -1,5 +1,5 @@
 -- What the tests of a place tell.
-use Rattle.std.proofs.Common.{◌≡◌, ℕ, zero, suc, ◌<◌, ◌≤◌, ◌==◌, ◌&&◌, ◌||◌, not, Bool, true, false, refl, sym, subst, List, [], ◌∷◌, Option, Some, None, IfSome, length, arith, ◌⊎◌, inl, inr}
+use Rattle.std.proofs.Common.{◌≡◌, ℕ, zero, suc, ◌<◌, ◌≤◌, ◌==◌, ◌&&◌, ◌||◌, not, Bool, true, false, refl, sym, ap, ◌∙◌, subst, List, [], ◌∷◌, Option, Some, None, IfSome, length, arith, ◌⊎◌, inl, inr}
 use Rattle.std.specs.List.{All}
 use Rattle.std.proofs.lemmas.Bool.{eqb-true, false≢true, cases_lt}
 use Rattle.std.proofs.lemmas.List.Elements.{All-cons, All-nil}
@@ -11,11 +11,12 @@ use Rattle.sgx_types.specs.declared.entries.PageInit.TheVariants.{Words}
 use Rattle.sgx_types.specs.declared.names.Kind.{Kind}
 use Rattle.sgx_types.specs.declared.names.Page.{Page}
 use Rattle.sgx_types.specs.declared.names.Perm.{Perm}
-use Rattle.sgx_types.specs.Frames.{Content, Free, IsVa, SecsOf, Holds, IsLoading, Put, added, content, held_after, is_page, is_sealing, page_at, put_by, same_page}
+use Rattle.sgx_types.specs.Frames.{Content, Free, Holds, Put, content, held_after, is_page, is_sealing, made_before, page_at, put_by, same_page}
 use Rattle.sgx_types.specs.Processors.{BareTranslation, Move, Enters, Leaves, Keeps, Stay, is_by, move_by, stay, stay_after, translations}
 use Rattle.sgx_types.specs.Rules.{IsCurrent, IsStill, IsUndisturbed, NoPageTwice, NoneStale}
 use Rattle.sgx_types.proofs.Pages.{same_pages}
 use Rattle.sgx_types.proofs.Truths.{apart, both_true}
+use Rattle.sgx_types.proofs.Contents.{held_page}
 use Rattle.job_grammar.specs.Jobs.{JobView}
 use Rattle.turn_rules.specs.Script.{frame_at}
 use Rattle.driver_rules.specs.Decided.{all_along}
@@ -50,22 +51,11 @@ free_beyond : (frames : ℕ) (past : List Entry) (n : ℕ) → all_along (puts_b
 free_beyond frames [] n low beyond = refl
 free_beyond frames (e ∷ past) n low beyond =
     let k = both_true (puts_below frames past e) (all_along (puts_below frames) past) low in
-    held_beyond frames n (put_by e.event (added past)) (content past n) k.0 beyond (free_beyond frames past n k.1 beyond)
-
-free_holds_none : (held : Content) (g : Page) → held ≡ Free → is_page held g ≡ true → ⊥
-free_holds_none Free g free here = false≢true here
-free_holds_none IsVa g free here = cc
-free_holds_none (SecsOf enclave) g free here = cc
-free_holds_none (Holds page kind perm) g free here = cc
-free_holds_none (IsLoading page) g free here = cc
+    held_beyond frames n (put_by e.event (made_before past)) (content past n) k.0 beyond (free_beyond frames past n k.1 beyond)
 
 -- two contents of one page are found to hold the same
 found_same : (a b : Content) (g : Page) → is_page a g ≡ true → is_page b g ≡ true → holds_same a b ≡ true
-found_same (Holds page kind perm) b g in_a in_b = subst (λ q. is_page b q ≡ true) (sym (same_pages page g in_a)) in_b
-found_same Free b g in_a in_b = cc
-found_same IsVa b g in_a in_b = cc
-found_same (SecsOf enclave) b g in_a in_b = cc
-found_same (IsLoading page) b g in_a in_b = cc
+found_same a b g in_a in_b = ap (λ c. holds_same c b) (held_page a g in_a).holds ∙ in_b
 
 only_once : (same shared : Bool) → (same || not shared) ≡ true → shared ≡ true → same ≡ true
 only_once true shared h e = refl
@@ -75,7 +65,7 @@ only_once false false h e = e
 holds_below : (frames : ℕ) (past : List Entry) (n : ℕ) (g : Page) → all_along (puts_below frames) past ≡ true
     → is_page (content past n) g ≡ true → (n < frames) ⊎ (frames ≤ n) → n < frames
 holds_below frames past n g low here (inl below) = below
-holds_below frames past n g low here (inr beyond) = absurd (free_holds_none (content past n) g (free_beyond frames past n low beyond) here)
+holds_below frames past n g low here (inr beyond) = absurd (false≢true (subst (λ c. is_page c g ≡ true) (free_beyond frames past n low beyond) here))
 
 once : (frames : ℕ) (past : List Entry) → is_page_once frames past ≡ true → NoPageTwice past
 once frames past h m n g at_m at_n =

@@ -4,7 +4,7 @@ use Rattle.std.specs.Prelude.{ℕ, zero, suc, ◌==◌, ◌&&◌, ◌||◌, not,
 use Rattle.sgx_types.specs.declared.entries.Actor.{Actor}
 use Rattle.sgx_types.specs.declared.entries.Actor.TheVariants as actors
 use Rattle.sgx_types.specs.declared.entries.Entry.{Entry}
-use Rattle.sgx_types.specs.Frames.{Content, Holds, Put, added, content, is_page, is_sealing, page_at, put_by, same_page}
+use Rattle.sgx_types.specs.Frames.{Content, Holds, Put, content, is_page, is_sealing, made_before, page_at, put_by, same_page}
 use Rattle.sgx_types.specs.Processors.{BareTranslation, Stay, stay, translations}
 use Rattle.job_grammar.specs.Jobs.{JobView}
 use Rattle.driver_rules.specs.Decided.{all_along}
@@ -23,7 +23,7 @@ is_put_below frames (Some put) = nat_lt put.frame frames
 
 -- an entry puts nothing beyond so many frames
 abbrev pub puts_below : ℕ → List Entry → Entry → Bool
-puts_below frames past e = is_put_below frames (put_by e.event (added past))
+puts_below frames past e = is_put_below frames (put_by e.event (made_before past))
 
 -- both hold the same page
 abbrev pub holds_same : Content → Content → Bool

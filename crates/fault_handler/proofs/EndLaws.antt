@@ -1,8 +1,7 @@
 -- The end of a load is what is due, and what its entry keeps.
-use Rattle.std.proofs.Common.{◌≡◌, ℕ, ◌+◌, ◌<◌, not, Bool, true, false, if◌then◌else◌, List, [], ◌∷◌, Option, None, Some, MatchOption, ⊎_elim, ◌⊎◌, inl, inr, length, map, is_some, refl, sym, ap, subst, ◌∙◌, arith}
-use Rattle.std.proofs.lemmas.Bool.{eq-eqb, false≢true}
+use Rattle.std.proofs.Common.{◌≡◌, ℕ, ◌+◌, ◌<◌, not, Bool, true, false, if◌then◌else◌, List, ◌∷◌, Option, None, Some, MatchOption, ⊎_elim, ◌⊎◌, inl, inr, length, is_some, refl, sym, ap, subst, ◌∙◌}
+use Rattle.std.proofs.lemmas.Bool.{eq-eqb}
 use Rattle.std.specs.Str.{bytes_eq}
-use Rattle.sgx_types.proofs.Pages.{same_pages}
 use Rattle.sgx_types.specs.declared.entries.Action.TheVariants.{Eld}
 use Rattle.sgx_types.specs.declared.entries.Actor.TheVariants as actors
 use Rattle.sgx_types.specs.declared.entries.Answer.TheVariants.{Moved}
@@ -14,19 +13,16 @@ use Rattle.sgx_types.specs.declared.names.Page.{Page}
 use Rattle.sgx_types.specs.declared.names.SlotAt.{SlotAt}
 use Rattle.sgx_types.specs.declared.refusals.Refusal.{Refusal}
 use Rattle.sgx_types.specs.declared.refusals.Refusal.TheVariants as why
-use Rattle.sgx_types.specs.Frames.{Content, Free, Holds, IsLoading, IsVa, SecsOf, content, same_page}
+use Rattle.sgx_types.specs.Frames.{content}
 use Rattle.sgx_types.specs.Making.{Making}
 use Rattle.sgx_types.specs.Sealed.{Sealed}
 use Rattle.sgx_types.specs.Starts.{Start, open_start, BareStart}
-use Rattle.sgx_types.specs.Table as table
-use Rattle.sgx_types.specs.Table.{first_of_row}
+use Rattle.sgx_types.specs.Table.{first_of_row, is_loading}
 use Rattle.sgx_types.proofs.Busy.{IsBareOf}
 use Rattle.epcm_entry.specs.Words.{words_of}
 use Rattle.job_grammar.specs.Jobs.{JobView}
-use Rattle.active_list.specs.declared.ring.Listed as ring
 use Rattle.active_list.specs.Keeping.{Kept, keeping, kept_at, page_kept}
 use Rattle.active_list.specs.Places.{IsPlaced}
-use Rattle.active_list.specs.Ring.{is_listed}
 use Rattle.active_list.specs.States.{state_of as page_state}
 use Rattle.active_list.specs.declared.page_states.PageState.{PageState}
 use Rattle.active_list.specs.declared.page_states.PageState.TheVariants as states
@@ -34,59 +30,27 @@ use Rattle.seal_record.specs.Cipher.{cipher, tag}
 use Rattle.seal_record.specs.Row.{eld_row, is_header}
 use Rattle.paging_laws.specs.State.{State, after_eld, after_failed_eld}
 use Rattle.paging_laws.specs.Steps.{commit_row, did_by, refused_by}
-use Rattle.paging_laws.proofs.ColumnLaws.{content_is, start_is}
+use Rattle.paging_laws.proofs.ColumnLaws.{content_is}
 use Rattle.paging_laws.proofs.SlotLaws.{started_as}
 use Rattle.paging_machine.specs.Parts.{Parts, state_of}
 use Rattle.driver_rules.specs.Places.{Loading, active, place}
 use Rattle.driver_rules.specs.Dues.{Ends, IsNext}
 use Rattle.driver_rules.specs.Reclaims.{is_refused}
 use Rattle.driver_rules.specs.Turns.{Fails, Loads, fails_with, last_of, load_of}
-use Rattle.driver_laws.specs.Agrees.{Listed, loaded_by, marked}
+use Rattle.driver_laws.specs.Agrees.{loaded_by}
 use Rattle.driver_laws.specs.Kinds.{CanMove}
-use Rattle.driver_laws.specs.Sound.{is_absent, is_load_start, is_loading, once_here, slot_at, times}
+use Rattle.driver_laws.specs.Sound.{is_absent, is_load_start, once_here, slot_at}
 use Rattle.driver_laws.proofs.LoadLaws.{loading_place}
-use Rattle.driver_laws.proofs.PlaceLaws.{same_page-refl}
 use Rattle.driver_tables.specs.declared.driver.Driver.{Driver}
-use Rattle.driver_tables.specs.Tables.{ShowsTables, listed, place_in}
+use Rattle.driver_tables.specs.Tables.{ShowsTables, place_in}
 use Rattle.driver_tables.proofs.LoadShowLaws.{shows_bus, shows_load_end, shows_load_refused}
+use Rattle.driver_tables.proofs.ListLaws.{not_listed}
 use Rattle.fault_handler.specs.declared.answers.Loaded.{Loaded}
 use Rattle.fault_handler.specs.Due.{IsRightEnd}
 use Rattle.fault_handler.specs.Finishing.{CanFinish, IsFinished, bus_why}
 use Rattle.driver_steps.specs.Agrees.{Agrees}
 
 -- ---- what is known of a page that loads
-
--- a page that is in no list
-not_listed : (xs : List ring.Listed) (past : List Entry) (ys : List Page) (g : Page) → map listed xs ≡ map (marked past) ys
-    → times ys g ≡ 0 → is_listed xs g ≡ false
-not_listed [] past ys g same none = refl
-not_listed (x ∷ xs) past [] g same none = cc
-not_listed (x ∷ xs) past (y ∷ ys) g same none = by_head (same_page y g) refl none (not_listed xs past ys g rest)
-  where
-    page_same : x.page ≡ y
-    page_same = ap (λ (l : List Listed). head_page x.page l) same
-      where
-        head_page : Page → List Listed → Page
-        head_page other [] = other
-        head_page other (z ∷ zs) = z.page
-
-    rest : map listed xs ≡ map (marked past) ys
-    rest = ap tail_of same
-      where
-        tail_of : List Listed → List Listed
-        tail_of [] = []
-        tail_of (z ∷ zs) = zs
-
-    other : (b : Bool) → same_page g x.page ≡ b → same_page y g ≡ false → b ≡ false
-    other true is k = absurd (false≢true
-        (sym k ∙ (ap (λ p. same_page p g) (sym page_same ∙ sym (same_pages g x.page is)) ∙ same_page-refl g)))
-    other false is k = refl
-
-    by_head : (b : Bool) → same_page y g ≡ b → (if b then 1 else 0) + times ys g ≡ 0 → (times ys g ≡ 0 → is_listed xs g ≡ false)
-        → is_listed (x ∷ xs) g ≡ false
-    by_head true is k more = absurd (omega (arith, k))
-    by_head false is k more = rw (other (same_page g x.page) refl is)
-        (more (let none_left : 0 + times ys g ≡ 0 = k in omega (arith, none_left)))
 
 -- a state by its place
 record IsLoadingState (s : PageState) (n : ℕ) (slot : SlotAt) : Type 0 where
@@ -142,18 +106,11 @@ module _ (made : Making) (j : JobView) (past : List Entry) (d : Driver) (m : Par
   copy : IsKeptFor (kept_at d.kept cpu.0) page
   copy = kept_for (kept_at d.kept cpu.0) page (r.shows.copies cpu.0 ∙ ap loaded_by last)
 
-  waits : table.is_loading ((state_of m).content n) ≡ true
+  waits : is_loading ((state_of m).content n) ≡ true
   waits =
-      ap table.is_loading (content_is r.follows.shape.columns n) ∙ tests (content past n) ∙ sym (r.sound.places.loading n)
+      ap is_loading (content_is r.follows.shape.columns n) ∙ sym (r.sound.places.loading n)
       ∙ by_start (open_start past n) opens
     where
-      tests : (c : Content) → table.is_loading c ≡ is_loading c
-      tests Free = refl
-      tests IsVa = refl
-      tests (SecsOf e) = refl
-      tests (Holds g kind perm) = refl
-      tests (IsLoading g) = refl
-
       by_start : (o : Option Start) → load_of o ≡ Some page → is_load_start o ≡ true
       by_start None h = cc
       by_start (Some x) h = ap is_some h
@@ -167,13 +124,13 @@ module _ (made : Making) (j : JobView) (past : List Entry) (d : Driver) (m : Par
       loading = state_is.state;
       placed = subst (λ counts. IsPlaced counts page) r.shows.counts placed;
       counts = r.shows.counts;
-      absent = not_listed d.active.pages past (active past) page r.shows.list (r.sound.list page ∙ ap once_here at.1);
+      absent = not_listed past d.active.pages (active past) page r.shows.list (r.sound.list page ∙ ap once_here at.1);
       out = r.shows.slots.used page at.0 (ap (slot_at (open_start past)) at.1);
     };
     room = room;
     kept = copy.rec;
     copy = copy.kept;
-    waits = subst (λ k. table.is_loading ((state_of m).content k) ≡ true) (sym state_is.number) waits;
+    waits = subst (λ k. is_loading ((state_of m).content k) ≡ true) (sym state_is.number) waits;
   }
 
 -- ---- the entry

@@ -22,7 +22,6 @@ use Rattle.sgx_types.specs.declared.names.Page.{Page}
 use Rattle.job_grammar.specs.Jobs.{JobView}
 use Rattle.turn_rules.specs.Script.{frame_at}
 use Rattle.active_list.specs.declared.page_states.PageState.{PageState}
-use Rattle.active_list.specs.declared.page_states.PageState.TheVariants as states
 use Rattle.active_list.specs.States.{state_of}
 use Rattle.driver_rules.specs.Ages.{head_of}
 use Rattle.driver_rules.specs.Passes.{Third, decided, free_count, keepers, kicks_on, pass, pass_after, Between, Blocking, First, Scan}
@@ -42,11 +41,12 @@ use Rattle.reclaim_worker.specs.declared.turns.Taken.{Taken}
 use Rattle.reclaim_worker.specs.Answers.{by_reclaimer}
 use Rattle.reclaim_worker.specs.Moves.{after_block}
 use Rattle.reclaim_worker.specs.After.{cpu_of, kicked_past}
-use Rattle.reclaim_worker.specs.Scans.{IsScan, after_look, frame_in, taken_with}
+use Rattle.reclaim_worker.specs.Scans.{IsScan, after_look, taken_with}
 use Rattle.reclaim_worker.specs.Standing.{AreInFrames, IsForm, StandsFor, pages_in}
 use Rattle.reclaim_worker.specs.Tables.{Shows}
 use Rattle.driver_tables.specs.Tables.{place_in}
-use Rattle.reclaim_worker.proofs.ScanLaws.{heads}
+use Rattle.driver_tables.proofs.ListLaws.{heads}
+use Rattle.driver_tables.proofs.ShowLaws.{here_frame}
 use Rattle.driver_laws.proofs.StillLaws.{still}
 
 -- ---- pages and frames
@@ -72,14 +72,6 @@ stands_looked : (first : ℕ) (past : List Entry) (left : ℕ) (taken : List Tak
 stands_looked first past zero [] h = (refl, refl)
 stands_looked first past zero (t ∷ ts) h = record { same = refl; frames = h }
 stands_looked first past (suc left) taken h = record { same = refl; frames = h }
-
-here_frame : (state : PageState) (n : ℕ) → place_in state ≡ Here n → (frame_in state).0 ≡ n
-here_frame (states.Here f) n h = cc
-here_frame states.Absent n h = cc
-here_frame (states.Leaving f) n h = cc
-here_frame (states.Loading f slot) n h = cc
-here_frame (states.Away slot) n h = cc
-here_frame (states.Lost slot) n h = cc
 
 -- what the pass stands for behind a look, before it is decided whether it works
 pub look_after : (first : ℕ) (j : JobView) (past : List Entry) (taken longer : List Taken) (left : ℕ) (old new : Driver) (turn : PassTurn)

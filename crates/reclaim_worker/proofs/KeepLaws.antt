@@ -11,6 +11,7 @@ use Rattle.sgx_types.specs.declared.names.Page.{Page}
 use Rattle.sgx_types.specs.Epochs.{epoch, noted}
 use Rattle.sgx_types.specs.Frames.{content}
 use Rattle.sgx_types.specs.Processors.{Stay, stay}
+use Rattle.sgx_types.proofs.Contents.{page_enclave}
 use Rattle.cached_translations.specs.declared.processor.Mode.{Mode}
 use Rattle.cached_translations.specs.declared.processor.Mode.TheVariants as modes
 use Rattle.paging_machine.specs.Parts.{Parts, cpu_at, idle, noted_by, seat_of_mode, state_of}
@@ -22,7 +23,7 @@ use Rattle.driver_laws.specs.Sound.{IsSound}
 use Rattle.driver_laws.specs.Tracks.{IsTracked}
 use Rattle.driver_laws.proofs.EpochLaws.{block_epoch_before}
 use Rattle.driver_laws.proofs.KickLaws.{keepers_by_epochs}
-use Rattle.driver_laws.proofs.TrackLaws.{page_enclave, waiting_holds}
+use Rattle.driver_laws.proofs.TrackLaws.{waiting_holds}
 use Rattle.reclaim_worker.specs.Answers.{bits_from, bits_of}
 use Rattle.reclaim_worker.specs.Tried.{count_from, is_kept_by}
 

@@ -24,7 +24,7 @@ use Rattle.reclaim_worker.specs.Ready.{Ready}
 use Rattle.reclaim_worker.specs.Standing.{IsForm, StandsFor, is_sealing, pages_in}
 
 -- a write-out of a page has started
-abbrev IsOut : Pass → Type 0
+abbrev pub IsOut : Pass → Type 0
 IsOut (Tries g rest Sealing) = Unit {0}
 IsOut at = ⊥
 
@@ -33,7 +33,7 @@ kept_out j free (Between works) is = absurd is
 kept_out j free at is = is
 
 -- where the reclaimer's last entry started one, the pass waits for its end
-started_out : (j : JobView) (past : List Entry) (f : ℕ) → Along (AgeRule j) past
+pub started_out : (j : JobView) (past : List Entry) (f : ℕ) → Along (AgeRule j) past
     → frame_started (last_event past actors.Reclaimer) ≡ Some f → IsOut (pass j past)
 started_out j [] f age is = cc
 started_out j (e ∷ past) f age is =
@@ -60,7 +60,7 @@ started_out j (e ∷ past) f age is =
     by_actor (actors.Cpu p) ev at in_pass k before = before k
 
 -- a pass that has started none stands for none
-none_out : (first : ℕ) (past : List Entry) (taken : List Taken) (phase : Phase) (at : Pass) → StandsFor first past taken phase at
+pub none_out : (first : ℕ) (past : List Entry) (taken : List Taken) (phase : Phase) (at : Pass) → StandsFor first past taken phase at
     → is_sealing phase ≡ false → IsOut at → ⊥
 none_out first past taken (phases.Idle works) at stands idle out = subst IsOut stands.0 out
 none_out first past taken (phases.Scan left) at stands idle out = subst IsOut stands.same out

@@ -12,7 +12,7 @@ use Rattle.sgx_types.specs.declared.refusals.Refusal.{Refusal}
 use Rattle.sgx_types.specs.declared.refusals.Refusal.TheVariants as why
 use Rattle.sgx_types.specs.Epochs.{block_epoch, epoch, epoch_in, epoch_of}
 use Rattle.sgx_types.specs.Eviction.{kept_back}
-use Rattle.sgx_types.specs.Frames.{Content, Free, Holds, IsLoading, IsVa, SecsOf, content, enclave_in, is_blocked, is_free, is_page}
+use Rattle.sgx_types.specs.Frames.{content, enclave_in, is_blocked, is_free, is_page}
 use Rattle.sgx_types.specs.Frames.{is_sealing}
 use Rattle.sgx_types.specs.Table as table
 use Rattle.sgx_types.specs.Table.{DrainSight, FrameSight, SlotSight, TrackSight, block_row, ewbstart_row, first_of_row, track_row}
@@ -20,6 +20,7 @@ use Rattle.version_array.specs.Keeper.{Keeper, is_added, is_ours, is_out}
 use Rattle.sgx_types.specs.Sights.{drain_sight_at}
 use Rattle.sgx_types.proofs.Busy.{idle_free}
 use Rattle.sgx_types.specs.Slots.{is_slot_busy}
+use Rattle.sgx_types.proofs.Contents.{page_is_no_other, va_no_free}
 use Rattle.job_grammar.specs.Jobs.{JobView}
 use Rattle.paging_machine.specs.Parts.{Parts, state_of}
 use Rattle.paging_laws.specs.Columns.{HasColumns}
@@ -28,7 +29,6 @@ use Rattle.paging_laws.proofs.ColumnLaws.{is_blocked_is, content_is, blocked_is,
 use Rattle.paging_laws.proofs.ShapeLaws.{drained_by, noting_agrees}
 use Rattle.driver_steps.proofs.PartLaws.{held_within}
 use Rattle.driver_laws.specs.Agrees.{ShowsSlots}
-use Rattle.driver_laws.specs.Agrees as agrees
 use Rattle.driver_rules.specs.Places.{Leaving, place}
 use Rattle.driver_laws.specs.Sound.{IsSound, stands_in}
 
@@ -41,25 +41,12 @@ pub record SeesPage (s : FrameSight) : Type 0 where
   pub secs : table.is_secs s.content ≡ false
   pub va : table.is_va s.content ≡ false
 
-record IsPage (c : Content) : Type 0 where
-  pub used : is_free c ≡ false
-  pub secs : table.is_secs c ≡ false
-  pub va : table.is_va c ≡ false
-  pub waits : table.is_loading c ≡ false
-
-page_form : (c : Content) (g : Page) → is_page c g ≡ true → IsPage c
-page_form (Holds page kind perm) g h = record { used = refl; secs = refl; va = refl; waits = refl }
-page_form Free g h = cc
-page_form IsVa g h = cc
-page_form (SecsOf e) g h = cc
-page_form (IsLoading page) g h = cc
-
 -- the frame of a page that waits
 pub sees_page : (d : Parts) (past : List Entry) (g : Page) (f : ℕ) → HasColumns (state_of d) past → IsSound past → place past g ≡ Leaving f
     → is_sealing past f ≡ false → SeesPage (sight (state_of d) f)
 sees_page d past g f h s at calm =
     let holds : is_page (content past f) g ≡ true = s.places.frames g f ∙ ap (λ y. stands_in y f) at ∙ eq-eqb f f refl in
-    let form = page_form ((state_of d).content f) g (ap (λ c. is_page c g) (content_is h f) ∙ holds) in
+    let form = page_is_no_other ((state_of d).content f) g (ap (λ c. is_page c g) (content_is h f) ∙ holds) in
     record {
       within = held_within d f form.used;
       idle = rw (sealing_is h f, calm) form.waits;
@@ -89,10 +76,10 @@ pub sees_slot : (d : Parts) (j : JobView) (past : List Entry) (keeper : Keeper) 
 sees_slot d j past keeper slot h busy shows ours free =
     let two = both (is_added keeper slot.frame.0) (nat_lt slot.index 512) ours in
     let here : table.is_va ((state_of d).content slot.frame.0) ≡ true =
-    ap table.is_va (content_is h slot.frame.0) ∙ same (content past slot.frame.0) ∙ sym (shows.frames slot.frame.0) ∙ two.0 in
+    ap table.is_va (content_is h slot.frame.0) ∙ sym (shows.frames slot.frame.0) ∙ two.0 in
     let none = shows.empty slot free in
     record {
-      frame = held_within d slot.frame.0 (no_free ((state_of d).content slot.frame.0) here);
+      frame = held_within d slot.frame.0 (va_no_free ((state_of d).content slot.frame.0) here);
       within = below slot.index two.1;
       idle = busy ∙ idle_free (state_of d).frames past slot none.1;
       array = here;
@@ -102,20 +89,6 @@ sees_slot d j past keeper slot h busy shows ours free =
     both : (a b : Bool) → (a && b) ≡ true → (a ≡ true) × (b ≡ true)
     both true b k = (refl, k)
     both false b k = cc
-
-    same : (c : Content) → table.is_va c ≡ agrees.is_va c
-    same Free = refl
-    same IsVa = refl
-    same (SecsOf e) = refl
-    same (Holds page kind perm) = refl
-    same (IsLoading page) = refl
-
-    no_free : (c : Content) → table.is_va c ≡ true → is_free c ≡ false
-    no_free IsVa k = refl
-    no_free Free k = cc
-    no_free (SecsOf e) k = refl
-    no_free (Holds page kind perm) k = refl
-    no_free (IsLoading page) k = refl
 
     below : (i : ℕ) → nat_lt i 512 ≡ true → nat_lt 511 i ≡ false
     below i k = grind arith

@@ -42,6 +42,7 @@ use Rattle.driver_tables.specs.declared.driver.Driver.{Driver}
 use Rattle.driver_tables.specs.Moves.{IsLooked}
 use Rattle.driver_tables.specs.Tables.{ShowsTables, listed}
 use Rattle.driver_tables.proofs.ShowLaws.{shows_looked, shows_quiet_entry, shows_started, shows_still}
+use Rattle.driver_tables.proofs.ListLaws.{heads}
 use Rattle.driver_laws.proofs.MarkLaws.{is_markless, listed-quiet}
 use Rattle.driver_laws.specs.Sound.{is_absent}
 use Rattle.reclaim_worker.specs.declared.turns.Form.{Form}
@@ -66,7 +67,6 @@ use Rattle.reclaim_worker.specs.Turning.{IsFormTurn, IsThirdTurn, TurnSays}
 use Rattle.reclaim_worker.proofs.DueLaws.{drop_get, frames_behind, with_page}
 use Rattle.reclaim_worker.proofs.MoveDueLaws.{block_is_due, block_of, due_there, refused_entry, same_frame, spent_entry, started_entry}
 use Rattle.reclaim_worker.proofs.MoveDueLaws.{track_entry, try_entry}
-use Rattle.reclaim_worker.proofs.ScanLaws.{heads}
 
 -- ---- in general
 

@@ -1,34 +1,33 @@
 -- Behind the entry of a turn the pass stands for the longer list.
-use Rattle.std.proofs.Common.{◌≡◌, ◌⊎◌, inl, inr, ℕ, suc, ◌+◌, ◌-◌, true, false, refl, sym, ◌∙◌, ap, subst, List, [], ◌∷◌, ◌++◌, drop}
+use Rattle.std.proofs.Common.{◌≡◌, ◌⊎◌, inl, inr, ℕ, ◌+◌, ◌-◌, true, false, refl, sym, ◌∙◌, ap, subst, List, [], ◌∷◌, ◌++◌, drop}
 use Rattle.std.proofs.Common.{length, min, slice_get, arith}
 use Rattle.sgx_types.specs.declared.entries.Action.TheVariants.{Block, Track}
 use Rattle.sgx_types.specs.declared.entries.Answer.TheVariants as answers
 use Rattle.sgx_types.specs.declared.entries.Entry.{Entry}
 use Rattle.sgx_types.specs.declared.entries.Event.TheVariants.{Did, Refused, Age}
-use Rattle.sgx_types.specs.declared.names.Page.{Page}
 use Rattle.sgx_types.specs.Epochs.{epoch, epoch_in, epoch_of}
 use Rattle.sgx_types.specs.Frames.{content}
 use Rattle.job_grammar.specs.Jobs.{JobView}
 use Rattle.job_grammar.specs.declared.jobs.Marks.{Marks}
 use Rattle.driver_rules.specs.declared.waits.Why.{Why}
 use Rattle.turn_rules.specs.Script.{frame_at}
-use Rattle.active_list.specs.declared.ring.Listed as ring
 use Rattle.paging_machine.specs.Parts.{Parts, cpu_at, state_of}
 use Rattle.sgx_types.specs.Making.{Making}
 use Rattle.driver_rules.specs.Passes as passes
 use Rattle.driver_rules.specs.Passes.{Between, Blocking, Pass, Scan, Tries, keepers, pass, scan_on, taken_by}
 use Rattle.driver_laws.specs.Tracks.{IsTracked, KeepsTracks}
-use Rattle.driver_laws.proofs.TrackLaws.{page_enclave}
 use Rattle.std.proofs.lemmas.Bool.{eq-eqb}
 use Rattle.sgx_types.specs.declared.names.SlotAt.{SlotAt}
 use Rattle.sgx_types.specs.declared.refusals.Refusal.TheVariants as why
 use Rattle.sgx_types.specs.Eviction.{is_drained, kept_back}
+use Rattle.sgx_types.proofs.Contents.{page_enclave}
 use Rattle.reclaim_worker.specs.declared.turns.Form.{Form}
 use Rattle.reclaim_worker.specs.declared.turns.Form.TheVariants as forms
 use Rattle.driver_rules.specs.Places.{Leaving, active, place}
 use Rattle.driver_rules.specs.Dues.{Due, KicksAll}
 use Rattle.reclaim_worker.specs.After.{StandsAfter, kicked_past}
 use Rattle.driver_tables.specs.declared.driver.Driver.{Driver}
+use Rattle.driver_tables.proofs.ListLaws.{lengths}
 use Rattle.reclaim_worker.specs.declared.turns.Phase.{Phase}
 use Rattle.reclaim_worker.specs.declared.turns.Phase.TheVariants as phases
 use Rattle.reclaim_worker.specs.declared.turns.PassTurn.{PassTurn}
@@ -49,13 +48,6 @@ use Rattle.reclaim_worker.proofs.MoveDueLaws.{try_entry}
 use Rattle.reclaim_worker.proofs.KeepLaws.{count_is}
 use Rattle.reclaim_worker.proofs.KeptLaws.{never}
 use Rattle.driver_laws.proofs.StillLaws.{holds_here}
-use Rattle.reclaim_worker.proofs.ScanLaws.{AreListed, first_of}
-
-lengths : (past : List Entry) (xs : List ring.Listed) (ys : List Page) → AreListed past xs ys → length xs ≡ length ys
-lengths past [] [] h = refl
-lengths past (x ∷ xs) (y ∷ ys) h = ap suc (lengths past xs ys (first_of past x xs y ys h).1)
-lengths past [] (y ∷ ys) h = cc
-lengths past (x ∷ xs) [] h = cc
 
 module _ (made : Making) (j : JobView) (past : List Entry) (taken taken' : List Taken) (d d' : Driver) (m m' : Parts) (turn : PassTurn)
     (phase' : Phase) where

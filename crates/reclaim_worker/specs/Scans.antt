@@ -3,10 +3,8 @@ use Rattle.std.specs.Prelude.{ℕ, zero, suc, ◌≡◌, ◌-◌, ◌⊎◌, Lis
 use Rattle.sgx_types.specs.declared.entries.Event.TheVariants.{Age}
 use Rattle.sgx_types.specs.declared.entries.Look.{Look}
 use Rattle.sgx_types.specs.declared.entries.Look.TheVariants as looks
-use Rattle.sgx_types.specs.declared.names.Frame.{Frame}
 use Rattle.sgx_types.specs.declared.names.Page.{Page}
 use Rattle.active_list.specs.declared.page_states.PageState.{PageState}
-use Rattle.active_list.specs.declared.page_states.PageState.TheVariants as states
 use Rattle.active_list.specs.Active.{IsActive, are_held}
 use Rattle.active_list.specs.Holds.{is_held}
 use Rattle.active_list.specs.Listing.{head_of, is_young}
@@ -20,13 +18,7 @@ use Rattle.reclaim_worker.specs.declared.turns.PassTurn.TheVariants as turns
 use Rattle.reclaim_worker.specs.declared.turns.Taken.{Taken}
 use Rattle.driver_rules.specs.declared.waits.Why.TheVariants as waits
 use Rattle.reclaim_worker.specs.Answers.{by_reclaimer}
-use Rattle.driver_tables.specs.Moves.{IsLooked}
-
--- the frame of a page that stands in one, the first for another
-abbrev pub frame_in : PageState → Frame
-frame_in (states.Here f) = f
-frame_in (states.Leaving f) = f
-frame_in _ = record { 0 = 0 }
+use Rattle.driver_tables.specs.Moves.{IsLooked, frame_in}
 
 abbrev pub taken_with : Look → Page → PageState → List Taken
 taken_with looks.Taken page state = record { page = page; frame = frame_in state } ∷ []

@@ -14,7 +14,7 @@ ghost use Rattle.sgx_types.specs.Making.{Making};
 ghost use Rattle.sgx_types.specs.declared.entries.Entry.{Entry};
 ghost use Rattle.reclaim_worker.specs.Answers.{IsTurn};
 ghost use Rattle.driver_rules.specs.Reclaims.{pass_due};
-ghost use Rattle.driver_rules.specs.Passes.{pass, pass_after, free_count, works_with};
+ghost use Rattle.driver_rules.specs.Passes.{pass, pass_after, free_count};
 ghost use Rattle.reclaim_worker.specs.After.{StandsAfter};
 ghost use Rattle.reclaim_worker.specs.Kept.{TurnKeeps};
 ghost use Rattle.paging_laws.specs.State.{State};
@@ -27,7 +27,7 @@ ghost use Rattle.reclaim_worker.specs.Ready.{Ready};
 ghost use Rattle.reclaim_worker.specs.Standing.{StandsFor, noted_phase, is_kicked, is_sealing};
 ghost use Rattle.reclaim_worker.specs.Stored.{still_out};
 ghost use Rattle.reclaim_worker.specs.Turning.{IsFormTurn, TurnSays};
-ghost use Rattle.reclaim_worker.specs.Scans.{IsBegun, IsScanned, after_look, frame_in, taken_with};
+ghost use Rattle.reclaim_worker.specs.Scans.{IsBegun, IsScanned, after_look, taken_with};
 
 use crate::looks::look;
 use crate::seats::{keepers, number_of_keepers};
@@ -35,13 +35,14 @@ use crate::tries::try_out;
 use crate::turns::{Form, PassTurn, Phase, Taken};
 use active_list::page_states::PageState;
 use backing_store::backing::Backing;
+use driver_rules::marks::works_with;
 use driver_rules::waits::Why;
 use driver_steps::steps::step;
 use driver_tables::driver::Driver;
-use job_grammar::jobs::Marks;
+use driver_tables::moves::frame_in;
 use paging_machine::machine::Machine;
 use sgx_types::entries::{Action, Actor, Entry, Event, Look};
-use sgx_types::names::{Frame, Memory, Page};
+use sgx_types::names::{Memory, Page};
 use sgx_types::refusals::Refusal;
 use std::alloc::Global;
 
@@ -358,20 +359,6 @@ impl Pass {
     }
 }
 
-// Whether the reclaimer works, with so many frames free: it begins below the low mark, stops from the high mark on, and else goes
-// on as before.
-fn works_with(marks: Marks, free: u32, before: bool) -> bool
-    ensures { result ≡ works_with marks free before }
-{
-    if free < marks.low {
-        return true;
-    }
-    if free >= marks.high {
-        return false;
-    }
-    before
-}
-
 // Keeps a page that was taken, with its frame.
 fn keep(taken: &mut Vec<Taken>, look: Look, page: Page, state: PageState)
     requires { vec_len taken.old + 1 ≤ vec_capacity taken.old }
@@ -380,17 +367,6 @@ fn keep(taken: &mut Vec<Taken>, look: Look, page: Page, state: PageState)
     if let Look::Taken = look {
         let frame = frame_in(state);
         taken.push_reserved(Taken { page, frame });
-    }
-}
-
-// The frame of a page that stands in one.
-fn frame_in(state: PageState) -> Frame
-    ensures { result ≡ frame_in state }
-{
-    match state {
-        PageState::Here(frame) => frame,
-        PageState::Leaving(frame) => frame,
-        _ => Frame(0),
     }
 }
 

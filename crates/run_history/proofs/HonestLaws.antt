@@ -1,7 +1,7 @@
 -- What a run has of an honest store.
 use Rattle.std.proofs.Common.{◌≡◌, ℕ, ◌==◌, Bool, true, false, if◌then◌else◌, refl, sym, ◌∙◌, ap, subst, List, [], ◌∷◌, Option, Some, None, is_some}
 use Rattle.std.proofs.lemmas.Bool.{eqb-true, eq-eqb, false≢true}
-use Rattle.sgx_types.proofs.Pages.{same_pages}
+use Rattle.sgx_types.proofs.Pages.{same_page-refl, same_pages}
 use Rattle.sgx_types.specs.declared.entries.Action.{Action}
 use Rattle.sgx_types.specs.declared.entries.Action.TheVariants.{Create, Add, Init, Aex, Store, Xadd, Ewb, EldStart, Eld}
 use Rattle.sgx_types.specs.declared.entries.Actor.{Actor}
@@ -24,12 +24,13 @@ use Rattle.sgx_types.specs.Rules.{Along, FlatRule}
 use Rattle.sgx_types.specs.Fresh.{Out, last_out, out_after}
 use Rattle.sgx_types.specs.Sealed.{Sealed}
 use Rattle.sgx_types.specs.Starts.{Start, is_load_of, loads_page, open_start}
+use Rattle.sgx_types.specs.Table.{is_loading}
 use Rattle.page_history.proofs.FlatLaws.{added_flat, header_still}
 use Rattle.backing_store.specs.Calls.{Call, Failed, Given, Got, Nothing, Put, Room}
 use Rattle.driver_rules.specs.Places.{Absent, Away, Here, Leaving, Loading, Place, after_look, back_to, gone_to, place, place_after}
 use Rattle.driver_laws.specs.Kinds.{CanMove}
-use Rattle.driver_laws.specs.Sound.{IsSound, is_load_start, is_loading, load_slot, slot_if, slot_loading}
-use Rattle.driver_laws.proofs.PlaceLaws.{loads_one, same_page-refl}
+use Rattle.driver_laws.specs.Sound.{IsSound, is_load_start, load_slot, slot_if, slot_loading}
+use Rattle.driver_laws.proofs.PlaceLaws.{loads_one}
 use Rattle.driver_laws.proofs.SoundLaws.{entry_of}
 use Rattle.run_history.specs.Calls.{CallsAre, ComesWith, IsFailed, IsGiven, IsNothing, IsPut, IsRoom, before, without_last}
 use Rattle.run_history.specs.Given.{gift, gift_after, got_last}

@@ -10,7 +10,7 @@ use Rattle.sgx_types.specs.declared.names.Kind.{Kind}
 use Rattle.sgx_types.specs.declared.names.Page.{Page}
 use Rattle.sgx_types.specs.declared.names.Perm.{Perm}
 use Rattle.sgx_types.specs.Flat.{FlatEnclave, FlatPage, added_as, flat, header_at, header_by}
-use Rattle.sgx_types.specs.Frames.{Content, Free, Holds, IsLoading, IsVa, SecsOf, added, added_by, content, held_after, page_at, put_by, reloaded, same_page}
+use Rattle.sgx_types.specs.Frames.{Content, Free, Holds, IsLoading, IsVa, SecsOf, added, added_by, content, held_after, made_before, page_at, put_by, reloaded, same_page, vas_made}
 use Rattle.sgx_types.specs.Sealed.{header_of}
 use Rattle.sgx_types.proofs.Pages.{same_page-refl}
 use Rattle.driver_laws.specs.Counted.{pages_added, with_added}
@@ -90,9 +90,9 @@ held_kind (e ∷ past) n g kind perm once at =
     by_add q k p false false is few held before = before held
 
     by_event : (ev : Event) → times (with_added ev (pages_added past)) g ≤ 1
-        → held_after (put_by ev (added past)) n (content past n) ≡ Holds g kind perm
+        → held_after (put_by ev (made_before past)) n (content past n) ≡ Holds g kind perm
         → (content past n ≡ Holds g kind perm → added past g ≡ Some (kind, perm)) → added_by ev g (added past g) ≡ Some (kind, perm)
-    by_event (Did (Epa f) answer) few k before = no_page (f.0 == n) IsVa (content past n) g kind perm (λ h. cc h) before k
+    by_event (Did (Epa f) answer) few k before = no_page (f.0 == n) (IsVa (vas_made past)) (content past n) g kind perm (λ h. cc h) before k
     by_event (Did (Create enclave f base size) answer) few k before =
         no_page (f.0 == n) (SecsOf enclave) (content past n) g kind perm (λ h. cc h) before k
     by_event (Did (Add enclave number f new_kind new_perm init) answer) few k before =

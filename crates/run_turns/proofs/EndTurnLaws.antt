@@ -39,7 +39,7 @@ use Rattle.turn_tables.specs.Holding.{mode_of}
 use Rattle.turn_tables.specs.Noting.{with_kick}
 use Rattle.turn_tables.specs.Entries.{EntersApart}
 use Rattle.run_turns.specs.declared.course.Course.{Course}
-use Rattle.run_turns.specs.Courses.{KeepsCourse, is_loading, past_of}
+use Rattle.run_turns.specs.Courses.{KeepsCourse, has_open_load, past_of}
 use Rattle.run_turns.specs.Passing.{IsOwnEntry}
 use Rattle.run_turns.proofs.FollowLaws.{course_ready}
 use Rattle.run_turns.proofs.OwnLaws.{own_ends, own_none}
@@ -154,9 +154,9 @@ end_is_own c told longer before spare faults faults' e p d m k going waits ended
       (subst (λ (a : Actor). AgeRule c.job (past_of c) (record { actor = a; event = e.event })) mine next.age) next.can);
   ends = own_ends (past_of c) e mine k.ends;
   none = own_none (past_of c) e mine k.none;
-  room = subst (λ (x : Entry). vec_len c.entries + 1 + 2 * (count_by is_loading (with_kick x.event c.turns.cpus)
+  room = subst (λ (x : Entry). vec_len c.entries + 1 + 2 * (count_by has_open_load (with_kick x.event c.turns.cpus)
       + (if is_sealing p.phase then 1 else 0)) ≤ vec_capacity c.entries) (sym is.is)
-      (subst (λ b. vec_len c.entries + 1 + 2 * (count_by is_loading c.turns.cpus + (if b then 1 else 0)) ≤ vec_capacity c.entries)
+      (subst (λ b. vec_len c.entries + 1 + 2 * (count_by has_open_load c.turns.cpus + (if b then 1 else 0)) ≤ vec_capacity c.entries)
       (sym (ap is_sealing to ∙ closed c.pass.taken.items c.pass.phase waits)) (omega (arith, room)));
 }
   where
@@ -173,6 +173,6 @@ end_is_own c told longer before spare faults faults' e p d m k going waits ended
     next = out_next (machine_of c.job) c.job (past_of c) c.driver d c.machine m c.pass.taken.items c.pass.phase told longer faults faults' e
         p.taken.items p.phase k.book.agrees ready going says ended (record { shape = shape; fits = fits }) cpus
 
-    room : vec_len c.entries + 2 * (count_by is_loading c.turns.cpus + 1) ≤ vec_capacity c.entries
-    room = subst (λ b. vec_len c.entries + 2 * (count_by is_loading c.turns.cpus + (if b then 1 else 0)) ≤ vec_capacity c.entries)
+    room : vec_len c.entries + 2 * (count_by has_open_load c.turns.cpus + 1) ≤ vec_capacity c.entries
+    room = subst (λ b. vec_len c.entries + 2 * (count_by has_open_load c.turns.cpus + (if b then 1 else 0)) ≤ vec_capacity c.entries)
         waits k.room

@@ -49,7 +49,7 @@ use Rattle.run_records.proofs.FlatSteps.{flat_first}
 use Rattle.run_steps.proofs.FreshLaws.{IsFresh, fresh_cpus, fresh_making}
 use Rattle.run_steps.proofs.TcsLaws.{tcs_apart}
 use Rattle.run_turns.specs.declared.course.Course.{Course}
-use Rattle.run_turns.specs.Courses.{KeepsCourse, is_load, is_loading, open_starts, past_of}
+use Rattle.run_turns.specs.Courses.{KeepsCourse, is_load, has_open_load, open_starts, past_of}
 use Rattle.run_history.specs.Honest.{GiftsAreLast}
 
 -- ---- the machine
@@ -139,18 +139,18 @@ not_loading ways.WasEnded is = refl
 not_loading ways.Other is = refl
 
 -- .. so that none of the processors counts
-none_loads : (cpus : List CpuTurn) → ((p : ℕ) → p < length cpus → is_loading (turn_at cpus p) ≡ false) → count_by is_loading cpus ≡ 0
+none_loads : (cpus : List CpuTurn) → ((p : ℕ) → p < length cpus → has_open_load (turn_at cpus p) ≡ false) → count_by has_open_load cpus ≡ 0
 none_loads [] none = refl
 none_loads (x ∷ xs) none =
-    let count = sum_by-cons (λ (y : CpuTurn). cond (is_loading y) 1 0) x xs in
-    let first : ◌≡◌ {A = ℕ} (cond (is_loading x) 1 0) 0 = ap (λ b. cond b 1 0) (none 0 (omega arith)) in
+    let count = sum_by-cons (λ (y : CpuTurn). cond (has_open_load y) 1 0) x xs in
+    let first : ◌≡◌ {A = ℕ} (cond (has_open_load x) 1 0) 0 = ap (λ b. cond b 1 0) (none 0 (omega arith)) in
     let rest = none_loads xs (λ p low. none (suc p) (omega (arith, low))) in
     omega (arith, count, first, rest)
 
 -- .. nor the pass
 no_starts : (c : Course) → ShowsTurns c.job [] c.turns → c.pass.phase ≡ phases.Idle false → open_starts c ≡ 0
 no_starts c shows idle =
-    let loads : count_by is_loading c.turns.cpus ≡ 0 = none_loads c.turns.cpus (λ p low. not_loading (turn_at c.turns.cpus p).last
+    let loads : count_by has_open_load c.turns.cpus ≡ 0 = none_loads c.turns.cpus (λ p low. not_loading (turn_at c.turns.cpus p).last
     ((shows.cpus p (let each = shows.each in omega (arith, low, each))).last)) in
     let seals : ◌≡◌ {A = ℕ} (if is_sealing c.pass.phase then 1 else 0) 0 = ap (λ x. if is_sealing x then 1 else 0) idle in
     omega (arith, loads, seals)

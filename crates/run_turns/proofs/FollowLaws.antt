@@ -52,7 +52,7 @@ use Rattle.turn_tables.specs.declared.cpu_turns.CpuTurn.{CpuTurn}
 use Rattle.turn_tables.specs.Holding.{mode_of}
 use Rattle.turn_tables.specs.Noting.{with_kick}
 use Rattle.run_turns.specs.declared.course.Course.{Course}
-use Rattle.run_turns.specs.Courses.{KeepsCourse, is_loading, past_of}
+use Rattle.run_turns.specs.Courses.{KeepsCourse, has_open_load, past_of}
 use Rattle.run_turns.specs.Passing.{FollowsBy, IsOwnEntry, IsOwnKicks}
 use Rattle.run_turns.proofs.KeepLaws.{few_cpus}
 use Rattle.run_turns.proofs.OwnLaws.{own_ends, own_none}
@@ -167,15 +167,15 @@ module _ (c : Course) (told longer : Option (List Call)) (before spare : ℕ) (p
     room = enough (is_sealing p.phase);
   }
     where
-      enough : (b : Bool) → vec_len c.entries + 1 + 2 * (count_by is_loading (with_kick e.event c.turns.cpus) + (if b then 1 else 0))
+      enough : (b : Bool) → vec_len c.entries + 1 + 2 * (count_by has_open_load (with_kick e.event c.turns.cpus) + (if b then 1 else 0))
           ≤ vec_capacity c.entries
       enough true =
-          let most = count_by-le-length is_loading (with_kick e.event c.turns.cpus) in
+          let most = count_by-le-length has_open_load (with_kick e.event c.turns.cpus) in
           let each = kick_length e.event c.turns.cpus in
           let few = few_cpus (machine_of c.job) c.job (past_of c) told c.driver c.machine c.turns k.book in
           omega (arith, most, each, few, room)
       enough false =
-          let most = count_by-le-length is_loading (with_kick e.event c.turns.cpus) in
+          let most = count_by-le-length has_open_load (with_kick e.event c.turns.cpus) in
           let each = kick_length e.event c.turns.cpus in
           let few = few_cpus (machine_of c.job) c.job (past_of c) told c.driver c.machine c.turns k.book in
           omega (arith, most, each, few, room)

@@ -21,7 +21,7 @@ use Rattle.turn_tables.specs.Ending.{EndsAreTold, NoneFails}
 use Rattle.table_notes.specs.Arrays.{KeepsArrays}
 use Rattle.run_book.specs.Books.{IsMade, KeepsBook}
 use Rattle.run_turns.specs.declared.course.Course.{Course}
-use Rattle.run_turns.specs.Courses.{Grows, IsSame, KeepsCourse, is_loading, open_starts, past_of}
+use Rattle.run_turns.specs.Courses.{Grows, IsSame, KeepsCourse, has_open_load, open_starts, past_of}
 use Rattle.run_turns.specs.Recording.{CanTake, IsRecorded, IsTaken}
 use Rattle.run_turns.proofs.RecordLaws.{newest}
 
@@ -29,9 +29,9 @@ use Rattle.run_turns.proofs.RecordLaws.{newest}
 pub few_starts : (c : Course) → length c.turns.cpus ≤ 16 → open_starts c ≤ 17
 few_starts c few = by_pass (is_sealing c.pass.phase)
   where
-    by_pass : (b : Bool) → count_by is_loading c.turns.cpus + (if b then 1 else 0) ≤ 17
-    by_pass true = let k = count_by-le-length is_loading c.turns.cpus in omega (arith, few, k)
-    by_pass false = let k = count_by-le-length is_loading c.turns.cpus in omega (arith, few, k)
+    by_pass : (b : Bool) → count_by has_open_load c.turns.cpus + (if b then 1 else 0) ≤ 17
+    by_pass true = let k = count_by-le-length has_open_load c.turns.cpus in omega (arith, few, k)
+    by_pass false = let k = count_by-le-length has_open_load c.turns.cpus in omega (arith, few, k)
 
 -- with room for the ends of so many there is room for those that are open
 pub room_behind : (c : Course) → length c.turns.cpus ≤ 16 → vec_len c.entries + 34 ≤ vec_capacity c.entries

@@ -51,7 +51,7 @@ use Rattle.turn_tables.specs.TcsTurns.{has_place}
 use Rattle.run_book.specs.Books.{IsMade, KeepsBook}
 use Rattle.run_steps.proofs.StayLaws.{passes_stay_next}
 use Rattle.run_turns.specs.declared.course.Course.{Course}
-use Rattle.run_turns.specs.Courses.{KeepsCourse, is_loading, open_starts, past_of}
+use Rattle.run_turns.specs.Courses.{KeepsCourse, has_open_load, open_starts, past_of}
 use Rattle.run_turns.specs.Recording.{CanTake, IsRecorded, IsTaken}
 use Rattle.run_turns.proofs.LoadLaws.{IsEndOfLoad, one, starts_set}
 use Rattle.run_turns.proofs.RecordLaws.{newest}
@@ -139,16 +139,16 @@ sealing_starts b = if b then 1 else 0
 
 -- the end of a load closes one
 pub ended_starts : (j : JobView) (c c' : Course) (before : Mode) (cpu : Cpu) (e : Entry) → cpu.0 < length c.turns.cpus
-    → is_loading (turn_at c.turns.cpus cpu.0) ≡ true → e.actor ≡ actors.Cpu cpu → IsEndOfLoad e.event
+    → has_open_load (turn_at c.turns.cpus cpu.0) ≡ true → e.actor ≡ actors.Cpu cpu → IsEndOfLoad e.event
     → IsNoted j c.turns before e c'.turns → is_sealing c'.pass.phase ≡ is_sealing c.pass.phase → open_starts c' + 1 ≡ open_starts c
 ended_starts j c c' before cpu e low loads by end noted sealing =
     let turn : CpuTurn = turn_after e.event before (turn_at c.turns.cpus cpu.0) in
     let cpus : c'.turns.cpus ≡ set c.turns.cpus cpu.0 turn = noted.cpus
     ∙ end.kicks (with_own e.actor e.event before c.turns.cpus) ∙ ap (λ a. with_own a e.event before c.turns.cpus) by in
     let counts = starts_set c.turns.cpus cpu.0 turn low in
-    let was : one (is_loading (turn_at c.turns.cpus cpu.0)) ≡ 1 = ap one loads in
-    let now : one (is_loading turn) ≡ 0 = ap one (end.stops (turn_at c.turns.cpus cpu.0).last) in
-    let count : count_by is_loading c'.turns.cpus ≡ count_by is_loading (set c.turns.cpus cpu.0 turn) = ap (count_by is_loading) cpus in
+    let was : one (has_open_load (turn_at c.turns.cpus cpu.0)) ≡ 1 = ap one loads in
+    let now : one (has_open_load turn) ≡ 0 = ap one (end.stops (turn_at c.turns.cpus cpu.0).last) in
+    let count : count_by has_open_load c'.turns.cpus ≡ count_by has_open_load (set c.turns.cpus cpu.0 turn) = ap (count_by has_open_load) cpus in
     let seals = ap sealing_starts sealing in
     omega (arith, counts, was, now, count, seals)
 
@@ -159,10 +159,10 @@ pub bus_starts : (j : JobView) (c c' : Course) (before : Mode) (cpu : Cpu) (page
 bus_starts j c c' before cpu page reason low noted sealing =
     let turn : CpuTurn = turn_after (Bus page reason) before (turn_at c.turns.cpus cpu.0) in
     let counts = starts_set c.turns.cpus cpu.0 turn low in
-    let count : count_by is_loading c'.turns.cpus ≡ count_by is_loading (set c.turns.cpus cpu.0 turn) =
-    ap (count_by is_loading) noted.cpus in
+    let count : count_by has_open_load c'.turns.cpus ≡ count_by has_open_load (set c.turns.cpus cpu.0 turn) =
+    ap (count_by has_open_load) noted.cpus in
     let seals = ap sealing_starts sealing in
-    let now : one (is_loading turn) ≡ 0 = refl in
+    let now : one (has_open_load turn) ≡ 0 = refl in
     omega (arith, counts, count, seals, now)
 
 -- one entry more

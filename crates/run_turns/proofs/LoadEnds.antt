@@ -59,7 +59,7 @@ use Rattle.run_bytes.specs.Records.{StaysWith}
 use Rattle.run_records.specs.Silent.{OfBus}
 use Rattle.run_records.proofs.LoadRecords.{end_told}
 use Rattle.run_turns.specs.declared.course.Course.{Course}
-use Rattle.run_turns.specs.Courses.{Grows, KeepsCourse, is_loading, open_starts, past_of}
+use Rattle.run_turns.specs.Courses.{Grows, KeepsCourse, has_open_load, open_starts, past_of}
 use Rattle.run_turns.specs.Recording.{CanTake, IsRecorded, IsTaken}
 use Rattle.run_turns.specs.Turns.{EndsBy, EndsLoad, RefusesLoad}
 use Rattle.run_turns.proofs.KeepLaws.{few_cpus, room_behind}
@@ -216,7 +216,7 @@ fetched_keeps c c' past told longer spare d m before e page s took away none roo
 
 -- a processor that loads a page has a start open
 pub loads_open : (j : JobView) (past : List Entry) (t : Turns) (p n : ℕ) (page : Page) → ShowsTurns j past t → p < length j.scripts
-    → last_of past p ≡ Loads n page → is_loading (turn_at t.cpus p) ≡ true
+    → last_of past p ≡ Loads n page → has_open_load (turn_at t.cpus p) ≡ true
 loads_open j past t p n page shows mine last = loading_told (turn_at t.cpus p).last n page ((shows.cpus p mine).last ∙ last)
 
 -- the tables have its turn
@@ -236,7 +236,7 @@ pub back_keeps : (c c' : Course) (past : List Entry) (told : Option (List Call))
     (e : Entry) (cpu : Cpu) (f : Frame) → Stands c past told spare d m
     → IsMade (machine_of c.job) c.job past told d m e told c.driver c.machine → TookIn c c' before e told → e.actor ≡ actors.Cpu cpu
     → action_of e.event ≡ Some (actions.Eld f) → is_refused e.event ≡ false → cpu.0 < length c.turns.cpus
-    → is_loading (turn_at c.turns.cpus cpu.0) ≡ true → NoneFails past
+    → has_open_load (turn_at c.turns.cpus cpu.0) ≡ true → NoneFails past
     → vec_len c.entries + 2 * open_starts c ≤ vec_capacity c.entries → KeepsCourse c' told spare
 back_keeps c c' past told spare d m before e cpu f s made took by acts done low loads none room =
     let quiet = end_quiet past f e.event acts done in
@@ -308,7 +308,7 @@ pub refused_keeps : (c c' c'' : Course) (past : List Entry) (told : Option (List
     → IsMade (machine_of c.job) c.job past told d m e told c.driver c.machine
     → Stands c' (e ∷ past) told spare c'.driver c'.machine → TookIn c c' before e told
     → TookIn c' c'' between (bus_of cpu page reason) told → e.actor ≡ actors.Cpu cpu → action_of e.event ≡ Some (actions.Eld f)
-    → cpu.0 < length c.turns.cpus → is_loading (turn_at c.turns.cpus cpu.0) ≡ true → cpu.0 < length c'.turns.cpus → NoneFails past
+    → cpu.0 < length c.turns.cpus → has_open_load (turn_at c.turns.cpus cpu.0) ≡ true → cpu.0 < length c'.turns.cpus → NoneFails past
     → vec_len c.entries + 2 * open_starts c ≤ vec_capacity c.entries → KeepsCourse c'' told spare
 refused_keeps c c' c'' past told spare d m before between e cpu f page reason s made s' took took' by acts low loads low' none room =
     let s'' = took_stands c' c'' (e ∷ past) told told spare c'.driver c'.machine between (bus_of cpu page reason) s' took' tt in
@@ -327,7 +327,7 @@ refused_keeps c c' c'' past told spare d m before between e cpu f page reason s 
 -- there is room for the bus
 pub room_for_bus : (c c' : Course) (before : Mode) (e : Entry) (cpu : Cpu) (f : Frame) (told : Option (List Call))
     → TookIn c c' before e told → e.actor ≡ actors.Cpu cpu → action_of e.event ≡ Some (actions.Eld f) → cpu.0 < length c.turns.cpus
-    → is_loading (turn_at c.turns.cpus cpu.0) ≡ true → vec_len c.entries + 2 * open_starts c ≤ vec_capacity c.entries
+    → has_open_load (turn_at c.turns.cpus cpu.0) ≡ true → vec_len c.entries + 2 * open_starts c ≤ vec_capacity c.entries
     → vec_len c'.entries + 1 ≤ vec_capacity c'.entries
 room_for_bus c c' before e cpu f told took by acts low loads room =
     let longer_by = one_longer c.entries c'.entries e took.kept in
@@ -354,7 +354,7 @@ pub record EndFacts (s : Course) (d' : Driver) (m' : Parts) (told : Option (List
     pub frame : Frame
     pub acts : action_of (entry_in loaded).event ≡ Some (actions.Eld frame)
     pub low : cpu.0 < length s.turns.cpus
-    pub opened : is_loading (turn_at s.turns.cpus cpu.0) ≡ true
+    pub opened : has_open_load (turn_at s.turns.cpus cpu.0) ≡ true
     pub place : vec_len s.entries + 1 ≤ vec_capacity s.entries
     pub entry : Entry
     pub ended : IsEnd (past_of s) cpu page frame entry loaded
@@ -389,7 +389,7 @@ end_facts s d' m' told spare cpu page loaded k mine going loads does rights cpus
   opened = opened;
   place =
       let counts = starts_set s.turns.cpus cpu.0 first_turn low in
-      let was : one (is_loading (turn_at s.turns.cpus cpu.0)) ≡ 1 = ap one opened in
+      let was : one (has_open_load (turn_at s.turns.cpus cpu.0)) ≡ 1 = ap one opened in
       let room = k.room in omega (arith, counts, was, room);
   entry = right.entry;
   ended = right.end;
@@ -415,7 +415,7 @@ end_facts s d' m' told spare cpu page loaded k mine going loads does rights cpus
     low : cpu.0 < length s.turns.cpus
     low = turns_room s.job (past_of s) s.turns cpu.0 k.book.turns mine
 
-    opened : is_loading (turn_at s.turns.cpus cpu.0) ≡ true
+    opened : has_open_load (turn_at s.turns.cpus cpu.0) ≡ true
     opened = loads_open s.job (past_of s) s.turns cpu.0 loading.0 page k.book.turns mine loading.1
 
 -- of a fault step

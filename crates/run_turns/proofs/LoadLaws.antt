@@ -31,7 +31,7 @@ use Rattle.turn_tables.specs.CpuTurns.{first_turn, last_told, turn_at}
 use Rattle.turn_tables.specs.Ending.{IsForRecord, NoneFails}
 use Rattle.turn_tables.specs.Entries.{EntersApart}
 use Rattle.turn_tables.specs.Noting.{failed_by, last_after, with_kick}
-use Rattle.run_turns.specs.Courses.{is_load, is_loading}
+use Rattle.run_turns.specs.Courses.{is_load, has_open_load}
 
 -- ---- refused loads
 
@@ -165,5 +165,5 @@ one b = cond b 1 0
 
 -- how many are open where the turn of a processor changes
 pub starts_set : (turns : List CpuTurn) (p : ℕ) (turn : CpuTurn) → p < length turns
-    → count_by is_loading (set turns p turn) + one (is_loading (turn_at turns p)) ≡ count_by is_loading turns + one (is_loading turn)
-starts_set turns p turn low = sum_by-set (λ (x : CpuTurn). one (is_loading x)) turns p turn first_turn low
+    → count_by has_open_load (set turns p turn) + one (has_open_load (turn_at turns p)) ≡ count_by has_open_load turns + one (has_open_load turn)
+starts_set turns p turn low = sum_by-set (λ (x : CpuTurn). one (has_open_load x)) turns p turn first_turn low

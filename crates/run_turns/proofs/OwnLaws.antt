@@ -19,7 +19,7 @@ use Rattle.turn_tables.specs.Ending.{EndsAreTold, NoneFails}
 use Rattle.turn_tables.specs.Noting.{IsNoted, with_kick}
 use Rattle.turn_tables.specs.Noting as noting
 use Rattle.run_turns.specs.declared.course.Course.{Course}
-use Rattle.run_turns.specs.Courses.{Grows, is_loading, open_starts, past_of}
+use Rattle.run_turns.specs.Courses.{Grows, has_open_load, open_starts, past_of}
 use Rattle.run_turns.specs.Passing.{IsOwnEntry}
 use Rattle.run_turns.specs.Recording.{IsRecorded, IsTaken}
 use Rattle.run_turns.proofs.KeepLaws.{taken_keeps}
@@ -73,11 +73,11 @@ own_grows c c' e longer spare own book stands kept capacity noted driver places 
           own.ends own.none room;
     }
   where
-    starts : open_starts c' ≡ count_by is_loading (with_kick e.event c.turns.cpus) + (if is_sealing c.pass.phase then 1 else 0)
+    starts : open_starts c' ≡ count_by has_open_load (with_kick e.event c.turns.cpus) + (if is_sealing c.pass.phase then 1 else 0)
     starts =
-        ap (λ (turns : List CpuTurn). count_by is_loading turns + (if is_sealing c'.pass.phase then 1 else 0))
+        ap (λ (turns : List CpuTurn). count_by has_open_load turns + (if is_sealing c'.pass.phase then 1 else 0))
         (own_noted c.job c.turns c'.turns e own.actor noted)
-        ∙ ap (λ (b : Bool). count_by is_loading (with_kick e.event c.turns.cpus) + (if b then 1 else 0)) sealing
+        ∙ ap (λ (b : Bool). count_by has_open_load (with_kick e.event c.turns.cpus) + (if b then 1 else 0)) sealing
 
     long : vec_len c'.entries ≡ vec_len c.entries + 1
     long =

@@ -22,7 +22,7 @@ use Rattle.table_notes.specs.Arrays.{KeepsArrays}
 use Rattle.turn_tables.specs.declared.turns.Turns.{Turns}
 use Rattle.turn_tables.specs.Ending.{EndsAreTold, NoneFails}
 use Rattle.run_turns.specs.declared.course.Course.{Course}
-use Rattle.run_turns.specs.Courses.{Grows, IsSame, KeepsCourse, is_loading, open_starts, past_of}
+use Rattle.run_turns.specs.Courses.{Grows, IsSame, KeepsCourse, has_open_load, open_starts, past_of}
 use Rattle.run_turns.specs.Turns.{IsAtRest}
 
 -- what a book keeps of a machine it keeps of another one in the same state
@@ -65,8 +65,8 @@ same_past c c' same = ap reverse same
 -- so many starts are open as before
 same_starts : (c c' : Course) → c'.turns ≡ c.turns → c'.pass.phase ≡ c.pass.phase → open_starts c' ≡ open_starts c
 same_starts c c' turns phase =
-    ap (λ (t : Turns). count_by is_loading t.cpus + (if is_sealing c'.pass.phase then 1 else 0)) turns
-    ∙ ap (λ (x : Phase). count_by is_loading c.turns.cpus + (if is_sealing x then 1 else 0)) phase
+    ap (λ (t : Turns). count_by has_open_load t.cpus + (if is_sealing c'.pass.phase then 1 else 0)) turns
+    ∙ ap (λ (x : Phase). count_by has_open_load c.turns.cpus + (if is_sealing x then 1 else 0)) phase
 
 -- a course where nothing but the machine's way to keep its state has changed
 pub rest_keeps : (c c' : Course) (told : Option (List Call)) (spare : ℕ) → IsAtRest c c' → KeepsCourse c told spare

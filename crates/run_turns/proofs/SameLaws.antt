@@ -18,7 +18,7 @@ use Rattle.turn_tables.specs.Ending.{EndsAreTold, NoneFails}
 use Rattle.table_notes.specs.Arrays.{KeepsArrays}
 use Rattle.run_book.specs.Books.{KeepsBook}
 use Rattle.run_turns.specs.declared.course.Course.{Course}
-use Rattle.run_turns.specs.Courses.{IsSame, KeepsCourse, is_loading, open_starts, past_of}
+use Rattle.run_turns.specs.Courses.{IsSame, KeepsCourse, has_open_load, open_starts, past_of}
 use Rattle.run_turns.specs.Kept.{view_of}
 use Rattle.run_turns.specs.Views.{BookView}
 
@@ -43,7 +43,7 @@ same_keeps c c' told spare s k =
     let size : length c'.entries.items ≡ length c.entries.items = ap length s.entries in
     let starts : open_starts c' ≡ open_starts c =
     by_parts c c' s (λ j h d m t taken phase.
-    count_by is_loading t.cpus + (if is_sealing phase then 1 else 0) ≡ open_starts c) refl in
+    count_by has_open_load t.cpus + (if is_sealing phase then 1 else 0) ≡ open_starts c) refl in
     let room = k.room in
     let more = s.room in
     record {

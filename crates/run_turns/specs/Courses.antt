@@ -27,12 +27,12 @@ is_load (ways.Loads f page) = true
 is_load last = false
 
 -- a processor has started a load
-abbrev pub is_loading : CpuTurn → Bool
-is_loading x = is_load x.last
+abbrev pub has_open_load : CpuTurn → Bool
+has_open_load x = is_load x.last
 
 -- how many starts are open: loads of processors, and a write-out
 abbrev pub open_starts : Course → ℕ
-open_starts c = count_by is_loading c.turns.cpus + (if is_sealing c.pass.phase then 1 else 0)
+open_starts c = count_by has_open_load c.turns.cpus + (if is_sealing c.pass.phase then 1 else 0)
 
 -- ---- between two turns
 

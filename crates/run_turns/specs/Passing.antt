@@ -20,7 +20,7 @@ use Rattle.table_notes.specs.Arrays.{KeepsArrays}
 use Rattle.run_turns.specs.declared.course.Course.{Course}
 use Rattle.run_turns.specs.declared.turn.Turn.{Turn}
 use Rattle.run_turns.specs.declared.turn.Turn.TheVariants as turns
-use Rattle.run_turns.specs.Courses.{Grows, is_loading, past_of}
+use Rattle.run_turns.specs.Courses.{Grows, has_open_load, past_of}
 use Rattle.run_turns.specs.Kicking.{CanKick}
 use Rattle.run_turns.specs.Recording.{CanTake}
 use Rattle.run_turns.specs.Turns.{SealsFor}
@@ -37,7 +37,7 @@ pub record IsOwnEntry (c : Course) (e : Entry) (longer : Option (List Call)) (sp
   pub ends : EndsAreTold (e ∷ past_of c)
   pub none : NoneFails (e ∷ past_of c)
   -- the entry, and the ends of the starts that are open behind it
-  pub room : vec_len c.entries + 1 + 2 * (count_by is_loading (with_kick e.event c.turns.cpus) + (if is_sealing c.pass.phase then 1 else 0))
+  pub room : vec_len c.entries + 1 + 2 * (count_by has_open_load (with_kick e.event c.turns.cpus) + (if is_sealing c.pass.phase then 1 else 0))
       ≤ vec_capacity c.entries
 
 pub record CanTakeOwn (c : Course) (e : Entry) : Type 0 where

@@ -1,5 +1,5 @@
 -- The version array pages that the keeper has, one entry longer.
-use Rattle.std.proofs.Common.{◌≡◌, ℕ, zero, suc, ◌+◌, ◌<◌, ◌≤◌, ◌||◌, not, Bool, true, false, if◌then◌else◌, List, [], ◌∷◌, Option, Some, None, is_some, length, nat_le, replicate, slice_get, take, refl, sym, ap, subst, ◌∙◌, arith}
+use Rattle.std.proofs.Common.{◌≡◌, ℕ, zero, suc, ◌+◌, ◌<◌, ◌≤◌, ◌||◌, not, Bool, true, false, if◌then◌else◌, List, [], ◌∷◌, Option, Some, None, length, nat_le, replicate, slice_get, take, refl, sym, ap, subst, ◌∙◌, arith}
 use Rattle.std.specs.List.{count_by}
 use Rattle.std.proofs.lemmas.Bool.{false≢true}
 use Rattle.std.proofs.lemmas.List.{length-replicate, length-take}
@@ -22,7 +22,7 @@ use Rattle.sgx_types.specs.declared.names.Kind.TheVariants as kinds
 use Rattle.sgx_types.specs.declared.names.Page.{Page}
 use Rattle.sgx_types.specs.declared.names.Perm.{Perm}
 use Rattle.sgx_types.specs.declared.refusals.Refusal.{Refusal}
-use Rattle.sgx_types.specs.Frames.{Content, Free, added, added_by, content, free_from, is_free, least_free, page_at}
+use Rattle.sgx_types.specs.Frames.{Content, Free, added, content, free_from, is_free, least_free, page_at}
 use Rattle.sgx_types.specs.Table.{epa_row, first_of_row, is_loading, is_valid}
 use Rattle.epcm_entry.specs.declared.entry_view.EntryView.{EntryView}
 use Rattle.epcm_entry.specs.declared.entry_view.EntryView.TheVariants as views
@@ -58,12 +58,13 @@ use Rattle.driver_laws.specs.Stages.{HasPages, KeepsPages, Stands}
 use Rattle.driver_laws.proofs.HistoryLaws.{least_is_free}
 use Rattle.driver_laws.proofs.SoundLaws.{head_here}
 use Rattle.driver_laws.proofs.StepLaws.{Builds, ByStep, NoStep, arrays_by, builds_or_none}
+use Rattle.driver_laws.proofs.BuiltLaws.{added_has_pages}
 use Rattle.driver_tables.specs.Counts.{page_counts}
 use Rattle.driver_tables.specs.Tables.{IsNew}
 use Rattle.driver_tables.specs.declared.driver.Driver.{Driver}
+use Rattle.driver_tables.proofs.BuildLaws.{add_placed, arrays_before}
 use Rattle.table_notes.specs.Arrays.{KeepsArrays, is_move}
 use Rattle.table_notes.specs.Plain.{is_reclaimer}
-use Rattle.table_notes.proofs.BuildLaws.{add_placed, arrays_before}
 use Rattle.table_notes.proofs.EntryLaws.{ages, is_init}
 
 -- ---- room
@@ -254,20 +255,11 @@ arrays_stay j old new past e other frames room keeps none =
 
 -- ---- behind the first page
 
-added_is_page : (past : List Entry) (g : Page) → is_some (added past g) ≡ true → has_pages past ≡ true
-added_is_page [] g h = absurd (false≢true h)
-added_is_page (e ∷ past) g h = by_event e.event h (added_is_page past g)
-  where
-    by_event : (ev : Event) → is_some (added_by ev g (added past g)) ≡ true → (is_some (added past g) ≡ true → has_pages past ≡ true)
-        → (is_add ev || has_pages past) ≡ true
-    by_event (Did (actions.Add enclave number f kind perm init) answer) k before = refl
-    by_event _ k before = before k
-
 -- where a page was added there is nothing to keep
 pub arrays_late : (j : JobView) (keeper : Keeper) (past : List Entry) (e : Entry) (g : Page) → IsSound past
     → is_absent (place past g) ≡ false → KeepsArrays j keeper (e ∷ past)
 arrays_late j keeper past e g sound there none =
-    absurd (false≢true (sym (none_before e past none) ∙ added_is_page past g (sound.added g ∙ ap not there)))
+    absurd (false≢true (sym (none_before e past none) ∙ added_has_pages past g (sound.added g ∙ ap not there)))
 
 -- a page at the head of the list was added
 head_there : (past : List Entry) (g : Page) → IsSound past → head_of (active past) ≡ Some g → is_absent (place past g) ≡ false

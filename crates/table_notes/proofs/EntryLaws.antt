@@ -17,6 +17,7 @@ use Rattle.sgx_types.specs.declared.refusals.Refusal.TheVariants as why
 use Rattle.sgx_types.specs.Flat.{enclave_sight_of}
 use Rattle.sgx_types.specs.Frames.{added, page_at}
 use Rattle.sgx_types.specs.Table.{create_row, epa_row, first_of_row}
+use Rattle.sgx_types.proofs.Contents.{free_there}
 use Rattle.job_grammar.specs.Jobs.{JobView}
 use Rattle.turn_rules.specs.Script.{is_builder, step_action}
 use Rattle.turn_rules.specs.declared.steps.BuildStep.{BuildStep}
@@ -25,7 +26,7 @@ use Rattle.measure_log.specs.Rule.{IsExpected, IsOther}
 use Rattle.paging_laws.specs.Columns.{HasColumns}
 use Rattle.paging_laws.specs.State.{State, after_init, row_of, sight}
 use Rattle.paging_laws.specs.Steps.{IsDone, IsStep, answer_of, did_by, refused_by}
-use Rattle.paging_laws.proofs.BuildLaws.{adds, is_free_frame}
+use Rattle.paging_laws.proofs.BuildLaws.{adds}
 use Rattle.paging_laws.proofs.ColumnLaws.{added_is, content_is}
 use Rattle.driver_rules.specs.Ages.{AgeRule}
 use Rattle.driver_rules.specs.Places.{Absent, Place, place}
@@ -88,14 +89,14 @@ pub did_moves : (s : State) (past : List Entry) (a : Actor) (action : Action) (a
     → first_of_row (row_of s a action) ≡ None → CanMove past (Did action answer)
 did_moves s past a (Epa f) answer plain columns seen row =
     let none = none_holds (epa_row (sight s f.0)) row in
-    sym (content_is columns f.0) ∙ is_free_frame (s.content f.0) (s.is_sealing f.0) none.1.0 none.1.1.0
+    sym (content_is columns f.0) ∙ free_there (s.content f.0) (s.is_sealing f.0) none.1.0 none.1.1.0
 did_moves s past a (Create enclave f base size) answer plain columns seen row =
     let none = none_holds (create_row enclave base size (is_some (s.enclaves enclave)) (sight s f.0)) row in
-    sym (content_is columns f.0) ∙ is_free_frame (s.content f.0) (s.is_sealing f.0) none.1.1.0 none.1.1.1.0
+    sym (content_is columns f.0) ∙ free_there (s.content f.0) (s.is_sealing f.0) none.1.1.0 none.1.1.1.0
 did_moves s past a (Add enclave number f kind perm init) answer plain columns seen row =
     let g : Page = page_at enclave number in
     let one = adds number kind perm init (enclave_sight_of (s.enclaves enclave)) (is_some (s.added g)) (sight s f.0) row in (
-      sym (content_is columns f.0) ∙ is_free_frame (s.content f.0) (s.is_sealing f.0) one.idle one.empty,
+      sym (content_is columns f.0) ∙ free_there (s.content f.0) (s.is_sealing f.0) one.idle one.empty,
       absent_is (place past g) (sym (seen g) ∙ ap is_some (sym (added_is columns g)) ∙ one.new),
     )
 did_moves s past a (Block f) answer plain columns seen row = absurd (false≢true plain)

@@ -1,7 +1,6 @@
 -- What the tables need of an entry is so where the instruction was done.
-use Rattle.std.proofs.Common.{◌≡◌, ℕ, ◌+◌, Bool, true, false, if◌then◌else◌, List, [], ◌∷◌, Option, None, IfSome, inl, inr, map, refl, sym, ap, subst, ◌∙◌, arith}
+use Rattle.std.proofs.Common.{◌≡◌, ℕ, ◌+◌, true, false, if◌then◌else◌, List, ◌∷◌, Option, None, IfSome, inl, inr, refl, sym, ap, subst, ◌∙◌}
 use Rattle.std.proofs.lemmas.Bool.{false≢true}
-use Rattle.sgx_types.proofs.Pages.{same_page-refl, same_pages}
 use Rattle.sgx_types.specs.declared.entries.Action.{Action}
 use Rattle.sgx_types.specs.declared.entries.Action.TheVariants as actions
 use Rattle.sgx_types.specs.declared.entries.Actor.{Actor}
@@ -15,24 +14,21 @@ use Rattle.sgx_types.specs.declared.names.Frame.{Frame}
 use Rattle.sgx_types.specs.declared.names.Kind.{Kind}
 use Rattle.sgx_types.specs.declared.names.Perm.{Perm}
 use Rattle.sgx_types.specs.declared.names.Page.{Page}
-use Rattle.sgx_types.specs.Frames.{page_at, same_page}
+use Rattle.sgx_types.specs.Frames.{page_at}
 use Rattle.sgx_types.specs.Making.{Making}
-use Rattle.sgx_types.specs.Table.{first_of_row}
+use Rattle.sgx_types.specs.Table.{first_of_row, is_va}
 use Rattle.cached_translations.specs.declared.processor.Mode.{Mode}
 use Rattle.job_grammar.specs.Jobs.{JobView}
-use Rattle.active_list.specs.declared.ring.Listed as ring
 use Rattle.active_list.specs.Places.{IsPlaced}
-use Rattle.active_list.specs.Ring.{is_listed}
 use Rattle.paging_laws.specs.State.{row_of}
 use Rattle.paging_laws.specs.Steps.{did_by}
 use Rattle.paging_machine.specs.Parts.{Parts, cpu_at, state_of}
 use Rattle.driver_rules.specs.Places.{active}
 use Rattle.driver_rules.specs.Scripts.{ScriptRule}
-use Rattle.driver_laws.specs.Agrees.{Listed, is_va, marked}
-use Rattle.driver_laws.specs.Sound.{once_here, times}
+use Rattle.driver_laws.specs.Sound.{once_here}
 use Rattle.driver_laws.proofs.StepLaws.{builds_by}
 use Rattle.driver_tables.specs.declared.driver.Driver.{Driver}
-use Rattle.driver_tables.specs.Tables.{listed}
+use Rattle.driver_tables.proofs.ListLaws.{not_listed}
 use Rattle.driver_steps.specs.Agrees.{Agrees}
 use Rattle.turn_tables.specs.declared.turns.Turns.{Turns}
 use Rattle.turn_tables.specs.Asked.{last_save_of, next_save_of}
@@ -48,38 +44,6 @@ use Rattle.table_notes.proofs.ArrayLaws.{added_placed, array_room}
 use Rattle.table_notes.proofs.EntryLaws.{IsEntryOf, builder_builds, did_moves, entry_by}
 use Rattle.table_notes.proofs.NameLaws.{There, names_done}
 use Rattle.table_notes.proofs.UseLaws.{UsesBoth, UsesOne, enter_use, fill_use, load_use, resume_use, store_use, xadd_use}
-
--- a page that is not here is in no list
-not_listed : (xs : List ring.Listed) (past : List Entry) (ys : List Page) (g : Page) → map listed xs ≡ map (marked past) ys
-    → times ys g ≡ 0 → is_listed xs g ≡ false
-not_listed [] past ys g same none = refl
-not_listed (x ∷ xs) past [] g same none = cc
-not_listed (x ∷ xs) past (y ∷ ys) g same none = by_head (same_page y g) refl none (not_listed xs past ys g rest)
-  where
-    page_same : x.page ≡ y
-    page_same = ap (λ (l : List Listed). head_page x.page l) same
-      where
-        head_page : Page → List Listed → Page
-        head_page other [] = other
-        head_page other (z ∷ zs) = z.page
-
-    rest : map listed xs ≡ map (marked past) ys
-    rest = ap tail_of same
-      where
-        tail_of : List Listed → List Listed
-        tail_of [] = []
-        tail_of (z ∷ zs) = zs
-
-    other : (b : Bool) → same_page g x.page ≡ b → same_page y g ≡ false → b ≡ false
-    other true is k =
-        absurd (false≢true (sym k ∙ ap (λ p. same_page p g) (sym page_same ∙ sym (same_pages g x.page is)) ∙ same_page-refl g))
-    other false is k = refl
-
-    by_head : (b : Bool) → same_page y g ≡ b → (if b then 1 else 0) + times ys g ≡ 0 → (times ys g ≡ 0 → is_listed xs g ≡ false)
-        → is_listed (x ∷ xs) g ≡ false
-    by_head true is k more = absurd (omega (arith, k))
-    by_head false is k more = rw (other (same_page g x.page) refl is)
-        (more (let none_left : 0 + times ys g ≡ 0 = k in omega (arith, none_left)))
 
 module _ (made : Making) (j : JobView) (past : List Entry) (d : Driver) (m : Parts) (t : Turns) (agrees : Agrees made j past d m)
     (shows : ShowsTurns j past t)
@@ -117,7 +81,7 @@ module _ (made : Making) (j : JobView) (past : List Entry) (d : Driver) (m : Par
     absent =
         let can =
         did_moves (state_of m) past a (actions.Add e n f kind perm init) answer refl agrees.follows.shape.columns agrees.sound.added row in
-        not_listed d.active.pages past (active past) (page_at e n) agrees.shows.list
+        not_listed past d.active.pages (active past) (page_at e n) agrees.shows.list
         (agrees.sound.list (page_at e n) ∙ ap once_here can.1);
     counts = agrees.shows.counts;
   }

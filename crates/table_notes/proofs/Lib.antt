@@ -1,5 +1,4 @@
 pub mod EntryLaws
-mod BuildLaws
 pub mod ArrayLaws
 pub mod NameLaws
 mod SaveLaws

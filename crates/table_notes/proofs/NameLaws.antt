@@ -1,5 +1,5 @@
 -- What a due instruction of a processor names: frames of the pages that the rules name, and pages that were added.
-use Rattle.std.proofs.Common.{◌≡◌, ◌≢◌, ℕ, ◌/◌, not, Bool, true, false, if◌then◌else◌, List, [], ◌∷◌, Option, Some, None, is_some, refl, sym, subst, ◌∙◌}
+use Rattle.std.proofs.Common.{◌≡◌, ◌≢◌, ℕ, ◌/◌, not, Bool, true, false, if◌then◌else◌, List, [], ◌∷◌, Option, Some, None, refl, sym, subst, ◌∙◌}
 use Rattle.sgx_types.specs.declared.entries.AccessOp.{AccessOp}
 use Rattle.sgx_types.specs.declared.entries.AccessOp.TheVariants as accesses
 use Rattle.sgx_types.specs.declared.entries.Action.{Action}
@@ -7,9 +7,7 @@ use Rattle.sgx_types.specs.declared.entries.Action.TheVariants as actions
 use Rattle.sgx_types.specs.declared.entries.Answer.{Answer}
 use Rattle.sgx_types.specs.declared.entries.Entry.{Entry}
 use Rattle.sgx_types.specs.declared.entries.Event.TheVariants.{Did}
-use Rattle.sgx_types.specs.declared.names.Kind.{Kind}
 use Rattle.sgx_types.specs.declared.names.Page.{Page}
-use Rattle.sgx_types.specs.declared.names.Perm.{Perm}
 use Rattle.sgx_types.specs.Flat.{at_offset}
 use Rattle.sgx_types.specs.Frames.{added, page_at}
 use Rattle.sgx_types.specs.Processors.{Stay, holds_number, stay, translations}
@@ -26,6 +24,7 @@ use Rattle.driver_rules.specs.Places.{Absent, Away, Here, Leaving, Loading, Plac
 use Rattle.driver_rules.specs.Stops.{is_spent}
 use Rattle.driver_rules.specs.Turns.{Fails, Last, Loads, Other, WasEnded, accesses_by, cpu_due, due_after, early_turn, enters, fetches, fills, first_away, inside_turn, is_built, is_kicked, is_last, last_of, op_turn, outside_turn, resumes, save_frame, stay_turn, turn_due, with_pages}
 use Rattle.driver_laws.specs.Sound.{IsSound, is_absent}
+use Rattle.driver_laws.proofs.SoundLaws.{lawful_there}
 
 abbrev pub There : List Entry → Page → Type 0
 There past g = is_absent (place past g) ≡ false
@@ -101,17 +100,6 @@ module _ (j : JobView) (past : List Entry) (p : ℕ) (sound : IsSound past) wher
 
   -- ---- accesses
 
-  lawful_there : (g : Page) (op : AccessOp) → is_lawful_access (added past g) op ≡ true → There past g
-  lawful_there g op k = by_added (added past g) k (sound.added g)
-    where
-      by_added : (o : Option (Kind × Perm)) → is_lawful_access o op ≡ true → is_some o ≡ not (is_absent (place past g)) → There past g
-      by_added None m is = cc
-      by_added (Some x) m is = by_test (is_absent (place past g)) is
-        where
-          by_test : (b : Bool) → true ≡ not b → b ≡ false
-          by_test true n = cc
-          by_test false n = refl
-
   names_fills : (n : ℕ) (o : Option ℕ) → NamesInside past p n → DueNames j past p (fills n o)
   names_fills n None there = tt
   names_fills n (Some f) there = there
@@ -124,7 +112,7 @@ module _ (j : JobView) (past : List Entry) (p : ℕ) (sound : IsSound past) wher
       there : is_lawful_access (added past (at_offset s.seat.enclave off)) op ≡ true → NamesInside past p (off / 4096)
       there is x at =
           let same : s ≡ x = cc in
-          subst (λ (y : Stay). There past (at_offset y.seat.enclave off)) same (lawful_there (at_offset s.seat.enclave off) op is)
+          subst (λ (y : Stay). There past (at_offset y.seat.enclave off)) same (lawful_there past (at_offset s.seat.enclave off) op sound is)
 
       by_lawful : (b : Bool) → is_lawful_access (added past (at_offset s.seat.enclave off)) op ≡ b
           → DueNames j past p (if not b then Makes (actions.Pf op off)

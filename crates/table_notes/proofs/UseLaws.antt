@@ -1,7 +1,5 @@
 -- The pages that a processor uses by an instruction that it has done are those that the tables find, and each was added.
-use Rattle.std.proofs.Common.{◌≡◌, ◌≢◌, ℕ, ◌+◌, ◌-◌, ◌/◌, ◌%◌, ◌^◌, ◌<◌, ◌==◌, ◌||◌, Bool, true, false, List, Option, Some, None, is_some, refl, sym, ap, subst, ◌∙◌, arith}
-use Rattle.std.proofs.lemmas.Bool.{eq-eqb}
-use Rattle.sgx_types.proofs.Pages.{same_pages}
+use Rattle.std.proofs.Common.{◌≡◌, ◌≢◌, ℕ, ◌+◌, ◌-◌, ◌/◌, ◌%◌, ◌^◌, ◌<◌, ◌==◌, ◌||◌, Bool, true, List, Option, Some, None, is_some, refl, sym, ap, subst, ◌∙◌, arith}
 use Rattle.sgx_types.proofs.Rows.{none_holds}
 use Rattle.sgx_types.proofs.Truths.{not_false}
 use Rattle.sgx_types.specs.declared.entries.Action.{Action}
@@ -14,7 +12,7 @@ use Rattle.sgx_types.specs.declared.names.Page.{Page}
 use Rattle.sgx_types.specs.declared.names.Perm.{Perm}
 use Rattle.sgx_types.specs.declared.refusals.Refusal.TheVariants as why
 use Rattle.sgx_types.specs.Flat.{at_offset}
-use Rattle.sgx_types.specs.Frames.{Content, Free, Holds, IsLoading, IsVa, SecsOf, content, is_page, page_at, same_page}
+use Rattle.sgx_types.specs.Frames.{content, is_page, page_at, same_page}
 use Rattle.sgx_types.specs.Making.{Making}
 use Rattle.sgx_types.specs.Processors.{Seat, Stay, stay}
 use Rattle.sgx_types.specs.Sights.{seat_of}
@@ -31,8 +29,8 @@ use Rattle.paging_laws.proofs.ColumnLaws.{inside_is}
 use Rattle.paging_laws.proofs.Contents.{tcs_no_reg}
 use Rattle.paging_laws.proofs.EntryLaws.{enters as enters_by_row}
 use Rattle.paging_machine.specs.Parts.{Parts, cpu_at, seat_of_mode, state_of}
-use Rattle.driver_rules.specs.Places.{Absent, Away, Here, Leaving, Loading, Place, frame_here, is_of_stay, is_offset_of_stay, place, uses}
-use Rattle.driver_laws.specs.Sound.{is_absent, stands_in}
+use Rattle.driver_rules.specs.Places.{frame_here, is_of_stay, is_offset_of_stay, place, uses}
+use Rattle.driver_laws.proofs.PlaceLaws.{here_there, holds_one, stands_there}
 use Rattle.driver_tables.specs.declared.driver.Driver.{Driver}
 use Rattle.driver_steps.specs.Agrees.{Agrees}
 use Rattle.turn_tables.specs.declared.turns.Turns.{Turns}
@@ -44,30 +42,6 @@ use Rattle.turn_tables.specs.TcsTurns.{tcs_at}
 use Rattle.table_notes.specs.Noting.{offset_inside_of}
 use Rattle.table_notes.proofs.NameLaws.{Names, NamesInside, There}
 use Rattle.table_notes.proofs.SaveLaws.{enter_save, placed_low, resume_save}
-
--- ---- places and frames
-
-here_there : (at : Place) (n : ℕ) → frame_here at ≡ Some n → is_absent at ≡ false
-here_there Absent n h = cc
-here_there (Here f) n h = refl
-here_there (Leaving f) n h = refl
-here_there (Loading f slot) n h = refl
-here_there (Away slot) n h = refl
-
-stands_there : (at : Place) (n : ℕ) → frame_here at ≡ Some n → stands_in at n ≡ true
-stands_there Absent n h = cc
-stands_there (Here f) n h = let same : f ≡ n = cc in eq-eqb f n same
-stands_there (Leaving f) n h = cc
-stands_there (Loading f slot) n h = cc
-stands_there (Away slot) n h = cc
-
--- a frame that holds a page holds no other
-holds_one : (c : Content) (h g : Page) → is_page c h ≡ true → is_page c g ≡ same_page h g
-holds_one (Holds page kind perm) h g k = ap (λ x. same_page x g) (same_pages page h k)
-holds_one Free h g k = cc
-holds_one IsVa h g k = cc
-holds_one (SecsOf e) h g k = cc
-holds_one (IsLoading page) h g k = cc
 
 -- ---- who is inside
 

@@ -4,13 +4,13 @@ ghost use Rattle.std.specs.Prelude.{◌≡◌, IfSome};
 ghost use Rattle.active_list.specs.Places.{IsPlaced};
 ghost use Rattle.table_notes.specs.Noted.{AreNoted, CanNoteTables};
 ghost use Rattle.table_notes.specs.Noting.{Does, DoesEvent, Fits, FitsEvent, offset_inside_of, touching};
-ghost use Rattle.turn_tables.specs.Asked.{page_of};
 ghost use Rattle.turn_tables.specs.Holding.{page_inside_of};
 
 use cached_translations::processor::Mode;
 use driver_tables::driver::Driver;
 use sgx_types::entries::{Action, Entry, Event};
 use sgx_types::names::Page;
+use turn_tables::operations::page_of;
 use turn_tables::turns::Turns;
 
 /// Brings the driver's tables to the entry of an instruction that moves no page out or back, before the entry is noted in `turns`. `before`
@@ -108,12 +108,4 @@ fn offset_inside(before: Mode, off: u64) -> Option<Page>
         Mode::Outside => None,
         Mode::Inside { enclave, .. } => Some(page_of(enclave, off)),
     }
-}
-
-// The page of an offset. The offsets of a job are below 2^24.
-fn page_of(enclave: u16, off: u64) -> Page
-    ensures { result ≡ page_of enclave off }
-{
-    let number = (off / 4096 % (1 << 32)) as u32;
-    Page { enclave, number }
 }

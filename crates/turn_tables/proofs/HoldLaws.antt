@@ -1,8 +1,7 @@
 -- The holds behind an entry are those of the entries with it, and each can be held.
-use Rattle.std.proofs.Common.{◌≡◌, ◌≢◌, ℕ, zero, suc, ◌+◌, ◌-◌, ◌/◌, ◌==◌, ◌<◌, ◌≤◌, ◌||◌, not, Bool, true, false, if◌then◌else◌, List, [], ◌∷◌, ◌++◌, ⊎_elim, Option, Some, None, IfSome, is_some, drop, length, nat_lt, slice_get, get_or, set, refl, sym, ap, subst, ◌∙◌, arith}
-use Rattle.std.specs.Option.{option_map}
+use Rattle.std.proofs.Common.{◌≡◌, ◌≢◌, ℕ, zero, suc, ◌+◌, ◌-◌, ◌/◌, ◌==◌, ◌<◌, ◌≤◌, ◌||◌, Bool, true, false, if◌then◌else◌, List, [], ◌∷◌, ◌++◌, ⊎_elim, Option, Some, None, IfSome, is_some, drop, length, slice_get, get_or, set, refl, sym, ap, subst, ◌∙◌, arith}
 use Rattle.std.proofs.lemmas.Bool.{cases_lt, eq-eqb, eqb-false, eqb-true, false≢true}
-use Rattle.std.proofs.lemmas.List.{append-nil, get_or-set_other, get_or-set_same, get_or_past, length-set, set_past}
+use Rattle.std.proofs.lemmas.List.{append-nil, get_or-set_same, get_or_past, length-set, set_past}
 use Rattle.std.proofs.lemmas.List.Folds.{list_any-append}
 use Rattle.sgx_types.specs.declared.entries.Action.{Action}
 use Rattle.sgx_types.specs.declared.entries.Action.TheVariants as actions
@@ -14,52 +13,46 @@ use Rattle.sgx_types.specs.declared.entries.Event.{Event}
 use Rattle.sgx_types.specs.declared.names.Cpu.{Cpu}
 use Rattle.sgx_types.specs.declared.names.Frame.{Frame}
 use Rattle.sgx_types.specs.declared.names.Page.{Page}
-use Rattle.sgx_types.specs.Frames.{Content, Free, Holds, IsLoading, IsVa, SecsOf, content, is_page, page_at, same_page}
+use Rattle.sgx_types.specs.Frames.{Content, content, is_page, page_at, same_page}
 use Rattle.sgx_types.specs.Processors.{Stay, stay}
 use Rattle.sgx_types.proofs.Pages.{same_page-refl, same_page-swap, same_pages}
+use Rattle.sgx_types.proofs.Contents.{held_page}
 use Rattle.cached_translations.specs.declared.processor.Mode.{Mode}
 use Rattle.cached_translations.specs.declared.processor.Mode.TheVariants.{Inside, Outside}
 use Rattle.job_grammar.specs.declared.jobs.Op.{Op}
 use Rattle.job_grammar.specs.declared.jobs.Op.TheVariants as ops
 use Rattle.job_grammar.specs.Jobs.{JobView}
 use Rattle.job_grammar.specs.Valid.{IsValid, IsValidOp}
-use Rattle.turn_rules.specs.Script.{action_of, build_of, built, is_interrupted, is_reply, is_reply_of, script_of}
-use Rattle.active_list.specs.Active.{ActiveList, with_hold, without_holds}
+use Rattle.turn_rules.specs.Script.{action_of, build_of, built, is_interrupted, is_reply, script_of}
+use Rattle.active_list.specs.Active.{ActiveList, without_holds}
 use Rattle.active_list.specs.Holds.{holds_page, joined, most_of, own_of}
 use Rattle.active_list.specs.Places.{IsPlaced}
 use Rattle.paging_laws.specs.Columns.{seat_of_stay}
-use Rattle.paging_machine.specs.Parts.{Parts, seat_of_mode}
-use Rattle.driver_rules.specs.Dues.{IsNext}
+use Rattle.paging_machine.specs.Parts.{seat_of_mode}
 use Rattle.driver_rules.specs.Holds.{access_of_stay, builder_holds, front_to, holds, holds_by, is_among, page_extended, page_in, page_of_stay, up_to}
 use Rattle.driver_rules.specs.Needs.{Interruption, access_page, interruption, listed, needs, needs_by, next_op, save_to_enter, save_to_resume}
-use Rattle.driver_rules.specs.Places.{Absent, Away, Here, Leaving, Loading, Place, frame_here, place}
-use Rattle.driver_rules.specs.Scripts.{ScriptRule}
-use Rattle.driver_rules.specs.Turns.{cpu_due, save_frame}
-use Rattle.driver_laws.specs.Sound.{IsSound, is_absent, stands_in, times}
-use Rattle.driver_laws.specs.Three.{HoldsThree, three}
+use Rattle.driver_rules.specs.Places.{frame_here, place}
+use Rattle.driver_rules.specs.Turns.{save_frame}
+use Rattle.driver_laws.specs.Sound.{IsSound, is_absent, times}
+use Rattle.driver_laws.specs.Three.{three}
 use Rattle.driver_laws.proofs.SoundLaws.{entry_of}
 use Rattle.driver_laws.proofs.ThreeLaws.{three_most}
-use Rattle.driver_tables.specs.declared.driver.Driver.{Driver}
-use Rattle.driver_tables.specs.Held.{ShowsHolds}
+use Rattle.driver_laws.proofs.PlaceLaws.{stands_there}
 use Rattle.driver_tables.proofs.HeldLaws.{SetsHolds, holds_of_builder, holds_of_cpu, holds_stay, sets_holds}
-use Rattle.turn_tables.specs.declared.cpu_turns.CpuTurn.{CpuTurn}
+use Rattle.driver_tables.proofs.BuildLaws.{extended_placed}
 use Rattle.turn_tables.specs.declared.cpu_turns.Interruption as kept
 use Rattle.turn_tables.specs.declared.holding.HeldPages.{HeldPages}
-use Rattle.turn_tables.specs.declared.holding.Needed.{Needed}
 use Rattle.turn_tables.specs.declared.turns.Turns.{Turns}
 use Rattle.turn_tables.specs.Asked.{Looks, last_save_of, looks_at, next_save_of, op_at}
 use Rattle.turn_tables.specs.CpuTurns.{interruption_told, turn_at}
 use Rattle.turn_tables.specs.Due.{IsOrderly}
-use Rattle.turn_tables.specs.Holding.{CanHold, FitsAll, FitsEntry, FitsHold, FitsNext, FitsOwn, HoldsOnce, KeepsHolds, access_inside_of, held_after, held_of, holding, holding_all, loads_held, measured_next, mode_of, needed_of, own_after, own_held, page_inside_of, pages_of, replies}
-use Rattle.turn_tables.specs.Noting.{IsAmong}
-use Rattle.turn_tables.specs.Shown.{ShowsCpu, ShowsTurns}
-use Rattle.turn_tables.specs.TcsTurns.{tcs_at}
+use Rattle.turn_tables.specs.Holding.{CanHold, FitsAll, FitsEntry, FitsHold, FitsNext, FitsOwn, HoldsOnce, KeepsHolds, access_inside_of, held_after, held_of, holding, holding_all, loads_held, measured_next, needed_of, own_after, own_held, page_inside_of, pages_of, replies}
+use Rattle.turn_tables.specs.Shown.{ShowsCpu}
 use Rattle.turn_tables.proofs.DueLaws.{access_is, enclave_same, enter_save_is, resume_save_is}
 use Rattle.turn_tables.proofs.LineLaws.{op_valid}
 use Rattle.turn_tables.proofs.LookLaws.{IsSeen, looks_are}
 use Rattle.turn_tables.proofs.NeedLaws.{Fits, fits_entry}
 use Rattle.turn_tables.proofs.OnceLaws.{holds_all, holds_if, join_all, join_if, longer_if, once_all, once_if, or_right, pigeons}
-use Rattle.turn_tables.proofs.PlacedLaws.{extended_placed}
 
 -- ---- what is held of a list
 
@@ -130,18 +123,7 @@ one_same None g = refl
 one_same (Some x) g = refl
 
 page_in_is : (c : Content) (g x : Page) → is_page c g ≡ true → is_among (page_in c) x ≡ (same_page g x || false)
-page_in_is (Holds page kind perm) g x h = ap (λ y. same_page y x || false) (same_pages page g h)
-page_in_is Free g x h = cc
-page_in_is IsVa g x h = cc
-page_in_is (SecsOf e) g x h = cc
-page_in_is (IsLoading page) g x h = cc
-
-stands_there : (at : Place) (n : ℕ) → frame_here at ≡ Some n → stands_in at n ≡ true
-stands_there Absent n h = cc
-stands_there (Here f) n h = let same : f ≡ n = cc in eq-eqb f n same
-stands_there (Leaving f) n h = cc
-stands_there (Loading f slot) n h = cc
-stands_there (Away slot) n h = cc
+page_in_is c g x h = ap (λ y. is_among (page_in y) x) (held_page c g h).holds
 
 none_in : (xs : List Page) (page : Page) → xs ≡ [] → is_among xs page ≡ true → ⊥
 none_in xs page is h = false≢true (subst (λ ys. is_among ys page ≡ true) is h)

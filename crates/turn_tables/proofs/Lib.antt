@@ -9,6 +9,5 @@ pub mod OrderLaws
 pub mod EndLaws
 pub mod OnceLaws
 pub mod NeedLaws
-pub mod PlacedLaws
 pub mod HoldLaws
 pub mod FirstLaws

@@ -1,6 +1,6 @@
 -- What a processor begins to hold by an instruction that is due: pages that were added, and those that the tables name.
-use Rattle.std.proofs.Common.{◌≡◌, ℕ, ◌+◌, ◌/◌, ◌==◌, ◌||◌, ◌++◌, not, Bool, true, false, if◌then◌else◌, List, [], ◌∷◌, Option, Some, None, is_some, refl, sym, ap, subst, ◌∙◌, arith}
-use Rattle.std.proofs.lemmas.Bool.{eq-eqb, false≢true}
+use Rattle.std.proofs.Common.{◌≡◌, ℕ, ◌+◌, ◌/◌, ◌==◌, ◌||◌, ◌++◌, not, Bool, true, false, if◌then◌else◌, List, [], ◌∷◌, Option, Some, None, is_some, refl, sym, ap, subst, ◌∙◌}
+use Rattle.std.proofs.lemmas.Bool.{false≢true}
 use Rattle.sgx_types.specs.declared.entries.AccessOp.{AccessOp}
 use Rattle.sgx_types.specs.declared.entries.AccessOp.TheVariants as accesses
 use Rattle.sgx_types.specs.declared.entries.Action.{Action}
@@ -13,16 +13,15 @@ use Rattle.sgx_types.specs.declared.entries.Entry.{Entry}
 use Rattle.sgx_types.specs.declared.entries.Event.{Event}
 use Rattle.sgx_types.specs.declared.entries.Event.TheVariants.{Did, Refused, Age, Kick, Bus}
 use Rattle.sgx_types.specs.declared.names.Frame.{Frame}
-use Rattle.sgx_types.specs.declared.names.Kind.{Kind}
-use Rattle.sgx_types.specs.declared.names.Perm.{Perm}
 use Rattle.sgx_types.specs.declared.names.Page.{Page}
 use Rattle.sgx_types.specs.declared.names.SlotAt.{SlotAt}
 use Rattle.sgx_types.specs.declared.refusals.Refusal.{Refusal}
 use Rattle.sgx_types.specs.Flat.{at_offset}
-use Rattle.sgx_types.specs.Frames.{Content, Free, Holds, IsLoading, IsVa, SecsOf, added, content, is_page, least_free, page_at, same_page}
+use Rattle.sgx_types.specs.Frames.{Content, added, content, is_page, page_at, same_page}
 use Rattle.sgx_types.specs.Processors.{Stay, holds_number, stay, translations}
 use Rattle.sgx_types.specs.Table.{is_lawful_access}
 use Rattle.sgx_types.proofs.Pages.{same_page-refl, same_pages}
+use Rattle.sgx_types.proofs.Contents.{held_page}
 use Rattle.job_grammar.specs.declared.jobs.Op.{Op}
 use Rattle.job_grammar.specs.declared.jobs.Op.TheVariants as ops
 use Rattle.job_grammar.specs.Jobs.{JobView}
@@ -31,12 +30,14 @@ use Rattle.driver_rules.specs.declared.waits.Why.{Why}
 use Rattle.driver_rules.specs.declared.waits.Why.TheVariants as waits
 use Rattle.driver_rules.specs.Dues.{Due, Ends, Fetches, Finished, IsFetch, IsKickOf, IsLook, IsNext, IsTryOf, KicksAll, LooksAt, Makes, Reports, Stopped, TriesOut, Waits, makes_or}
 use Rattle.driver_rules.specs.Holds.{access_of_stay, front_to, holds_by, is_among, page_in, page_of_stay, up_to}
-use Rattle.driver_rules.specs.Needs.{Interruption, access_page, interruption, listed, needs, needs_after, needs_of, needs_to_enter, needs_to_resume, next_op, save_to_enter, save_to_resume}
+use Rattle.driver_rules.specs.Needs.{Interruption, access_page, interruption, listed, needs, needs_after, needs_to_enter, needs_to_resume, next_op, save_to_enter, save_to_resume}
 use Rattle.driver_rules.specs.Places.{Absent, Away, Here, Leaving, Loading, Place, frame_here, is_here, place}
 use Rattle.driver_rules.specs.Stops.{is_spent}
 use Rattle.driver_rules.specs.Turns.{Fails, Last, Loads, Other, WasEnded, accesses_by, cpu_due, due_after, early_turn, enters, fetches, fills, first_away, inside_turn, is_built, is_kicked, is_last, last_of, op_turn, outside_turn, resumes, save_frame, stay_turn, turn_due, with_pages}
-use Rattle.driver_laws.specs.Sound.{IsSound, is_absent, stands_in}
+use Rattle.driver_laws.specs.Sound.{IsSound, is_absent}
 use Rattle.driver_laws.specs.Three.{HoldsThree}
+use Rattle.driver_laws.proofs.PlaceLaws.{here_there, stands_there}
+use Rattle.driver_laws.proofs.SoundLaws.{lawful_there}
 use Rattle.turn_tables.proofs.OnceLaws.{or_right}
 
 -- ---- places
@@ -44,19 +45,12 @@ use Rattle.turn_tables.proofs.OnceLaws.{or_right}
 away_there : (past : List Entry) (g : Page) (slot : SlotAt) → place past g ≡ Away slot → is_absent (place past g) ≡ false
 away_there past g slot is = ap is_absent is
 
-here_there : (at : Place) → is_here at ≡ true → is_absent at ≡ false
-here_there Absent h = cc
-here_there (Here f) h = refl
-here_there (Leaving f) h = cc
-here_there (Loading f slot) h = cc
-here_there (Away slot) h = cc
-
-frame_there : (at : Place) (n : ℕ) → frame_here at ≡ Some n → is_here at ≡ true
-frame_there Absent n h = cc
-frame_there (Here f) n h = refl
-frame_there (Leaving f) n h = cc
-frame_there (Loading f slot) n h = cc
-frame_there (Away slot) n h = cc
+is_here_there : (at : Place) → is_here at ≡ true → is_absent at ≡ false
+is_here_there Absent h = cc
+is_here_there (Here f) h = refl
+is_here_there (Leaving f) h = cc
+is_here_there (Loading f slot) h = cc
+is_here_there (Away slot) h = cc
 
 -- ---- lists
 
@@ -108,7 +102,7 @@ front_there past (y ∷ ys) g h there = by_here (is_here (place past y)) refl h 
     by_here : (b : Bool) → is_here (place past y) ≡ b → (if b then first_away past ys else Some y) ≡ Some g
         → (first_away past ys ≡ Some g → There past g → AllThere past (front_to g ys))
         → AllThere past (if same_page y g then y ∷ [] else y ∷ front_to g ys)
-    by_here true is k rest = stop (same_page y g) (here_there (place past y) is) (rest k there)
+    by_here true is k rest = stop (same_page y g) (is_here_there (place past y) is) (rest k there)
     by_here false is k rest =
         let same : y ≡ g = cc in
         let test : same_page y g ≡ true = subst (λ z. same_page y z ≡ true) same (same_page-refl y) in
@@ -193,22 +187,12 @@ module _ (j : JobView) (past : List Entry) (p : ℕ) (sound : IsSound past) (h :
 
   page_in_there : (g : Page) (n : ℕ) → frame_here (place past g) ≡ Some n → AllThere past (page_in (content past n))
   page_in_there g n is =
-      held (content past n) (sound.places.frames g n ∙ stands (place past g) is)
+      held (content past n) (sound.places.frames g n ∙ stands_there (place past g) n is)
     where
-      stands : (at : Place) → frame_here at ≡ Some n → stands_in at n ≡ true
-      stands Absent k = cc
-      stands (Here f) k = let same : f ≡ n = cc in eq-eqb f n same
-      stands (Leaving f) k = cc
-      stands (Loading f slot) k = cc
-      stands (Away slot) k = cc
-
       held : (c : Content) → is_page c g ≡ true → AllThere past (page_in c)
-      held (Holds page kind perm) k =
-          one_there past page (subst (There past) (sym (same_pages page g k)) (here_there (place past g) (frame_there (place past g) n is)))
-      held Free k = none_there past
-      held IsVa k = none_there past
-      held (SecsOf e) k = none_there past
-      held (IsLoading page) k = none_there past
+      held c k =
+          subst (λ x. AllThere past (page_in x)) (sym (held_page c g k).holds)
+          (one_there past g (here_there (place past g) n is))
 
   fits_resume : (why : Why) (e t : ℕ) (save : Option Page) → save ≡ save_to_resume j past e t → (tf sf : Option ℕ)
       → frame_here (place past (page_at e t)) ≡ tf → save_frame past (page_at e t) save ≡ sf
@@ -218,7 +202,7 @@ module _ (j : JobView) (past : List Entry) (p : ℕ) (sound : IsSound past) (h :
   fits_resume why e t save named (Some tf) (Some sf) is at = λ quiet. record {
     there =
         more_there past (page_at e t) (page_in (content past sf))
-        (here_there (place past (page_at e t)) (frame_there (place past (page_at e t)) tf is)) (used save at);
+        (here_there (place past (page_at e t)) tf is) (used save at);
     exact = (is, ap (save_frame past (page_at e t)) (sym named) ∙ at);
   }
     where
@@ -235,17 +219,6 @@ module _ (j : JobView) (past : List Entry) (p : ℕ) (sound : IsSound past) (h :
       (save_frame past (page_at e t) (save_to_resume j past e t)) refl refl)
 
   -- ---- accesses
-
-  lawful_there : (g : Page) (op : AccessOp) → is_lawful_access (added past g) op ≡ true → There past g
-  lawful_there g op k = by_added (added past g) k (sound.added g)
-    where
-      by_added : (o : Option (Kind × Perm)) → is_lawful_access o op ≡ true → is_some o ≡ not (is_absent (place past g)) → There past g
-      by_added None m is = cc
-      by_added (Some x) m is = by_test (is_absent (place past g)) is
-        where
-          by_test : (b : Bool) → true ≡ not b → b ≡ false
-          by_test true n = cc
-          by_test false n = refl
 
   fits_fills : (s : Stay) (off : ℕ) → stay past p ≡ Some s → access_page s.seat.enclave (next_op j past p) ≡ Some
       (at_offset s.seat.enclave off)
@@ -274,7 +247,7 @@ module _ (j : JobView) (past : List Entry) (p : ℕ) (sound : IsSound past) (h :
       by_lawful true is =
           fits_either (holds_number (translations past p) (off / 4096)) (Makes access)
           (fills (off / 4096) (frame_here (place past (at_offset s.seat.enclave off)))) (fits_reply access reply)
-          (fits_fills s off inside (named s.seat.enclave) (lawful_there (at_offset s.seat.enclave off) op is)
+          (fits_fills s off inside (named s.seat.enclave) (lawful_there past (at_offset s.seat.enclave off) op sound is)
           (frame_here (place past (at_offset s.seat.enclave off))))
 
   -- ---- operations

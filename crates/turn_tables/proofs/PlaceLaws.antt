@@ -1,16 +1,13 @@
 -- The table of state save pages before a job's first entry, made enclave by enclave and line by line.
-use Rattle.std.proofs.Common.{◌≡◌, ℕ, zero, suc, ◌+◌, ◌<◌, ◌≤◌, ⊎_elim, List, [], ◌∷◌, ◌++◌, Option, Some, None, length, map, fold, get_or, max, slice_get, replicate, take, refl, sym, ap, subst, ◌∙◌, arith}
+use Rattle.std.proofs.Common.{◌≡◌, ℕ, zero, suc, ◌+◌, ◌<◌, ◌≤◌, ⊎_elim, List, [], ◌∷◌, ◌++◌, Option, Some, None, length, map, get_or, slice_get, replicate, take, refl, sym, ap, subst, ◌∙◌, arith}
 use Rattle.std.specs.Global.{Vec}
-use Rattle.std.specs.List.{All}
 use Rattle.std.proofs.lemmas.Bool.{cases_eq, cases_lt}
 use Rattle.std.proofs.lemmas.List.{get_or_append_left, get_or_past, get_or_push, length-map, length_push, map_push, take_more}
-use Rattle.std.proofs.lemmas.List.Elements.{All-nil, All-cons}
-use Rattle.sgx_types.specs.declared.names.Page.{Page}
 use Rattle.job_grammar.specs.declared.jobs.EnclaveJob.{EnclaveJob}
 use Rattle.job_grammar.specs.declared.jobs.PageLine.{PageLine}
 use Rattle.job_grammar.specs.Jobs.{EnclaveView, enclave_view, lines_at, lines_in, tcs_line}
 use Rattle.job_grammar.proofs.ViewLaws.{views_more}
-use Rattle.driver_tables.specs.Counts.{enclave_places, last_end, line_end}
+use Rattle.driver_tables.specs.Counts.{enclave_places, last_end}
 use Rattle.turn_tables.specs.declared.tcs_turns.TcsTurn.{TcsTurn}
 use Rattle.turn_tables.specs.TcsTurns.{IsNewTable, tcs_by}
 use Rattle.turn_tables.specs.TcsPlaces.{or_line, turns_in}
@@ -89,20 +86,6 @@ table_more es x t row is sized new = record {
         counted = let k = length-map es enclave_places in omega (arith, k)
 
 -- ---- lines
-
-max_more : (ls : List PageLine) (end : ℕ) → end ≤ fold (λ a line. max a (line_end line)) end ls
-max_more [] end = omega arith
-max_more (x ∷ xs) end = let rest = max_more xs (max end (line_end x)) in omega (arith, rest)
-
-lines_below : (ls : List PageLine) (end : ℕ) → All (λ line. line_end line ≤ fold (λ a line. max a (line_end line)) end ls) ls
-lines_below [] end = All-nil (λ line. line_end line ≤ end)
-lines_below (x ∷ xs) end =
-    All-cons (λ line. line_end line ≤ fold (λ a line. max a (line_end line)) (max end (line_end x)) xs) x xs
-    (let rest = max_more xs (max end (line_end x)) in omega (arith, rest)) (lines_below xs (max end (line_end x)))
-
--- each line ends within the last end
-pub each_end : (ls : List PageLine) (i : ℕ) (d : PageLine) → i < length ls → line_end (get_or ls i d) ≤ last_end ls
-each_end ls i d low = lines_below ls 0 i d low
 
 -- no line was taken yet
 pub none_taken : (count n : ℕ) → get_or (replicate count None) n None ≡ tcs_by (tcs_line [] n) 0

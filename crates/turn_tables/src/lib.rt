@@ -9,7 +9,7 @@ pub mod dues;
 pub mod holding;
 pub mod laws;
 mod noting;
-mod operations;
+pub mod operations;
 mod pages;
 mod replies;
 pub mod tcs_turns;

@@ -259,8 +259,8 @@ fn fill(number: u32, frame: Option<Frame>) -> TurnDue
     }
 }
 
-// The page of an offset. The offsets of a job are below 2^24.
-fn page_of(enclave: u16, off: u64) -> Page
+/// The page of an offset. The offsets of a job are below 2^24.
+pub fn page_of(enclave: u16, off: u64) -> Page
     ensures { result ≡ page_of enclave off }
 {
     let number = (off / 4096 % (1 << 32)) as u32;

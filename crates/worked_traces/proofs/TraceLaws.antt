@@ -6,7 +6,7 @@ use Rattle.std.proofs.lemmas.List.Elements.{All-head}
 use lib.Count.{ones}
 use Rattle.sgx_types.specs.declared.entries.Entry.{Entry}
 use Rattle.sgx_types.specs.declared.names.Page.{Page}
-use Rattle.sgx_types.specs.Frames.{Content, Put, added, put_by, held_after, content, is_sealing, same_page, is_page, page_at}
+use Rattle.sgx_types.specs.Frames.{Content, Put, content, held_after, is_page, is_sealing, made_before, page_at, put_by, same_page}
 use Rattle.sgx_types.specs.Processors.{BareTranslation}
 use Rattle.sgx_types.specs.Rules.{Along, AtEachPlace, FlatRule, NoPageTwice, NoneStale, IsCurrent}
 use Rattle.worked_traces.specs.Traces.{first_trace, first_build, fill, enter, frame_beyond, frame_twice, page_twice, adds_exchanged, epa_by_reclaimer, no_fill, fill_from_other_frame}
@@ -56,7 +56,7 @@ IsPutInPlace None = Unit {0}
 IsPutInPlace (Some put) = (g : Page) → is_page put.content g ≡ true → put.frame ≡ g.number + 2
 
 abbrev PutsInPlace : List Entry → Entry → Type 0
-PutsInPlace past e = IsPutInPlace (put_by e.event (added past))
+PutsInPlace past e = IsPutInPlace (put_by e.event (made_before past))
 
 after_put : (put : Option Put) (held : ℕ → Content) → IsPutInPlace put → InPlace held → InPlace (λ n. held_after put n (held n))
 unfolding InPlace
@@ -70,7 +70,7 @@ after_put (Some put) held here before n g = by_frame (put.frame == n) (eqb-true 
 in_place : (past : List Entry) → Along PutsInPlace past → InPlace (content past)
 unfolding InPlace
 in_place [] along n g holds = cc
-in_place (e ∷ past) along n g holds = after_put (put_by e.event (added past)) (content past) along.0 (in_place past along.1) n g holds
+in_place (e ∷ past) along n g holds = after_put (put_by e.event (made_before past)) (content past) along.0 (in_place past along.1) n g holds
 
 once : (past : List Entry) → Along PutsInPlace past → NoPageTwice past
 unfolding InPlace

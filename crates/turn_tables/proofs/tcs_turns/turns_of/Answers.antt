@@ -1,6 +1,7 @@
 use Rattle.std.proofs.Common.{false, ◌≡◌, ◌+◌, ℕ, None, drop, get_or, length, take, ◌++◌, sym, ap, ◌∙◌, arith}
 use Rattle.job_grammar.specs.declared.jobs.PageLine.TheVariants as lines
-use Rattle.turn_tables.proofs.PlaceLaws.{each_end, taken_more}
+use Rattle.driver_tables.proofs.BuildLaws.{each_end}
+use Rattle.turn_tables.proofs.PlaceLaws.{taken_more}
 use Rattle.turn_tables.proofs.TableLaws.{written_whole}
 use Rattle.turn_tables.proofs.tcs_turns.turns_of.Goals as goal
 

@@ -1,5 +1,5 @@
--- Behind the steps that make version array pages a build makes none, and each page that it adds has a place in the tables.
-use Rattle.std.proofs.Common.{◌≡◌, ◌⊎◌, inl, inr, ⊎_elim, ℕ, zero, suc, ◌+◌, ◌<◌, ◌≤◌, Bool, true, false, List, [], ◌∷◌, ◌++◌, Some, map, fold, get_or, max, replicate, slice_get, refl, ap, subst, ◌∙◌, arith}
+-- Behind the steps that make version array pages a build makes none, and each page that it adds or measures has a place in the tables.
+use Rattle.std.proofs.Common.{◌≡◌, ◌⊎◌, inl, inr, ⊎_elim, ℕ, zero, suc, ◌+◌, ◌<◌, ◌≤◌, Bool, true, false, List, [], ◌∷◌, ◌++◌, Option, Some, None, length, map, fold, get_or, max, replicate, slice_get, refl, ap, subst, ◌∙◌, arith}
 use Rattle.std.proofs.lemmas.Bool.{false≢true}
 use Rattle.std.specs.List.{All, flat_map}
 use Rattle.std.proofs.lemmas.List.Elements.{All-cons, All-head, All-nil, All-tail}
@@ -7,6 +7,7 @@ use Rattle.sgx_types.specs.declared.entries.PageInit.{PageInit}
 use Rattle.sgx_types.specs.declared.entries.PageInit.TheVariants as inits
 use Rattle.sgx_types.specs.declared.names.Kind.{Kind}
 use Rattle.sgx_types.specs.declared.names.Kind.TheVariants as kinds
+use Rattle.sgx_types.specs.declared.names.Page.{Page}
 use Rattle.sgx_types.specs.declared.names.Perm.{Perm}
 use Rattle.sgx_types.specs.Frames.{no_perm, page_at}
 use Rattle.job_grammar.specs.declared.jobs.PageLine.{PageLine}
@@ -16,19 +17,22 @@ use Rattle.turn_rules.specs.declared.steps.BuildStep.{BuildStep}
 use Rattle.turn_rules.specs.declared.steps.BuildStep.TheVariants as builds
 use Rattle.turn_rules.specs.Script.{build_of, enclave_steps, enclaves_steps, line_steps, numbers_from, page_steps}
 use Rattle.active_list.specs.Places.{IsPlaced}
+use Rattle.driver_rules.specs.Holds.{page_extended}
 use Rattle.driver_laws.specs.Keeps.{is_va_step}
-use Rattle.driver_tables.specs.Counts.{enclave_places, line_end, page_counts}
+use Rattle.driver_tables.specs.Counts.{enclave_places, last_end, line_end, page_counts}
 
--- a step makes no version array page, and adds a page of this enclave below a number
+-- a step makes no version array page, and adds or measures a page of this enclave below a number
 abbrev IsLow : ℕ → ℕ → BuildStep → Type 0
 IsLow enclave end builds.Va = ⊥
 IsLow enclave end (builds.Add e n kind perm init) = (e ≡ enclave) × (n < end)
+IsLow enclave end (builds.Extend e n chunk) = (e ≡ enclave) × (n < end)
 IsLow enclave end _ = Unit {0}
 
 -- .. a page that has a place
 abbrev IsBehind : List ℕ → BuildStep → Type 0
 IsBehind counts builds.Va = ⊥
 IsBehind counts (builds.Add e n kind perm init) = n < get_or counts e 0
+IsBehind counts (builds.Extend e n chunk) = n < get_or counts e 0
 IsBehind counts _ = Unit {0}
 
 -- what holds along a list, by recursion
@@ -51,14 +55,14 @@ each_got P (y ∷ ys) (suc n) x h is = each_got P ys n x h.1 is
 
 -- ---- lines
 
-chunks_low : (enclave end n k count : ℕ) → Each (IsLow enclave end) (map (builds.Extend enclave n) (numbers_from k count))
-chunks_low enclave end n k zero = tt
-chunks_low enclave end n k (suc count) = (tt, chunks_low enclave end n (k + 1) count)
+chunks_low : (enclave end n k count : ℕ) → n < end → Each (IsLow enclave end) (map (builds.Extend enclave n) (numbers_from k count))
+chunks_low enclave end n k zero low = tt
+chunks_low enclave end n k (suc count) low = ((refl, low), chunks_low enclave end n (k + 1) count low)
 
 page_low : (enclave end n : ℕ) (kind : Kind) (perm : Perm) (init : PageInit) (plain : Bool) → n < end
     → Each (IsLow enclave end) (page_steps enclave n kind perm init plain)
 page_low enclave end n kind perm init true low = ((refl, low), tt)
-page_low enclave end n kind perm init false low = ((refl, low), chunks_low enclave end n 0 16)
+page_low enclave end n kind perm init false low = ((refl, low), chunks_low enclave end n 0 16 low)
 
 pages_low : (enclave end : ℕ) (kind : Kind) (perm : Perm) (init : PageInit) (plain : Bool) (first count : ℕ) → first + count ≤ end
     → Each (IsLow enclave end) (flat_map (λ n. page_steps enclave n kind perm init plain) (numbers_from first count))
@@ -93,6 +97,10 @@ lines_below (x ∷ xs) end =
     All-cons (λ line. line_end line ≤ fold (λ a line. max a (line_end line)) (max end (line_end x)) xs) x xs
     (let rest = max_more xs (max end (line_end x)) in omega (arith, rest)) (lines_below xs (max end (line_end x)))
 
+-- each line ends within the last end
+pub each_end : (ls : List PageLine) (i : ℕ) (d : PageLine) → i < length ls → line_end (get_or ls i d) ≤ last_end ls
+each_end ls i d low = lines_below ls 0 i d low
+
 -- ---- enclaves
 
 enclave_low : (enclave : ℕ) (e : EnclaveView) → Each (IsLow enclave (enclave_places e)) (enclave_steps enclave e)
@@ -109,7 +117,9 @@ low_behind counts enclave end is (builds.Add e n kind perm init) h =
     let low = h.1 in omega (arith, count, low)
 low_behind counts enclave end is builds.Va h = h
 low_behind counts enclave end is (builds.Create e base size) h = tt
-low_behind counts enclave end is (builds.Extend e n chunk) h = tt
+low_behind counts enclave end is (builds.Extend e n chunk) h =
+    let count : get_or counts e 0 ≡ end = ap (λ k. get_or counts k 0) h.0 ∙ is in
+    let low = h.1 in omega (arith, count, low)
 low_behind counts enclave end is (builds.Init e expect) h = tt
 
 enclaves_behind : (counts : List ℕ) (enclave : ℕ) (es : List EnclaveView)
@@ -169,3 +179,25 @@ add_placed j n e k kind perm init is =
     (λ (m : k < get_or (0 ∷ page_counts j) e 0). record { within = m })
     (got_either (IsBehind (0 ∷ page_counts j)) (va_pages j) n (enclaves_steps 1 j.enclaves) (builds.Add e k kind perm init) (all_behind j)
     is)
+
+-- .. and so has that of one that measures
+pub extended_placed : (j : JobView) (n : ℕ) (g : Page) → page_extended (slice_get (build_of j) n) ≡ Some g
+    → IsPlaced (0 ∷ page_counts j) g
+extended_placed j n g is = by_step (slice_get (build_of j) n) refl is
+  where
+    by_build : (x : BuildStep) → slice_get (build_of j) n ≡ Some x → page_extended (Some x) ≡ Some g → IsPlaced (0 ∷ page_counts j) g
+    by_build (builds.Extend e k chunk) at h =
+        let same : page_at e k ≡ g = cc in
+        ⊎_elim
+        (λ (m : (n < va_pages j) × (builds.Extend e k chunk ≡ builds.Va)).
+        (let bad : builds.Extend e k chunk ≡ builds.Va = m.1 in absurd cc))
+        (λ (m : k < get_or (0 ∷ page_counts j) e 0). subst (IsPlaced (0 ∷ page_counts j)) same (record { within = m }))
+        (got_either (IsBehind (0 ∷ page_counts j)) (va_pages j) n (enclaves_steps 1 j.enclaves) (builds.Extend e k chunk) (all_behind j) at)
+    by_build builds.Va at h = cc
+    by_build (builds.Create e base size) at h = cc
+    by_build (builds.Add e k kind perm init) at h = cc
+    by_build (builds.Init e expect) at h = cc
+
+    by_step : (o : Option BuildStep) → slice_get (build_of j) n ≡ o → page_extended o ≡ Some g → IsPlaced (0 ∷ page_counts j) g
+    by_step None at h = cc
+    by_step (Some x) at h = by_build x at h
