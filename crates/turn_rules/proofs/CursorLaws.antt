@@ -119,7 +119,16 @@ pub left_page : (enclave chunk : ℕ) (r : PageRun) → r.chunk ≡ 16 → 1 ≤
 left_page enclave chunk r whole some is =
     rw (whole, is, page_first enclave r.number r.count r.kind r.perm r.init r.plain (omega (arith, some))) refl
 
+some_first : (n i : ℕ) (es : List EnclaveView) → i < length es → 1 ≤ length (enclaves_steps n (drop i es))
+some_first n i [] below = absurd (omega (arith, below))
+some_first n zero (e ∷ es) below = omega arith
+some_first n (suc i) (e ∷ es) below = some_first n i es (omega (arith, below))
+
 module _ (j : JobView) (c : BuildCursor) (vas : c.vas ≡ 0) where
+  -- an enclave that was not created is left
+  pub some_left : c.unfinished ≡ false → c.enclave < length j.enclaves → 1 ≤ length (left j c)
+  some_left finished below = rw (vas, finished) (some_first (c.enclave + 1) c.enclave j.enclaves below)
+
   pub left_enclave : (x : EnclaveView) (pages : PageRun) → c.unfinished ≡ false → slice_get j.enclaves c.enclave ≡ Some x
       → ((e : ℕ) → run_left e pages ≡ [])
       → left j c ≡ builds.Create (c.enclave + 1) x.base x.size ∷ left j

@@ -1,6 +1,6 @@
 //! What the builder has to do under a job, step by step.
 
-ghost use Rattle.std.specs.Prelude.{ℕ, ◌≡◌, ◌+◌, ◌≤◌, true, false, [], ◌∷◌, if◌then◌else◌, IfNone, IfSome};
+ghost use Rattle.std.specs.Prelude.{ℕ, ◌≡◌, ◌+◌, ◌≤◌, true, false, [], ◌∷◌, if◌then◌else◌, IfNone, IfSome, length};
 ghost use Rattle.job_grammar.specs.Jobs.{first_page, page_count};
 ghost use Rattle.turn_rules.specs.Script.{build_of, line_steps};
 ghost use Rattle.turn_rules.specs.Cursor.{IsCursor, IsRun, left, run_left};
@@ -82,6 +82,21 @@ impl BuildCursor {
             return Some(self.next_within(job));
         }
         self.next_enclave(job)
+    }
+
+    /// Whether nothing is left: each enclave was created, and none is unfinished. Who only asks this needs no step made.
+    pub fn is_done(&self, job: &Job) -> bool
+        requires { IsCursor job.now self.now }
+        ensures none { result ≡ true → left job.now self.now ≡ [] }
+        ensures some { result ≡ false → 1 ≤ length (left job.now self.now) }
+    {
+        if self.vas > 0 {
+            return false;
+        }
+        if self.unfinished {
+            return false;
+        }
+        usize::from(self.enclave) >= job.enclaves().len()
     }
 
     // The next step of the enclave that was created last.
