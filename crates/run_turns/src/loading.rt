@@ -55,7 +55,8 @@ impl Course {
         }
     }
 
-    // The work of its started load, once more.
+    // The work of its started load, once more. Out of line, as `fetch`.
+    #[inline(never)]
     fn open_again<S: Backing>(
         &mut self,
         alloc: Global,
@@ -75,7 +76,8 @@ impl Course {
         }
     }
 
-    // The fault step for a page that it needs.
+    // The fault step for a page that it needs. Out of line, so that a turn that needs none makes no room for its work.
+    #[inline(never)]
     fn fetch<S: Backing>(
         &mut self,
         alloc: Global,

@@ -87,7 +87,7 @@ impl Turns {
             (next_step job.now self.now) }
     {
         let op = op_at(job, cpu, turn.replied);
-        if self.next_step(job).is_some() {
+        if self.builds(job) {
             return early_turn(machine.mode(cpu), op);
         }
         match machine.mode(cpu) {
@@ -97,6 +97,7 @@ impl Turns {
     }
 
     // Outside: nothing more at the script's end; else first the resumption behind an exit that no operation asked for.
+    #[inline(never)]
     fn outside_turn(
         &self,
         driver: &Driver,

@@ -1,6 +1,6 @@
 //! What the builder does next.
 
-ghost use Rattle.std.specs.Prelude.{◌≡◌, List, length, map};
+ghost use Rattle.std.specs.Prelude.{◌≡◌, List, is_some, length, map};
 ghost use Rattle.sgx_types.specs.Making.{Making};
 ghost use Rattle.sgx_types.specs.declared.entries.Entry.{Entry};
 ghost use Rattle.turn_rules.specs.Script.{step_action};
@@ -54,6 +54,14 @@ impl Turns {
     {
         let mut cursor = self.cursor;
         cursor.next(job)
+    }
+
+    /// Whether a step is left to the builder. Behind the build no step is made for it.
+    pub(crate) fn builds(&self, job: &Job) -> bool
+        requires { IsCursor job.now self.now.cursor }
+        ensures { result ≡ is_some (next_step job.now self.now) }
+    {
+        !self.cursor.is_done(job) && self.next_step(job).is_some()
     }
 
     // A step that makes a page takes the free frame, and one that measures that of its page.

@@ -44,19 +44,18 @@ impl Turns {
         note_saves(&mut self.tcs, &entry.event, left_by(entry.actor, before));
         note_own(&mut self.cpus, entry.actor, &entry.event, before);
         note_kick(&mut self.cpus, &entry.event);
-        self.inits = with_init(self.inits, &entry.event);
-        self.cursor = stepped(self.cursor, job, entry.actor);
+        note_init(&mut self.inits, &entry.event);
+        note_step(&mut self.cursor, job, entry.actor);
         self.last = Some(entry.actor);
         self.is_spent = spends(&entry.event) || self.is_spent;
     }
 }
 
 // Which enclaves are initialised behind an event.
-fn with_init(inits: [bool; 9], event: &Event) -> [bool; 9]
-    requires { length inits ≡ 9 }
-    ensures { result ≡ inits_after event.now inits }
+fn note_init(inits: &mut [bool; 9], event: &Event)
+    requires { length inits.old ≡ 9 }
+    ensures { inits.new ≡ inits_after event.now inits.old }
 {
-    let mut inits = inits;
     if let Event::Did {
         action: Action::Init { enclave, .. },
         ..
@@ -66,7 +65,6 @@ fn with_init(inits: [bool; 9], event: &Event) -> [bool; 9]
             inits[usize::from(enclave)] = true;
         }
     }
-    inits
 }
 
 // The TCS page by which the processor of an entry is inside before it.
@@ -139,13 +137,13 @@ fn note_own(cpus: &mut CpuTurns, actor: Actor, event: &Event, before: Mode)
 }
 
 // The steps that are left behind an entry. An entry of the builder is a step's.
-fn stepped(cursor: BuildCursor, job: &Job, actor: Actor) -> BuildCursor
-    requires { IsCursor job.now cursor }
-    ensures { IsBuilt job.now actor cursor result }
+fn note_step(cursor: &mut BuildCursor, job: &Job, actor: Actor)
+    requires { IsCursor job.now cursor.old }
+    ensures { IsBuilt job.now actor cursor.old cursor.new }
 {
     match actor {
-        Actor::Builder => next_step(cursor, job),
-        Actor::Cpu(_) | Actor::Reclaimer => cursor,
+        Actor::Builder => *cursor = next_step(*cursor, job),
+        Actor::Cpu(_) | Actor::Reclaimer => {}
     }
 }
 

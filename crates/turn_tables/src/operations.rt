@@ -65,6 +65,8 @@ impl Turns {
         }
     }
 
+    // Entries and resumptions stand out of line, so that an access makes no room for them.
+    #[inline(never)]
     fn enter_due(
         &self,
         driver: &Driver,
@@ -88,6 +90,7 @@ impl Turns {
         self.enters(driver, Page { enclave, number })
     }
 
+    #[inline(never)]
     fn resume_due(
         &self,
         driver: &Driver,
