@@ -9,13 +9,21 @@ use backing_store::backing::Backing;
 use driver_rules::waits::Why;
 use epoch_words::words::{Pass, Words};
 use rounds::run::Turn;
-use seal_record::seal::seal;
-use seal_record::unseal::unseal;
+use seal_record::seal::{SealWork, seal};
+use seal_record::unseal::{UnsealWork, unseal};
 use sgx_types::entries::Actor;
-use sgx_types::names::Memory;
+use sgx_types::names::{Cpu, Memory};
 use std::alloc::Global;
 use std::sync::{Mutex, Wait};
 use turn_gate::gate::Gate;
+
+// What a worker does next. It is small, where a turn's answer has room for a page's work.
+#[derive(Clone, Copy)]
+enum Next {
+    Goes,
+    Waits(Why),
+    Ends,
+}
 
 /// Takes the turns of an actor of the job until nothing is left to it, or the run was stopped, or it has to wait where some worker has no
 /// thread. Who has a pass looks at the word of an enclave while a processor keeps a page of it back.
@@ -36,13 +44,13 @@ pub(crate) fn work<R: Wait, B: Backing, G: Gate, N: Run>(
     let mut vain: u32 = 0;
     for _ in rt.forever() {
         match gated_turn(rt, alloc, shared, words, gate, who) {
-            Turn::Finished | Turn::Stopped => return,
-            Turn::Again(_) if made.is_given_up() => return,
-            Turn::Again(why) => {
+            Next::Ends => return,
+            Next::Waits(_) if made.is_given_up() => return,
+            Next::Waits(why) => {
                 vain = vain.saturating_add(1);
                 wait(rt, made, words, &mut pass, vain, why);
             }
-            Turn::Did { .. } | Turn::Seal(_) | Turn::Unseal(_) => {
+            Next::Goes => {
                 vain = 0;
                 made.note();
             }
@@ -69,43 +77,70 @@ fn gated_turn<R: Wait, B: Backing, G: Gate, N: Run>(
     words: &Words,
     gate: &G,
     who: Actor,
-) -> Turn
+) -> Next
     requires who { IsOf N.job who }
     requires words { words.now ≡ N.words }
 {
     gate.before_turn(who);
-    let turn = whole_turn(rt, alloc, shared, words, who);
+    let next = whole_turn(rt, alloc, shared, words, who);
     gate.after_turn(who);
-    match turn {
-        Ok(turn) => turn,
+    match next {
+        Ok(next) => next,
         Err(Memory) => {
             shared.lock(rt).stop_for_memory();
-            Turn::Stopped
+            Next::Ends
         }
     }
 }
 
-// A turn, and where it started a write-out or a load, its work and its end. The work is done outside the lock.
+// A turn, and where it started a write-out or a load, its work and its end.
 fn whole_turn<R: Wait, B: Backing, N: Run>(
     rt: &R,
     alloc: Global,
     shared: &Mutex<Locked<B, N>>,
     words: &Words,
     who: Actor,
-) -> Result<Turn, Memory>
+) -> Result<Next, Memory>
     requires who { IsOf N.job who }
     requires words { words.now ≡ N.words }
 {
+    // The lock is free again behind this line.
     let turn = shared.lock(rt).turn(alloc, words, who)?;
     match (turn, who) {
-        (Turn::Seal(work), _) => {
-            let sealed = seal(work);
-            Ok(shared.lock(rt).commit_sealed(sealed))
-        }
-        (Turn::Unseal(work), Actor::Cpu(cpu)) => {
-            let opened = unseal(work);
-            Ok(shared.lock(rt).commit_opened(cpu, opened))
-        }
-        (turn, _) => Ok(turn),
+        (Turn::Seal(work), _) => Ok(sealed_turn(rt, shared, work)),
+        (Turn::Unseal(work), Actor::Cpu(cpu)) => Ok(opened_turn(rt, shared, cpu, work)),
+        (turn, _) => Ok(after(turn)),
+    }
+}
+
+// The work of a started write-out, with the lock free, and its end.
+fn sealed_turn<R: Wait, B: Backing, N: Run>(
+    rt: &R,
+    shared: &Mutex<Locked<B, N>>,
+    work: SealWork,
+) -> Next {
+    let sealed = seal(work);
+    after(shared.lock(rt).commit_sealed(sealed))
+}
+
+// The work of a processor's started load, with the lock free, and its end.
+fn opened_turn<R: Wait, B: Backing, N: Run>(
+    rt: &R,
+    shared: &Mutex<Locked<B, N>>,
+    cpu: Cpu,
+    work: UnsealWork,
+) -> Next
+    requires { IsOf N.job (Actor.Cpu cpu) }
+{
+    let opened = unseal(work);
+    after(shared.lock(rt).commit_opened(cpu, opened))
+}
+
+// What a worker does behind an answer.
+fn after(turn: Turn) -> Next {
+    match turn {
+        Turn::Finished | Turn::Stopped => Next::Ends,
+        Turn::Again(why) => Next::Waits(why),
+        Turn::Did { .. } | Turn::Seal(_) | Turn::Unseal(_) => Next::Goes,
     }
 }
