@@ -30,7 +30,8 @@ use Rattle.driver_laws.proofs.UsedLaws.{first_used, stays_used}
 
 -- ---- what the rules say of a write-out
 
-first_below : (first : ℕ) (past : List Entry) → first ≤ next_version first past
+-- no version is below the first
+pub first_below : (first : ℕ) (past : List Entry) → first ≤ next_version first past
 first_below first [] = omega arith
 first_below first (e ∷ past) = by_draw (is_draw e.event) (first_below first past)
   where

@@ -15,7 +15,7 @@ use Rattle.sgx_types.specs.Eviction.{is_drained, kept_back}
 use Rattle.sgx_types.specs.Frames.{added}
 use Rattle.sgx_types.specs.Making.{Making}
 use Rattle.sgx_types.specs.Rules.{LoadsAwayRule}
-use Rattle.sgx_types.specs.Slots.{is_draw, next_version}
+use Rattle.sgx_types.specs.Slots.{next_version}
 use Rattle.sgx_types.specs.Starts.{open_start}
 use Rattle.job_grammar.specs.Jobs.{JobView}
 use Rattle.paging_laws.proofs.ColumnLaws.{added_is}
@@ -37,6 +37,7 @@ use Rattle.driver_laws.specs.Tracking.{TrackingRule}
 use Rattle.driver_laws.specs.Tracks.{IsCalm, KeepsTracks}
 use Rattle.driver_laws.specs.Used.{StartTells}
 use Rattle.driver_laws.proofs.EpochLaws.{none_older}
+use Rattle.driver_laws.proofs.ReadyLaws.{first_below}
 use Rattle.driver_tables.specs.declared.driver.Driver.{Driver}
 use Rattle.driver_steps.specs.Agrees.{Agrees}
 use Rattle.driver_steps.specs.Asked.{IsNextOf}
@@ -62,15 +63,6 @@ record IsOwn (first : ℕ) (past : List Entry) (e : Entry) : Type 0 where
   tracking : TrackingRule first past e
   no_load : is_load e.event ≡ false
   loads : LoadsAwayRule past e
-
-first_below : (first : ℕ) (past : List Entry) → first ≤ next_version first past
-first_below first [] = omega arith
-first_below first (e ∷ past) = by_draw (is_draw e.event) (first_below first past)
-  where
-    by_draw : (b : Bool) → first ≤ next_version first past
-        → first ≤ (if b then next_version first past + 1 else next_version first past)
-    by_draw true h = omega (arith, h)
-    by_draw false h = h
 
 module _ (made : Making) (j : JobView) (past : List Entry) (slots : Keeper) (turn : PassTurn) (positive : 1 ≤ made.first_version)
     (theirs : (g : Page) → IsTaken past true g → is_some (created past g.enclave) ≡ true) where

@@ -55,6 +55,7 @@ use Rattle.turn_tables.specs.Noting.{IsNoted}
 use Rattle.turn_tables.specs.Shown.{ShowsTurns}
 use Rattle.run_book.specs.Books.{AreTold, IsMade, with_own}
 use Rattle.run_book.specs.Loads.{OfAnswer, entry_in}
+use Rattle.run_book.proofs.BookLaws.{shows_with}
 use Rattle.run_bytes.specs.Records.{StaysWith}
 use Rattle.run_records.specs.Silent.{OfBus}
 use Rattle.run_records.proofs.LoadRecords.{end_told}
@@ -66,7 +67,7 @@ use Rattle.run_turns.proofs.KeepLaws.{few_cpus, room_behind}
 use Rattle.run_turns.proofs.LoadCourse.{Stands, is_open, kept_room, bus_starts, ended_starts, one_longer, stands_keeps, taken_stands}
 use Rattle.run_turns.proofs.LoadLaws.{IsOfAway, due_quiet, end_of_load, one, starts_set, end_quiet, loading_told, none_behind_bus, none_more}
 use Rattle.run_turns.proofs.RecordLaws.{newest}
-use Rattle.run_turns.proofs.LoadMade.{Leaves, NotesBus, bus_made, bus_told, end_acts, end_by, end_made, fault_made, resolved_leaves, shows_with}
+use Rattle.run_turns.proofs.LoadMade.{Leaves, NotesBus, bus_made, bus_told, end_acts, end_by, end_made, fault_made, resolved_leaves}
 use Rattle.run_history.specs.Honest.{IsHonest}
 use Rattle.fault_handler.specs.Finishing.{IsBack}
 use Rattle.run_records.proofs.HonestRecords.{ended_back}

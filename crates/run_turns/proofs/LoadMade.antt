@@ -355,21 +355,3 @@ bus_made j past told d m t taken phase cpu page why k stands going mine due show
         → IfSome o (λ calls. IsHonest calls → is_bus (Bus page why) ≡ false)
     by_honest None is = tt
     by_honest (Some calls) is = λ honest. absurd (is honest)
-
--- holds change nothing else of what the tables show
-pub shows_with : (j : JobView) (d : Driver) (past : List Entry) (own : List (List Page)) → ShowsTables j d past
-    → ShowsTables j (with_own d own) past
-shows_with j d past own t = record {
-  list = t.list;
-  states = t.states;
-  placed = t.placed;
-  slots = t.slots;
-  copies = t.copies;
-  counts = t.counts;
-  of_job = t.of_job;
-  sized = t.sized;
-  rooms = t.rooms;
-  marks = t.marks;
-  cpus = t.cpus;
-  few = t.few;
-}
