@@ -1,3 +1,5 @@
+//! The lines of verdicts.
+
 use crate::verdicts::print_verdict;
 use run_history::rules::Rule;
 use std::test::Fail;

@@ -1,3 +1,5 @@
+//! Words of the command line, and the commands that they name.
+
 use crate::command::{Command, command_of};
 use sgx_types::names::Memory;
 use std::alloc::Global;

@@ -1,3 +1,5 @@
+//! Runs with threads, and a gate at which two processors meet.
+
 ghost use Rattle.std.specs.Prelude.{◌≡◌, IfOk, length, replicate};
 ghost use Rattle.epoch_words.specs.Known.{enclaves};
 ghost use Rattle.epoch_words.specs.Seen.{starting_at};

@@ -1,1 +1,3 @@
+//! Tests of sources and sinks.
+
 mod edges;

@@ -1,3 +1,5 @@
+//! The words of an enclave's epochs, row by row.
+
 ghost use Rattle.std.specs.Prelude.{◌≡◌, ◌≤◌};
 ghost use Rattle.epoch_words.specs.Known.{enclaves};
 

@@ -1,2 +1,4 @@
+//! Tests of the instructions that move pages.
+
 mod evictions;
 mod perms;

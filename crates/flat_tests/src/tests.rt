@@ -1,1 +1,3 @@
+//! Tests of flat memory.
+
 mod flat;

@@ -1,3 +1,5 @@
+//! The run of the gate's command.
+
 use crate::counts::give_counts;
 use io_edges::mem_sink::MemSink;
 use std::test::Fail;

@@ -1,3 +1,5 @@
+//! Frames behind a gate without a lock.
+
 ghost use Rattle.std.specs.Prelude.{◌≡◌};
 
 use frame_gate::gate::FrameGate;

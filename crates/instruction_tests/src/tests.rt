@@ -1,3 +1,5 @@
+//! Tests of the instructions that move no page.
+
 mod accesses;
 mod builds;
 mod entries;

@@ -1,3 +1,5 @@
+//! Texts of jobs, and what reading them gives.
+
 mod enclaves;
 mod grammar;
 mod jobs;

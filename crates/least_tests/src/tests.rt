@@ -1,3 +1,5 @@
+//! Tests of the fewest loads.
+
 mod fewest;
 mod lawful;
 mod long;

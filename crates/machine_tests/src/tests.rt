@@ -1,3 +1,5 @@
+//! Tests of the machine.
+
 mod building;
 mod digests;
 mod instructions;

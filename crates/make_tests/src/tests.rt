@@ -1,3 +1,5 @@
+//! Jobs that are made from a number and a size.
+
 ghost use Rattle.std.specs.Prelude.{◌≤◌};
 
 use hex::ToHex;

@@ -1,3 +1,5 @@
+//! Tests of the machine's parts.
+
 mod enclaves;
 mod frames;
 mod logs;

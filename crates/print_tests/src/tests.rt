@@ -1,3 +1,5 @@
+//! Canonical texts of jobs.
+
 use job_print::printer::print_job;
 use job_text::reader::read_job;
 use std::alloc::Global;

@@ -1,3 +1,5 @@
+//! Tests of the store that follows a plan.
+
 mod asked;
 mod bits;
 mod failing;

@@ -1,3 +1,5 @@
+//! Tests of the driver's tables.
+
 mod holds;
 mod lists;
 mod long;

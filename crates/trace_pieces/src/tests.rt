@@ -1,3 +1,5 @@
+//! A trace that is given in pieces.
+
 use crate::pieces::{PIECE, give_trace};
 use crate::ungiven::Ungiven;
 use io_edges::mem_sink::MemSink;

@@ -1,3 +1,5 @@
+//! Texts of entries and of traces.
+
 mod building;
 mod paging;
 mod rows;

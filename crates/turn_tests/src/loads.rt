@@ -1,3 +1,5 @@
+//! Loads: their starts and their ends.
+
 use crate::worlds::{World, made};
 use machine_book::book::Turn;
 use seal_record::unseal::unseal;

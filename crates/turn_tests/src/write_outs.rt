@@ -1,3 +1,5 @@
+//! Write-outs: their starts and their ends.
+
 use crate::worlds::{World, made};
 use machine_book::book::Turn;
 use seal_record::seal::seal;

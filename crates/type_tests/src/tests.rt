@@ -1,3 +1,5 @@
+//! Tests of names, entries, layouts and records.
+
 mod entries;
 mod layouts;
 mod names;

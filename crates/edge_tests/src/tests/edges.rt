@@ -1,3 +1,5 @@
+//! Sources and sinks over memory and over readers and writers that fail.
+
 ghost use Rattle.std.specs.Prelude.{◌≤◌};
 
 use io_edges::failed_edges::{FailedSink, FailedSource};

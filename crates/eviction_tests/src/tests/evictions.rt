@@ -1,3 +1,5 @@
+//! Pages that go out and come back, and what refuses it.
+
 mod rows;
 mod world;
 

@@ -1,3 +1,5 @@
+//! What flat memory answers.
+
 mod refusals;
 mod rows;
 mod world;

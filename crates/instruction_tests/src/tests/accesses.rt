@@ -1,3 +1,5 @@
+//! Translations, and accesses through them.
+
 mod rows;
 mod world;
 

@@ -1,3 +1,5 @@
+//! The instructions that build an enclave.
+
 mod rows;
 mod world;
 

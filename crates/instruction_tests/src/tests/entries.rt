@@ -1,3 +1,5 @@
+//! Entries, resumptions and interruptions.
+
 mod rows;
 mod world;
 

@@ -1,3 +1,5 @@
+//! The permissions that these tests use.
+
 use sgx_types::names::Perm;
 
 pub const NONE: Perm = Perm::NONE;

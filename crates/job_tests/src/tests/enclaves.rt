@@ -1,3 +1,5 @@
+//! Jobs of two enclaves, and what is wrong with others.
+
 use job_grammar::jobs::{EnclaveJob, Job, Op, PageLine, needed};
 use sgx_types::names::Perm;
 use std::process::Abort;

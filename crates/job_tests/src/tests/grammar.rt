@@ -1,3 +1,5 @@
+//! The grammar of jobs, line by line.
+
 use super::enclaves::DIGEST;
 use io_edges::plans::PlanLine;
 use job_grammar::jobs::{Job, Marks};

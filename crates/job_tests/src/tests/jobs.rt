@@ -1,3 +1,5 @@
+//! A small job, and others that differ from it.
+
 use job_grammar::jobs::{Job, Marks, Op, PageLine, needed};
 use sgx_types::names::Perm;
 use std::process::Abort;

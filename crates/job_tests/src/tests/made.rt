@@ -1,3 +1,5 @@
+//! Texts that are too long to be written out.
+
 use super::jobs::FIRST;
 use std::alloc::Global;
 use std::test::Fail;

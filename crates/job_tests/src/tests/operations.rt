@@ -1,3 +1,5 @@
+//! The operations of a script.
+
 use job_grammar::jobs::{Job, Op};
 use std::process::Abort;
 

@@ -1,3 +1,5 @@
+//! How a row's text is put together from another.
+
 use super::told::{Told, tells};
 use job_text::reader::read_job;
 use job_text::refusals::JobRefusal;

@@ -1,3 +1,5 @@
+//! What jobs that were read tell.
+
 use super::enclaves::{DIGEST, Digest, TWO, expects, is_two};
 use super::grammar::{WHOLE, is_whole};
 use super::jobs::{FIRST, is_first};

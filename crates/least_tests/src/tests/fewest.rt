@@ -1,3 +1,5 @@
+//! Lists of accesses whose fewest loads are known.
+
 use super::pages::pages;
 use least_reloads::farthest::plan;
 use least_reloads::lawful::check;

@@ -1,3 +1,5 @@
+//! Plans that are lawful, and plans that are not.
+
 use super::pages::pages;
 use least_reloads::lawful::check;
 use least_reloads::load_plan::{LoadPlan, Step};

@@ -1,3 +1,5 @@
+//! A million accesses.
+
 ghost use Rattle.std.specs.Prelude.{◌≤◌};
 
 use super::pages::page;

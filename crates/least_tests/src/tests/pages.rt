@@ -1,3 +1,5 @@
+//! Pages by their numbers.
+
 use sgx_types::names::{Memory, Page};
 use std::alloc::Global;
 

@@ -1,3 +1,5 @@
+//! Builds, and what refuses their steps.
+
 use super::digests::{EXTENDED, TCS_ALONE};
 use super::instructions::Instruction::*;
 use super::rows::Row::{self, Step};

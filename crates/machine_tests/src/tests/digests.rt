@@ -1,4 +1,4 @@
-// The digests are those of sha256sum over the blocks, written out.
+//! Digests of enclaves, as sha256sum gives them over the blocks, written out.
 
 // SHA-256 of the blocks of an enclave of 0x10000 bytes with a TCS page 0 and a REG page 1 that may be read and written.
 pub const TWO_PAGES: [u8; 32] = [

@@ -1,3 +1,5 @@
+//! Instructions by what tells them apart in these tests.
+
 use super::rows::{NONE, READ_WRITE};
 use sgx_types::entries::{AccessOp, Action, Cause, PageInit};
 use sgx_types::names::{Frame, Kind, Page, Perm, SlotAt};

@@ -1,3 +1,5 @@
+//! Pages that go out and come back.
+
 use super::digests::THREE_PAGES;
 use super::instructions::Instruction::*;
 use super::rows::Reader::{Cpus, Frames, Older};

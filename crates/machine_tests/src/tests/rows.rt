@@ -1,3 +1,5 @@
+//! What a table's row asks of the machine, and what it answers.
+
 use super::instructions::Instruction;
 use cached_translations::processor::Mode;
 use sgx_types::entries::{AccessOp, Actor, Answer};

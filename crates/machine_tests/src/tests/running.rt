@@ -1,3 +1,5 @@
+//! Processors inside: states, accesses and faults.
+
 use super::digests::{FOUR_PAGES, MANY_PAGES, THREE_PAGES, TWO_TCS};
 use super::instructions::Instruction::*;
 use super::rows::Reader::Holds;

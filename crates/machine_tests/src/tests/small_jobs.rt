@@ -1,3 +1,5 @@
+//! Small jobs, from the first instruction to the last.
+
 use super::digests::{OTHER, THREE_PAGES, TWO_PAGES};
 use super::instructions::Instruction::*;
 use super::rows::Reader::*;

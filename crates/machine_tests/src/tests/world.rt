@@ -1,3 +1,5 @@
+//! A machine, and how a table is played on it.
+
 ghost use Rattle.std.specs.Prelude.{◌≡◌, ◌≤◌, IsTrue};
 ghost use Rattle.paging_laws.specs.Steps.{CanApply};
 

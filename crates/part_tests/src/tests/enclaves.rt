@@ -1,3 +1,5 @@
+//! Enclaves and their pages.
+
 use secs_state::secs::Secs;
 use secs_state::table::SecsTable;
 use sgx_types::lawful::is_lawful;

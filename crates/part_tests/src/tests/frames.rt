@@ -1,3 +1,5 @@
+//! The EPC's frames.
+
 use epcm_entry::entry_view::EntryView;
 use epcm_entry::epc::Epc;
 use sgx_types::names::{Frame, Kind, Page, Perm};

@@ -1,3 +1,5 @@
+//! Measurements of enclaves, as sha256sum gives them.
+
 use measure_log::measure::Measure;
 use sha2::{Digest, Sha256};
 

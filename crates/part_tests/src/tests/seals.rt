@@ -1,3 +1,5 @@
+//! Sealed pages, as another program seals them.
+
 ghost use Rattle.std.specs.Prelude.{◌≡◌, length};
 
 use seal_record::seal::{SealWork, SealedWork, seal};

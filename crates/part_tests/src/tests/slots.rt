@@ -1,3 +1,5 @@
+//! Slots of version array pages, and versions.
+
 ghost use Rattle.std.specs.Prelude.{◌≡◌, true, IfOk};
 ghost use Rattle.version_array.specs.Slots.{IsSlot};
 ghost use Rattle.version_array.specs.Keeper.{is_out};

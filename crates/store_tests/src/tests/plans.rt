@@ -1,3 +1,5 @@
+//! A store that is asked call after call, and what its plan makes of each.
+
 use super::asked::Ask::{AsksRoom, Gets, Keeps};
 use super::asked::Outcome::{Fails, Flips, Gives, HasRoom, Kept, NoRoom, NotKept, Nothing};
 use super::asked::{A, Ask, Outcome, Row};

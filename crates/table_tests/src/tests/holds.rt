@@ -1,3 +1,5 @@
+//! Who holds a page.
+
 ghost use Rattle.std.specs.Prelude.{◌≡◌, ◌∷◌, []};
 ghost use Rattle.active_list.specs.Active.{new_active};
 

@@ -1,3 +1,5 @@
+//! The list of the pages that may be written out.
+
 use super::world::Ask::{
     AllHeld, Head, IsHeld, IsListed, Len, PushBack, RemoveHead, ToTail, Touch, Young,
 };

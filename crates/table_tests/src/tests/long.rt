@@ -1,3 +1,5 @@
+//! Lists that turn a million times.
+
 use super::world::Ask::{Head, PushBack, RemoveHead, ToTail, Young};
 use super::world::Told::{Is, Yes};
 use super::world::World;

@@ -1,3 +1,5 @@
+//! Records that are kept for started loads.
+
 use active_list::kept_records::{KeptRecords, copy_record};
 use sgx_types::names::{Cpu, Memory, Page};
 use sgx_types::record::{Header, Record};

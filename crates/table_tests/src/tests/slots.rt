@@ -1,3 +1,5 @@
+//! A million slots that are handed out.
+
 ghost use Rattle.std.specs.Prelude.{◌≡◌};
 ghost use Rattle.version_array.specs.Keeper.{new_keeper};
 

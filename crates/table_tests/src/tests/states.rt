@@ -1,3 +1,5 @@
+//! The states of pages.
+
 use active_list::page_states::{PageState, PageStates};
 use sgx_types::names::{Frame, Page};
 use std::test::Fail;

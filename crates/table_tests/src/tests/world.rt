@@ -1,3 +1,5 @@
+//! What a table's row asks of the list, and how a table is played on it.
+
 ghost use Rattle.std.specs.Prelude.{◌≡◌, ◌+◌, ◌∷◌, ◌<◌, ◌^◌, [], IsTrue};
 ghost use Rattle.active_list.specs.Places.{IsPlaced};
 

@@ -1,3 +1,5 @@
+//! Lines of builds, and a whole trace.
+
 use super::rows::Row::{self, Did};
 use super::rows::{DIGEST, FIRST, NONE, PLAIN, READ_WRITE};
 use sgx_types::entries::{Action, Actor, Answer, PageInit};

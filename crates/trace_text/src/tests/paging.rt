@@ -1,3 +1,5 @@
+//! Lines of pages that leave and come back.
+
 use super::rows::Row::{self, Did, Other, Refused};
 use super::rows::{DIGEST, FIRST, PLAIN};
 use sgx_types::entries::{Action, Actor, Answer, BusWhy, Event, Look};

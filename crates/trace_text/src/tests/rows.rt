@@ -1,3 +1,5 @@
+//! What a row's entry is made of.
+
 use sgx_types::entries::{Action, Actor, Answer, Entry, Event};
 use sgx_types::names::{Cpu, Perm};
 use sgx_types::refusals::Refusal;

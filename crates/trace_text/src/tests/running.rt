@@ -1,3 +1,5 @@
+//! Lines of processors.
+
 use super::rows::Row::{self, Did};
 use super::rows::{PLAIN, SECOND};
 use sgx_types::entries::{AccessOp, Action, Actor, Answer, Cause, PfWhy};

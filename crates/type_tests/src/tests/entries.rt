@@ -1,3 +1,5 @@
+//! Entries, as a failed test shows them.
+
 use sgx_types::entries::{Action, Actor, Answer, BusWhy, Entry, Event, Look};
 use sgx_types::names::{Cpu, Frame, Page};
 use sgx_types::refusals::Refusal;

@@ -1,3 +1,5 @@
+//! SECINFO and TCS pages, as the manual lays them out.
+
 use sgx_types::layouts::{BadLength, TcsFields, flags, read_secinfo, read_tcs};
 use sgx_types::names::{Kind, Perm};
 use std::test::Fail;

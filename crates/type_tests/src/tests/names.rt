@@ -1,3 +1,5 @@
+//! Names, as they are printed.
+
 use sgx_types::names::{Cpu, Frame, Kind, Memory, Page, Perm, SlotAt};
 use std::alloc::{AllocError, AllocFailed};
 use std::test::Fail;

@@ -1,3 +1,5 @@
+//! Processors and their translations.
+
 use cached_translations::cache::{Cache, Translation};
 use cached_translations::processor::{Mode, Processor};
 use sgx_types::names::{Frame, Perm};

@@ -1,3 +1,5 @@
+//! Sealed records and their bytes.
+
 use sgx_types::record::{Header, Record, RecordFault};
 use std::alloc::{AllocError, Global};
 use std::process::Abort;

@@ -1,3 +1,5 @@
+//! Refusals and their numbers.
+
 use sgx_types::refusals::{Refusal, code};
 
 // The refusals in the order of their numbers.

@@ -1,3 +1,5 @@
+//! Epochs of enclaves and of the processors inside.
+
 use sgx_types::refusals::Refusal;
 use track_epoch::track::Track;
 use track_epoch::tracks::Tracks;

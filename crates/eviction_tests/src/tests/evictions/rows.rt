@@ -1,3 +1,5 @@
+//! What a table's row asks of the instructions that move pages, and what it tells.
+
 use epcm_entry::entry_view::EntryView;
 use sgx_types::names::{Kind, Page};
 use sgx_types::refusals::Refusal;

@@ -1,3 +1,5 @@
+//! The parts that these instructions work on, and how a table is played on them.
+
 ghost use Rattle.std.specs.Prelude.{◌≡◌, ◌<◌, true, IsTrue, IfSome, length};
 ghost use Rattle.sgx_types.specs.declared.names.Kind.TheVariants as kinds;
 ghost use Rattle.epcm_entry.specs.Sights.{sight_in};

@@ -1,3 +1,5 @@
+//! Rows that flat memory refuses, each by its first case.
+
 use super::rows::Instruction::*;
 use super::rows::Row::{self, Step};
 use super::rows::{BUILDER, FIRST, NONE, PLAIN, READ, READ_WRITE, SECOND, WRITE};

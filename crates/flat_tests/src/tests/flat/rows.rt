@@ -1,3 +1,5 @@
+//! What a table's row asks of flat memory.
+
 use flat_machine::reply::FlatReply::{self, Did};
 use sgx_types::entries::{AccessOp, Action, Actor, Answer, Cause, PageInit};
 use sgx_types::names::{Cpu, Frame, Kind, Perm};

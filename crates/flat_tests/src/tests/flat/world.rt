@@ -1,3 +1,5 @@
+//! How a table is played on flat memory.
+
 ghost use Rattle.std.specs.Prelude.{◌≡◌, IsTrue, true};
 ghost use Rattle.sgx_types.specs.Flat.{is_visible};
 ghost use Rattle.flat_machine.specs.Step.{IsItsActor};

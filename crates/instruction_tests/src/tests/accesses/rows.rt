@@ -1,3 +1,5 @@
+//! What a table's row asks of accesses, and what it tells.
+
 use cached_translations::cache::Translation;
 use sgx_types::names::{Kind, Perm};
 use sgx_types::refusals::Refusal;

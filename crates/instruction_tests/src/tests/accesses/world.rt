@@ -1,3 +1,5 @@
+//! An EPC and a processor, and how a table is played on them.
+
 ghost use Rattle.std.specs.Prelude.{length};
 ghost use Rattle.enclave_access.specs.Access.{LeadsBelow};
 

@@ -1,3 +1,5 @@
+//! What a table's row asks of a build, and what it tells.
+
 use epcm_entry::entry_view::EntryView;
 use sgx_types::entries::PageInit;
 use sgx_types::names::{Kind, Perm};

@@ -1,3 +1,5 @@
+//! What a table's row asks of a processor that enters and leaves, and what it tells.
+
 use sgx_types::names::Perm;
 use sgx_types::refusals::Refusal;
 

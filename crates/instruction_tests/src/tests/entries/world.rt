@@ -1,3 +1,5 @@
+//! An EPC, an enclave and a processor, and how a table is played on them.
+
 ghost use Rattle.std.specs.Prelude.{◌<◌, IsTrue, length};
 ghost use Rattle.epcm_entry.specs.Sights.{sight_in};
 ghost use Rattle.entry_exit.specs.Entry.{IsAdded, IsItsEnclave, HasItsTcs, CountsIt, HasItsFrames};
