@@ -1,29 +1,27 @@
 -- What the rules of a trace give.
-use Rattle.std.proofs.Common.{◌≡◌, ◌≤◌, ℕ, Bool, true, false, refl, sym, ap, subst, ◌∙◌, List, ◌∷◌, Option, Some, None}
+use Rattle.std.proofs.Common.{◌≡◌, ◌≤◌, ℕ, true, false, refl, sym, ap, subst, ◌∙◌, List, ◌∷◌, Option, Some, None}
 use Rattle.std.proofs.lemmas.Bool.{false≢true}
 use Rattle.sgx_types.specs.declared.entries.Action.TheVariants.{Eld}
 use Rattle.sgx_types.specs.declared.entries.Entry.{Entry}
 use Rattle.sgx_types.specs.declared.entries.Event.{Event}
-use Rattle.sgx_types.specs.declared.entries.Event.TheVariants.{Did, Refused}
+use Rattle.sgx_types.specs.declared.entries.Event.TheVariants.{Refused}
 use Rattle.sgx_types.specs.declared.names.Page.{Page}
 use Rattle.sgx_types.specs.declared.names.SlotAt.{SlotAt}
 use Rattle.sgx_types.specs.declared.refusals.Refusal.{Refusal}
 use Rattle.sgx_types.specs.declared.refusals.Refusal.TheVariants as why
 use Rattle.sgx_types.specs.Ends.{DoesNotFit, IsNotBack}
-use Rattle.sgx_types.specs.Frames.{content, is_page}
 use Rattle.sgx_types.specs.Making.{Making}
 use Rattle.sgx_types.specs.Rules.{KeepsRules, RefusalRule}
 use Rattle.sgx_types.specs.Starts.{LoadsAreApart, Start, is_load_of, open_start}
 use Rattle.job_grammar.specs.Jobs.{JobView}
 use Rattle.turn_rules.specs.Machines.{machine_of}
-use Rattle.paging_laws.specs.Shape.{FitsApart}
-use Rattle.paging_machine.specs.Parts.{Parts, state_of}
+use Rattle.paging_machine.specs.Parts.{Parts}
 use Rattle.driver_rules.specs.Places.{Loading, Place, place}
 use Rattle.driver_rules.specs.Turns.{WasEnded, fails_with, load_of}
 use Rattle.driver_laws.specs.Counted.{CountMoves, CountsSlots}
 use Rattle.driver_laws.specs.Driven.{IsDriven}
 use Rattle.driver_laws.specs.Kinds.{CanMove}
-use Rattle.driver_laws.specs.Sound.{IsSound, load_slot, slot_if, slot_loading, stands_in}
+use Rattle.driver_laws.specs.Sound.{IsSound, load_slot, slot_if, stands_in}
 use Rattle.driver_laws.specs.Used.{StartTells}
 use Rattle.driver_laws.proofs.BuiltLaws.{driven_built}
 use Rattle.driver_laws.proofs.CountLaws.{stays_counted}

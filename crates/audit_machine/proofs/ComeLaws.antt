@@ -1,6 +1,7 @@
 -- The end of a load.
 use Rattle.std.specs.Prelude.{MatchOption, not, bytes_eq, ◌&&◌}
-use Rattle.std.proofs.Common.{◌≡◌, ℕ, zero, suc, ◌==◌, Bool, true, false, if◌then◌else◌, refl, sym, ap, subst, ◌∙◌, ◌⊎◌, inl, inr, List, [], ◌∷◌, Option, Some, None}
+use Rattle.std.proofs.Common.{◌≡◌, ℕ, ◌==◌, Bool, true, false, if◌then◌else◌, refl, sym, ap, subst, ◌∙◌, ◌⊎◌}
+use Rattle.std.proofs.Common.{inl, inr, List, [], ◌∷◌, Option, Some, None}
 use Rattle.std.proofs.lemmas.Bool.{eqb-true, eq-eqb, and_from}
 use Rattle.std.proofs.lemmas.Slice.Eq.{bytes_eq-Decides}
 use Rattle.sgx_types.specs.declared.entries.Entry.{Entry}
@@ -21,7 +22,7 @@ use Rattle.sgx_types.specs.Frames.{content}
 use Rattle.sgx_types.specs.Making.{Making}
 use Rattle.sgx_types.specs.Rules.{RefusalRule}
 use Rattle.sgx_types.specs.Sealed.{Sealed}
-use Rattle.sgx_types.specs.Starts.{Start, open_start, BareStart, bare_start, without_place}
+use Rattle.sgx_types.specs.Starts.{Start, BareStart, bare_start, without_place}
 use Rattle.sgx_types.specs.Table.{first_of_row, is_loading}
 use Rattle.sgx_types.proofs.Truths.{both_true, not_false, tested}
 use Rattle.seal_record.specs.Cipher.{tag}

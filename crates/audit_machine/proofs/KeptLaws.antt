@@ -1,6 +1,6 @@
 -- A machine that stands in all for its entries makes the last of them keep each of the machine's rules.
 use Rattle.std.specs.Prelude.{true}
-use Rattle.std.proofs.Common.{◌≡◌, ap, subst, List, ◌∷◌, Some}
+use Rattle.std.proofs.Common.{◌≡◌, subst, List, ◌∷◌, Some}
 use Rattle.sgx_types.specs.declared.entries.Entry.{Entry}
 use Rattle.sgx_types.specs.Rules.{KeepsRules, NoPageTwice, NoneStale}
 use Rattle.sgx_types.specs.Making.{Making}
@@ -8,7 +8,7 @@ use Rattle.seal_record.specs.Records.{Made}
 use Rattle.job_grammar.specs.Jobs.{JobView}
 use Rattle.turn_rules.specs.Machines.{machine_of}
 use Rattle.paging_laws.specs.Histories.{StandsWithAllRules}
-use Rattle.paging_laws.specs.State.{State, making_of}
+use Rattle.paging_laws.specs.State.{State}
 use Rattle.paging_laws.proofs.TestLaws.{last_place}
 use Rattle.run_history.specs.declared.rules.Rule.{Rule}
 use Rattle.run_history.specs.declared.rules.Rule.TheVariants as rules

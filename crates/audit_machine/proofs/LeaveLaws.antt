@@ -1,13 +1,13 @@
 -- The end of a write-out.
 use Rattle.std.specs.Prelude.{true, false}
-use Rattle.std.proofs.Common.{◌≡◌, ℕ, ◌==◌, Bool, if◌then◌else◌, refl, sym, ap, subst, ◌∙◌, ◌⊎◌, inl, inr, List, [], ◌∷◌, ◌++◌, Option, Some, None, length}
+use Rattle.std.proofs.Common.{◌≡◌, ℕ, ◌==◌, Bool, if◌then◌else◌, refl, sym, ap, subst, ◌∙◌, ◌⊎◌, inl, inr}
+use Rattle.std.proofs.Common.{List, [], ◌∷◌, ◌++◌, Option, Some, None, length}
 use Rattle.sgx_types.specs.declared.entries.Entry.{Entry}
 use Rattle.sgx_types.specs.declared.entries.Event.{Event}
 use Rattle.sgx_types.specs.declared.entries.Event.TheVariants.{Did, Refused}
 use Rattle.sgx_types.specs.declared.entries.Actor.{Actor}
 use Rattle.sgx_types.specs.declared.entries.Action.{Action}
 use Rattle.sgx_types.specs.declared.entries.Action.TheVariants.{EwbStart, Ewb, EldStart, Eld}
-use Rattle.sgx_types.specs.declared.entries.Answer.{Answer}
 use Rattle.sgx_types.specs.declared.entries.Answer.TheVariants.{Moved}
 use Rattle.sgx_types.specs.declared.names.Frame.{Frame}
 use Rattle.sgx_types.specs.declared.record.Header.{Header}
@@ -28,14 +28,12 @@ use Rattle.seal_record.proofs.CipherLaws.{cipher_twice}
 use Rattle.job_grammar.specs.Jobs.{JobView}
 use Rattle.turn_rules.specs.Machines.{machine_of}
 use Rattle.turn_rules.specs.Script.{action_of}
-use Rattle.driver_rules.specs.Scripts.{ScriptRule}
 use Rattle.paging_laws.specs.Histories.{StandsWithAllRules, given_out}
 use Rattle.paging_laws.specs.State.{State}
 use Rattle.paging_laws.specs.Steps.{IsWrittenOut, SealsPage, did_by}
 use Rattle.paging_laws.proofs.ColumnLaws.{sealing_is}
 use Rattle.run_history.specs.declared.rules.Rule.{Rule}
 use Rattle.run_history.specs.declared.rules.Rule.TheVariants as rules
-use Rattle.run_history.specs.Histories.{FailsHere}
 use Rattle.audit_rules.proofs.OrderLaws.{refusal_fails}
 use Rattle.audit_rules.specs.Rivals.{is_load_refused}
 use Rattle.audit_rules.specs.Same.{same_end}

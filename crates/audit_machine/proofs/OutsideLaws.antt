@@ -1,30 +1,26 @@
 -- An instruction of processors that the reclaimer made breaks the rule that is told, and none before it.
-use Rattle.std.proofs.Common.{◌≡◌, ℕ, Bool, true, false, refl, sym, ap, subst, ◌∙◌, ◌⊎◌, inl, inr, List, Option, Some, None}
+use Rattle.std.proofs.Common.{◌≡◌, ℕ, Bool, true, false, refl, sym, ap, subst, ◌∙◌, ◌⊎◌, List, Option, Some, None}
 use Rattle.std.proofs.lemmas.Bool.{false≢true}
 use Rattle.sgx_types.specs.declared.entries.Entry.{Entry}
 use Rattle.sgx_types.specs.declared.entries.Event.{Event}
 use Rattle.sgx_types.specs.declared.entries.Event.TheVariants.{Did, Refused}
 use Rattle.sgx_types.specs.declared.entries.Actor.TheVariants as actors
 use Rattle.sgx_types.specs.declared.entries.Action.{Action}
-use Rattle.sgx_types.specs.declared.entries.Action.TheVariants.{Epa, Create, Add, Extend, Init, Enter, Resume, Exit, Aex, Fill, Load, Store, Xadd, Set, Plus, Pf, OutLoad, OutStore, Block, Track, EwbStart, Ewb, EldStart, Eld}
+use Rattle.sgx_types.specs.declared.entries.Action.TheVariants.{Init, Enter, Resume, OutLoad, OutStore, Track, EwbStart, Ewb, EldStart, Eld}
 use Rattle.sgx_types.specs.declared.entries.Answer.{Answer}
 use Rattle.sgx_types.specs.declared.names.Page.{Page}
 use Rattle.sgx_types.specs.declared.refusals.Refusal.{Refusal}
-use Rattle.sgx_types.specs.Flat.{FlatMemory, flat, is_visible}
-use Rattle.sgx_types.specs.Rules.{AnswersAsFlat, FlatRule, HasForm, KeepsRules, NoPageTwice, NoneStale, RefusalRule, case_of}
+use Rattle.sgx_types.specs.Rules.{FlatRule, KeepsRules, NoPageTwice, NoneStale, RefusalRule}
 use Rattle.sgx_types.specs.Sights.{row_at}
 use Rattle.sgx_types.specs.Table.{first_of_row}
-use Rattle.sgx_types.proofs.Truths.{tested}
-use Rattle.seal_record.specs.Records.{Made}
 use Rattle.measure_log.specs.Rule.{MeasureRule}
 use Rattle.job_grammar.specs.Jobs.{JobView}
 use Rattle.turn_rules.specs.Machines.{machine_of}
 use Rattle.turn_rules.specs.Script.{action_of}
-use Rattle.driver_rules.specs.Ages.{AgeRule, InPass, IsInTries}
+use Rattle.driver_rules.specs.Ages.{InPass, IsInTries}
 use Rattle.driver_rules.specs.Passes.{Between, Blocking, Pass, Scan, Tries, pass}
 use Rattle.driver_rules.specs.Scripts.{ScriptRule}
-use Rattle.paging_laws.specs.Histories.{StandsWithAllRules}
-use Rattle.paging_laws.specs.State.{State, making_of, row_outside}
+use Rattle.paging_laws.specs.State.{State, row_outside}
 use Rattle.paging_laws.specs.Steps.{is_of_cpus}
 use Rattle.paging_laws.proofs.RowLaws.{row_outside_agrees}
 use Rattle.paging_laws.proofs.TestLaws.{last_place}
@@ -32,7 +28,6 @@ use Rattle.run_history.specs.declared.rules.Rule.{Rule}
 use Rattle.run_history.specs.declared.rules.Rule.TheVariants as rules
 use Rattle.run_history.specs.Histories.{FailsHere, Says, is_machines}
 use Rattle.audit_rules.specs.Forms.{has_form}
-use Rattle.audit_rules.specs.Rivals.{KeepsMachines}
 use Rattle.audit_rules.specs.Same.{same_refusal}
 use Rattle.audit_rules.proofs.FormLaws.{has_its_form, is_apart, is_of_its_form}
 use Rattle.audit_rules.proofs.OrderLaws.{age_fails, flat_fails, refusal_fails}

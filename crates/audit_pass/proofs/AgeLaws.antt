@@ -1,5 +1,6 @@
 -- What is told of the rule Age is so.
-use Rattle.std.proofs.Common.{◌≡◌, ℕ, zero, suc, ◌≤◌, ◌&&◌, Bool, true, false, refl, sym, ◌∙◌, ap, subst, List, [], ◌∷◌, Option, Some}
+use Rattle.std.proofs.Common.{◌≡◌, ℕ, zero, suc, ◌≤◌, ◌&&◌, Bool, true, false, refl, sym, ◌∙◌, ap, subst, List, []}
+use Rattle.std.proofs.Common.{◌∷◌, Option, Some}
 use Rattle.std.proofs.Common.{None, drop, length}
 use Rattle.sgx_types.proofs.Pages.{same_pages}
 use Rattle.sgx_types.specs.declared.entries.Action.TheVariants as actions
@@ -20,7 +21,6 @@ use Rattle.driver_rules.specs.Decided.{is_in_pass, is_some_page, keeps_age, look
 use Rattle.driver_rules.specs.Dues.{is_look}
 use Rattle.driver_rules.specs.Holds.{is_held}
 use Rattle.driver_rules.specs.Passes as passes
-use Rattle.driver_rules.specs.Passes.{Pass, pass}
 use Rattle.driver_rules.specs.Places.{Leaving, active, is_young, place}
 use Rattle.driver_tables.proofs.HeldLaws.{held_same}
 use Rattle.driver_tables.specs.declared.driver.Driver.{Driver}

@@ -1,5 +1,6 @@
 -- The pages of a pass that have not gone out stay in their frames, and the epoch that a refusal told stays the enclave's.
-use Rattle.std.proofs.Common.{◌≡◌, ℕ, ◌||◌, ◌+◌, Bool, true, false, if◌then◌else◌, refl, sym, ◌∙◌, ap, List, [], ◌∷◌}
+use Rattle.std.proofs.Common.{◌≡◌, ℕ, ◌||◌, ◌+◌, Bool, true, false, if◌then◌else◌, refl, sym, ◌∙◌, ap, List, []}
+use Rattle.std.proofs.Common.{◌∷◌}
 use Rattle.std.proofs.lemmas.Bool.{eq-eqb}
 use Rattle.sgx_types.proofs.Pages.{same_page-swap}
 use Rattle.sgx_types.specs.declared.entries.Action.TheVariants as actions

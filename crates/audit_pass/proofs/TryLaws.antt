@@ -1,5 +1,6 @@
 -- What is told of the rule Kick is so.
-use Rattle.std.proofs.Common.{◌≡◌, ℕ, zero, suc, ◌+◌, ◌-◌, ◌≤◌, ◌==◌, ◌&&◌, Bool, true, false, if◌then◌else◌, refl, sym, ◌∙◌, ap, subst}
+use Rattle.std.proofs.Common.{◌≡◌, ℕ, zero, suc, ◌+◌, ◌-◌, ◌≤◌, ◌==◌, ◌&&◌, Bool, true, false}
+use Rattle.std.proofs.Common.{if◌then◌else◌, refl, sym, ◌∙◌, ap, subst}
 use Rattle.std.proofs.Common.{List, [], ◌∷◌, ◌++◌, Option, Some, None, drop, length, nat_le, nat_lt, arith}
 use Rattle.std.proofs.lemmas.List.{get_or_past}
 use Rattle.paging_laws.proofs.ColumnLaws.{inside_is, noted_is}
@@ -23,7 +24,7 @@ use Rattle.paging_laws.specs.Columns.{HasColumns, noted_inside, seat_of_stay}
 use Rattle.paging_laws.specs.State.{is_noting}
 use Rattle.paging_machine.specs.Parts.{Parts, cpu_at, idle, noted_by, seat_of_mode, state_of}
 use Rattle.driver_rules.specs.Decided as decided
-use Rattle.driver_rules.specs.Decided.{beside_of, form_of, is_in_form, is_kick_of, is_last_try, keeps_kick}
+use Rattle.driver_rules.specs.Decided.{beside_of, form_of, is_in_form, is_kick_of, keeps_kick}
 use Rattle.driver_rules.specs.Passes.{Tries, keepers, noting_from, pass}
 use Rattle.driver_laws.proofs.EpochLaws.{block_epoch_before}
 use Rattle.driver_laws.proofs.KickLaws.{keepers_by_epochs}

@@ -1,5 +1,6 @@
 -- How far a pass is behind an entry.
-use Rattle.std.specs.Prelude.{ℕ, zero, suc, ◌+◌, ◌-◌, true, if◌then◌else◌, List, [], ◌++◌, Option, None, Some, length, min, nat_lt}
+use Rattle.std.specs.Prelude.{ℕ, zero, suc, ◌+◌, ◌-◌, true, if◌then◌else◌, List, [], ◌++◌, Option, None, Some, length}
+use Rattle.std.specs.Prelude.{min, nat_lt}
 use Rattle.std.specs.Prelude.{slice_get}
 use Rattle.std.specs.Option.{option_to_list}
 use Rattle.sgx_types.specs.declared.entries.Action.{Action}

@@ -1,12 +1,14 @@
 -- An entry that is another than the machine's, of the same instruction at the same place, breaks the rule that `rule_of` names, and
 -- none before it.
-use Rattle.std.proofs.Common.{◌≡◌, ℕ, Bool, true, false, refl, sym, ap, subst, ◌∙◌, ◌⊎◌, inl, inr, List, Option, Some, None}
+use Rattle.std.proofs.Common.{◌≡◌, ℕ, Bool, true, false, refl, sym, ap, subst, ◌∙◌, ◌⊎◌, inl, inr, List, Option, Some}
+use Rattle.std.proofs.Common.{None}
 use Rattle.sgx_types.specs.declared.entries.Entry.{Entry}
 use Rattle.sgx_types.specs.declared.entries.Event.{Event}
 use Rattle.sgx_types.specs.declared.entries.Event.TheVariants.{Did, Refused}
 use Rattle.sgx_types.specs.declared.entries.Actor.{Actor}
 use Rattle.sgx_types.specs.declared.entries.Action.{Action}
-use Rattle.sgx_types.specs.declared.entries.Action.TheVariants.{Init, Enter, Resume, Load, Xadd, Plus, Pf, OutLoad, EwbStart, Ewb, EldStart, Eld}
+use Rattle.sgx_types.specs.declared.entries.Action.TheVariants.{Init, Enter, Resume, Load, Xadd, Plus, Pf, OutLoad, EwbStart, Ewb, EldStart}
+use Rattle.sgx_types.specs.declared.entries.Action.TheVariants.{Eld}
 use Rattle.sgx_types.specs.declared.entries.Answer.{Answer}
 use Rattle.sgx_types.specs.declared.entries.Answer.TheVariants as answers
 use Rattle.sgx_types.specs.declared.refusals.Refusal.{Refusal}
@@ -24,7 +26,8 @@ use Rattle.driver_rules.specs.Scripts.{ScriptRule}
 use Rattle.run_history.specs.declared.rules.Rule.TheVariants as rules
 use Rattle.run_history.specs.Histories.{FailsHere}
 use Rattle.audit_rules.specs.Forms.{has_form, is_hash}
-use Rattle.audit_rules.specs.Rivals.{AreRivals, KeepsMachines, is_load_refused, rule_of, rule_of_allowed, rule_of_answer, rule_of_denied, rule_of_done, rule_of_formed, rule_of_reasons}
+use Rattle.audit_rules.specs.Rivals.{AreRivals, KeepsMachines, is_load_refused, rule_of, rule_of_allowed, rule_of_answer, rule_of_denied}
+use Rattle.audit_rules.specs.Rivals.{rule_of_done, rule_of_formed, rule_of_reasons}
 use Rattle.audit_rules.proofs.EndLaws.{other_back, other_out}
 use Rattle.audit_rules.proofs.FormLaws.{has_its_form, is_of_its_form}
 use Rattle.audit_rules.proofs.OrderLaws.{flat_fails, fresh_fails, measure_fails, refusal_fails}

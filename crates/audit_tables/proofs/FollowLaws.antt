@@ -1,5 +1,6 @@
 -- The tables that an entry leaves show it.
-use Rattle.std.proofs.Common.{◌≡◌, ℕ, ◌<◌, true, false, List, ◌∷◌, Option, Some, None, length, refl, sym, ap, subst, ◌∙◌}
+use Rattle.std.proofs.Common.{◌≡◌, ℕ, ◌<◌, true, false, List, ◌∷◌, Option, Some, None, length, refl, sym, ap, subst}
+use Rattle.std.proofs.Common.{◌∙◌}
 use Rattle.std.proofs.lemmas.Bool.{false≢true}
 use Rattle.sgx_types.specs.declared.entries.Action.TheVariants as actions
 use Rattle.sgx_types.specs.declared.entries.Actor.{Actor}
@@ -28,7 +29,7 @@ use Rattle.active_list.specs.States.{state_of as page_state, with_state}
 use Rattle.version_array.specs.Keeper.{Keeper, count_out}
 use Rattle.paging_laws.specs.Steps.{did_by, refused_by}
 use Rattle.paging_machine.specs.declared.starts.Start as starts
-use Rattle.paging_machine.specs.Parts.{Parts, start_of}
+use Rattle.paging_machine.specs.Parts.{Parts}
 use Rattle.driver_rules.specs.Places.{Loading, place, Away}
 use Rattle.driver_rules.specs.Turns.{Fails, Last, Loads, Other, WasEnded, last_of}
 use Rattle.driver_laws.specs.Agrees.{loaded_by}

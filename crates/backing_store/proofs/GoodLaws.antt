@@ -1,5 +1,7 @@
 -- No get gives the record of a put that failed.
-use Rattle.std.proofs.Common.{◌≡◌, ℕ, zero, suc, ◌+◌, ◌<◌, ◌==◌, Bool, true, false, if◌then◌else◌, List, [], ◌∷◌, ◌++◌, length, count_by, Option, Some, None, ◌⊎◌, ⊎_elim, inl, inr, refl, sym, ap, subst, ◌∙◌, arith}
+use Rattle.std.proofs.Common.{◌≡◌, ℕ, zero, suc, ◌+◌, ◌<◌, ◌==◌, Bool, true, false, if◌then◌else◌, List, []}
+use Rattle.std.proofs.Common.{◌∷◌, ◌++◌, length, count_by, Option, Some, None, ◌⊎◌, ⊎_elim, inl, inr, refl, sym, ap}
+use Rattle.std.proofs.Common.{subst, ◌∙◌, arith}
 use Rattle.std.specs.List.{slice_get}
 use Rattle.std.specs.Option.{option_or, option_and_then}
 use Rattle.std.proofs.lemmas.Bool.{eqb-true, eq-eqb, ne_eqb}
@@ -11,7 +13,8 @@ use Rattle.io_edges.specs.declared.plans.PlanLine.{PlanLine}
 use Rattle.backing_store.specs.declared.calls.StoreCall.{StoreCall}
 use Rattle.backing_store.specs.declared.calls.StoreCall.TheVariants.{Room, Put, Got}
 use Rattle.backing_store.specs.declared.calls.GetAnswer.TheVariants.{Failed, Nothing, Given}
-use Rattle.backing_store.specs.Store.{is_put, records_of, nth, put_at, given, get_answer, place_given, bit_flipped, get_fails, is_dropped, replays, first_of, next_get_of, partner_of, AreByRule, GiveGoodPuts}
+use Rattle.backing_store.specs.Store.{is_put, records_of, nth, put_at, given, get_answer, place_given, bit_flipped, get_fails, is_dropped}
+use Rattle.backing_store.specs.Store.{replays, first_of, next_get_of, partner_of, AreByRule, GiveGoodPuts}
 use Rattle.backing_store.specs.Told.{record_at}
 use Rattle.std.specs.Prelude.{◌≢◌, is_some}
 use Rattle.std.proofs.lemmas.Bool.Decides.{eqb_tells}

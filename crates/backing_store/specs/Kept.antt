@@ -1,5 +1,6 @@
 -- What the planned store is kept as.
-use Rattle.std.specs.Prelude.{◌≡◌, ℕ, ◌+◌, ◌≤◌, List, length, reverse, count_by, Option, Some, None, vec_len, vec_capacity}
+use Rattle.std.specs.Prelude.{◌≡◌, ℕ, ◌+◌, ◌≤◌, List, length, reverse, count_by, Option, Some, None, vec_len}
+use Rattle.std.specs.Prelude.{vec_capacity}
 use Rattle.sgx_types.specs.declared.names.Page.{Page}
 use Rattle.backing_store.specs.declared.calls.StoreCall.{StoreCall}
 use Rattle.backing_store.specs.declared.ledger.Ledger.{Ledger}

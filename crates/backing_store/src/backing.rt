@@ -1,6 +1,7 @@
 //! Where sealed records are kept outside the EPC.
 
-ghost use Rattle.std.specs.Prelude.{◌≡◌, ◌+◌, ◌≤◌, ℕ, List, [], Option, is_err, IfSome, OnOk, OnErr, OnSome, IsErr, IsErrOf};
+ghost use Rattle.std.specs.Prelude.{◌≡◌, ◌+◌, ◌≤◌, ℕ, List, [], Option, is_err, IfSome, OnOk, OnErr, OnSome, IsErr};
+ghost use Rattle.std.specs.Prelude.{IsErrOf};
 ghost use Rattle.io_edges.specs.Faults.{HasCause};
 ghost use Rattle.io_edges.specs.declared.plans.PlanLine.{PlanLine};
 ghost use Rattle.backing_store.specs.Calls.{Call, Put, with_call, told_room, told_got};

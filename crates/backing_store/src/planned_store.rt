@@ -1,6 +1,7 @@
 //! A store that keeps records in memory, and lies by a plan.
 
-ghost use Rattle.std.specs.Prelude.{◌≡◌, ◌≤◌, ℕ, true, [], Option, Some, is_some, OnOk, OnErr, IsErr, IsErrOf, length, reverse, count_by};
+ghost use Rattle.std.specs.Prelude.{◌≡◌, ◌≤◌, ℕ, true, [], Option, Some, is_some, OnOk, OnErr, IsErr, IsErrOf, length};
+ghost use Rattle.std.specs.Prelude.{reverse, count_by};
 ghost use Rattle.io_edges.specs.Faults.{HasCause};
 
 use crate::backing::{Backing, StoreFault};

@@ -1,5 +1,6 @@
 -- Entries, calls and tables that agree go on to.
-use Rattle.std.proofs.Common.{◌≡◌, ℕ, ◌==◌, Bool, true, false, if◌then◌else◌, refl, sym, ◌∙◌, ap, subst, List, [], ◌∷◌, Option, Some, sum}
+use Rattle.std.proofs.Common.{◌≡◌, ℕ, ◌==◌, Bool, true, false, if◌then◌else◌, refl, sym, ◌∙◌, ap, subst, List, []}
+use Rattle.std.proofs.Common.{◌∷◌, Option, Some, sum}
 use Rattle.std.proofs.lemmas.Bool.{eqb-true, eq-eqb, false≢true}
 use Rattle.sgx_types.specs.declared.entries.Action.TheVariants.{Ewb, EldStart, Eld}
 use Rattle.sgx_types.specs.declared.entries.Answer.{Answer}

@@ -1,10 +1,12 @@
 -- A page more in a probed table.
-use Rattle.std.proofs.Common.{◌≡◌, ℕ, ◌+◌, ◌<◌, ◌%◌, true, cond, List, Option, Some, None, is_some, length, get_or, set, sym, ap, subst, ◌∙◌, ◌⊎◌, inl, inr, arith}
+use Rattle.std.proofs.Common.{◌≡◌, ℕ, ◌+◌, ◌<◌, ◌%◌, true, cond, List, Option, Some, None, is_some, length, get_or, set}
+use Rattle.std.proofs.Common.{sym, ap, subst, ◌∙◌, ◌⊎◌, inl, inr, arith}
 use Rattle.std.proofs.lemmas.List.{length-set, get_or-set_same}
 use Rattle.std.proofs.lemmas.List.Sums.{sum_by-set}
 use Rattle.cached_translations.specs.declared.probe_table.Slot.{Slot}
 use Rattle.cached_translations.specs.Probe.{Leads, IsProbed, IsFree, Adds, AreOnce, slot_at}
-use Rattle.cached_translations.proofs.ProbeLaws.{same_steps, ReadAfterSet, written, kept, read_after_set, leads_at, leads_from, kept_in_use, number_of}
+use Rattle.cached_translations.proofs.ProbeLaws.{same_steps, ReadAfterSet, written, kept, read_after_set, leads_at, leads_from, kept_in_use}
+use Rattle.cached_translations.proofs.ProbeLaws.{number_of}
 
 -- a page at the first free place of its run
 module _ (slots : List (Option Slot)) (is : IsProbed slots) (e : Slot) (at : ℕ) (free : IsFree slots e.number at) where

@@ -1,5 +1,6 @@
 -- A page less in a probed table: the gap that it leaves, and how it is closed.
-use Rattle.std.proofs.Common.{◌≡◌, ℕ, ◌+◌, ◌-◌, ◌<◌, ◌≤◌, ◌%◌, ◌≢◌, true, cond, List, Option, Some, None, is_some, length, get_or, set, refl, sym, ap, ◌∙◌, ◌⊎◌, inl, inr, suc, zero, arith}
+use Rattle.std.proofs.Common.{◌≡◌, ℕ, ◌+◌, ◌-◌, ◌<◌, ◌≤◌, ◌%◌, ◌≢◌, true, cond, List, Option, Some}
+use Rattle.std.proofs.Common.{None, is_some, length, get_or, set, refl, sym, ap, ◌∙◌, ◌⊎◌, inl, inr, suc, zero, arith}
 use Rattle.std.specs.Prelude.{IsPermutation, swap}
 use Rattle.std.proofs.lemmas.Bool.{cases_lt, cases_eq}
 use Rattle.std.proofs.lemmas.List.{length-set, get_or-set_same}
@@ -8,7 +9,8 @@ use Rattle.std.proofs.lemmas.List.Sorted.{IsPermutation-sym, Contains-permutatio
 use Rattle.std.proofs.lemmas.List.Edits.{length-swap, swapped_from_swap}
 use Rattle.cached_translations.specs.declared.probe_table.Slot.{Slot}
 use Rattle.cached_translations.specs.Probe.{Leads, IsProbed, IsGapped, IsOfPage, Drops, AreOnce, used, slot_at}
-use Rattle.cached_translations.proofs.ProbeLaws.{steps_to, same_steps, ReadAfterSet, written, kept, read_after_set, leads_at, leads_from, some_free, number_of}
+use Rattle.cached_translations.proofs.ProbeLaws.{steps_to, same_steps, ReadAfterSet, written, kept, read_after_set, leads_at, leads_from}
+use Rattle.cached_translations.proofs.ProbeLaws.{some_free, number_of}
 
 -- a probed table without one of its pages
 module _ (slots : List (Option Slot)) (is : IsProbed slots) (at n : ℕ) (page : IsOfPage slots at n) where

@@ -1,5 +1,6 @@
 -- What stays true of the translations that a processor holds.
-use Rattle.std.proofs.Common.{◌≡◌, ◌≢◌, ℕ, ◌<◌, ◌≤◌, ◌^◌, suc, zero, Bool, true, false, cond, eqb, ltb, List, [], ◌∷◌, ◌++◌, Some, None, is_some, length, get_or, drop, refl, subst, arith}
+use Rattle.std.proofs.Common.{◌≡◌, ◌≢◌, ℕ, ◌<◌, ◌≤◌, ◌^◌, suc, zero, Bool, true, false, cond, eqb, ltb, List}
+use Rattle.std.proofs.Common.{[], ◌∷◌, ◌++◌, Some, None, is_some, length, get_or, drop, refl, subst, arith}
 use Rattle.std.specs.Prelude.{All, AllPairs}
 use Rattle.std.proofs.lemmas.Bool.{eqb-true, eqb-false, ltb-true, ltb-false}
 use Rattle.std.proofs.lemmas.List.{length_push, length-drop}

@@ -1,5 +1,6 @@
 -- A table that leads from a page to a place, by linear probing: a page stands at the first place that was free from its number mod 128 on.
-use Rattle.std.specs.Prelude.{ℕ, ◌≡◌, ◌≢◌, ◌<◌, ◌+◌, ◌%◌, ◌↔◌, ◌⊎◌, true, List, Option, Some, None, is_some, length, get_or, count_by, Contains}
+use Rattle.std.specs.Prelude.{ℕ, ◌≡◌, ◌≢◌, ◌<◌, ◌+◌, ◌%◌, ◌↔◌, ◌⊎◌, true, List, Option, Some, None}
+use Rattle.std.specs.Prelude.{is_some, length, get_or, count_by, Contains}
 use Rattle.cached_translations.specs.declared.probe_table.Slot.{Slot}
 use Rattle.cached_translations.specs.declared.probe_table.TheConstants.{SLOTS}
 

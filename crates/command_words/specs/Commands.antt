@@ -1,5 +1,6 @@
 -- The command that the words of the command line name, which stand without the program's name.
-use Rattle.std.specs.Prelude.{ℕ, ◌≤◌, ◌&&◌, Bool, if◌then◌else◌, List, [], ◌∷◌, Option, Some, None, bytes_eq, codes, length, nat_le, nat_lt}
+use Rattle.std.specs.Prelude.{ℕ, ◌≤◌, ◌&&◌, Bool, if◌then◌else◌, List, [], ◌∷◌, Option, Some, None, bytes_eq, codes}
+use Rattle.std.specs.Prelude.{length, nat_le, nat_lt}
 use Rattle.std.specs.List.{list_all}
 use Rattle.text_words.specs.Reading.{◌>>=◌, number_of}
 use Rattle.command_words.specs.declared.command.Command.{Command}

@@ -1,5 +1,6 @@
 -- The entries of a fault step come with the calls that it made.
-use Rattle.std.proofs.Common.{◌≡◌, ◌⊎◌, inl, inr, ℕ, ◌<◌, Bool, true, false, if◌then◌else◌, refl, sym, ◌∙◌, ap, subst, List, ◌∷◌, Option, Some, None, MatchOption, Result, Ok, Err, length, slice_set, sum}
+use Rattle.std.proofs.Common.{◌≡◌, ◌⊎◌, inl, inr, ℕ, ◌<◌, Bool, true, false, if◌then◌else◌, refl, sym, ◌∙◌}
+use Rattle.std.proofs.Common.{ap, subst, List, ◌∷◌, Option, Some, None, MatchOption, Result, Ok, Err, length, slice_set, sum}
 use Rattle.sgx_types.specs.declared.entries.Action.TheVariants.{EldStart, Eld}
 use Rattle.sgx_types.specs.declared.entries.Actor.TheVariants as actors
 use Rattle.sgx_types.specs.declared.entries.Answer.{Answer}

@@ -1,5 +1,7 @@
 -- The entries of a pass come with the calls that it made.
-use Rattle.std.proofs.Common.{◌≡◌, inl, inr, ℕ, zero, suc, ◌≤◌, Bool, true, false, if◌then◌else◌, cond, refl, sym, ◌∙◌, ap, subst, List, [], ◌∷◌, Option, Some, None, MatchOption, length, min, sum, slice_get, arith, count_by}
+use Rattle.std.proofs.Common.{◌≡◌, inl, inr, ℕ, zero, suc, ◌≤◌, Bool, true, false, if◌then◌else◌, cond, refl, sym}
+use Rattle.std.proofs.Common.{◌∙◌, ap, subst, List, [], ◌∷◌, Option, Some, None, MatchOption, length, min, sum, slice_get}
+use Rattle.std.proofs.Common.{arith, count_by}
 use Rattle.std.specs.Option.{IsSomeAnd}
 use Rattle.sgx_types.proofs.Pages.{same_page-refl, same_page-swap}
 use Rattle.sgx_types.specs.declared.entries.Action.{Action}

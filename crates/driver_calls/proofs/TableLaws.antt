@@ -1,5 +1,6 @@
 -- What a change of the tables leaves of kept records and of lost pages.
-use Rattle.std.proofs.Common.{◌≡◌, ℕ, ◌<◌, Bool, true, false, cond, refl, sym, ◌∙◌, ap, List, Option, None, length, slice_set, sum}
+use Rattle.std.proofs.Common.{◌≡◌, ℕ, ◌<◌, Bool, true, false, cond, refl, sym, ◌∙◌, ap, List, Option, None, length}
+use Rattle.std.proofs.Common.{slice_set, sum}
 use Rattle.std.proofs.lemmas.Bool.{eqb-true, eqb-false}
 use Rattle.std.proofs.lemmas.List.{get_or-set_other, get_or-set_same}
 use Rattle.sgx_types.proofs.Pages.{same_pages}

@@ -1,5 +1,6 @@
 -- The keeper of the version slots agrees with the entries, one entry longer.
-use Rattle.std.proofs.Common.{◌≡◌, ℕ, ◌==◌, ◌&&◌, ◌||◌, not, Bool, true, false, if◌then◌else◌, refl, sym, ◌∙◌, ap, subst, List, [], ◌∷◌, Option, Some, None, length}
+use Rattle.std.proofs.Common.{◌≡◌, ℕ, ◌==◌, ◌&&◌, ◌||◌, not, Bool, true, false, if◌then◌else◌, refl, sym}
+use Rattle.std.proofs.Common.{◌∙◌, ap, subst, List, [], ◌∷◌, Option, Some, None, length}
 use Rattle.std.specs.List.{list_any}
 use Rattle.std.proofs.lemmas.Bool.{eqb-true, eq-eqb, false≢true}
 use Rattle.std.proofs.lemmas.List.Folds.{list_any-append}
@@ -36,7 +37,8 @@ use Rattle.driver_laws.proofs.PlaceLaws.{load_slot_is}
 use Rattle.driver_laws.proofs.SlotLaws.{same_slot-refl}
 use Rattle.driver_laws.proofs.ThreeEntryLaws.{or_left, or_right}
 use Rattle.driver_laws.proofs.SoundLaws.{entry_of, load_start, named}
-use Rattle.driver_laws.proofs.SlotMoves.{SameSlots, same_add, same_age, same_eldstart, same_ewb, same_refused, slot_back, slot_back_other, slot_started, slot_started_other}
+use Rattle.driver_laws.proofs.SlotMoves.{SameSlots, same_add, same_age, same_eldstart, same_ewb, same_refused, slot_back, slot_back_other}
+use Rattle.driver_laws.proofs.SlotMoves.{slot_started, slot_started_other}
 use Rattle.driver_laws.proofs.AloneLaws.{alone}
 
 -- a slot that is not out is no page's, so a write-out may begin with it

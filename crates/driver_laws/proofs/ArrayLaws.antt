@@ -1,5 +1,7 @@
 -- The version array pages are made first, all of them before a page is added.
-use Rattle.std.proofs.Common.{◌≡◌, ℕ, zero, suc, ◌+◌, ◌≤◌, ◌||◌, Bool, true, false, cond, if◌then◌else◌, refl, sym, ◌∙◌, ap, List, [], ◌∷◌, ◌++◌, Some, length, map, take, replicate, slice_get, arith, nat_le}
+use Rattle.std.proofs.Common.{◌≡◌, ℕ, zero, suc, ◌+◌, ◌≤◌, ◌||◌, Bool, true, false, cond, if◌then◌else◌, refl}
+use Rattle.std.proofs.Common.{sym, ◌∙◌, ap, List, [], ◌∷◌, ◌++◌, Some, length, map, take, replicate, slice_get, arith}
+use Rattle.std.proofs.Common.{nat_le}
 use Rattle.std.proofs.lemmas.Bool.{false≢true, leb-false, leb-true}
 use Rattle.std.proofs.lemmas.List.{length-append}
 use Rattle.std.proofs.lemmas.List.Sums.{sum_by-append, sum_by-cons, sum_by-take-le}
@@ -19,7 +21,8 @@ use Rattle.version_array.specs.Keeper.{Keeper, new_keeper}
 use Rattle.job_grammar.specs.Jobs.{EnclaveView, JobView, va_pages}
 use Rattle.job_grammar.specs.declared.jobs.PageLine.{PageLine}
 use Rattle.job_grammar.specs.declared.jobs.PageLine.TheVariants as lines
-use Rattle.turn_rules.specs.Script.{build_of, built, chunk_steps, enclave_steps, enclaves_steps, is_builder, line_steps, numbers_from, page_steps}
+use Rattle.turn_rules.specs.Script.{build_of, built, chunk_steps, enclave_steps, enclaves_steps, is_builder, line_steps, numbers_from}
+use Rattle.turn_rules.specs.Script.{page_steps}
 use Rattle.turn_rules.specs.declared.steps.BuildStep.{BuildStep}
 use Rattle.turn_rules.specs.declared.steps.BuildStep.TheVariants as builds
 use Rattle.driver_rules.specs.Ages.{AgeRule}
@@ -27,7 +30,8 @@ use Rattle.driver_rules.specs.Scripts.{ScriptRule}
 use Rattle.driver_laws.specs.Agrees.{has_pages, is_add}
 use Rattle.driver_laws.specs.Counted.{AddsAreBuilt, is_add_step, pages_added, with_added}
 use Rattle.driver_laws.specs.Keeps.{ArraysAreBuilt, ArraysFirst, KeeperMoves, is_epa, is_epa_refused, is_va_step}
-use Rattle.driver_laws.proofs.StepLaws.{Builds, ByStep, IsStep, NoStep, adds_by, arrays_by, builds_by, builds_or_none, counts, epa_by, step_counts}
+use Rattle.driver_laws.proofs.StepLaws.{Builds, ByStep, IsStep, NoStep, adds_by, arrays_by, builds_by, builds_or_none, counts, epa_by}
+use Rattle.driver_laws.proofs.StepLaws.{step_counts}
 
 -- ---- how many version array pages the build makes
 

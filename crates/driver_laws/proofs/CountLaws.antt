@@ -1,5 +1,6 @@
 -- As many slots are out as pages have one, one entry longer.
-use Rattle.std.proofs.Common.{◌≡◌, ℕ, ◌+◌, not, Bool, true, false, cond, if◌then◌else◌, refl, sym, ◌∙◌, ap, List, [], ◌∷◌, Some, None, is_some, arith}
+use Rattle.std.proofs.Common.{◌≡◌, ℕ, ◌+◌, not, Bool, true, false, cond, if◌then◌else◌, refl, sym, ◌∙◌, ap, List}
+use Rattle.std.proofs.Common.{[], ◌∷◌, Some, None, is_some, arith}
 use Rattle.std.specs.List.{count_by}
 use Rattle.std.proofs.lemmas.List.Sums.{sum_by-cons}
 use Rattle.sgx_types.proofs.Pages.{same_page-swap, same_pages}
@@ -25,7 +26,8 @@ use Rattle.driver_laws.specs.Kinds.{CanMove}
 use Rattle.driver_laws.specs.Sound.{IsSound, is_absent, slot_at, times}
 use Rattle.sgx_types.specs.Slots.{slot_of as starts_slot}
 use Rattle.driver_laws.specs.Used.{StartTells}
-use Rattle.driver_laws.proofs.SlotMoves.{SameSlots, same_add, same_age, same_eldstart, same_ewb, same_refused, slot_back, slot_back_other, slot_started, slot_started_other}
+use Rattle.driver_laws.proofs.SlotMoves.{SameSlots, same_add, same_age, same_eldstart, same_ewb, same_refused, slot_back, slot_back_other}
+use Rattle.driver_laws.proofs.SlotMoves.{slot_started, slot_started_other}
 use Rattle.driver_laws.proofs.SoundLaws.{entry_of}
 
 -- ---- counts

@@ -1,5 +1,6 @@
 -- In a history places, the list and the slots are sound throughout, and a pass keeps what it says of tracks.
-use Rattle.std.proofs.Common.{◌≡◌, ℕ, ◌+◌, ◌≤◌, ◌^◌, ◌==◌, not, Bool, true, false, if◌then◌else◌, zero, suc, refl, sym, ◌∙◌, ap, subst, List, [], ◌∷◌, Option, Some, None, is_some, arith}
+use Rattle.std.proofs.Common.{◌≡◌, ℕ, ◌+◌, ◌≤◌, ◌^◌, ◌==◌, not, Bool, true, false, if◌then◌else◌, zero, suc}
+use Rattle.std.proofs.Common.{refl, sym, ◌∙◌, ap, subst, List, [], ◌∷◌, Option, Some, None, is_some, arith}
 use Rattle.std.proofs.lemmas.Bool.{eqb-true, eq-eqb, false≢true}
 use Rattle.page_history.proofs.CopyLaws.{out_is_gone}
 use Rattle.page_history.proofs.DrawnLaws.{drawn_once}
@@ -48,7 +49,8 @@ use Rattle.sgx_types.proofs.Pages.{same_page-refl}
 use Rattle.sgx_types.proofs.Contents.{free_is}
 use Rattle.driver_laws.specs.Sound.{IsSound, is_absent, load_slot, slot_at, slot_if, slot_loading, slot_of, stands_in, version_out}
 use Rattle.driver_laws.specs.Tracks.{KeepsTracks, is_reclaimers}
-use Rattle.driver_rules.specs.Dues.{Due, Ends, Fetches, Finished, IsFetch, IsNext, KicksAll, LooksAt, Makes, Reports, Stopped, TriesOut, Waits}
+use Rattle.driver_rules.specs.Dues.{Due, Ends, Fetches, Finished, IsFetch, IsNext, KicksAll, LooksAt, Makes, Reports, Stopped, TriesOut}
+use Rattle.driver_rules.specs.Dues.{Waits}
 use Rattle.driver_rules.specs.Turns.{builder_due, cpu_due}
 use Rattle.driver_laws.proofs.EpochLaws.{try_tells}
 use Rattle.driver_laws.proofs.OwnLaws.{Plain, build_plain, due_plain, is_paging, script_own}

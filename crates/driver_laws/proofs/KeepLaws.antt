@@ -16,7 +16,8 @@ use Rattle.driver_laws.specs.Keeps.{ArraysFirst, IsSameOut, KeeperMoves}
 use Rattle.driver_laws.specs.Kinds.{CanMove}
 use Rattle.driver_laws.specs.Sound.{IsSound}
 use Rattle.driver_laws.specs.Used.{StartTells}
-use Rattle.driver_laws.proofs.AgreeLaws.{shows_add, shows_age, shows_create, shows_eld, shows_eldstart, shows_epa, shows_ewb, shows_ewbstart, shows_refused}
+use Rattle.driver_laws.proofs.AgreeLaws.{shows_add, shows_age, shows_create, shows_eld, shows_eldstart, shows_epa, shows_ewb}
+use Rattle.driver_laws.proofs.AgreeLaws.{shows_ewbstart, shows_refused}
 use Rattle.driver_laws.proofs.SoundLaws.{entry_of, load_start, named}
 
 -- the same slots are out

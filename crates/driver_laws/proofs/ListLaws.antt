@@ -1,5 +1,6 @@
 -- What each kind of entry leaves of the list of pages that are here.
-use Rattle.std.proofs.Common.{◌≡◌, ℕ, ◌+◌, Bool, true, false, if◌then◌else◌, refl, ◌∙◌, subst, List, [], ◌∷◌, ◌++◌, drop, Some, arith}
+use Rattle.std.proofs.Common.{◌≡◌, ℕ, ◌+◌, Bool, true, false, if◌then◌else◌, refl, ◌∙◌, subst, List, [], ◌∷◌}
+use Rattle.std.proofs.Common.{◌++◌, drop, Some, arith}
 use Rattle.sgx_types.specs.declared.names.Page.{Page}
 use Rattle.sgx_types.specs.Frames.{same_page}
 use Rattle.driver_rules.specs.Ages.{head_of}

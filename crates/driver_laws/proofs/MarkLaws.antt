@@ -1,5 +1,6 @@
 -- The list with its marks, one entry longer.
-use Rattle.std.proofs.Common.{◌≡◌, ℕ, ◌+◌, ◌||◌, not, Bool, true, false, if◌then◌else◌, refl, sym, ◌∙◌, ap, subst, List, [], ◌∷◌, ◌++◌, drop, map, Some, arith}
+use Rattle.std.proofs.Common.{◌≡◌, ℕ, ◌+◌, ◌||◌, not, Bool, true, false, if◌then◌else◌, refl, sym, ◌∙◌, ap}
+use Rattle.std.proofs.Common.{subst, List, [], ◌∷◌, ◌++◌, drop, map, Some, arith}
 use Rattle.std.proofs.lemmas.Bool.{false≢true}
 use Rattle.sgx_types.proofs.Pages.{same_page-refl, same_pages}
 use Rattle.sgx_types.specs.declared.entries.Action.{Action}

@@ -1,5 +1,6 @@
 -- A pass keeps what it says of tracks, one entry longer.
-use Rattle.std.proofs.Common.{◌≡◌, ℕ, ◌-◌, ◌==◌, Bool, true, false, zero, suc, refl, sym, ◌∙◌, ap, subst, List, [], ◌∷◌, ◌++◌, drop, Option, Some, None, length, is_some, min, nat_lt, arith}
+use Rattle.std.proofs.Common.{◌≡◌, ℕ, ◌-◌, ◌==◌, Bool, true, false, zero, suc, refl, sym, ◌∙◌, ap, subst, List, []}
+use Rattle.std.proofs.Common.{◌∷◌, ◌++◌, drop, Option, Some, None, length, is_some, min, nat_lt, arith}
 use Rattle.std.proofs.lemmas.Bool.{eqb-true, eq-eqb}
 use Rattle.sgx_types.proofs.Truths.{eqb-swap}
 use Rattle.sgx_types.specs.declared.entries.Action.TheVariants.{Block, Track, EwbStart, Ewb}
@@ -18,12 +19,16 @@ use Rattle.job_grammar.specs.Jobs.{JobView}
 use Rattle.driver_rules.specs.Ages.{AgeRule, FormOf, InPass, IsFrame, KickRule, PassOf}
 use Rattle.driver_rules.specs.Ages as ages
 use Rattle.driver_laws.specs.Kinds.{CanMove}
-use Rattle.driver_rules.specs.Passes.{Between, Blocking, First, Form, Kicks, Pass, Scan, Sealing, Second, Third, ToKick, ToTrack, Tries, block_on, decided, free_count, keepers, kicks_on, next_tries, pass, pass_after, pass_by, scan_on, scanned, taken_by}
+use Rattle.driver_rules.specs.Passes.{Between, Blocking, First, Form, Kicks, Pass, Scan, Sealing, Second, Third, ToKick, ToTrack, Tries}
+use Rattle.driver_rules.specs.Passes.{block_on, decided, free_count, keepers, kicks_on, next_tries, pass, pass_after, pass_by, scan_on}
+use Rattle.driver_rules.specs.Passes.{scanned, taken_by}
 use Rattle.driver_rules.specs.Places.{Leaving, active, place}
 use Rattle.driver_laws.specs.Sound.{IsSound}
-use Rattle.driver_laws.specs.Tracks.{AllCalm, InForm, IsCalm, IsTracked, IsUntracked, KeepsTracks, OwnRule, TryTells, is_reclaimers, moves_out}
+use Rattle.driver_laws.specs.Tracks.{AllCalm, InForm, IsCalm, IsTracked, IsUntracked, KeepsTracks, OwnRule, TryTells, is_reclaimers}
+use Rattle.driver_laws.specs.Tracks.{moves_out}
 use Rattle.driver_laws.proofs.SoundLaws.{entry_of}
-use Rattle.driver_laws.proofs.TrackLaws.{behind_kept, block_low, blocked_place, calm_drained, calm_kept, last_kept, none_since, waiting_kept}
+use Rattle.driver_laws.proofs.TrackLaws.{behind_kept, block_low, blocked_place, calm_drained, calm_kept, last_kept, none_since}
+use Rattle.driver_laws.proofs.TrackLaws.{waiting_kept}
 
 -- ---- entries that track nothing
 

@@ -1,5 +1,6 @@
 -- What each kind of entry leaves of places, frames and open starts.
-use Rattle.std.proofs.Common.{◌≡◌, ℕ, ◌==◌, Bool, true, false, if◌then◌else◌, refl, sym, ◌∙◌, ap, subst, Option, Some, None, is_some, arith}
+use Rattle.std.proofs.Common.{◌≡◌, ℕ, ◌==◌, Bool, true, false, if◌then◌else◌, refl, sym, ◌∙◌, ap, subst, Option}
+use Rattle.std.proofs.Common.{Some, None, is_some, arith}
 use Rattle.std.proofs.lemmas.Bool.{eqb-true, eq-eqb, false≢true}
 use Rattle.sgx_types.proofs.Pages.{same_pages}
 use Rattle.sgx_types.specs.declared.names.Kind.{Kind}

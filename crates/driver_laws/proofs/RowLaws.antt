@@ -1,15 +1,18 @@
 -- What the instruction table says of a load of a page that is away, and of a try to write out a page that was taken.
-use Rattle.std.proofs.Common.{◌≡◌, ℕ, ◌<◌, ◌==◌, not, Bool, true, false, if◌then◌else◌, refl, sym, ◌∙◌, ap, subst, List, [], ◌∷◌, Option, Some, None, nat_le, nat_lt, arith, ◌||◌}
+use Rattle.std.proofs.Common.{◌≡◌, ℕ, ◌<◌, ◌==◌, not, Bool, true, false, if◌then◌else◌, refl, sym, ◌∙◌, ap}
+use Rattle.std.proofs.Common.{subst, List, [], ◌∷◌, Option, Some, None, nat_le, nat_lt, arith, ◌||◌}
 use Rattle.std.proofs.lemmas.Bool.{eq-eqb, eqb-true, false≢true, leb-true, ltb-true}
 use Rattle.std.specs.List.{list_any}
 use Rattle.sgx_types.proofs.Rows.{none_refused}
 use Rattle.sgx_types.proofs.Truths.{both_true}
-use Rattle.sgx_types.specs.Frames.{Content, Free, Holds, IsLoading, IsVa, SecsOf, added, content, held_after, is_blocked, is_sealing, made_before, page_at, put_by, reloaded, vas_made}
+use Rattle.sgx_types.specs.Frames.{Content, Free, Holds, IsLoading, IsVa, SecsOf, added, content, held_after, is_blocked, is_sealing}
+use Rattle.sgx_types.specs.Frames.{made_before, page_at, put_by, reloaded, vas_made}
 use Rattle.sgx_types.specs.Rules.{Along, FitsRule}
 use Rattle.sgx_types.specs.Sights.{sight_at, slot_sight_at}
 use Rattle.sgx_types.specs.Slots.{is_slot_busy, same_slot, version_in}
 use Rattle.sgx_types.specs.Starts.{open_start}
-use Rattle.sgx_types.specs.Table.{DrainSight, EnclaveSight, FrameSight, eldstart_row, ewbstart_row, first_of_row, is_busy, is_made, is_out_of_range, is_secs, is_va}
+use Rattle.sgx_types.specs.Table.{DrainSight, EnclaveSight, FrameSight, eldstart_row, ewbstart_row, first_of_row, is_busy, is_made}
+use Rattle.sgx_types.specs.Table.{is_out_of_range, is_secs, is_va}
 use Rattle.sgx_types.specs.declared.entries.Action.TheVariants.{Add, Create, Eld, EldStart, Epa, Ewb}
 use Rattle.sgx_types.specs.declared.entries.Answer.TheVariants.{Moved}
 use Rattle.sgx_types.specs.declared.entries.Entry.{Entry}

@@ -1,5 +1,6 @@
 -- What each kind of entry leaves of the slots of pages, and of the versions in them.
-use Rattle.std.proofs.Common.{◌≡◌, ℕ, ◌==◌, ◌⊎◌, inl, inr, not, Bool, true, false, if◌then◌else◌, refl, sym, ◌∙◌, ap, subst, List, Option, Some, None, is_some}
+use Rattle.std.proofs.Common.{◌≡◌, ℕ, ◌==◌, ◌⊎◌, inl, inr, not, Bool, true, false, if◌then◌else◌, refl, sym}
+use Rattle.std.proofs.Common.{◌∙◌, ap, subst, List, Option, Some, None, is_some}
 use Rattle.std.proofs.lemmas.Bool.{eqb-true, eq-eqb, false≢true}
 use Rattle.sgx_types.proofs.Pages.{same_page-refl, same_slots}
 use Rattle.sgx_types.specs.Fresh.{Out}
@@ -12,7 +13,8 @@ use Rattle.driver_rules.specs.Places.{Absent, Away, Here, Leaving, Loading, Plac
 use Rattle.sgx_types.specs.Slots.{slot_of as slot_of_start}
 use Rattle.sgx_types.specs.declared.entries.Actor.{Actor}
 use Rattle.sgx_types.proofs.Contents.{one_page, page_is_no_other}
-use Rattle.driver_laws.specs.Sound.{PlacesAreFrames, SlotsAreApart, SlotsHaveVersions, is_load_start, is_write_start, slot_at, slot_outside, stands_in, version_out}
+use Rattle.driver_laws.specs.Sound.{PlacesAreFrames, SlotsAreApart, SlotsHaveVersions, is_load_start, is_write_start, slot_at, slot_outside}
+use Rattle.driver_laws.specs.Sound.{stands_in, version_out}
 use Rattle.driver_laws.proofs.PlaceLaws.{holds_one, of_same}
 
 -- ---- in general

@@ -1,5 +1,7 @@
 -- The pages of a pass stand as before, one entry longer.
-use Rattle.std.proofs.Common.{◌≡◌, ℕ, ◌+◌, ◌-◌, ◌≤◌, ◌==◌, ◌||◌, ◌&&◌, not, Bool, true, false, if◌then◌else◌, zero, suc, refl, sym, ◌∙◌, ap, subst, List, [], ◌∷◌, ◌++◌, drop, length, length-append, min, Option, Some, None, arith}
+use Rattle.std.proofs.Common.{◌≡◌, ℕ, ◌+◌, ◌-◌, ◌≤◌, ◌==◌, ◌||◌, ◌&&◌, not, Bool, true, false}
+use Rattle.std.proofs.Common.{if◌then◌else◌, zero, suc, refl, sym, ◌∙◌, ap, subst, List, [], ◌∷◌, ◌++◌, drop, length}
+use Rattle.std.proofs.Common.{length-append, min, Option, Some, None, arith}
 use Rattle.std.proofs.lemmas.Bool.{eqb-true, eq-eqb, false≢true}
 use Rattle.std.proofs.lemmas.List.{append_assoc, append-nil}
 use Rattle.std.proofs.lemmas.List.Folds.{list_any-append}
@@ -25,8 +27,11 @@ use Rattle.driver_rules.specs.Ages.{AgeRule, FormOf, InPass, IsFrame, KickRule, 
 use Rattle.driver_rules.specs.Ages as ages
 use Rattle.driver_rules.specs.Holds.{is_among}
 use Rattle.driver_laws.specs.Kinds.{CanMove}
-use Rattle.driver_rules.specs.Passes.{Between, Blocking, First, Form, Kicks, Pass, Scan, Sealing, Second, Third, ToKick, ToTrack, Tries, block_on, decided, free_count, keepers, kicks_on, next_tries, pass, pass_after, pass_by, scan_on, scanned, taken_by}
-use Rattle.driver_rules.specs.Places.{Absent, Away, Here, Leaving, Loading, Place, active, active_after, back_to, gone_to, leaves, looked_at, place, to_tail}
+use Rattle.driver_rules.specs.Passes.{Between, Blocking, First, Form, Kicks, Pass, Scan, Sealing, Second, Third, ToKick, ToTrack, Tries}
+use Rattle.driver_rules.specs.Passes.{block_on, decided, free_count, keepers, kicks_on, next_tries, pass, pass_after, pass_by, scan_on}
+use Rattle.driver_rules.specs.Passes.{scanned, taken_by}
+use Rattle.driver_rules.specs.Places.{Absent, Away, Here, Leaving, Loading, Place, active, active_after, back_to, gone_to, leaves}
+use Rattle.driver_rules.specs.Places.{looked_at, place, to_tail}
 use Rattle.driver_laws.specs.Sound.{IsSound, is_load_start, is_write_start}
 use Rattle.driver_laws.specs.Tracks.{OwnRule, is_reclaimers}
 use Rattle.driver_laws.proofs.MoveLaws.{place-taken}

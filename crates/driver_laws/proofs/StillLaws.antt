@@ -1,5 +1,6 @@
 -- What an entry leaves of a page that was taken, where it does not touch its frame.
-use Rattle.std.proofs.Common.{◌≡◌, ℕ, ◌==◌, Bool, true, false, if◌then◌else◌, refl, sym, ◌∙◌, ap, subst, List, ◌∷◌, Some}
+use Rattle.std.proofs.Common.{◌≡◌, ℕ, ◌==◌, Bool, true, false, if◌then◌else◌, refl, sym, ◌∙◌, ap, subst, List}
+use Rattle.std.proofs.Common.{◌∷◌, Some}
 use Rattle.std.proofs.lemmas.Bool.{eqb-true, eq-eqb, false≢true}
 use Rattle.sgx_types.specs.declared.entries.Action.TheVariants.{Epa, Create, Add, Block, EwbStart, Ewb, EldStart, Eld}
 use Rattle.sgx_types.specs.declared.entries.Answer.TheVariants.{Moved}

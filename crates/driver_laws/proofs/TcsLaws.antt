@@ -1,5 +1,6 @@
 -- Where no two scripts name one TCS page, no other actor changes a processor's count of state save frames.
-use Rattle.std.proofs.Common.{◌≡◌, ℕ, ◌/◌, ◌≤◌, ◌==◌, not, Bool, true, false, if◌then◌else◌, refl, sym, ◌∙◌, ap, subst, List, [], ◌∷◌, Option, Some, None, slice_get}
+use Rattle.std.proofs.Common.{◌≡◌, ℕ, ◌/◌, ◌≤◌, ◌==◌, not, Bool, true, false, if◌then◌else◌, refl, sym}
+use Rattle.std.proofs.Common.{◌∙◌, ap, subst, List, [], ◌∷◌, Option, Some, None, slice_get}
 use Rattle.std.specs.List.{list_any}
 use Rattle.std.proofs.lemmas.Bool.{eqb-true, eq-eqb, false≢true}
 use Rattle.std.proofs.lemmas.List.Folds.{list_any_at}
@@ -24,17 +25,20 @@ use Rattle.sgx_types.specs.declared.names.Page.{Page}
 use Rattle.sgx_types.specs.declared.names.SlotAt.{SlotAt}
 use Rattle.sgx_types.specs.Flat.{at_offset}
 use Rattle.sgx_types.specs.Frames.{added, content, frame_of, least_free, page_at, same_page}
-use Rattle.sgx_types.specs.Processors.{Enters, Keeps, Leaves, Move, Stay, holds_number, is_by, move_by, stay, stay_after, stay_from, translations}
+use Rattle.sgx_types.specs.Processors.{Enters, Keeps, Leaves, Move, Stay, holds_number, is_by, move_by, stay, stay_after, stay_from}
+use Rattle.sgx_types.specs.Processors.{translations}
 use Rattle.sgx_types.specs.Table.{is_lawful_access}
 use Rattle.job_grammar.specs.declared.jobs.Op.{Op}
 use Rattle.job_grammar.specs.declared.jobs.Op.TheVariants as ops
 use Rattle.job_grammar.specs.Jobs.{JobView}
 use Rattle.turn_rules.specs.declared.steps.BuildStep.{BuildStep}
 use Rattle.turn_rules.specs.declared.steps.BuildStep.TheVariants as builds
-use Rattle.turn_rules.specs.Script.{build_of, built, enter_with, frame_at, is_seated_at, is_turned_away, leaves_by, replied, resume_with, saved, saved_after, script_of, with_frame}
+use Rattle.turn_rules.specs.Script.{build_of, built, enter_with, frame_at, is_seated_at, is_turned_away, leaves_by, replied, resume_with}
+use Rattle.turn_rules.specs.Script.{saved, saved_after, script_of, with_frame}
 use Rattle.driver_rules.specs.Ages.{AgeRule, InPass, PassOf}
 use Rattle.driver_laws.specs.Driven.{IsDriven}
-use Rattle.driver_rules.specs.Needs.{Interruption, interrupted_by, interrupted_in, interruption, interruption_after, needs_after, needs_to_enter, needs_to_resume, next_op, save_to_enter, save_to_resume}
+use Rattle.driver_rules.specs.Needs.{Interruption, interrupted_by, interrupted_in, interruption, interruption_after, needs_after}
+use Rattle.driver_rules.specs.Needs.{needs_to_enter, needs_to_resume, next_op, save_to_enter, save_to_resume}
 use Rattle.driver_rules.specs.Passes.{Between, Blocking, Pass, Scan, Tries, pass}
 use Rattle.driver_rules.specs.Places.{Absent, Away, Here, Leaving, Loading, Place, frame_here, place}
 use Rattle.driver_rules.specs.Scripts.{IsActors, ScriptRule}
@@ -42,9 +46,12 @@ use Rattle.driver_laws.specs.Sound.{IsSound}
 use Rattle.driver_laws.specs.Three.{IsApart, NamesOwn, TcsAreApart, is_tcs_of, names_tcs, tcs_by, tcs_of}
 use Rattle.driver_rules.specs.declared.waits.Why.{Why}
 use Rattle.driver_rules.specs.declared.waits.Why.TheVariants as waits
-use Rattle.driver_rules.specs.Dues.{Due, Ends, Fetches, Finished, IsFetch, IsNext, KicksAll, LooksAt, Makes, Reports, Stopped, TriesOut, Waits, makes_or}
+use Rattle.driver_rules.specs.Dues.{Due, Ends, Fetches, Finished, IsFetch, IsNext, KicksAll, LooksAt, Makes, Reports, Stopped, TriesOut}
+use Rattle.driver_rules.specs.Dues.{Waits, makes_or}
 use Rattle.driver_rules.specs.Stops.{is_spent}
-use Rattle.driver_rules.specs.Turns.{Fails, Last, Loads, Other, WasEnded, accesses_by, builder_due, cpu_due, due_after, early_turn, enters, fetches, fills, first_away, inside_turn, is_built, is_kicked, is_last, last_of, op_turn, outside_turn, resumes, save_frame, stay_turn, step_turn, turn_due, with_pages}
+use Rattle.driver_rules.specs.Turns.{Fails, Last, Loads, Other, WasEnded, accesses_by, builder_due, cpu_due, due_after, early_turn, enters}
+use Rattle.driver_rules.specs.Turns.{fetches, fills, first_away, inside_turn, is_built, is_kicked, is_last, last_of, op_turn, outside_turn}
+use Rattle.driver_rules.specs.Turns.{resumes, save_frame, stay_turn, step_turn, turn_due, with_pages}
 use Rattle.driver_laws.proofs.HistoryLaws.{driven_before, driven_sound}
 use Rattle.driver_laws.proofs.SoundLaws.{entry_of}
 use Rattle.driver_laws.proofs.ThreeEntryLaws.{three_others}

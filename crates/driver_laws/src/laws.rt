@@ -1,6 +1,7 @@
 //! Laws of the definitions. Each is the contract of a function without arguments, and so holds for every list of entries.
 
-ghost use Rattle.std.specs.Prelude.{ℕ, ◌≡◌, ◌≤◌, ◌<◌, ◌+◌, Bool, true, false, List, [], ◌∷◌, Option, Some, None, length, nat_le};
+ghost use Rattle.std.specs.Prelude.{ℕ, ◌≡◌, ◌≤◌, ◌<◌, ◌+◌, Bool, true, false, List, [], ◌∷◌, Option, Some};
+ghost use Rattle.std.specs.Prelude.{None, length, nat_le};
 ghost use Rattle.sgx_types.specs.Making.{Making};
 ghost use Rattle.sgx_types.specs.ByEpochs.{IsTrackedBlock};
 ghost use Rattle.sgx_types.specs.declared.entries.Actor.TheVariants as actors;

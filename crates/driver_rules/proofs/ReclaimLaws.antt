@@ -1,6 +1,7 @@
 -- What is due to the reclaimer, and the rules Age and Kick: an entry that keeps them is what is due, unless that is to wait; and one that
 -- is due and is not refused keeps them.
-use Rattle.std.proofs.Common.{◌≡◌, ℕ, Bool, true, false, if◌then◌else◌, refl, sym, ◌∙◌, ap, subst, ◌⊎◌, inl, inr, List, [], ◌∷◌, Option, Some, None, length}
+use Rattle.std.proofs.Common.{◌≡◌, ℕ, Bool, true, false, if◌then◌else◌, refl, sym, ◌∙◌, ap, subst, ◌⊎◌, inl, inr}
+use Rattle.std.proofs.Common.{List, [], ◌∷◌, Option, Some, None, length}
 use Rattle.sgx_types.specs.declared.entries.Action.{Action}
 use Rattle.sgx_types.specs.declared.entries.Action.TheVariants as actions
 use Rattle.sgx_types.specs.declared.entries.Actor.TheVariants as actors
@@ -18,10 +19,12 @@ use Rattle.job_grammar.specs.Jobs.{JobView}
 use Rattle.turn_rules.specs.Script.{action_of, frame_at}
 use Rattle.driver_rules.specs.declared.waits.Why.{Why}
 use Rattle.driver_rules.specs.declared.waits.Why.TheVariants as waits
-use Rattle.driver_rules.specs.Ages.{AgeRule, FormOf, InForm, InPass, IsInTries, IsKickOrTry, IsLastTry, IsLookAt, IsTry, KickRule, LookOf, head_of}
+use Rattle.driver_rules.specs.Ages.{AgeRule, FormOf, InForm, InPass, IsInTries, IsKickOrTry, IsLastTry, IsLookAt, IsTry, KickRule, LookOf}
+use Rattle.driver_rules.specs.Ages.{head_of}
 use Rattle.driver_rules.specs.Dues.{Due, Ends, IsKickOf, IsNext, KicksAll, Makes, TriesOut, Waits, is_look}
 use Rattle.driver_rules.specs.Holds.{is_held}
-use Rattle.driver_rules.specs.Passes.{Between, Blocking, First, Form, Kicks, Pass, Scan, Sealing, Second, Third, ToKick, ToTrack, Tries, keepers, pass}
+use Rattle.driver_rules.specs.Passes.{Between, Blocking, First, Form, Kicks, Pass, Scan, Sealing, Second, Third, ToKick, ToTrack, Tries}
+use Rattle.driver_rules.specs.Passes.{keepers, pass}
 use Rattle.driver_rules.specs.Places.{Absent, Away, Here, Leaving, Loading, Place, active, frame_leaving, is_young, place}
 use Rattle.driver_rules.specs.Reclaims.{are_held, form_due, in_frame, is_refused, leaving_due, look_at, look_due, pass_due, third_due}
 

@@ -1,5 +1,6 @@
 -- The rules Script, Age and Kick as tests.
-use Rattle.std.specs.Prelude.{ℕ, zero, suc, ◌≡◌, ◌==◌, ◌&&◌, ◌||◌, not, Bool, true, false, List, [], ◌∷◌, Option, Some, None, length, nat_lt}
+use Rattle.std.specs.Prelude.{ℕ, zero, suc, ◌≡◌, ◌==◌, ◌&&◌, ◌||◌, not, Bool, true, false, List, [], ◌∷◌, Option}
+use Rattle.std.specs.Prelude.{Some, None, length, nat_lt}
 use Rattle.sgx_types.specs.declared.entries.Entry.{Entry}
 use Rattle.sgx_types.specs.declared.entries.Event.{Event}
 use Rattle.sgx_types.specs.declared.entries.Event.TheVariants.{Did, Refused, Age, Kick, Bus}
@@ -20,7 +21,8 @@ use Rattle.turn_rules.specs.Script.{action_of, build_of, built, frame_at, replie
 use Rattle.driver_rules.specs.Ages.{head_of}
 use Rattle.driver_rules.specs.Dues.{Due, Ends, Fetches, KicksAll, LooksAt, Makes, Reports, TriesOut, is_look}
 use Rattle.driver_rules.specs.Holds.{is_held}
-use Rattle.driver_rules.specs.Passes.{Blocking, Between, First, Form, Kicks, Pass, Scan, Sealing, Second, Third, ToKick, ToTrack, Tries, keepers, pass}
+use Rattle.driver_rules.specs.Passes.{Blocking, Between, First, Form, Kicks, Pass, Scan, Sealing, Second, Third, ToKick, ToTrack, Tries}
+use Rattle.driver_rules.specs.Passes.{keepers, pass}
 use Rattle.driver_rules.specs.Places.{Leaving, Place, active, is_young, place}
 use Rattle.driver_rules.specs.Same.{same_action}
 use Rattle.driver_rules.specs.Scripts.{is_load}

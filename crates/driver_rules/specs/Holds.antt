@@ -1,12 +1,14 @@
 -- Which pages are held: those that the reclaimer passes over since some actor is about to use them.
-use Rattle.std.specs.Prelude.{ℕ, zero, suc, ◌||◌, Bool, false, if◌then◌else◌, List, [], ◌∷◌, ◌++◌, Option, Some, None, length, slice_get}
+use Rattle.std.specs.Prelude.{ℕ, zero, suc, ◌||◌, Bool, false, if◌then◌else◌, List, [], ◌∷◌, ◌++◌, Option, Some, None}
+use Rattle.std.specs.Prelude.{length, slice_get}
 use Rattle.std.specs.List.{list_any}
+use Rattle.std.specs.Option.{option_to_list}
 use Rattle.sgx_types.specs.declared.entries.Entry.{Entry}
 use Rattle.sgx_types.specs.declared.entries.Action.{Action}
 use Rattle.sgx_types.specs.declared.entries.Action.TheVariants.{Resume, Aex, Fill, EldStart}
 use Rattle.sgx_types.specs.declared.entries.Cause.TheVariants as causes
 use Rattle.sgx_types.specs.declared.names.Page.{Page}
-use Rattle.sgx_types.specs.Frames.{Content, Holds, content, page_at, same_page}
+use Rattle.sgx_types.specs.Frames.{Content, content, page_at, page_of, same_page}
 use Rattle.sgx_types.specs.Processors.{Stay, is_by, stay}
 use Rattle.job_grammar.specs.Jobs.{JobView}
 use Rattle.turn_rules.specs.declared.steps.BuildStep.{BuildStep}
@@ -26,8 +28,7 @@ abbrev pub up_to : Page → List Page → List Page
 up_to g pages = if is_among pages g then front_to g pages else g ∷ []
 
 abbrev pub page_in : Content → List Page
-page_in (Holds page kind perm) = page ∷ []
-page_in _ = []
+page_in c = option_to_list (page_of c)
 
 abbrev pub page_of_stay : Option Stay → ℕ → List Page
 page_of_stay None number = []

@@ -1,5 +1,6 @@
 -- What the reclaimer does next: the end of a write-out that it has started, and else what its pass gives.
-use Rattle.std.specs.Prelude.{ℕ, zero, suc, ◌&&◌, Bool, true, false, if◌then◌else◌, List, [], ◌∷◌, Option, Some, None, length}
+use Rattle.std.specs.Prelude.{ℕ, zero, suc, ◌&&◌, Bool, true, false, if◌then◌else◌, List, [], ◌∷◌, Option, Some, None}
+use Rattle.std.specs.Prelude.{length}
 use Rattle.std.specs.List.{list_all}
 use Rattle.sgx_types.specs.declared.entries.Entry.{Entry}
 use Rattle.sgx_types.specs.declared.entries.Event.{Event}
@@ -13,7 +14,8 @@ use Rattle.driver_rules.specs.declared.waits.Why.TheVariants as waits
 use Rattle.driver_rules.specs.Dues.{Due, Ends, Finished, KicksAll, LooksAt, Makes, Stopped, TriesOut, Waits}
 use Rattle.driver_rules.specs.Ages.{head_of}
 use Rattle.driver_rules.specs.Holds.{is_held}
-use Rattle.driver_rules.specs.Passes.{Between, Blocking, First, Form, Kicks, Pass, Scan, Sealing, Second, Third, ToKick, ToTrack, Tries, free_count, keepers, pass}
+use Rattle.driver_rules.specs.Passes.{Between, Blocking, First, Form, Kicks, Pass, Scan, Sealing, Second, Third, ToKick, ToTrack, Tries}
+use Rattle.driver_rules.specs.Passes.{free_count, keepers, pass}
 use Rattle.driver_rules.specs.Places.{active, frame_leaving, is_young, place}
 use Rattle.driver_rules.specs.Stops.{frame_started, is_spent, last_event}
 use Rattle.driver_rules.specs.Turns.{cpu_due, is_built}

@@ -1,5 +1,6 @@
 -- The tables' list by the list of the rules: its pages with their marks, its head, and which pages it does not have.
-use Rattle.std.proofs.Common.{◌≡◌, ◌+◌, ◌||◌, ◌&&◌, Bool, true, false, if◌then◌else◌, suc, refl, sym, ◌∙◌, ap, List, [], ◌∷◌, Some, drop, length, map, arith}
+use Rattle.std.proofs.Common.{◌≡◌, ◌+◌, ◌||◌, ◌&&◌, Bool, true, false, if◌then◌else◌, suc, refl, sym, ◌∙◌, ap}
+use Rattle.std.proofs.Common.{List, [], ◌∷◌, Some, drop, length, map, arith}
 use Rattle.std.specs.List.{list_any}
 use Rattle.std.proofs.lemmas.Bool.{false≢true}
 use Rattle.sgx_types.proofs.Pages.{same_page-refl, same_pages}

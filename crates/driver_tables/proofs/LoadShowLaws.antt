@@ -1,5 +1,6 @@
 -- The driver's tables behind the entries of a processor's load.
-use Rattle.std.proofs.Common.{◌≡◌, ℕ, ◌<◌, ◌++◌, Bool, true, false, List, [], ◌∷◌, Option, None, Some, length, map, slice_set, refl, sym, ap, subst, ◌∙◌}
+use Rattle.std.proofs.Common.{◌≡◌, ℕ, ◌<◌, ◌++◌, Bool, true, false, List, [], ◌∷◌, Option, None, Some, length, map}
+use Rattle.std.proofs.Common.{slice_set, refl, sym, ap, subst, ◌∙◌}
 use Rattle.std.proofs.lemmas.Bool.{eqb-true, eqb-false}
 use Rattle.std.proofs.lemmas.List.{get_or-set_other, get_or-set_same, length-set}
 use Rattle.sgx_types.specs.declared.entries.Actor.TheVariants as actors
@@ -32,7 +33,8 @@ use Rattle.driver_laws.specs.Kinds.{CanMove}
 use Rattle.driver_laws.specs.Sound.{IsSound}
 use Rattle.driver_laws.proofs.AgreeLaws.{shows_eld, shows_eldstart, shows_quiet, shows_refused}
 use Rattle.driver_laws.proofs.MarkLaws.{listed-eld, listed-quiet}
-use Rattle.driver_laws.proofs.MoveLaws.{loads-other, place-eld, place-eld-other, place-eld-refused, place-eld-refused-other, place-eldstart, place-eldstart-other, place-quiet}
+use Rattle.driver_laws.proofs.MoveLaws.{loads-other, place-eld, place-eld-other, place-eld-refused, place-eld-refused-other, place-eldstart}
+use Rattle.driver_laws.proofs.MoveLaws.{place-eldstart-other, place-quiet}
 use Rattle.driver_laws.proofs.SoundLaws.{entry_of}
 use Rattle.driver_tables.specs.declared.driver.Driver.{Driver}
 use Rattle.driver_tables.specs.Moves.{IsLoaded, with_load}

@@ -1,5 +1,6 @@
 -- The driver's tables behind one entry more.
-use Rattle.std.proofs.Common.{◌≡◌, ℕ, ◌++◌, Bool, true, false, cond, List, [], ◌∷◌, None, Some, drop, length, map, sum, refl, sym, ap, subst, ◌∙◌}
+use Rattle.std.proofs.Common.{◌≡◌, ℕ, ◌++◌, Bool, true, false, cond, List, [], ◌∷◌, None, Some, drop, length, map, sum}
+use Rattle.std.proofs.Common.{refl, sym, ap, subst, ◌∙◌}
 use Rattle.std.proofs.lemmas.Bool.{cond-true, cond-false, false≢true}
 use Rattle.std.proofs.lemmas.List.{length-set}
 use Rattle.sgx_types.proofs.Pages.{same_page-refl, same_pages}
@@ -35,7 +36,8 @@ use Rattle.driver_laws.specs.Kinds.{CanMove, is_quiet}
 use Rattle.driver_laws.specs.Sound.{IsSound, is_absent}
 use Rattle.driver_laws.proofs.AgreeLaws.{is_slotless, shows_age, shows_ewb, shows_ewbstart, shows_quiet}
 use Rattle.driver_laws.proofs.MarkLaws.{is_markless, listed-held, listed-noroom, listed-quiet, listed-taken, listed-young}
-use Rattle.driver_laws.proofs.MoveLaws.{place-ewb, place-ewb-other, place-held, place-noroom, place-quiet, place-taken, place-taken-other, place-young}
+use Rattle.driver_laws.proofs.MoveLaws.{place-ewb, place-ewb-other, place-held, place-noroom, place-quiet, place-taken, place-taken-other}
+use Rattle.driver_laws.proofs.MoveLaws.{place-young}
 use Rattle.driver_laws.proofs.SoundLaws.{entry_of, head_here}
 use Rattle.driver_tables.specs.declared.driver.Driver.{Driver}
 use Rattle.driver_tables.specs.Moves.{IsLooked, IsTaken, frame_in, leaving_of}

@@ -1,5 +1,6 @@
 -- What the fault step and the ends of loads and write-outs leave of the tables.
-use Rattle.std.proofs.Common.{◌≡◌, ℕ, Bool, true, false, not, ◌&&◌, if◌then◌else◌, List, Option, None, Some, Result, Ok, Err, IfOk, OnErr}
+use Rattle.std.proofs.Common.{◌≡◌, ℕ, Bool, true, false, not, ◌&&◌, if◌then◌else◌, List, Option, None, Some, Result, Ok}
+use Rattle.std.proofs.Common.{Err, IfOk, OnErr}
 use Rattle.std.proofs.Common.{refl, sym, ap, subst, ◌∙◌, length, slice_set, slice_get}
 use Rattle.std.proofs.lemmas.List.{length-set}
 use Rattle.std.specs.Option.{IsSomeAnd}
@@ -10,7 +11,6 @@ use Rattle.sgx_types.specs.declared.names.Memory.{Memory}
 use Rattle.sgx_types.specs.declared.names.Page.{Page}
 use Rattle.sgx_types.specs.declared.names.SlotAt.{SlotAt}
 use Rattle.sgx_types.specs.Sealed.{Sealed}
-use Rattle.sgx_types.specs.Slots.{same_slot}
 use Rattle.active_list.specs.Active.{ActiveList, pushed}
 use Rattle.active_list.specs.Keeping.{Kept, keeping}
 use Rattle.active_list.specs.States.{StateTable, with_state}
@@ -23,7 +23,7 @@ use Rattle.driver_rules.specs.Reclaims.{is_refused}
 use Rattle.driver_tables.specs.declared.driver.Driver.{Driver}
 use Rattle.driver_tables.specs.Moves.{with_load}
 use Rattle.fault_handler.specs.Finishing.{IsFinished}
-use Rattle.fault_handler.specs.Resolving.{IsFetch, IsGot, IsResolved, IsSaid}
+use Rattle.fault_handler.specs.Resolving.{IsFetch, IsGot, IsResolved}
 use Rattle.fault_handler.specs.declared.answers.FaultAnswer.{FaultAnswer}
 use Rattle.fault_handler.specs.declared.answers.Loaded.{Loaded}
 use Rattle.paging_laws.specs.State.{State}

@@ -8,7 +8,7 @@ use Rattle.sgx_types.specs.declared.entries.Answer.{Answer}
 use Rattle.sgx_types.specs.declared.entries.Answer.TheVariants as answers
 use Rattle.sgx_types.specs.declared.entries.Entry.{Entry}
 use Rattle.sgx_types.specs.declared.entries.Event.{Event}
-use Rattle.sgx_types.specs.declared.entries.Event.TheVariants.{Did, Refused}
+use Rattle.sgx_types.specs.declared.entries.Event.TheVariants.{Refused}
 use Rattle.sgx_types.specs.declared.entries.Look.{Look}
 use Rattle.sgx_types.specs.declared.entries.Look.TheVariants as looks
 use Rattle.sgx_types.specs.declared.names.Frame.{Frame}
@@ -41,7 +41,7 @@ use Rattle.reclaim_worker.specs.Scans.{IsBegun, IsScanned}
 use Rattle.reclaim_worker.specs.Tried.{SlotsAfter}
 use Rattle.reclaim_worker.specs.Turning.{IsFormTurn, IsThirdTurn, TurnSays, WithPage}
 use Rattle.driver_rules.specs.declared.waits.Why.TheVariants as waits
-use Rattle.driver_tests.specs.Stays.{KeepsOut, Stays, TurnStays, slot_sealed}
+use Rattle.driver_tests.specs.Stays.{KeepsOut, TurnStays, slot_sealed}
 use Rattle.driver_tests.proofs.StayLaws.{Rests, rests_same, stays_by}
 
 -- ---- turns that start no write-out

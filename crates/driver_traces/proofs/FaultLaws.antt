@@ -1,5 +1,6 @@
 -- What the test of a fault tells.
-use Rattle.std.proofs.Common.{is_none, ◌≡◌, ◌<◌, ◌&&◌, not, Bool, true, false, refl, List, [], ◌∷◌, Some, None, length, arith}
+use Rattle.std.proofs.Common.{is_none, ◌≡◌, ◌<◌, ◌&&◌, not, Bool, true, false, refl, List, [], ◌∷◌, Some, None, length}
+use Rattle.std.proofs.Common.{arith}
 use Rattle.std.proofs.lemmas.Bool.{false≢true}
 use Rattle.sgx_types.specs.declared.entries.Action.TheVariants.{Init}
 use Rattle.sgx_types.specs.declared.entries.Actor.{Actor}
@@ -14,7 +15,8 @@ use Rattle.driver_rules.proofs.DecidedLaws.{age_tells, ended_tells, kick_tells, 
 use Rattle.run_history.specs.declared.rules.Rule.{Rule}
 use Rattle.run_history.specs.declared.rules.Rule.TheVariants as rules
 use Rattle.run_history.specs.Histories.{Before, FailsFirst, FailsHere, History, Keeps, Says, is_machines, rank}
-use Rattle.driver_traces.specs.Faults.{breaks_at_last, breaks_first, is_history, keeps_eleven, keeps_all_six, keeps_machines, keeps_six_there}
+use Rattle.driver_traces.specs.Faults.{breaks_at_last, breaks_first, is_history, keeps_eleven, keeps_all_six, keeps_machines}
+use Rattle.driver_traces.specs.Faults.{keeps_six_there}
 use Rattle.driver_traces.specs.Lawful.{case_at, is_lawful, is_misdone, is_of_six, keeps_six}
 use Rattle.driver_traces.specs.Settled.{is_settled}
 use Rattle.driver_traces.specs.Words.{measured_init}

@@ -1,9 +1,12 @@
 -- What the tests of an entry tell.
 use Rattle.std.specs.Option.{IsSomeAnd}
-use Rattle.std.proofs.Common.{◌≡◌, ℕ, ◌<◌, ◌==◌, ◌&&◌, ◌||◌, not, nat_lt, Bool, true, false, refl, ap, subst, List, Option, Some, None, is_none, is_some, arith}
+use Rattle.std.proofs.Common.{◌≡◌, ℕ, ◌<◌, ◌==◌, ◌&&◌, ◌||◌, not, nat_lt, Bool, true, false, refl, ap, subst, List}
+use Rattle.std.proofs.Common.{Option, Some, None, is_none, is_some, arith}
 use Rattle.std.proofs.lemmas.Bool.{eqb-true, false≢true}
 use Rattle.sgx_types.specs.declared.entries.Action.{Action}
-use Rattle.sgx_types.specs.declared.entries.Action.TheVariants.{Epa, Create, Add, Extend, Init, Enter, Resume, Exit, Aex, Fill, Load, Store, Xadd, Set, Plus, Pf, OutLoad, OutStore, Block, Track, EwbStart, Ewb, EldStart, Eld}
+use Rattle.sgx_types.specs.declared.entries.Action.TheVariants.{Epa, Create, Add, Extend, Init, Enter, Resume, Exit, Aex, Fill, Load, Store}
+use Rattle.sgx_types.specs.declared.entries.Action.TheVariants.{Xadd, Set, Plus, Pf, OutLoad, OutStore, Block, Track, EwbStart, Ewb}
+use Rattle.sgx_types.specs.declared.entries.Action.TheVariants.{EldStart, Eld}
 use Rattle.sgx_types.specs.declared.entries.Actor.{Actor}
 use Rattle.sgx_types.specs.declared.entries.Actor.TheVariants as actors
 use Rattle.sgx_types.specs.declared.entries.Answer.{Answer}
@@ -21,7 +24,8 @@ use Rattle.sgx_types.specs.Flat.{accepts, flat, flat_answer, is_visible}
 use Rattle.sgx_types.specs.Frames.{Content, Free, Holds, IsLoading, IsVa, SecsOf, content, same_page}
 use Rattle.sgx_types.specs.Fresh.{FreshRule, Out, ReloadRule, last_out}
 use Rattle.sgx_types.specs.Making.{Making}
-use Rattle.sgx_types.specs.Rules.{EndsWriteOut, EvictRule, FitsRule, FlatRule, GoesOut, HasForm, NamesFrames, RefusalRule, RisingRule, StaleRule, TakesFree, case_of, seen_answer}
+use Rattle.sgx_types.specs.Rules.{EndsWriteOut, EvictRule, FitsRule, FlatRule, GoesOut, HasForm, NamesFrames, RefusalRule, RisingRule}
+use Rattle.sgx_types.specs.Rules.{StaleRule, TakesFree, case_of, seen_answer}
 use Rattle.sgx_types.specs.Slots.{version_in}
 use Rattle.sgx_types.specs.Starts.{Start, loads_page, open_start}
 use Rattle.sgx_types.proofs.Pages.{same_pages}
@@ -34,7 +38,10 @@ use Rattle.driver_rules.proofs.SameLaws.{action-refl, action-true}
 use Rattle.run_history.specs.declared.rules.Rule.{Rule}
 use Rattle.run_history.specs.declared.rules.Rule.TheVariants as rules
 use Rattle.run_history.specs.Histories.{Says, is_machines}
-use Rattle.driver_traces.specs.Lawful.{case_at, goes_out, is_case, is_ended_in, is_ended_out, is_formed, is_in_slot, is_lawful, is_misdone, is_out, is_reload, is_rising, is_unfit, is_write_out, keeps_evict, keeps_fits, keeps_flat, keeps_fresh, keeps_refusal, keeps_six, keeps_stale, names_frames, same_answer, same_fault, takes_free, tells_digest, is_of_six}
+use Rattle.driver_traces.specs.Lawful.{case_at, goes_out, is_case, is_ended_in, is_ended_out, is_formed, is_in_slot, is_lawful, is_misdone}
+use Rattle.driver_traces.specs.Lawful.{is_out, is_reload, is_rising, is_unfit, is_write_out, keeps_evict, keeps_fits, keeps_flat}
+use Rattle.driver_traces.specs.Lawful.{keeps_fresh, keeps_refusal, keeps_six, keeps_stale, names_frames, same_answer, same_fault}
+use Rattle.driver_traces.specs.Lawful.{takes_free, tells_digest, is_of_six}
 
 pub none_of : {T : Type 0} (o : Option T) → is_none o ≡ true → o ≡ None
 none_of None h = refl

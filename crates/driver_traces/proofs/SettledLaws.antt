@@ -1,5 +1,7 @@
 -- What the tests of a place tell.
-use Rattle.std.proofs.Common.{◌≡◌, ℕ, zero, suc, ◌<◌, ◌≤◌, ◌==◌, ◌&&◌, ◌||◌, not, Bool, true, false, refl, sym, ap, ◌∙◌, subst, List, [], ◌∷◌, Option, Some, None, IfSome, length, arith, ◌⊎◌, inl, inr}
+use Rattle.std.proofs.Common.{◌≡◌, ℕ, zero, suc, ◌<◌, ◌≤◌, ◌==◌, ◌&&◌, ◌||◌, not, Bool, true, false, refl}
+use Rattle.std.proofs.Common.{sym, ap, ◌∙◌, subst, List, [], ◌∷◌, Option, Some, None, IfSome, length, arith, ◌⊎◌, inl}
+use Rattle.std.proofs.Common.{inr}
 use Rattle.std.specs.List.{All}
 use Rattle.std.proofs.lemmas.Bool.{eqb-true, false≢true, cases_lt}
 use Rattle.std.proofs.lemmas.List.Elements.{All-cons, All-nil}
@@ -11,7 +13,8 @@ use Rattle.sgx_types.specs.declared.entries.PageInit.TheVariants.{Words}
 use Rattle.sgx_types.specs.declared.names.Kind.{Kind}
 use Rattle.sgx_types.specs.declared.names.Page.{Page}
 use Rattle.sgx_types.specs.declared.names.Perm.{Perm}
-use Rattle.sgx_types.specs.Frames.{Content, Free, Holds, Put, content, held_after, is_page, is_sealing, made_before, page_at, put_by, same_page}
+use Rattle.sgx_types.specs.Frames.{Content, Free, Holds, Put, content, held_after, is_page, is_sealing, made_before, page_at, put_by}
+use Rattle.sgx_types.specs.Frames.{same_page}
 use Rattle.sgx_types.specs.Processors.{BareTranslation, Move, Enters, Leaves, Keeps, Stay, is_by, move_by, stay, stay_after, translations}
 use Rattle.sgx_types.specs.Rules.{IsCurrent, IsStill, IsUndisturbed, NoPageTwice, NoneStale}
 use Rattle.sgx_types.proofs.Pages.{same_pages}
@@ -22,7 +25,8 @@ use Rattle.turn_rules.specs.Script.{frame_at}
 use Rattle.driver_rules.specs.Decided.{all_along}
 use Rattle.driver_rules.specs.Same.{same_kind, same_perm}
 use Rattle.driver_rules.proofs.SameLaws.{action-true}
-use Rattle.driver_traces.specs.Settled.{acts_below, all_below, are_apart, are_current, holds_same, is_actor_below, is_held_still, is_none_stale, is_page_once, is_put_below, is_settled, is_still, is_undisturbed, puts_below}
+use Rattle.driver_traces.specs.Settled.{acts_below, all_below, are_apart, are_current, holds_same, is_actor_below, is_held_still}
+use Rattle.driver_traces.specs.Settled.{is_none_stale, is_page_once, is_put_below, is_settled, is_still, is_undisturbed, puts_below}
 use Rattle.driver_traces.proofs.LawfulLaws.{is_below}
 
 untrue : (b : Bool) → not b ≡ true → b ≡ false

@@ -8,7 +8,8 @@ use Rattle.sgx_types.specs.declared.entries.Look.TheVariants as looks
 use Rattle.job_grammar.specs.declared.jobs.PageLine.TheVariants as lines
 use Rattle.job_grammar.specs.declared.jobs.Op.TheVariants as ops
 use Rattle.job_grammar.specs.Jobs.{JobView}
-use Rattle.driver_traces.specs.Words.{add_reg, add_tcs, aex, age, block, cpu, create, enter, epa, init, kick, out, rw_perm, start_out, track, try_refused}
+use Rattle.driver_traces.specs.Words.{add_reg, add_tcs, aex, age, block, cpu, create, enter, epa, init, kick, out, rw_perm, start_out}
+use Rattle.driver_traces.specs.Words.{track, try_refused}
 
 -- eight frames, of which one is left when all is built
 abbrev pub crowd_job : JobView

@@ -8,7 +8,8 @@ use Rattle.sgx_types.specs.declared.entries.Look.TheVariants as looks
 use Rattle.job_grammar.specs.declared.jobs.PageLine.TheVariants as lines
 use Rattle.job_grammar.specs.declared.jobs.Op.TheVariants as ops
 use Rattle.job_grammar.specs.Jobs.{JobView, default_marks}
-use Rattle.driver_traces.specs.Words.{add_reg, add_tcs, aex, age, back, block, bus, cpu, create, enter, epa, init, out, rw_perm, start_back, start_out, track, try_refused}
+use Rattle.driver_traces.specs.Words.{add_reg, add_tcs, aex, age, back, block, bus, cpu, create, enter, epa, init, out, rw_perm, start_back}
+use Rattle.driver_traces.specs.Words.{start_out, track, try_refused}
 
 -- the third put fails, which no rule here looks at
 abbrev pub lost_job : JobView

@@ -6,7 +6,8 @@ use Rattle.sgx_types.specs.declared.entries.Look.TheVariants as looks
 use Rattle.job_grammar.specs.declared.jobs.PageLine.TheVariants as lines
 use Rattle.job_grammar.specs.declared.jobs.Op.TheVariants as ops
 use Rattle.job_grammar.specs.Jobs.{JobView}
-use Rattle.driver_traces.specs.Words.{add_read_only, add_reg, add_tcs, age, back, block, cpu, create, enter, epa, exit, extend, fill, init, load, out, r_perm, rw_perm, start_back, start_out, track, try_refused}
+use Rattle.driver_traces.specs.Words.{add_read_only, add_reg, add_tcs, age, back, block, cpu, create, enter, epa, exit, extend, fill, init}
+use Rattle.driver_traces.specs.Words.{load, out, r_perm, rw_perm, start_back, start_out, track, try_refused}
 
 -- six frames for five pages, the version array and the SECS; page 2 is measured
 abbrev pub measured_job : JobView

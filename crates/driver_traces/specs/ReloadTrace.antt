@@ -7,7 +7,8 @@ use Rattle.sgx_types.specs.declared.entries.Look.TheVariants as looks
 use Rattle.job_grammar.specs.declared.jobs.PageLine.TheVariants as lines
 use Rattle.job_grammar.specs.declared.jobs.Op.TheVariants as ops
 use Rattle.job_grammar.specs.Jobs.{JobView, default_marks}
-use Rattle.driver_traces.specs.Words.{add_reg, add_tcs, aex, age, back, block, cpu, create, enter, epa, exit, fill, init, kick, load, out, resume, rw_perm, start_back, start_out, store, track, try_refused}
+use Rattle.driver_traces.specs.Words.{add_reg, add_tcs, aex, age, back, block, cpu, create, enter, epa, exit, fill, init, kick, load, out}
+use Rattle.driver_traces.specs.Words.{resume, rw_perm, start_back, start_out, store, track, try_refused}
 
 -- seven frames for eight pages, the version array and the SECS
 abbrev pub reload_job : JobView

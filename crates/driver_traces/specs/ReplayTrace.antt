@@ -8,7 +8,8 @@ use Rattle.sgx_types.specs.declared.entries.Look.TheVariants as looks
 use Rattle.job_grammar.specs.declared.jobs.PageLine.TheVariants as lines
 use Rattle.job_grammar.specs.declared.jobs.Op.TheVariants as ops
 use Rattle.job_grammar.specs.Jobs.{JobView, default_marks}
-use Rattle.driver_traces.specs.Words.{add_reg, add_tcs, aex, age, back, back_refused, block, bus, cpu, create, enter, epa, fill, init, kick, load, out, resume, rw_perm, start_back, start_out, store, track, try_refused}
+use Rattle.driver_traces.specs.Words.{add_reg, add_tcs, aex, age, back, back_refused, block, bus, cpu, create, enter, epa, fill, init, kick}
+use Rattle.driver_traces.specs.Words.{load, out, resume, rw_perm, start_back, start_out, store, track, try_refused}
 
 -- the second get of page 2 gives its first record, which no rule here looks at
 abbrev pub replay_job : JobView

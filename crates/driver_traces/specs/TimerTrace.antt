@@ -9,7 +9,8 @@ use Rattle.sgx_types.specs.declared.entries.PfWhy.TheVariants as pfs
 use Rattle.job_grammar.specs.declared.jobs.PageLine.TheVariants as lines
 use Rattle.job_grammar.specs.declared.jobs.Op.TheVariants as ops
 use Rattle.job_grammar.specs.Jobs.{JobView, default_marks}
-use Rattle.driver_traces.specs.Words.{add_reg, add_tcs, aex, age, back, block, cpu, create, enter, epa, exit, fill, init, kick, load, out, outload, pf, plus, resume, rw_perm, set, start_back, start_out, track, try_refused}
+use Rattle.driver_traces.specs.Words.{add_reg, add_tcs, aex, age, back, block, cpu, create, enter, epa, exit, fill, init, kick, load, out}
+use Rattle.driver_traces.specs.Words.{outload, pf, plus, resume, rw_perm, set, start_back, start_out, track, try_refused}
 
 -- seven frames
 abbrev pub timer_job : JobView

@@ -1,5 +1,6 @@
 -- Where the translations of a cache lead, and what fills and stores leave of that.
-use Rattle.std.proofs.Common.{◌≡◌, ℕ, ◌<◌, ◌/◌, Bool, true, false, cond, ltb, is_some, List, [], ◌∷◌, ◌++◌, Option, Some, None, length, length-set, drop, refl}
+use Rattle.std.proofs.Common.{◌≡◌, ℕ, ◌<◌, ◌/◌, Bool, true, false, cond, ltb, is_some, List, [], ◌∷◌, ◌++◌}
+use Rattle.std.proofs.Common.{Option, Some, None, length, length-set, drop, refl}
 use Rattle.std.proofs.lemmas.List.Elements.{All-push, All-drop}
 use Rattle.sgx_types.specs.declared.names.Frame.{Frame}
 use Rattle.sgx_types.specs.declared.names.Perm.{Perm}

@@ -9,7 +9,8 @@ use Rattle.sgx_types.specs.Frames.{page_at}
 use Rattle.sgx_types.specs.Flat.{first_words}
 use Rattle.epcm_entry.specs.EntryView.{holding}
 use Rattle.epcm_entry.specs.Epc.{EpcFrame, entry_at, words_at, with_page}
-use Rattle.epcm_entry.proofs.Columns.{length-with_entry, entry_at-with_entry, words_at-with_entry, length-with_words, entry_at-with_words, words_at-with_words}
+use Rattle.epcm_entry.proofs.Columns.{length-with_entry, entry_at-with_entry, words_at-with_entry, length-with_words, entry_at-with_words}
+use Rattle.epcm_entry.proofs.Columns.{words_at-with_words}
 use Rattle.sgx_types.specs.Frames.{no_perm}
 use Rattle.enclave_build.specs.Build.{with_secs, with_added}
 

@@ -1,5 +1,6 @@
 -- What a change of one frame leaves of every frame's entry and words.
-use Rattle.std.proofs.Common.{◌≡◌, ℕ, ◌<◌, ◌==◌, true, false, cond, List, length, set, All, Option, Some, None, position, arith, refl, sym, ap, ◌∙◌, ◌^◌, length-set, ⊎_elim}
+use Rattle.std.proofs.Common.{◌≡◌, ℕ, ◌<◌, ◌==◌, true, false, cond, List, length, set, All, Option, Some, None, position}
+use Rattle.std.proofs.Common.{arith, refl, sym, ap, ◌∙◌, ◌^◌, length-set, ⊎_elim}
 use Rattle.std.specs.Option.{option_map}
 use Rattle.std.proofs.lemmas.List.Sums.{fails_before_first, passes_at_first}
 use Rattle.std.proofs.lemmas.Bool.{cases_lt, cond_both, eqb-true, eq-eqb, false≢true}
@@ -10,7 +11,8 @@ use Rattle.sgx_types.specs.declared.names.Frame.{Frame}
 use Rattle.epcm_entry.specs.EntryView.{is_free}
 use Rattle.epcm_entry.proofs.Marks.{position_some, position_none}
 use Rattle.epcm_entry.specs.Words.{zero_words}
-use Rattle.epcm_entry.specs.Epc.{EpcFrame, IsEpc, frame_at, entry_at, words_at, with_entry, with_words, cleared, free_frame, first_free_of, is_free_frame}
+use Rattle.epcm_entry.specs.Epc.{EpcFrame, IsEpc, frame_at, entry_at, words_at, with_entry, with_words, cleared, free_frame, first_free_of}
+use Rattle.epcm_entry.specs.Epc.{is_free_frame}
 
 -- a column of a changed frame, read at each place
 column : {X : Type 0} (col : EpcFrame → X) (epc : List EpcFrame) (f n : ℕ) (frame : EpcFrame) → f < length epc

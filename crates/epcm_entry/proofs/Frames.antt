@@ -1,5 +1,7 @@
 -- Frames by their entries and their pages.
-use Rattle.std.proofs.Common.{◌≡◌, ℕ, ◌+◌, ◌<◌, ◌≤◌, Bool, true, false, cond, not, ltb, Option, Some, None, MatchOption, List, [], ◌∷◌, map, length, get_or, set, replicate, count_by, position, All, w64, refl, sym, ap, ◌∙◌, arith, suc, zero}
+use Rattle.std.proofs.Common.{◌≡◌, ℕ, ◌+◌, ◌<◌, ◌≤◌, Bool, true, false, cond, not, ltb, Option, Some, None}
+use Rattle.std.proofs.Common.{MatchOption, List, [], ◌∷◌, map, length, get_or, set, replicate, count_by, position, All, w64, refl}
+use Rattle.std.proofs.Common.{sym, ap, ◌∙◌, arith, suc, zero}
 use Rattle.std.specs.Int.{from_le_bytes}
 use Rattle.std.specs.List.{fold, prefix_len}
 use Rattle.std.specs.Option.{option_map}
@@ -11,7 +13,8 @@ use Rattle.epcm_entry.specs.EntryView.{is_free}
 use Rattle.epcm_entry.specs.Words.{zero_words, IsPage}
 use Rattle.std.proofs.lemmas.List.Elements.{All-get_or, All-set}
 use Rattle.epcm_entry.proofs.Words.{page_small}
-use Rattle.epcm_entry.specs.Epc.{EpcFrame, frames_of, frame_at, entry_at, words_at, is_free_frame, with_entry, with_words, cleared, free_frame, free_frames, IsFrame, IsEpc}
+use Rattle.epcm_entry.specs.Epc.{EpcFrame, frames_of, frame_at, entry_at, words_at, is_free_frame, with_entry, with_words, cleared}
+use Rattle.epcm_entry.specs.Epc.{free_frame, free_frames, IsFrame, IsEpc}
 
 pub length-frames_of : (entries : List EntryView) (pages : List (List (List ℕ))) → length pages ≡ length entries
     → length (frames_of entries pages) ≡ length entries

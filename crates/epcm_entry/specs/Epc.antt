@@ -1,5 +1,6 @@
 -- The EPC as contracts see it: its frames in order, each with its EPCM entry and its words.
-use Rattle.std.specs.Prelude.{◌≡◌, ◌<◌, ◌≤◌, ◌^◌, ℕ, Bool, List, [], ◌∷◌, length, map, position, replicate, Option, slice_index, slice_index_or, slice_set, All}
+use Rattle.std.specs.Prelude.{◌≡◌, ◌<◌, ◌≤◌, ◌^◌, ℕ, Bool, List, [], ◌∷◌, length, map, position, replicate}
+use Rattle.std.specs.Prelude.{Option, slice_index, slice_index_or, slice_set, All}
 use Rattle.std.specs.Option.{option_map}
 use Rattle.std.specs.Int.{w64, from_le_bytes}
 use Rattle.sgx_types.specs.declared.names.Frame.{Frame}

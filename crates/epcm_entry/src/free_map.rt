@@ -1,6 +1,7 @@
 //! The set of free frames, as bits.
 
-ghost use Rattle.std.specs.Prelude.{◌≡◌, ◌<◌, ◌≤◌, true, false, length, replicate, slice_index_or, slice_set, count_by, position, IfOk};
+ghost use Rattle.std.specs.Prelude.{◌≡◌, ◌<◌, ◌≤◌, true, false, length, replicate, slice_index_or, slice_set, count_by};
+ghost use Rattle.std.specs.Prelude.{position, IfOk};
 ghost use Rattle.epcm_entry.specs.FreeMap.{IsFull, is_used};
 
 use std::alloc::{AllocError, Global};

@@ -1,5 +1,7 @@
 -- What an entry that can be taken in asks of the seat, and what the notes tell behind it.
-use Rattle.std.proofs.Common.{◌≡◌, ◌==◌, ◌≤◌, ◌<◌, ◌-◌, ◌⊎◌, inl, inr, ℕ, Bool, true, false, if◌then◌else◌, set, get_or, List, [], ◌∷◌, ◌++◌, length, refl, sym, ap, ◌∙◌, subst, Option, Some, None, IfSome, is_some, arith}
+use Rattle.std.proofs.Common.{◌≡◌, ◌==◌, ◌≤◌, ◌<◌, ◌-◌, ◌⊎◌, inl, inr, ℕ, Bool, true, false}
+use Rattle.std.proofs.Common.{if◌then◌else◌, set, get_or, List, [], ◌∷◌, ◌++◌, length, refl, sym, ap, ◌∙◌, subst}
+use Rattle.std.proofs.Common.{Option, Some, None, IfSome, is_some, arith}
 use Rattle.std.proofs.lemmas.Bool.{false≢true}
 use Rattle.sgx_types.specs.declared.entries.Action.{Action}
 use Rattle.sgx_types.specs.declared.entries.Action.TheVariants as actions
@@ -21,7 +23,8 @@ use Rattle.driver_laws.specs.Tracking.{CanMoveFrom, CanTrack, StayTells, TrackTe
 use Rattle.epoch_words.specs.Seen.{HasRoom, tracked}
 use Rattle.epoch_words.specs.Seen as words
 use Rattle.epoch_notes.specs.Notes.{CanNote, IsIn, IsOfCpus, NotesView, TellsEntries, after_enter, after_leave, seen_of}
-use Rattle.epoch_notes.proofs.NoteLaws.{IsNear, all_near, is_in, is_noted, limited, may_track, room_now, tells_entered, tells_left, tells_other, tells_quiet, tells_tracked, track_keeps}
+use Rattle.epoch_notes.proofs.NoteLaws.{IsNear, all_near, is_in, is_noted, limited, may_track, room_now, tells_entered, tells_left}
+use Rattle.epoch_notes.proofs.NoteLaws.{tells_other, tells_quiet, tells_tracked, track_keeps}
 
 -- ---- enclaves that were created stay so
 

@@ -1,5 +1,6 @@
 -- Entries taken in one after another.
-use Rattle.std.proofs.Common.{◌≡◌, ◌+◌, ◌-◌, ◌≤◌, ◌<◌, ℕ, zero, suc, true, get_or, List, [], ◌∷◌, ◌++◌, length, reverse, drop, take, sym, ap, ◌∙◌, subst, is_some, arith}
+use Rattle.std.proofs.Common.{◌≡◌, ◌+◌, ◌-◌, ◌≤◌, ◌<◌, ℕ, zero, suc, true, get_or, List, [], ◌∷◌, ◌++◌}
+use Rattle.std.proofs.Common.{length, reverse, drop, take, sym, ap, ◌∙◌, subst, is_some, arith}
 use Rattle.std.specs.List.{All}
 use Rattle.std.proofs.lemmas.List.{append_assoc, get_or-reverse, length-reverse, reverse-append, take-append-drop, take_all, take_more}
 use Rattle.sgx_types.specs.declared.entries.Entry.{Entry}

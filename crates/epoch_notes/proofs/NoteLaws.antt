@@ -1,5 +1,7 @@
 -- The notes take in an entry.
-use Rattle.std.proofs.Common.{◌≡◌, ◌==◌, ◌<◌, ◌≤◌, ◌+◌, ◌-◌, ◌⊎◌, inl, inr, ℕ, Bool, true, false, cond, ltb, set, get_or, List, [], ◌∷◌, length, replicate, refl, sym, ap, ◌∙◌, subst, Option, Some, None, IfSome, arith, length-set, get_or-set_same, get_or-set_other}
+use Rattle.std.proofs.Common.{◌≡◌, ◌==◌, ◌<◌, ◌≤◌, ◌+◌, ◌-◌, ◌⊎◌, inl, inr, ℕ, Bool, true, false, cond}
+use Rattle.std.proofs.Common.{ltb, set, get_or, List, [], ◌∷◌, length, replicate, refl, sym, ap, ◌∙◌, subst, Option, Some, None}
+use Rattle.std.proofs.Common.{IfSome, arith, length-set, get_or-set_same, get_or-set_other}
 use Rattle.std.proofs.lemmas.Bool.{cases_lt, eq-eqb, eqb-true, false≢true, lt-ltb}
 use Rattle.std.proofs.lemmas.List.{get_or-replicate, length-replicate}
 use Rattle.sgx_types.specs.Counts.{count_below}
@@ -23,7 +25,8 @@ use Rattle.epoch_words.specs.Seen.{HasRoom, IsInside, entered, left, seen, start
 use Rattle.epoch_words.specs.Seen as words
 use Rattle.epoch_notes.specs.declared.notes.Inside.{Inside}
 use Rattle.epoch_notes.specs.Notes.{IsIn, NotesView, TellsEntries, after_enter, after_leave, seen_of, since, TableId, word_by}
-use Rattle.epoch_notes.proofs.WordLaws.{before_track, has_room, is_counted, none_passes, word_entered, is_newer, word_left, word_none, word_tracked, word_with}
+use Rattle.epoch_notes.proofs.WordLaws.{before_track, has_room, is_counted, none_passes, word_entered, is_newer, word_left, word_none}
+use Rattle.epoch_notes.proofs.WordLaws.{word_tracked, word_with}
 
 -- ---- along a run
 

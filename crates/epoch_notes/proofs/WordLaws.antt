@@ -1,5 +1,7 @@
 -- What one entry more does to the word of an enclave by the entries.
-use Rattle.std.proofs.Common.{◌≡◌, ◌==◌, ◌&&◌, ◌<◌, ◌≤◌, ◌+◌, ◌-◌, ◌⊎◌, inl, inr, ℕ, zero, suc, not, Bool, true, false, cond, ltb, List, [], length, refl, sym, ap, ◌∙◌, subst, Option, Some, None, IfSome, arith}
+use Rattle.std.proofs.Common.{◌≡◌, ◌==◌, ◌&&◌, ◌<◌, ◌≤◌, ◌+◌, ◌-◌, ◌⊎◌, inl, inr, ℕ, zero, suc, not}
+use Rattle.std.proofs.Common.{Bool, true, false, cond, ltb, List, [], length, refl, sym, ap, ◌∙◌, subst, Option, Some, None, IfSome}
+use Rattle.std.proofs.Common.{arith}
 use Rattle.std.proofs.lemmas.Bool.{cases_lt, eq-eqb, eqb-true, false≢true, le-ltb, lt-ltb}
 use Rattle.sgx_types.specs.Counts.{count_below}
 use Rattle.sgx_types.specs.declared.entries.Entry.{Entry}

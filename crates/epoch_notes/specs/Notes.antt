@@ -1,5 +1,6 @@
 -- What the words of a run say by its entries, and who is inside which enclave since which epoch.
-use Rattle.std.specs.Prelude.{ℕ, ◌≡◌, ◌≤◌, ◌<◌, ◌-◌, ◌++◌, All, true, List, Option, Some, None, is_some, length, slice_index_or, slice_set}
+use Rattle.std.specs.Prelude.{ℕ, ◌≡◌, ◌≤◌, ◌<◌, ◌-◌, ◌++◌, All, true, List, Option, Some, None, is_some, length}
+use Rattle.std.specs.Prelude.{slice_index_or, slice_set}
 use Rattle.sgx_types.specs.declared.entries.Actor.{Actor}
 use Rattle.sgx_types.specs.declared.entries.Actor.TheVariants as actors
 use Rattle.sgx_types.specs.declared.entries.Entry.{Entry}

@@ -1,6 +1,7 @@
 //! The seat of the tracking words, with who is inside which enclave since which epoch.
 
-ghost use Rattle.std.specs.Prelude.{◌≡◌, ◌≤◌, ◌<◌, ◌-◌, ◌∷◌, ◌++◌, [], IfOk, IfSome, None, length, replicate, reverse, slice_index_or};
+ghost use Rattle.std.specs.Prelude.{◌≡◌, ◌≤◌, ◌<◌, ◌-◌, ◌∷◌, ◌++◌, [], IfOk, IfSome, None, length, replicate};
+ghost use Rattle.std.specs.Prelude.{reverse, slice_index_or};
 ghost use Rattle.epoch_words.specs.Rule.{at};
 ghost use Rattle.epoch_words.specs.Seen.{HasRoom};
 ghost use Rattle.epoch_notes.specs.Notes.{CanNote, IsIn, TellsEntries, after_enter, after_leave};

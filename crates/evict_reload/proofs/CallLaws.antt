@@ -1,6 +1,7 @@
 -- After each call that may move a page, done or refused, the frames that hold version array pages are those at which the
 -- table has one, where they were before.
-use Rattle.std.proofs.Common.{◌≡◌, ℕ, ◌<◌, ◌||◌, Bool, true, false, not, cond, List, Option, Some, None, Result, Ok, Err, OnOk, OnErr, IfSome, length, refl, sym, ap, ◌∙◌, arith}
+use Rattle.std.proofs.Common.{◌≡◌, ℕ, ◌<◌, ◌||◌, Bool, true, false, not, cond, List, Option, Some, None, Result, Ok, Err}
+use Rattle.std.proofs.Common.{OnOk, OnErr, IfSome, length, refl, sym, ap, ◌∙◌, arith}
 use Rattle.std.proofs.lemmas.Bool.{leb-false, ltb-false, not-false}
 use Rattle.sgx_types.specs.declared.names.Kind.{Kind}
 use Rattle.sgx_types.specs.declared.names.Kind.TheVariants as kinds
@@ -9,8 +10,8 @@ use Rattle.sgx_types.specs.declared.names.Perm.{Perm}
 use Rattle.sgx_types.specs.declared.names.SlotAt.{SlotAt}
 use Rattle.sgx_types.specs.declared.refusals.Refusal.{Refusal}
 use Rattle.sgx_types.specs.declared.refusals.Refusal.TheVariants as why
-use Rattle.sgx_types.specs.Frames.{Content, Free, IsVa, SecsOf, Holds, IsLoading}
-use Rattle.sgx_types.specs.Table.{DrainSight, EnclaveSight, refusal_in, first_of_row, is_made, is_va, is_valid, is_loading, is_out_of_range, ewbstart_row, eldstart_row}
+use Rattle.sgx_types.specs.Table.{DrainSight, EnclaveSight, refusal_in, first_of_row, is_made, is_va, is_valid, is_loading, is_out_of_range}
+use Rattle.sgx_types.specs.Table.{ewbstart_row, eldstart_row}
 use Rattle.epcm_entry.specs.declared.entry_view.EntryView.TheVariants as views
 use Rattle.epcm_entry.specs.EntryView.{holding, outgoing}
 use Rattle.epcm_entry.specs.Epc.{EpcFrame, entry_at, with_page, with_sealing, with_loading, cleared}

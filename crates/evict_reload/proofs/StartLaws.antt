@@ -1,5 +1,5 @@
 -- What is true of a frame that a start was not refused.
-use Rattle.std.proofs.Common.{◌≡◌, ℕ, Bool, true, false, not, ◌||◌, cond, List, Option, Some, None, Ok, refl}
+use Rattle.std.proofs.Common.{◌≡◌, ℕ, Bool, true, false, ◌||◌, List, Option, None, Ok, refl}
 use Rattle.sgx_types.specs.Table.{EnclaveSight, SlotSight, is_busy, is_loading, first_of_row, eldstart_row}
 use Rattle.epcm_entry.specs.declared.entry_view.EntryView.{EntryView}
 use Rattle.epcm_entry.specs.declared.entry_view.EntryView.TheVariants as views

@@ -1,5 +1,6 @@
 -- The answer of a fault step is what is due, and what its entry keeps.
-use Rattle.std.proofs.Common.{◌≡◌, ℕ, ◌<◌, Bool, true, false, List, ◌∷◌, Option, None, Some, Result, Ok, Err, IfOk, MatchOption, length, refl, sym, ap, subst, ◌∙◌}
+use Rattle.std.proofs.Common.{◌≡◌, ℕ, ◌<◌, Bool, true, false, List, ◌∷◌, Option, None, Some, Result, Ok, Err, IfOk}
+use Rattle.std.proofs.Common.{MatchOption, length, refl, sym, ap, subst, ◌∙◌}
 use Rattle.sgx_types.specs.declared.entries.Action.TheVariants.{EldStart}
 use Rattle.sgx_types.specs.declared.entries.Actor.TheVariants as actors
 use Rattle.sgx_types.specs.declared.entries.Answer.{Answer}

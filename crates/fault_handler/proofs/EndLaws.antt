@@ -1,5 +1,6 @@
 -- The end of a load is what is due, and what its entry keeps.
-use Rattle.std.proofs.Common.{◌≡◌, ℕ, ◌+◌, ◌<◌, not, Bool, true, false, if◌then◌else◌, List, ◌∷◌, Option, None, Some, MatchOption, ⊎_elim, ◌⊎◌, inl, inr, length, is_some, refl, sym, ap, subst, ◌∙◌}
+use Rattle.std.proofs.Common.{◌≡◌, ℕ, ◌+◌, ◌<◌, not, Bool, true, false, if◌then◌else◌, List, ◌∷◌, Option, None}
+use Rattle.std.proofs.Common.{Some, MatchOption, ⊎_elim, ◌⊎◌, inl, inr, length, is_some, refl, sym, ap, subst, ◌∙◌}
 use Rattle.std.proofs.lemmas.Bool.{eq-eqb}
 use Rattle.std.specs.Str.{bytes_eq}
 use Rattle.sgx_types.specs.declared.entries.Action.TheVariants.{Eld}

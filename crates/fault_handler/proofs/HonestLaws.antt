@@ -16,7 +16,7 @@ use Rattle.sgx_types.specs.Slots.{version_in}
 use Rattle.sgx_types.specs.Starts.{Start, loads_page, open_start, BareStart}
 use Rattle.seal_record.specs.Cipher.{tag}
 use Rattle.paging_laws.specs.Columns.{EnclaveColumns}
-use Rattle.paging_laws.proofs.ColumnLaws.{added_is, start_is}
+use Rattle.paging_laws.proofs.ColumnLaws.{added_is}
 use Rattle.paging_laws.specs.State.{State}
 use Rattle.paging_laws.specs.Steps.{IsComing}
 use Rattle.paging_laws.proofs.SlotLaws.{started_as}

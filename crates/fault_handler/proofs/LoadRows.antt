@@ -1,5 +1,6 @@
 -- A load of a page that is away, into the least free frame, is not refused.
-use Rattle.std.proofs.Common.{◌≡◌, ℕ, suc, zero, ◌+◌, ◌<◌, ◌≤◌, not, Bool, true, false, cond, refl, sym, ap, subst, ◌∙◌, List, Option, Some, None, is_some, nat_le, nat_lt, arith}
+use Rattle.std.proofs.Common.{◌≡◌, ℕ, suc, zero, ◌+◌, ◌<◌, ◌≤◌, not, Bool, true, false, cond, refl, sym, ap, subst}
+use Rattle.std.proofs.Common.{◌∙◌, List, Option, Some, None, is_some, nat_le, nat_lt, arith}
 use Rattle.std.proofs.lemmas.Bool.{and_parts, leb-true}
 use Rattle.sgx_types.specs.declared.entries.Action.TheVariants.{EldStart}
 use Rattle.sgx_types.specs.declared.entries.Actor.{Actor}
@@ -16,7 +17,6 @@ use Rattle.sgx_types.specs.Starts.{open_start}
 use Rattle.turn_rules.specs.Script.{frame_at}
 use Rattle.job_grammar.specs.Jobs.{JobView}
 use Rattle.version_array.specs.Keeper.{is_added, is_among, is_ours, is_out}
-use Rattle.paging_laws.specs.Columns.{HasColumns}
 use Rattle.paging_laws.specs.State.{State, row_of, sight, slot_sight}
 use Rattle.paging_laws.proofs.ColumnLaws.{added_is, sight_is, version_is}
 use Rattle.paging_laws.specs.Shape.{IsShaped}

@@ -1,5 +1,7 @@
 -- What a written place of the tables, and a written processor, do to the memory that the parts make.
-use Rattle.std.proofs.Common.{ℕ, zero, suc, ◌≡◌, ◌≤◌, ◌<◌, ◌==◌, ◌&&◌, ◌⊎◌, inl, inr, refl, sym, ap, ◌∙◌, cond, Bool, true, false, Option, Some, None, is_some, List, [], ◌∷◌, length, set, get_or, replicate}
+use Rattle.std.proofs.Common.{ℕ, zero, suc, ◌≡◌, ◌≤◌, ◌<◌, ◌==◌, ◌&&◌, ◌⊎◌, inl, inr, refl, sym, ap}
+use Rattle.std.proofs.Common.{◌∙◌, cond, Bool, true, false, Option, Some, None, is_some, List, [], ◌∷◌, length, set, get_or}
+use Rattle.std.proofs.Common.{replicate}
 use Rattle.std.proofs.lemmas.Bool.{cond_both, cases_lt, eqb-true, false≢true}
 use Rattle.std.proofs.lemmas.List.{set_past, get_or_past, length-set}
 use Rattle.sgx_types.specs.declared.names.Page.{Page}
@@ -8,7 +10,8 @@ use Rattle.sgx_types.specs.Flat.{fresh, rewritten, with_words, with_busy, with_c
 use Rattle.flat_machine.specs.declared.table.PlainPage.{PlainPage}
 use Rattle.flat_machine.specs.declared.flat.Processor.{Processor}
 use Rattle.flat_machine.specs.declared.flat.Enclave.{Enclave}
-use Rattle.flat_machine.specs.Parts.{FlatParts, look, with_slot, with_word, with_busy_mark, page_of, busy_of, cpu_of, memory_of, idle, enclave_of}
+use Rattle.flat_machine.specs.Parts.{FlatParts, look, with_slot, with_word, with_busy_mark, page_of, busy_of, cpu_of, memory_of, idle}
+use Rattle.flat_machine.specs.Parts.{enclave_of}
 use Rattle.sgx_types.proofs.Pages.{same_pages}
 use Rattle.sgx_types.proofs.Truths.{eqb-swap}
 use Rattle.flat_machine.proofs.Lists.{get_or-set_if, like}

@@ -1,5 +1,7 @@
 -- What the steps of the code do to the memory is what the rows of flat memory say.
-use Rattle.std.proofs.Common.{ℕ, ◌≡◌, ◌≤◌, ◌<◌, ◌/◌, ◌==◌, ◌||◌, not, ◌⊎◌, inl, inr, refl, sym, ap, ◌∙◌, arith, cond, Bool, true, false, Option, Some, None, is_some, List, [], ◌∷◌, length, set, get_or, replicate}
+use Rattle.std.proofs.Common.{ℕ, ◌≡◌, ◌≤◌, ◌<◌, ◌/◌, ◌==◌, ◌||◌, not, ◌⊎◌, inl, inr, refl, sym, ap}
+use Rattle.std.proofs.Common.{◌∙◌, arith, cond, Bool, true, false, Option, Some, None, is_some, List, [], ◌∷◌, length, set}
+use Rattle.std.proofs.Common.{get_or, replicate}
 use Rattle.std.proofs.lemmas.Bool.{cond_both, cases_lt, eqb-true, false≢true, ltb-true, leb-true}
 use Rattle.std.proofs.lemmas.List.{get_or_past, nil_from_length}
 use Rattle.sgx_types.specs.declared.names.Page.{Page}
@@ -9,14 +11,15 @@ use Rattle.sgx_types.specs.declared.entries.PageInit.{PageInit}
 use Rattle.sgx_types.specs.declared.entries.PageInit.TheVariants as inits
 use Rattle.sgx_types.specs.Frames.{same_page, page_at}
 use Rattle.sgx_types.specs.Table as table
-use Rattle.sgx_types.specs.Table.{Case, first_of_row, create_row, add_row, EnclaveSight}
-use Rattle.sgx_types.specs.Flat.{FlatMemory, FlatPage, FlatEnclave, open_frame, enclave_sight_of, marked, initialised, with_enclave, with_page, with_busy, with_cpu, with_words, rewritten, left, is_inside_by}
+use Rattle.sgx_types.specs.Table.{first_of_row, create_row, add_row}
+use Rattle.sgx_types.specs.Flat.{FlatMemory, FlatPage, FlatEnclave, open_frame, enclave_sight_of, marked, initialised, with_enclave}
+use Rattle.sgx_types.specs.Flat.{with_page, with_busy, with_cpu, with_words, rewritten, left, is_inside_by}
 use Rattle.flat_machine.specs.declared.table.PlainPage.{PlainPage}
 use Rattle.flat_machine.specs.declared.flat.Enclave.{Enclave}
 use Rattle.flat_machine.specs.Parts.{FlatParts, look, with_slot, page_of, busy_of, enclave_of, memory_of, seat}
 use Rattle.flat_machine.specs.Whole.{page_count}
 use Rattle.sgx_types.proofs.Pages.{same_pages}
-use Rattle.sgx_types.proofs.Rows.{NoneHolds, none_holds}
+use Rattle.sgx_types.proofs.Rows.{none_holds}
 use Rattle.sgx_types.proofs.Truths.{both_true, eqb-swap, neither, not_false}
 use Rattle.flat_machine.proofs.Lists.{get_or-set_if, like}
 use Rattle.flat_machine.proofs.Columns.{slot_written}

@@ -1,6 +1,7 @@
 //! The pages of one enclave, by their numbers.
 
-ghost use Rattle.std.specs.Prelude.{◌≡◌, ◌≤◌, ◌<◌, length, replicate, slice_index, slice_set, slice_index_or, is_some, IfOk, None, Some};
+ghost use Rattle.std.specs.Prelude.{◌≡◌, ◌≤◌, ◌<◌, length, replicate, slice_index, slice_set, slice_index_or, is_some};
+ghost use Rattle.std.specs.Prelude.{IfOk, None, Some};
 ghost use Rattle.std.specs.Option.{option_copied};
 ghost use Rattle.flat_machine.specs.Parts.{added_in, busy_of, page_of, words_in, with_word, with_busy_mark};
 ghost use Rattle.flat_machine.specs.Bytes.{bytes_in};

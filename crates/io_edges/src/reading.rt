@@ -1,6 +1,7 @@
 //! Reading a source to its end.
 
-ghost use Rattle.std.specs.Prelude.{◌≡◌, ◌<◌, ◌≤◌, ◌+◌, ◌^◌, ◌++◌, [], take, length, vec_len, IfOk, OnOk, OnErr, IfSome, IsErrOf};
+ghost use Rattle.std.specs.Prelude.{◌≡◌, ◌<◌, ◌≤◌, ◌+◌, ◌^◌, ◌++◌, [], take, length, vec_len, IfOk, OnOk};
+ghost use Rattle.std.specs.Prelude.{OnErr, IfSome, IsErrOf};
 ghost use Rattle.io_edges.specs.declared.reading.ReadEnd.TheVariants as ends;
 ghost use Rattle.io_edges.specs.Faults.{HasCause};
 ghost use Rattle.io_edges.specs.Sources.{fewer, emptied, HasRead, TakesAtMost};

@@ -1,5 +1,6 @@
 -- Jobs as contracts see them, and what their lines say.
-use Rattle.std.specs.Prelude.{ℕ, zero, suc, ◌==◌, ◌+◌, ◌*◌, ◌/◌, ◌&&◌, Bool, true, false, min, List, [], Option, Some, None, length, map, sum_by, nat_le, nat_lt, slice_get, find}
+use Rattle.std.specs.Prelude.{ℕ, zero, suc, ◌==◌, ◌+◌, ◌*◌, ◌/◌, ◌&&◌, Bool, true, false, min, List, [], Option, Some}
+use Rattle.std.specs.Prelude.{None, length, map, sum_by, nat_le, nat_lt, slice_get, find}
 use Rattle.std.specs.Global.{Vec}
 use Rattle.std.specs.List.{list_any}
 use Rattle.sgx_types.specs.declared.names.Page.{Page}

@@ -1,5 +1,6 @@
 -- When a job is valid.
-use Rattle.std.specs.Prelude.{ℕ, ◌≡◌, ◌+◌, ◌-◌, ◌/◌, ◌%◌, ◌^◌, ◌<◌, ◌≤◌, true, List, Option, None, Some, IfSome, length, count_by, sum_by}
+use Rattle.std.specs.Prelude.{ℕ, ◌≡◌, ◌+◌, ◌-◌, ◌/◌, ◌%◌, ◌^◌, ◌<◌, ◌≤◌, true, List, Option, None}
+use Rattle.std.specs.Prelude.{Some, IfSome, length, count_by, sum_by}
 use Rattle.std.specs.List.{All}
 use Rattle.sgx_types.specs.Table.{is_lawful}
 use Rattle.io_edges.specs.declared.plans.PlanLine.{PlanLine}
@@ -9,7 +10,8 @@ use Rattle.job_grammar.specs.declared.jobs.PageLine.{PageLine}
 use Rattle.job_grammar.specs.declared.jobs.PageLine.TheVariants.{Tcs, Reg}
 use Rattle.job_grammar.specs.declared.jobs.Op.{Op}
 use Rattle.job_grammar.specs.declared.jobs.Op.TheVariants.{Enter, Resume, Exit, Timer, Load, Store, Xadd, Set, Plus, OutLoad, OutStore}
-use Rattle.job_grammar.specs.Jobs.{EnclaveView, JobView, covers, enclave_at, is_added_page, is_tcs_page, is_save_page, lines_at, job_pages, needed, script_names}
+use Rattle.job_grammar.specs.Jobs.{EnclaveView, JobView, covers, enclave_at, is_added_page, is_tcs_page, is_save_page, lines_at, job_pages}
+use Rattle.job_grammar.specs.Jobs.{needed, script_names}
 use Rattle.text_words.specs.Reading.{IsDigest}
 
 -- ---- options

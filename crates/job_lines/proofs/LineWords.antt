@@ -1,5 +1,6 @@
 -- The words of a line, as code finds them.
-use Rattle.std.proofs.Common.{◌≡◌, ◌≢◌, ℕ, Bool, true, false, eqb, cond, List, [], ◌∷◌, ◌++◌, Option, Some, None, ◌+◌, ◌<◌, ◌≤◌, get_or, map, length, take, refl, sym, ap, ◌∙◌, arith}
+use Rattle.std.proofs.Common.{◌≡◌, ◌≢◌, ℕ, Bool, true, false, eqb, cond, List, [], ◌∷◌, ◌++◌, Option, Some, None}
+use Rattle.std.proofs.Common.{◌+◌, ◌<◌, ◌≤◌, get_or, map, length, take, refl, sym, ap, ◌∙◌, arith}
 use Rattle.std.proofs.lemmas.Bool.{ne_eqb}
 use Rattle.std.proofs.lemmas.List.{map_push, take_all, take_more}
 use Rattle.text_words.specs.Words.{Words}
@@ -10,7 +11,9 @@ use Rattle.job_lines.specs.declared.keywords.Keyword.{Keyword}
 use Rattle.job_lines.specs.declared.keywords.Keyword.TheVariants as keywords
 use Rattle.job_lines.specs.declared.keywords.PlanWord.{PlanWord}
 use Rattle.job_lines.specs.declared.keywords.PlanWord.TheVariants as plan_words
-use Rattle.job_lines.specs.Statements.{Says, plan_of, row, epc_row, marks_row, key_row, start_row, enclave_row, tcs_row, reg_row, expect_row, fail_row, drop_row, flip_row, replay_row, swap_row, plan_row, cpu_row, outload_row, outstore_row, statement_of}
+use Rattle.job_lines.specs.Statements.{Says, plan_of, row, epc_row, marks_row, key_row, start_row, enclave_row, tcs_row, reg_row}
+use Rattle.job_lines.specs.Statements.{expect_row, fail_row, drop_row, flip_row, replay_row, swap_row, plan_row, cpu_row, outload_row}
+use Rattle.job_lines.specs.Statements.{outstore_row, statement_of}
 
 -- ---- the carriage return
 

@@ -1,5 +1,7 @@
 -- The scripts of a made job are valid.
-use Rattle.std.proofs.Common.{◌≡◌, ℕ, zero, suc, ◌+◌, ◌*◌, ◌/◌, ◌^◌, ◌<◌, ◌≤◌, ◌==◌, ◌&&◌, ◌||◌, Bool, true, false, cond, List, [], ◌∷◌, ◌++◌, length, length-append, nat_lt, count_by, sum_by, All, refl, ap, ◌∙◌, arith, inl, inr}
+use Rattle.std.proofs.Common.{◌≡◌, ℕ, zero, suc, ◌+◌, ◌*◌, ◌/◌, ◌^◌, ◌<◌, ◌≤◌, ◌==◌, ◌&&◌}
+use Rattle.std.proofs.Common.{◌||◌, Bool, true, false, cond, List, [], ◌∷◌, ◌++◌, length, length-append, nat_lt, count_by}
+use Rattle.std.proofs.Common.{sum_by, All, refl, ap, ◌∙◌, arith, inl, inr}
 use Rattle.std.specs.List.{list_any}
 use Rattle.std.proofs.lemmas.Bool.{cases_Bool, cases_eq, ne_eqb}
 use Rattle.std.proofs.lemmas.List.Elements.{All-append, All-cons, All-nil}
@@ -9,7 +11,8 @@ use Rattle.job_grammar.specs.declared.jobs.Op.TheVariants as ops
 use Rattle.job_grammar.specs.Jobs.{EnclaveView, lines_at, is_tcs_page, names_tcs, script_names}
 use Rattle.job_grammar.specs.Valid.{IsOpAmong, IsValidOffset}
 use Rattle.job_make.specs.Generator.{draw, number_below}
-use Rattle.job_make.specs.MadeOps.{made_op, made_ops, made_script, made_scripts, op_of, own_offset, shared_offset, state_behind_op, state_behind_ops}
+use Rattle.job_make.specs.MadeOps.{made_op, made_ops, made_script, made_scripts, op_of, own_offset, shared_offset, state_behind_op}
+use Rattle.job_make.specs.MadeOps.{state_behind_ops}
 
 -- ---- numbers that are drawn
 

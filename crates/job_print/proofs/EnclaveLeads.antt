@@ -1,5 +1,7 @@
 -- The lines of the enclaves of a valid job have no fault where they stand.
-use Rattle.std.proofs.Common.{◌≡◌, ℕ, suc, ◌+◌, ◌/◌, ◌^◌, ◌<◌, ◌≤◌, nat_lt, Bool, true, false, List, [], ◌∷◌, ◌++◌, Option, Some, None, IfSome, map, length, sum_by, All, refl, sym, ap, subst, ◌∙◌, arith}
+use Rattle.std.proofs.Common.{◌≡◌, ℕ, suc, ◌+◌, ◌/◌, ◌^◌, ◌<◌, ◌≤◌, nat_lt, Bool, true, false, List, []}
+use Rattle.std.proofs.Common.{◌∷◌, ◌++◌, Option, Some, None, IfSome, map, length, sum_by, All, refl, sym, ap, subst, ◌∙◌}
+use Rattle.std.proofs.Common.{arith}
 use Rattle.std.proofs.lemmas.Bool.{and_from, eq-eqb, le-leb, le-ltb, lt-ltb}
 use Rattle.std.proofs.lemmas.List.{append-nil, length-append}
 use Rattle.std.proofs.lemmas.List.Elements.{All-push}
@@ -14,7 +16,8 @@ use Rattle.job_grammar.proofs.EnclaveLaws.{lawful-size}
 use Rattle.job_lines.specs.declared.statements.Statement.TheVariants as says
 use Rattle.job_text.specs.declared.tcs_lines.TcsLine.{TcsLine}
 use Rattle.job_text.specs.Drafts.{Draft, add_digest, add_page, keep, last, new_enclave}
-use Rattle.job_text.specs.Faults.{added_pages, is_any_added, is_in_range, is_missing, is_out_of_order, is_shared, is_too_many, is_twice, lines_here}
+use Rattle.job_text.specs.Faults.{added_pages, is_any_added, is_in_range, is_missing, is_out_of_order, is_shared, is_too_many, is_twice}
+use Rattle.job_text.specs.Faults.{lines_here}
 use Rattle.job_text.specs.Reading.{are_save_pages, has_save_pages}
 use Rattle.job_print.specs.JobText.{enclave_says, expect_says, numbered, page_says}
 use Rattle.job_print.proofs.Stands.{Stands, begun_enclave}

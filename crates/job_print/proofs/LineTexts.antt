@@ -1,5 +1,6 @@
 -- The lines of a text that says some things, and what reading one of them gives.
-use Rattle.std.proofs.Common.{◌≡◌, ℕ, ◌<◌, ◌≤◌, ◌||◌, Bool, true, false, eqb, ltb, not, List, [], ◌∷◌, ◌++◌, None, Ok, length, map, flat_map, All, refl, ap, ◌∙◌, arith, inl, inr, cond}
+use Rattle.std.proofs.Common.{◌≡◌, ℕ, ◌<◌, ◌≤◌, ◌||◌, Bool, true, false, eqb, ltb, not, List, [], ◌∷◌, ◌++◌}
+use Rattle.std.proofs.Common.{None, Ok, length, map, flat_map, All, refl, ap, ◌∙◌, arith, inl, inr, cond}
 use Rattle.std.specs.List.{AllByRecursion, join_with_byte, list_all, slice_split}
 use Rattle.std.specs.Str.{IsAscii, is_utf8}
 use Rattle.std.proofs.lemmas.Bool.{and_parts, cases_lt, ltb-true, ne_eqb}

@@ -1,5 +1,6 @@
 -- The words of a job's lines are plain: bytes of ASCII above the space.
-use Rattle.std.proofs.Common.{◌≡◌, ℕ, ◌+◌, ◌/◌, ◌%◌, ◌^◌, ◌<◌, ◌≤◌, ◌&&◌, Bool, true, false, ltb, List, [], ◌∷◌, None, slice_index, All, decimal, refl, sym, ◌∙◌, arith, lit≤, inl, inr}
+use Rattle.std.proofs.Common.{◌≡◌, ℕ, ◌+◌, ◌/◌, ◌%◌, ◌^◌, ◌<◌, ◌≤◌, ◌&&◌, Bool, true, false, ltb}
+use Rattle.std.proofs.Common.{List, [], ◌∷◌, None, slice_index, All, decimal, refl, sym, ◌∙◌, arith, lit≤, inl, inr}
 use Rattle.std.specs.Char.{digit_value}
 use Rattle.std.specs.Fmt.{digits}
 use Rattle.std.specs.List.{AllByRecursion, list_all}

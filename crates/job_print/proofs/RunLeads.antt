@@ -1,5 +1,7 @@
 -- The store lines and the scripts of a valid job have no fault where they stand.
-use Rattle.std.proofs.Common.{◌≡◌, ℕ, zero, suc, ◌+◌, ◌/◌, ◌%◌, ◌^◌, ◌<◌, ◌≤◌, ◌==◌, ◌&&◌, ◌||◌, ◌⊎◌, nat_le, nat_lt, Bool, true, false, List, [], ◌∷◌, ◌++◌, Option, Some, None, is_some, map, length, sum_by, All, refl, sym, ap, subst, ◌∙◌, arith, inl, inr}
+use Rattle.std.proofs.Common.{◌≡◌, ℕ, zero, suc, ◌+◌, ◌/◌, ◌%◌, ◌^◌, ◌<◌, ◌≤◌, ◌==◌, ◌&&◌}
+use Rattle.std.proofs.Common.{◌||◌, ◌⊎◌, nat_le, nat_lt, Bool, true, false, List, [], ◌∷◌, ◌++◌, Option, Some, None}
+use Rattle.std.proofs.Common.{is_some, map, length, sum_by, All, refl, sym, ap, subst, ◌∙◌, arith, inl, inr}
 use Rattle.std.specs.List.{list_any}
 use Rattle.std.proofs.lemmas.Bool.{and_from, and_parts, eq-eqb, eqb-true, le-leb, le-ltb, lt-ltb, ltb-true}
 use Rattle.std.proofs.lemmas.List.{append-nil, length-append}
@@ -12,18 +14,21 @@ use Rattle.job_grammar.specs.declared.jobs.PageLine.{PageLine}
 use Rattle.job_grammar.specs.declared.jobs.PageLine.TheVariants as pages
 use Rattle.job_grammar.specs.declared.jobs.Op.{Op}
 use Rattle.job_grammar.specs.declared.jobs.Op.TheVariants as kept_ops
-use Rattle.job_grammar.specs.Jobs.{EnclaveView, JobView, covers, enclave_at, is_added_page, is_tcs_line, is_tcs_page, lines_at, lines_in, names_tcs, script_names}
+use Rattle.job_grammar.specs.Jobs.{EnclaveView, JobView, covers, enclave_at, is_added_page, is_tcs_line, is_tcs_page, lines_at, lines_in}
+use Rattle.job_grammar.specs.Jobs.{names_tcs, script_names}
 use Rattle.job_grammar.specs.Valid.{IsOpAmong, IsOuterOffset, IsPlanAmong, IsValid, IsValidEnclave, IsValidLine, IsValidOffset}
 use Rattle.job_grammar.proofs.EnclaveLaws.{lawful-size}
 use Rattle.job_lines.specs.declared.statements.Statement.TheVariants as says
 use Rattle.job_lines.specs.Statements.{page_of}
 use Rattle.job_text.specs.Drafts.{Draft, keep, kept_op, kept_plan}
-use Rattle.job_text.specs.Faults.{is_in_range, is_missing, is_op_in_range, is_out_of_order, is_outer_offset, is_plan_in_range, is_shared, is_too_many, is_twice, op_stands, plan_stands}
+use Rattle.job_text.specs.Faults.{is_in_range, is_missing, is_op_in_range, is_out_of_order, is_outer_offset, is_plan_in_range, is_shared}
+use Rattle.job_text.specs.Faults.{is_too_many, is_twice, op_stands, plan_stands}
 use Rattle.job_print.specs.JobText.{named, numbered, op_says, plan_says, plans_say, script_says}
 use Rattle.job_print.proofs.Printable.{Fits, IsPageName, IsPrintableOp, IsPrintablePlan}
 use Rattle.job_print.proofs.Stands.{Stands}
 use Rattle.job_print.proofs.Leads.{Leads, Steps, leads-on}
-use Rattle.job_print.proofs.ListLaws.{All-seam, any-seam, change_last-push, earlier-push, last-length, none-any, none-before, push-push, sum-seam}
+use Rattle.job_print.proofs.ListLaws.{All-seam, any-seam, change_last-push, earlier-push, last-length, none-any, none-before, push-push}
+use Rattle.job_print.proofs.ListLaws.{sum-seam}
 use Rattle.job_print.proofs.PartLaws.{any-part, no-script, not-true, or-false, some-push}
 
 -- ---- tests

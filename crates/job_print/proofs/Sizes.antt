@@ -1,5 +1,7 @@
 -- How long the text of a valid job is.
-use Rattle.std.proofs.Common.{◌≡◌, ℕ, zero, suc, ◌+◌, ◌*◌, ◌/◌, ◌%◌, ◌^◌, ◌==◌, ◌≤◌, Bool, true, false, List, [], ◌∷◌, ◌++◌, Option, Some, None, map, length, sum_by, All, decimal, refl, ap, ◌∙◌, arith, lit≤, inl, inr}
+use Rattle.std.proofs.Common.{◌≡◌, ℕ, zero, suc, ◌+◌, ◌*◌, ◌/◌, ◌%◌, ◌^◌, ◌==◌, ◌≤◌, Bool, true}
+use Rattle.std.proofs.Common.{false, List, [], ◌∷◌, ◌++◌, Option, Some, None, map, length, sum_by, All, decimal, refl, ap}
+use Rattle.std.proofs.Common.{◌∙◌, arith, lit≤, inl, inr}
 use Rattle.std.specs.Fmt.{digit_glyph, digits, digits_onto}
 use Rattle.std.specs.List.{AllByRecursion, join_with_byte}
 use Rattle.std.proofs.lemmas.Bool.{cases_Bool}
@@ -23,7 +25,9 @@ use Rattle.job_lines.specs.declared.statements.Operation.{Operation}
 use Rattle.job_lines.specs.declared.statements.Operation.TheVariants as ops
 use Rattle.job_lines.specs.declared.statements.Statement.{Statement}
 use Rattle.job_lines.specs.declared.statements.Statement.TheVariants as says
-use Rattle.job_print.specs.JobText.{enclave_says, expect_says, job_says, job_text, numbered, op_says, op_words, options_say, page_says, plain_words, plan_says, plan_words, plans_say, script_says, statement_text, statement_words, statements_text}
+use Rattle.job_print.specs.JobText.{enclave_says, expect_says, job_says, job_text, numbered, op_says, op_words, options_say, page_says}
+use Rattle.job_print.specs.JobText.{plain_words, plan_says, plan_words, plans_say, script_says, statement_text, statement_words}
+use Rattle.job_print.specs.JobText.{statements_text}
 use Rattle.job_print.proofs.Printable.{Fits, IsPrintable, IsPrintableOp, IsPrintablePlan}
 use Rattle.job_print.proofs.Plain.{letter-word}
 

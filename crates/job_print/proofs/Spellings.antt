@@ -14,7 +14,8 @@ use Rattle.job_lines.specs.declared.statements.Operation.TheVariants as ops
 use Rattle.job_lines.specs.declared.statements.Statement.{Statement}
 use Rattle.job_lines.specs.declared.statements.Statement.TheVariants as says
 use Rattle.job_lines.specs.Words.{as_plain, call_word_of, keyword_of, perm_of, plan_word_of}
-use Rattle.job_lines.specs.Statements.{cpu_row, drop_row, enclave_row, epc_row, expect_row, fail_row, flip_row, key_row, marks_row, outload_row, outstore_row, plan_row, reg_row, replay_row, start_row, statement_of, swap_row, tcs_row}
+use Rattle.job_lines.specs.Statements.{cpu_row, drop_row, enclave_row, epc_row, expect_row, fail_row, flip_row, key_row, marks_row}
+use Rattle.job_lines.specs.Statements.{outload_row, outstore_row, plan_row, reg_row, replay_row, start_row, statement_of, swap_row, tcs_row}
 use Rattle.job_print.specs.JobText.{op_words, plain_words, plan_words, statement_words}
 use Rattle.job_print.proofs.Printable.{IsPageName, IsPrintable, IsPrintableOp, IsPrintablePlan}
 use Rattle.job_print.proofs.Plain.{ArePlain, decimal-plain, digest-plain, enclave-plain, hexadecimal-plain, letter-word, perm-plain}

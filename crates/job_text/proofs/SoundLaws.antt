@@ -1,5 +1,7 @@
 -- A line without a fault keeps a draft sound.
-use Rattle.std.proofs.Common.{◌≡◌, ℕ, suc, ◌+◌, ◌-◌, ◌^◌, ◌<◌, ◌≤◌, ◌/◌, ◌%◌, ◌==◌, ◌&&◌, ◌||◌, cond, Bool, true, false, List, [], ◌∷◌, ◌++◌, Option, Some, None, is_some, nat_lt, length, take, sum_by, count_by, All, refl, sym, ap, ◌∙◌, arith, inl, inr}
+use Rattle.std.proofs.Common.{◌≡◌, ℕ, suc, ◌+◌, ◌-◌, ◌^◌, ◌<◌, ◌≤◌, ◌/◌, ◌%◌, ◌==◌, ◌&&◌}
+use Rattle.std.proofs.Common.{◌||◌, cond, Bool, true, false, List, [], ◌∷◌, ◌++◌, Option, Some, None, is_some, nat_lt, length}
+use Rattle.std.proofs.Common.{take, sum_by, count_by, All, refl, sym, ap, ◌∙◌, arith, inl, inr}
 use Rattle.std.specs.List.{list_any}
 use Rattle.std.proofs.lemmas.Bool.{cases_Bool, ne_eqb, and_parts, ltb-true, leb-true, ltb-false, eqb-true, false≢true}
 use Rattle.std.proofs.lemmas.List.Elements.{All-nil, All-cons, All-head, All-tail, All-push, All-weaker}
@@ -22,10 +24,14 @@ use Rattle.job_lines.specs.declared.statements.Operation.{Operation}
 use Rattle.job_lines.specs.declared.statements.Operation.TheVariants as ops
 use Rattle.job_lines.specs.declared.statements.Statement.{Statement}
 use Rattle.job_lines.specs.declared.statements.Statement.TheVariants as says
-use Rattle.job_text.specs.Drafts.{Draft, add_digest, add_op, add_page, change_last, empty_draft, has_some, keep, kept_op, kept_plan, last, new_enclave}
+use Rattle.job_text.specs.Drafts.{Draft, add_digest, add_op, add_page, change_last, empty_draft, has_some, keep, kept_op, kept_plan, last}
+use Rattle.job_text.specs.Drafts.{new_enclave}
 use Rattle.job_lines.specs.Spelled.{IsSpelled, IsSpelledOp, IsSpelledPlan}
-use Rattle.job_text.specs.Faults.{HasNoFault, earlier, is_any_added, is_in_range, is_misplaced, is_op_in_range, is_out_of_order, is_outer_offset, is_plan_in_range, is_shared, is_too_many, latest_part, op_stands, pages_in, part_of, plan_stands}
-use Rattle.job_text.specs.Sound.{AreFrames, AreNoted, AreSoundEnclaves, AreSoundPlans, AreSoundScripts, IsNoted, IsSound, IsSoundEnclave, tests}
+use Rattle.job_text.specs.Faults.{HasNoFault, earlier, is_any_added, is_in_range, is_misplaced, is_op_in_range, is_out_of_order}
+use Rattle.job_text.specs.Faults.{is_outer_offset, is_plan_in_range, is_shared, is_too_many, latest_part, op_stands, pages_in, part_of}
+use Rattle.job_text.specs.Faults.{plan_stands}
+use Rattle.job_text.specs.Sound.{AreFrames, AreNoted, AreSoundEnclaves, AreSoundPlans, AreSoundScripts, IsNoted, IsSound, IsSoundEnclave}
+use Rattle.job_text.specs.Sound.{tests}
 use Rattle.job_text.proofs.FaultLaws.{cpu_next, enclave_next, op_fits, plan_fits, reg_fits, some-last, tcs_fits}
 use Rattle.job_text.proofs.LastItem.{enclave-more, length-change_last, ops-more, pages-more, pages-same, sum-same}
 use Rattle.job_text.proofs.PageLaws.{once-more, free-of}

@@ -1,5 +1,6 @@
 -- The table of an enclave's pages: which line adds each page, by the page's number.
-use Rattle.std.specs.Prelude.{◌≡◌, ℕ, ◌≤◌, true, if◌then◌else◌, List, Option, Some, None, slice_index_or, count_by, find}
+use Rattle.std.specs.Prelude.{◌≡◌, ℕ, ◌≤◌, true, if◌then◌else◌, List, Option, Some, None, slice_index_or, count_by}
+use Rattle.std.specs.Prelude.{find}
 use Rattle.job_grammar.specs.declared.jobs.PageLine.{PageLine}
 use Rattle.job_grammar.specs.Jobs.{covers}
 

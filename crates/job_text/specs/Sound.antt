@@ -1,5 +1,6 @@
 -- What holds of a draft whose lines have no fault: all that makes a job valid, but for the checks of the whole.
-use Rattle.std.specs.Prelude.{◌≡◌, ℕ, ◌+◌, ◌-◌, ◌^◌, ◌<◌, ◌≤◌, ◌/◌, Bool, true, List, [], ◌∷◌, IfSome, length, count_by, sum_by}
+use Rattle.std.specs.Prelude.{◌≡◌, ℕ, ◌+◌, ◌-◌, ◌^◌, ◌<◌, ◌≤◌, ◌/◌, Bool, true, List, [], ◌∷◌}
+use Rattle.std.specs.Prelude.{IfSome, length, count_by, sum_by}
 use Rattle.std.specs.List.{All}
 use Rattle.sgx_types.specs.Table.{is_lawful}
 use Rattle.text_words.specs.Reading.{IsDigest}

@@ -1,5 +1,6 @@
 -- What one more entry says of the REG pages and of the reloads, where the entries that are gone along stand oldest first.
-use Rattle.std.proofs.Common.{◌≡◌, ℕ, ◌+◌, ◌<◌, if◌then◌else◌, List, ◌∷◌, length, take, reverse, get_or, sym, ap, subst, ◌∙◌}
+use Rattle.std.proofs.Common.{◌≡◌, ℕ, ◌+◌, ◌<◌, if◌then◌else◌, List, ◌∷◌, length, take, reverse, get_or, sym}
+use Rattle.std.proofs.Common.{ap, subst, ◌∙◌}
 use Rattle.trace_text.proofs.EntryLaws.{newest_more}
 use Rattle.sgx_types.specs.declared.entries.Entry.{Entry}
 use Rattle.sgx_types.specs.declared.names.Page.{Page}

@@ -1,8 +1,9 @@
 -- Each enclave that was created is one of the job's.
-use Rattle.std.proofs.Common.{◌≡◌, ◌==◌, ◌+◌, ◌≤◌, ◌<◌, ℕ, zero, suc, Bool, true, false, if◌then◌else◌, refl, sym, ap, ◌∙◌, subst, List, [], ◌∷◌, ◌++◌, Option, Some, None, is_some, length, map, replicate, arith}
+use Rattle.std.proofs.Common.{◌≡◌, ◌==◌, ◌+◌, ◌≤◌, ◌<◌, ℕ, zero, suc, Bool, true, false, if◌then◌else◌}
+use Rattle.std.proofs.Common.{refl, sym, ◌∙◌, subst, List, [], ◌∷◌, ◌++◌, Option, Some, None, is_some, length, map}
+use Rattle.std.proofs.Common.{replicate, arith}
 use Rattle.std.proofs.lemmas.Bool.{eqb-true, false≢true}
 use Rattle.std.specs.List.{flat_map, slice_get}
-use Rattle.sgx_types.specs.declared.entries.Action.{Action}
 use Rattle.sgx_types.specs.declared.entries.Action.TheVariants as actions
 use Rattle.sgx_types.specs.declared.entries.Actor.{Actor}
 use Rattle.sgx_types.specs.declared.entries.Entry.{Entry}
@@ -21,12 +22,12 @@ use Rattle.sgx_types.specs.Rules.{Along}
 use Rattle.job_grammar.specs.Jobs.{EnclaveView, JobView, va_pages}
 use Rattle.job_grammar.specs.declared.jobs.PageLine.{PageLine}
 use Rattle.job_grammar.specs.declared.jobs.PageLine.TheVariants as lines
-use Rattle.turn_rules.specs.Script.{build_of, built, chunk_steps, enclave_steps, enclaves_steps, line_steps, numbers_from, page_steps, step_action}
+use Rattle.turn_rules.specs.Script.{build_of, built, enclave_steps, enclaves_steps, line_steps, numbers_from, page_steps, step_action}
 use Rattle.turn_rules.specs.declared.steps.BuildStep.{BuildStep}
 use Rattle.turn_rules.specs.declared.steps.BuildStep.TheVariants as builds
 use Rattle.driver_rules.specs.Ages.{AgeRule}
 use Rattle.driver_rules.specs.Scripts.{ScriptRule}
-use Rattle.driver_laws.proofs.StepLaws.{Builds, ByStep, IsStep, NoStep, builds_by, builds_or_none}
+use Rattle.driver_laws.proofs.StepLaws.{Builds, ByStep, NoStep, builds_or_none}
 
 -- ---- the steps of the build
 

@@ -1,14 +1,15 @@
 -- The entries that a turn made, and what the words say behind them.
-use Rattle.std.proofs.Common.{◌≡◌, ◌+◌, ◌≤◌, ◌<◌, ◌⊎◌, inl, inr, ℕ, zero, suc, true, false, refl, sym, ap, ◌∙◌, subst, drop, replicate, reverse, List, [], ◌∷◌, ◌++◌, Option, Some, None, length, arith}
+use Rattle.std.proofs.Common.{◌≡◌, ◌+◌, ◌≤◌, ◌<◌, ◌⊎◌, inl, inr, ℕ, zero, suc, true, false, refl, sym, ap}
+use Rattle.std.proofs.Common.{◌∙◌, subst, drop, replicate, reverse, List, [], ◌∷◌, ◌++◌, Some, None, length, arith}
 use Rattle.std.specs.List.{All}
-use Rattle.std.proofs.lemmas.List.{drop-append-le, drop_all, length-append, length-replicate, length-reverse, reverse-append, reverse-reverse}
-use Rattle.sgx_types.specs.declared.entries.Action.{Action}
+use Rattle.std.proofs.lemmas.List.{drop-append-le, drop_all, length-append, length-replicate, length-reverse, reverse-append}
+use Rattle.std.proofs.lemmas.List.{reverse-reverse}
 use Rattle.sgx_types.specs.declared.entries.Action.TheVariants as actions
 use Rattle.sgx_types.specs.declared.entries.Actor.{Actor}
 use Rattle.sgx_types.specs.declared.entries.Actor.TheVariants as actors
 use Rattle.sgx_types.specs.declared.entries.Entry.{Entry}
 use Rattle.sgx_types.specs.declared.entries.Event.{Event}
-use Rattle.sgx_types.specs.declared.entries.Event.TheVariants.{Age, Bus, Did, Kick, Refused}
+use Rattle.sgx_types.specs.declared.entries.Event.TheVariants.{Bus, Did, Refused}
 use Rattle.sgx_types.specs.declared.names.Cpu.{Cpu}
 use Rattle.sgx_types.specs.Epochs.{is_track}
 use Rattle.sgx_types.specs.Rules.{Along}

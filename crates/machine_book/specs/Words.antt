@@ -1,5 +1,5 @@
 -- The book of a run, and the words that say what its entries say.
-use Rattle.std.specs.Prelude.{◌≡◌, length, List}
+use Rattle.std.specs.Prelude.{◌≡◌, length}
 use Rattle.job_grammar.specs.Valid.{IsValid}
 use Rattle.run_turns.specs.Views.{BookView}
 pub use Rattle.atomic_table.specs.Seated.{TableId}

@@ -1,6 +1,7 @@
 //! An old trace, read from a source.
 
-ghost use Rattle.std.specs.Prelude.{◌≡◌, ◌<◌, ◌≤◌, ◌+◌, ◌^◌, ◌++◌, [], ℕ, List, Err, Ok, take, length, IfErr, IfOk, IfSome, IsErrOf, OnErr, Result};
+ghost use Rattle.std.specs.Prelude.{◌≡◌, ◌<◌, ◌≤◌, ◌+◌, ◌^◌, ◌++◌, [], ℕ, List, Err, Ok, take, length, IfErr};
+ghost use Rattle.std.specs.Prelude.{IfOk, IfSome, IsErrOf, OnErr, Result};
 ghost use Rattle.io_edges.specs.Faults.{HasCause};
 ghost use Rattle.io_edges.specs.Sources.{HasRead, TakesAtMost};
 ghost use Rattle.old_trace.specs.Reading.{IsFaultOf, OfRead, Reads};

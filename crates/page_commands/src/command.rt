@@ -1,6 +1,7 @@
 //! The top call: the words of the command line, what each command does, and how it ends.
 
-ghost use Rattle.std.specs.Prelude.{◌≡◌, ◌+◌, ◌^◌, ◌⊎◌, ◌↔◌, ℕ, [], map, string_bytes, IfSome, IsSomeAnd, None, Some};
+ghost use Rattle.std.specs.Prelude.{◌≡◌, ◌+◌, ◌^◌, ◌⊎◌, ◌↔◌, ℕ, [], map, string_bytes, IfSome, IsSomeAnd, None};
+ghost use Rattle.std.specs.Prelude.{Some};
 ghost use Rattle.command_words.specs.Commands.{command_in};
 ghost use Rattle.command_words.specs.declared.command.Command.TheVariants as commands;
 ghost use Rattle.gate_command.specs.GateText.{gate_text};
@@ -11,9 +12,11 @@ ghost use Rattle.job_make.specs.MadeJob.{made_job};
 ghost use Rattle.job_print.specs.JobText.{job_text};
 ghost use Rattle.run_summary.specs.Summary.{summary_of};
 ghost use Rattle.old_trace.specs.Reading.{OfRead};
-ghost use Rattle.page_commands.specs.Commands.{HasEnded, IsAuditEnd, IsDemoEnd, IsLeastEnd, MayStandIn, NoFault, ReadsJob, ReadsOld, status_of};
+ghost use Rattle.page_commands.specs.Commands.{HasEnded, IsAuditEnd, IsDemoEnd, IsLeastEnd, MayStandIn, NoFault, ReadsJob, ReadsOld};
+ghost use Rattle.page_commands.specs.Commands.{status_of};
 ghost use Rattle.page_commands.specs.Runs.{BothGiven, DemoBy, HalfGiven, HalfTold, HasFault, HasJob, IsTextGiven, RanBy, Told};
-ghost use Rattle.page_commands.specs.Traces.{HalfJudged, HalfLineTold, HasTrace, HasWrongLine, IsRight, IsWrong, LeastBy, LineTold, NoTold, YesTold};
+ghost use Rattle.page_commands.specs.Traces.{HalfJudged, HalfLineTold, HasTrace, HasWrongLine, IsRight, IsWrong, LeastBy, LineTold, NoTold};
+ghost use Rattle.page_commands.specs.Traces.{YesTold};
 ghost use Rattle.run_jobs.specs.declared.ends.End.{End};
 
 use crate::audit::audit_command;

@@ -1,6 +1,7 @@
 //! The old trace of a command: read behind its job, or the line on what is wrong with either.
 
-ghost use Rattle.std.specs.Prelude.{◌≡◌, ◌+◌, ◌^◌, ◌⊎◌, Err, Ok, IfErr, IfOk, IsErr, IsErrAnd, IsErrOf, IsSomeAnd, OnOk};
+ghost use Rattle.std.specs.Prelude.{◌≡◌, ◌+◌, ◌^◌, ◌⊎◌, Err, Ok, IfErr, IfOk, IsErr, IsErrAnd, IsErrOf, IsSomeAnd};
+ghost use Rattle.std.specs.Prelude.{OnOk};
 ghost use Rattle.io_edges.specs.Faults.{HasRisen};
 ghost use Rattle.io_edges.specs.Sinks.{GivesPart, followed_by};
 ghost use Rattle.io_edges.specs.Sources.{TakesAtMost};

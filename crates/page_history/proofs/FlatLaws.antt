@@ -1,5 +1,6 @@
 -- Flat memory has each page as it was added, and never changes an enclave's base or a page's kind and permissions.
-use Rattle.std.proofs.Common.{◌≡◌, ℕ, ◌+◌, ◌-◌, ◌==◌, Bool, true, false, cond, refl, sym, ap, ◌∙◌, Option, Some, None, is_some, is_none, List, [], ◌∷◌, slice_set}
+use Rattle.std.proofs.Common.{◌≡◌, ℕ, ◌+◌, ◌-◌, ◌==◌, Bool, true, false, cond, refl, sym, ap, ◌∙◌, Option, Some}
+use Rattle.std.proofs.Common.{None, is_some, is_none, List, [], ◌∷◌, slice_set}
 use Rattle.std.proofs.lemmas.Bool.{cond_both, eqb-true, false≢true}
 use Rattle.sgx_types.specs.declared.entries.Action.{Action}
 use Rattle.sgx_types.specs.declared.entries.Action.TheVariants.{Create, Add, Init, Resume, Aex, Store, Xadd}
@@ -14,7 +15,9 @@ use Rattle.sgx_types.specs.declared.names.Kind.{Kind}
 use Rattle.sgx_types.specs.declared.names.Page.{Page}
 use Rattle.sgx_types.specs.declared.names.Perm.{Perm}
 use Rattle.sgx_types.specs.declared.record.Header.{Header}
-use Rattle.sgx_types.specs.Flat.{FlatEnclave, FlatMemory, FlatPage, Inside, accepts, added_as, at_offset, build_after, cpu_after, enclave_sight, event_after, fields_in, first_words, flat, flat_build_row, header_by, header_in, marked, memory_after, open_frame, rewritten, saved, stored, sum_of, with_cssa, with_words, word_index, word_seen}
+use Rattle.sgx_types.specs.Flat.{FlatEnclave, FlatMemory, FlatPage, Inside, accepts, added_as, at_offset, build_after, cpu_after}
+use Rattle.sgx_types.specs.Flat.{enclave_sight, event_after, fields_in, first_words, flat, flat_build_row, header_by, header_in, marked}
+use Rattle.sgx_types.specs.Flat.{memory_after, open_frame, rewritten, saved, stored, sum_of, with_cssa, with_words, word_index, word_seen}
 use Rattle.sgx_types.specs.Frames.{added, page_at, same_page}
 use Rattle.sgx_types.specs.Rules.{Along, FlatRule}
 use Rattle.sgx_types.specs.Sealed.{header_of}

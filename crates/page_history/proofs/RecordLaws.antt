@@ -1,5 +1,6 @@
 -- Each record is of one page, and no two have one version.
-use Rattle.std.proofs.Common.{◌≡◌, ℕ, true, false, refl, sym, ap, ◌∙◌, subst, Option, Some, None, option_map, List, [], ◌∷◌, ◌++◌, ◌⊎◌, inl, inr, ⊎_elim, Any, arith}
+use Rattle.std.proofs.Common.{◌≡◌, ℕ, true, false, refl, sym, ap, ◌∙◌, subst, Option, Some, None, option_map, List, []}
+use Rattle.std.proofs.Common.{◌∷◌, ◌++◌, ◌⊎◌, inl, inr, ⊎_elim, Any, arith}
 use Rattle.std.proofs.lemmas.List.Quantifiers.{Any-push}
 use Rattle.sgx_types.specs.declared.entries.Action.TheVariants.{Ewb, Eld}
 use Rattle.sgx_types.specs.declared.entries.Actor.{Actor}

@@ -1,5 +1,6 @@
 -- The rows of translations and accesses: what each brings where it is done.
-use Rattle.std.proofs.Common.{◌≡◌, ℕ, ◌/◌, ◌<◌, ◌==◌, not, Bool, true, false, cond, refl, sym, ap, ◌∙◌, Option, Some, None, List, is_some, set, unwrap_or}
+use Rattle.std.proofs.Common.{◌≡◌, ℕ, ◌/◌, ◌<◌, ◌==◌, not, Bool, true, false, cond, refl, sym, ap, ◌∙◌, Option}
+use Rattle.std.proofs.Common.{Some, None, List, is_some, set, unwrap_or}
 use Rattle.std.specs.List.{All}
 use Rattle.std.proofs.lemmas.Bool.{cond_both, false≢true, eqb-true, leb-false, lt-ltb}
 use Rattle.std.proofs.lemmas.List.Elements.{recursion_from_All}
@@ -13,12 +14,14 @@ use Rattle.sgx_types.specs.declared.names.Kind.TheVariants as kinds
 use Rattle.sgx_types.specs.declared.names.Perm.{Perm}
 use Rattle.sgx_types.specs.Frames.{Content, Holds, is_page, page_at, SecsOf, Free, IsVa, IsLoading, no_perm}
 use Rattle.sgx_types.specs.Processors.{Seat, Stay, stay, holds_number, translations}
-use Rattle.sgx_types.specs.Table.{FrameSight, is_busy, is_loading, is_reg, perm_in, allows_read, allows_write, allows_update, access_row, fill_row, first_of_row}
+use Rattle.sgx_types.specs.Table.{FrameSight, is_busy, is_loading, is_reg, perm_in, allows_read, allows_write, allows_update, access_row}
+use Rattle.sgx_types.specs.Table.{fill_row, first_of_row}
 use Rattle.sgx_types.specs.Flat.{flat, flat_translation, memory_after, stored, sum_of, with_words, word_index, word_seen}
 use Rattle.sgx_types.specs.Sights.{translation_at}
 use Rattle.cached_translations.specs.declared.cache.Translation.{Translation}
 use Rattle.cached_translations.specs.Translations.{translation_of, with_translation}
-use Rattle.paging_laws.specs.State.{State, sight, seat_enclave, perm_of_held, translation, row_of, frame_in, rewritten, after_fill, after_store, after_xadd, word_at}
+use Rattle.paging_laws.specs.State.{State, sight, seat_enclave, perm_of_held, translation, row_of, frame_in, rewritten, after_fill}
+use Rattle.paging_laws.specs.State.{after_store, after_xadd, word_at}
 use Rattle.paging_laws.specs.Stands.{Stands, IsTranslation, IsSeated, IsSound, inside_of_stay, Shows}
 use Rattle.paging_laws.proofs.TestLaws.{each_there}
 use Rattle.paging_laws.proofs.Contents.{IsKindOf, reg_there}

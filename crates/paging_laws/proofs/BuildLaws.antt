@@ -1,5 +1,6 @@
 -- The rows that build an enclave: what each brings where it is done.
-use Rattle.std.proofs.Common.{◌≡◌, ℕ, ◌*◌, ◌==◌, ◌||◌, not, Bool, true, false, cond, leb, refl, sym, ap, ◌∙◌, Option, Some, None, List, [], is_some, length}
+use Rattle.std.proofs.Common.{◌≡◌, ℕ, ◌*◌, ◌==◌, ◌||◌, not, Bool, true, false, cond, leb, refl, sym, ap, ◌∙◌}
+use Rattle.std.proofs.Common.{Option, Some, None, List, [], is_some, length}
 use Rattle.std.specs.Option.{IsSomeAnd}
 use Rattle.std.proofs.lemmas.Bool.{cond_both, false≢true}
 use Rattle.sgx_types.specs.declared.entries.Entry.{Entry}
@@ -12,8 +13,10 @@ use Rattle.sgx_types.specs.declared.names.Page.{Page}
 use Rattle.sgx_types.specs.declared.names.Kind.{Kind}
 use Rattle.sgx_types.specs.declared.names.Perm.{Perm}
 use Rattle.sgx_types.specs.Frames.{Content, Free, IsVa, SecsOf, Holds, content, page_at, same_page}
-use Rattle.sgx_types.specs.Table.{FrameSight, is_busy, is_valid, is_enclave, is_lawful, epa_row, create_row, add_row, EnclaveSight, first_of_row}
-use Rattle.sgx_types.specs.Flat.{FlatEnclave, FlatPage, FlatMemory, added_as, flat, open_frame, enclave_sight_of, first_words, with_page, marked}
+use Rattle.sgx_types.specs.Table.{FrameSight, is_busy, is_valid, is_enclave, is_lawful, epa_row, create_row, add_row, EnclaveSight}
+use Rattle.sgx_types.specs.Table.{first_of_row}
+use Rattle.sgx_types.specs.Flat.{FlatEnclave, FlatPage, FlatMemory, added_as, flat, open_frame, enclave_sight_of, first_words, with_page}
+use Rattle.sgx_types.specs.Flat.{marked}
 use Rattle.sgx_types.specs.Layouts.{flags_of}
 use Rattle.sgx_types.proofs.Contents.{free_there}
 use Rattle.sgx_types.proofs.Rows.{none_holds, none_refused}

@@ -1,5 +1,6 @@
 -- The rows that enter and resume an enclave: what each brings where it is done, and that it leaves a sound state.
-use Rattle.std.proofs.Common.{◌≡◌, ℕ, ◌+◌, ◌-◌, ◌%◌, ◌^◌, ◌<◌, ◌≤◌, ◌==◌, ◌||◌, ◌⊎◌, inl, inr, not, Bool, true, false, cond, refl, sym, ap, ◌∙◌, arith, Option, Some, None, List, [], length}
+use Rattle.std.proofs.Common.{◌≡◌, ℕ, ◌+◌, ◌-◌, ◌%◌, ◌^◌, ◌<◌, ◌≤◌, ◌==◌, ◌||◌, ◌⊎◌, inl}
+use Rattle.std.proofs.Common.{inr, not, Bool, true, false, cond, refl, sym, ap, ◌∙◌, arith, Option, Some, None, List, [], length}
 use Rattle.std.specs.Prelude.{slice_index}
 use Rattle.std.proofs.lemmas.Bool.{cases_lt, lt-ltb, false≢true}
 use Rattle.std.proofs.lemmas.List.Elements.{All-nil}
@@ -15,8 +16,10 @@ use Rattle.sgx_types.specs.declared.names.Perm.{Perm}
 use Rattle.sgx_types.specs.declared.refusals.Refusal.TheVariants as why
 use Rattle.sgx_types.specs.Frames.{Content, Holds, is_page, page_at, same_page}
 use Rattle.sgx_types.specs.Processors.{Seat, stay, stay_from}
-use Rattle.sgx_types.specs.Table.{Case, when, FrameSight, EnterSight, TcsSight, EnclaveSight, is_busy, is_loading, is_tcs, is_reg, is_made, is_ready, perm_in, allows_update, entry_row, enter_row, resume_row, first_of_row}
-use Rattle.sgx_types.specs.Flat.{FlatCpu, page_words, flat_content, flat, enclave_sight_of, tcs_fields, fields_in, with_cssa, with_words, words_of, flat_enter_sight, resumed_word, entered, memory_after, FlatMemory}
+use Rattle.sgx_types.specs.Table.{Case, when, FrameSight, EnterSight, TcsSight, EnclaveSight, is_busy, is_loading, is_tcs, is_reg, is_made}
+use Rattle.sgx_types.specs.Table.{is_ready, perm_in, allows_update, entry_row, enter_row, resume_row, first_of_row}
+use Rattle.sgx_types.specs.Flat.{FlatCpu, page_words, flat_content, flat, enclave_sight_of, tcs_fields, fields_in, with_cssa, with_words}
+use Rattle.sgx_types.specs.Flat.{words_of, flat_enter_sight, resumed_word, entered, memory_after, FlatMemory}
 use Rattle.sgx_types.specs.Sights.{seat_of}
 use Rattle.paging_laws.specs.State.{State, enter_sight, row_of, cssa_in, saved_word, rewritten, after_enter, after_resume}
 use Rattle.paging_laws.specs.Stands.{Stands, IsUsable, IsSeated, IsSound, inside_of_stay, next_save, EnclavesSeen, cpu_shown}

@@ -1,5 +1,6 @@
 -- The rows by which a processor leaves an enclave: what each brings where it is done, and that it leaves a sound state.
-use Rattle.std.proofs.Common.{◌≡◌, ℕ, ◌+◌, ◌<◌, ◌==◌, Bool, true, false, cond, refl, sym, ap, ◌∙◌, Option, Some, None, List, ◌∷◌, is_some, set}
+use Rattle.std.proofs.Common.{◌≡◌, ℕ, ◌+◌, ◌<◌, ◌==◌, Bool, true, false, cond, refl, sym, ap, ◌∙◌, Option, Some}
+use Rattle.std.proofs.Common.{None, List, ◌∷◌, is_some, set}
 use Rattle.std.proofs.lemmas.Bool.{false≢true, lt-ltb}
 use Rattle.std.proofs.lemmas.List.{length-set}
 use Rattle.sgx_types.specs.declared.entries.Entry.{Entry}
@@ -12,7 +13,8 @@ use Rattle.sgx_types.specs.declared.names.Kind.TheVariants as kinds
 use Rattle.sgx_types.specs.Frames.{page_at}
 use Rattle.sgx_types.specs.Processors.{Seat, Stay, stay}
 use Rattle.sgx_types.specs.Table.{TcsSight, inside_row, first_of_row}
-use Rattle.sgx_types.specs.Flat.{FlatCpu, Inside, flat, fields_in, left, saved, tcs_fields, with_cssa, with_words, page_words, memory_after, FlatMemory, is_inside_by}
+use Rattle.sgx_types.specs.Flat.{FlatCpu, Inside, flat, fields_in, left, saved, tcs_fields, with_cssa, with_words, page_words, memory_after}
+use Rattle.sgx_types.specs.Flat.{FlatMemory, is_inside_by}
 use Rattle.paging_laws.specs.State.{State, row_of, cssa_in, rewritten, with_saved, after_exit, after_aex, is_seated_by}
 use Rattle.paging_laws.specs.Stands.{IsSound, inside_of_stay, next_save, Shows, Stands, cpu_shown, enclaves_flat, enclaves_seen}
 use Rattle.paging_laws.proofs.TestLaws.{equal}

@@ -1,5 +1,6 @@
 -- No page comes to stand in two frames, as long as each load is of a page that is away.
-use Rattle.std.proofs.Common.{◌≡◌, ℕ, ◌<◌, ◌≤◌, inl, inr, true, false, refl, sym, ap, subst, ◌∙◌, Option, Some, None, IfSome, List, ◌∷◌, MatchOption, is_some, length}
+use Rattle.std.proofs.Common.{◌≡◌, ℕ, ◌<◌, ◌≤◌, inl, inr, true, false, refl, sym, ap, subst, ◌∙◌, Option, Some}
+use Rattle.std.proofs.Common.{None, IfSome, List, ◌∷◌, MatchOption, is_some, length}
 use Rattle.std.proofs.lemmas.Bool.{false≢true, eq-eqb}
 use Rattle.sgx_types.specs.declared.entries.Entry.{Entry}
 use Rattle.sgx_types.specs.declared.entries.Actor.{Actor}

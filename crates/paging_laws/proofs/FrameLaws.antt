@@ -1,5 +1,6 @@
 -- The frames that a done instruction names are of the EPC, and what takes a frame takes a free one, whatever a driver loads.
-use Rattle.std.proofs.Common.{◌≡◌, ℕ, ◌<◌, ◌==◌, inl, inr, true, cond, refl, ap, Option, Some, None, MatchOption, is_some, List, [], ◌∷◌, length}
+use Rattle.std.proofs.Common.{◌≡◌, ℕ, ◌<◌, ◌==◌, inl, inr, true, cond, refl, ap, Option, Some, None, MatchOption, is_some}
+use Rattle.std.proofs.Common.{List, [], ◌∷◌, length}
 use Rattle.std.proofs.lemmas.Bool.{cond_both, false≢true, eqb-true}
 use Rattle.sgx_types.specs.declared.entries.Entry.{Entry}
 use Rattle.sgx_types.specs.declared.entries.Event.{Event}

@@ -1,5 +1,6 @@
 -- What the rows of the processors leave of a guarded state is guarded.
-use Rattle.std.proofs.Common.{◌≡◌, ℕ, ◌<◌, ◌==◌, true, false, cond, refl, sym, ap, subst, ◌∙◌, arith, Option, Some, None, IfSome, IsSomeAnd, List, [], is_some}
+use Rattle.std.proofs.Common.{◌≡◌, ℕ, ◌<◌, ◌==◌, true, false, cond, refl, sym, ap, subst, ◌∙◌, arith, Option, Some}
+use Rattle.std.proofs.Common.{None, IfSome, IsSomeAnd, List, [], is_some}
 use Rattle.std.specs.List.{All}
 use Rattle.std.proofs.lemmas.Bool.{cond_both, false≢true, eqb-true}
 use Rattle.std.proofs.lemmas.List.Elements.{All-nil}
@@ -13,7 +14,8 @@ use Rattle.sgx_types.proofs.Rows.{none_holds}
 use Rattle.sgx_types.proofs.Pages.{same_page-at, same_pages}
 use Rattle.cached_translations.specs.declared.cache.Translation.{Translation}
 use Rattle.cached_translations.specs.Translations.{with_translation}
-use Rattle.paging_laws.specs.State.{State, sight, enter_sight, seat_enclave, with_inside, with_saved, is_seated_by, cssa_in, saved_word, after_enter, after_resume, after_exit, after_aex, after_fill}
+use Rattle.paging_laws.specs.State.{State, sight, enter_sight, seat_enclave, with_inside, with_saved, is_seated_by, cssa_in, saved_word}
+use Rattle.paging_laws.specs.State.{after_enter, after_resume, after_exit, after_aex, after_fill}
 use Rattle.paging_laws.specs.Guarded.{IsNoEarlier, HasNoted, IsTakenIn, IsGuarded}
 use Rattle.paging_laws.proofs.TestLaws.{equal, none_there, there_then}
 use Rattle.paging_laws.proofs.EntryLaws.{enters, enter_saves, enter_saved, resume_saves, resume_saved}

@@ -1,5 +1,7 @@
 -- What blocks, tracks, write-out and reload leave of a guarded state is guarded.
-use Rattle.std.proofs.Common.{◌≡◌, ℕ, zero, suc, ◌+◌, ◌<◌, ◌≤◌, ◌==◌, ◌||◌, ◌⊎◌, inl, inr, not, Bool, true, false, cond, ltb, leb, refl, sym, ap, ◌∙◌, arith, below_more, Option, Some, None, IfSome, IsSomeAnd, List, is_some}
+use Rattle.std.proofs.Common.{◌≡◌, ℕ, zero, suc, ◌+◌, ◌<◌, ◌≤◌, ◌==◌, ◌||◌, ◌⊎◌, inl, inr, not, Bool}
+use Rattle.std.proofs.Common.{true, false, cond, ltb, leb, refl, sym, ap, ◌∙◌, arith, below_more, Option, Some, None, IfSome}
+use Rattle.std.proofs.Common.{IsSomeAnd, List, is_some}
 use Rattle.std.specs.List.{All}
 use Rattle.std.proofs.lemmas.Bool.{cond_both, false≢true, eqb-true, eq-eqb, ltb-true, ltb-false, leb-false, cases_lt}
 use Rattle.std.proofs.lemmas.Option.{IfSome_then}
@@ -14,12 +16,15 @@ use Rattle.sgx_types.specs.Frames.{Content, Free, IsVa, SecsOf, Holds, IsLoading
 use Rattle.sgx_types.specs.Processors.{Seat}
 use Rattle.sgx_types.specs.Slots.{same_slot}
 use Rattle.sgx_types.specs.Starts.{BareStart}
-use Rattle.sgx_types.specs.Table.{is_loading, is_out_of_range, is_secs, is_va, block_row, track_row, ewbstart_row, eldstart_row, first_of_row}
+use Rattle.sgx_types.specs.Table.{is_loading, is_out_of_range, is_secs, is_va, block_row, track_row, ewbstart_row, eldstart_row}
+use Rattle.sgx_types.specs.Table.{first_of_row}
 use Rattle.sgx_types.proofs.Contents.{enclave_no_va, free_there}
 use Rattle.sgx_types.proofs.Rows.{none_holds}
 use Rattle.sgx_types.proofs.Truths.{both_true, neither, not_false}
 use Rattle.cached_translations.specs.declared.cache.Translation.{Translation}
-use Rattle.paging_laws.specs.State.{State, sight, is_noting, number_noting, epoch_in, track_sight, slot_sight, drain_sight, has_passed, is_version_spent, after_block, after_track, after_ewbstart, after_eldstart, after_ewb, after_eld, after_failed_eld}
+use Rattle.paging_laws.specs.State.{State, sight, is_noting, number_noting, epoch_in, track_sight, slot_sight, drain_sight, has_passed}
+use Rattle.paging_laws.specs.State.{is_version_spent, after_block, after_track, after_ewbstart, after_eldstart, after_ewb, after_eld}
+use Rattle.paging_laws.specs.State.{after_failed_eld}
 use Rattle.paging_laws.specs.Stands.{IsTranslation, IsSeated, IsSound}
 use Rattle.paging_laws.specs.Guarded.{IsNoEarlier, HasNoted, IsDrainedAt, IsOpen, WritesOut, Loads, IsGuarded}
 use Rattle.paging_laws.proofs.TestLaws.{there_at, there_then, equal, each_there}

@@ -1,5 +1,6 @@
 -- The instructions that move pages: what each brings where it is done, and each commit.
-use Rattle.std.proofs.Common.{◌≡◌, ℕ, ◌<◌, ◌==◌, true, false, cond, refl, sym, ap, ◌∙◌, Option, Some, None, MatchOption, is_some, List}
+use Rattle.std.proofs.Common.{◌≡◌, ℕ, ◌<◌, ◌==◌, true, false, cond, refl, sym, ap, ◌∙◌, Option, Some, None}
+use Rattle.std.proofs.Common.{MatchOption, is_some, List}
 use Rattle.sgx_types.specs.declared.entries.Entry.{Entry}
 use Rattle.sgx_types.specs.declared.entries.Actor.{Actor}
 use Rattle.sgx_types.specs.declared.entries.Action.TheVariants.{Block, Track, EwbStart, Ewb, EldStart, Eld}
@@ -9,7 +10,7 @@ use Rattle.sgx_types.specs.declared.names.Kind.{Kind}
 use Rattle.sgx_types.specs.declared.names.Page.{Page}
 use Rattle.sgx_types.specs.declared.names.Perm.{Perm}
 use Rattle.sgx_types.specs.declared.refusals.Refusal.{Refusal}
-use Rattle.sgx_types.specs.Flat.{FlatEnclave, FlatMemory, FlatPage, added_as, flat, page_words}
+use Rattle.sgx_types.specs.Flat.{FlatMemory, FlatPage, added_as, flat, page_words}
 use Rattle.sgx_types.specs.Flat as flats
 use Rattle.sgx_types.specs.Frames.{Content, Free, Holds, IsLoading}
 use Rattle.sgx_types.specs.Sealed.{Sealed}

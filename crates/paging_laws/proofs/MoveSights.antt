@@ -13,7 +13,8 @@ use Rattle.sgx_types.specs.Flat.{enclave_sight_of, flat}
 use Rattle.sgx_types.specs.declared.names.TheConstants.{LAST_EPOCH}
 use Rattle.sgx_types.specs.declared.names.Page.{Page}
 use Rattle.sgx_types.specs.Frames.{content, enclave_in}
-use Rattle.sgx_types.specs.Table.{DrainSight, EnclaveSight, FrameSight, SlotSight, block_row, eldstart_row, ewbstart_row, first_of_row, track_row}
+use Rattle.sgx_types.specs.Table.{DrainSight, EnclaveSight, FrameSight, SlotSight, block_row, eldstart_row, ewbstart_row, first_of_row}
+use Rattle.sgx_types.specs.Table.{track_row}
 use Rattle.sgx_types.proofs.Keystone.{epochs_tell}
 use Rattle.sgx_types.specs.Sights.{drain_sight_at, row_at, slot_sight_at, track_sight_at}
 use Rattle.paging_laws.specs.State.{making_of}

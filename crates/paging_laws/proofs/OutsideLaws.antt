@@ -1,12 +1,15 @@
 -- What each instruction leaves of the pages that are outside.
-use Rattle.std.proofs.Common.{◌≡◌, ℕ, ◌+◌, ◌-◌, ◌/◌, ◌⊎◌, length, inl, inr, Bool, true, false, cond, refl, sym, ap, subst, ◌∙◌, Option, Some, None, MatchOption, List, ◌∷◌, set}
+use Rattle.std.proofs.Common.{◌≡◌, ℕ, ◌+◌, ◌-◌, ◌/◌, ◌⊎◌, length, inl, inr, Bool, true, false, cond, refl, sym}
+use Rattle.std.proofs.Common.{ap, subst, ◌∙◌, Option, Some, None, MatchOption, List, ◌∷◌, set}
 use Rattle.std.specs.List.{Any}
 use Rattle.std.proofs.lemmas.Bool.{cond_both}
 use Rattle.sgx_types.specs.declared.entries.Entry.{Entry}
 use Rattle.sgx_types.specs.declared.entries.Actor.{Actor}
 use Rattle.sgx_types.specs.declared.entries.Actor.TheVariants as actors
 use Rattle.sgx_types.specs.declared.entries.Action.{Action}
-use Rattle.sgx_types.specs.declared.entries.Action.TheVariants.{Epa, Create, Add, Extend, Init, Enter, Resume, Exit, Aex, Fill, Load, Store, Xadd, Set, Plus, Pf, OutLoad, OutStore, Block, Track, EwbStart, Ewb, EldStart, Eld}
+use Rattle.sgx_types.specs.declared.entries.Action.TheVariants.{Epa, Create, Add, Extend, Init, Enter, Resume, Exit, Aex, Fill, Load, Store}
+use Rattle.sgx_types.specs.declared.entries.Action.TheVariants.{Xadd, Set, Plus, Pf, OutLoad, OutStore, Block, Track, EwbStart, Ewb}
+use Rattle.sgx_types.specs.declared.entries.Action.TheVariants.{EldStart, Eld}
 use Rattle.sgx_types.specs.declared.entries.Answer.{Answer}
 use Rattle.sgx_types.specs.declared.entries.Answer.TheVariants as answers
 use Rattle.sgx_types.specs.declared.entries.PageInit.{PageInit}
@@ -22,7 +25,8 @@ use Rattle.sgx_types.specs.declared.refusals.Refusal.TheVariants as why
 use Rattle.sgx_types.specs.Frames.{Holds, content, is_page, page_at, same_page}
 use Rattle.sgx_types.specs.Processors.{Stay, stay}
 use Rattle.sgx_types.specs.Table.{TcsSight, first_of_row, allows_update, allows_write}
-use Rattle.sgx_types.specs.Flat.{FlatMemory, accepts, fields_in, flat, memory_after, page_words, saved, stored, sum_of, tcs_fields, with_cssa, with_words, word_seen, words_of}
+use Rattle.sgx_types.specs.Flat.{FlatMemory, accepts, fields_in, flat, memory_after, page_words, saved, stored, sum_of, tcs_fields}
+use Rattle.sgx_types.specs.Flat.{with_cssa, with_words, word_seen, words_of}
 use Rattle.sgx_types.specs.Sights.{seat_of}
 use Rattle.sgx_types.proofs.Truths.{not_false}
 use Rattle.sgx_types.proofs.Pages.{same_page-at, same_pages}

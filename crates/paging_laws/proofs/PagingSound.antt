@@ -1,6 +1,7 @@
 -- What blocks, tracks, write-out and reload leave of a sound state is sound: each touches at most one frame, which no
 -- processor inside uses.
-use Rattle.std.proofs.Common.{◌≡◌, ℕ, ◌<◌, ◌≤◌, ◌==◌, Bool, true, false, refl, sym, ap, ◌∙◌, arith, Option, Some, None, List, length, is_some}
+use Rattle.std.proofs.Common.{◌≡◌, ℕ, ◌<◌, ◌≤◌, ◌==◌, Bool, true, false, refl, sym, ap, ◌∙◌, arith, Option}
+use Rattle.std.proofs.Common.{Some, None, List, length, is_some}
 use Rattle.std.specs.List.{All}
 use Rattle.std.proofs.lemmas.Bool.{cond_both, false≢true}
 use Rattle.std.proofs.lemmas.List.{length-replicate}
@@ -17,7 +18,8 @@ use Rattle.sgx_types.specs.Table.{ewbstart_row, eldstart_row, first_of_row}
 use Rattle.sgx_types.proofs.Truths.{apart}
 use Rattle.epcm_entry.specs.Words.{zero_words}
 use Rattle.cached_translations.specs.declared.cache.Translation.{Translation}
-use Rattle.paging_laws.specs.State.{State, sight, epoch_in, slot_sight, drain_sight, is_version_spent, after_block, after_track, after_ewbstart, after_eldstart, after_ewb, after_eld, after_failed_eld}
+use Rattle.paging_laws.specs.State.{State, sight, epoch_in, slot_sight, drain_sight, is_version_spent, after_block, after_track}
+use Rattle.paging_laws.specs.State.{after_ewbstart, after_eldstart, after_ewb, after_eld, after_failed_eld}
 use Rattle.paging_laws.specs.Stands.{IsUsable, IsTranslation, IsSeated, IsSound}
 use Rattle.paging_laws.specs.Guarded.{IsNoEarlier, IsDrainedAt, IsGuarded}
 use Rattle.paging_laws.proofs.TestLaws.{each_there}

@@ -1,10 +1,13 @@
 -- The rows by the state and by the entries: both allow an instruction, or refuse it by the same case.
-use Rattle.std.proofs.Common.{◌≡◌, ℕ, ◌/◌, Bool, true, false, refl, sym, ap, ◌∙◌, ◌⊎◌, inl, inr, Option, Some, None, List, is_some, cond, leb, ltb, not, ◌||◌, ◌<◌, MatchOption}
+use Rattle.std.proofs.Common.{◌≡◌, ℕ, ◌/◌, Bool, true, false, refl, sym, ap, ◌∙◌, ◌⊎◌, inl, inr, Option, Some, None}
+use Rattle.std.proofs.Common.{List, is_some, cond, leb, ltb, not, ◌||◌, ◌<◌, MatchOption}
 use Rattle.sgx_types.specs.declared.entries.Entry.{Entry}
 use Rattle.sgx_types.specs.declared.entries.Actor.{Actor}
 use Rattle.sgx_types.specs.declared.entries.Actor.TheVariants as actors
 use Rattle.sgx_types.specs.declared.entries.Action.{Action}
-use Rattle.sgx_types.specs.declared.entries.Action.TheVariants.{Epa, Create, Add, Extend, Init, Enter, Resume, Exit, Aex, Fill, Load, Store, Xadd, Set, Plus, Pf, OutLoad, OutStore, Block, Track, EwbStart, Ewb, EldStart, Eld}
+use Rattle.sgx_types.specs.declared.entries.Action.TheVariants.{Epa, Create, Add, Extend, Init, Enter, Resume, Exit, Aex, Fill, Load, Store}
+use Rattle.sgx_types.specs.declared.entries.Action.TheVariants.{Xadd, Set, Plus, Pf, OutLoad, OutStore, Block, Track, EwbStart, Ewb}
+use Rattle.sgx_types.specs.declared.entries.Action.TheVariants.{EldStart, Eld}
 use Rattle.sgx_types.specs.declared.entries.PageInit.{PageInit}
 use Rattle.sgx_types.specs.declared.refusals.Refusal.{Refusal}
 use Rattle.sgx_types.specs.declared.refusals.Refusal.TheVariants as why
@@ -17,7 +20,9 @@ use Rattle.sgx_types.specs.declared.names.Perm.{Perm}
 use Rattle.sgx_types.specs.Enclaves.{EnclavesAreFlat}
 use Rattle.sgx_types.specs.Frames.{enclave_in, is_page, page_at, Free, content}
 use Rattle.sgx_types.specs.Processors.{stay, Seat}
-use Rattle.sgx_types.specs.Table.{Case, FrameSight, EnterSight, TcsSight, is_tcs, is_ready, epa_row, create_row, add_row, extend_row, init_row, inside_row, outside_row, fill_row, access_row, allows_read, allows_write, allows_update, pf_row, first_of_row, EnclaveSight, is_loading, is_valid, entry_row, is_enclave, is_lawful}
+use Rattle.sgx_types.specs.Table.{Case, FrameSight, EnterSight, TcsSight, is_tcs, is_ready, epa_row, create_row, add_row, extend_row}
+use Rattle.sgx_types.specs.Table.{init_row, inside_row, outside_row, fill_row, access_row, allows_read, allows_write, allows_update, pf_row}
+use Rattle.sgx_types.specs.Table.{first_of_row, EnclaveSight, is_loading, is_valid, entry_row, is_enclave, is_lawful}
 use Rattle.sgx_types.specs.Flat.{FlatEnclave, flat, enclave_sight_of, tcs_fields, words_of, page_words}
 use Rattle.sgx_types.specs.Sights.{row_at, seat_of, translation_at}
 use Rattle.sgx_types.specs.Sights as sights
@@ -37,7 +42,8 @@ use Rattle.paging_laws.proofs.RegisterLaws.{added_by_entries}
 use Rattle.paging_laws.proofs.MoveSights.{block_agrees, eldstart_agrees, ewbstart_agrees, track_agrees}
 use Rattle.paging_laws.specs.Steps.{CanApply, is_of_cpus, refused_by, IsStep, IsDone, did_by, answer_of}
 use Rattle.paging_laws.proofs.MeasureLaws.{quiet}
-use Rattle.paging_laws.proofs.ColumnLaws.{busy_flat, content_is, enclave_flat, enclave_seen, enclaves_are_flat, inside_is, page_seen, sight_is}
+use Rattle.paging_laws.proofs.ColumnLaws.{busy_flat, content_is, enclave_flat, enclave_seen, enclaves_are_flat, inside_is, page_seen}
+use Rattle.paging_laws.proofs.ColumnLaws.{sight_is}
 use Rattle.paging_laws.specs.Columns.{HasColumns}
 use Rattle.paging_laws.specs.Guarded.{IsGuarded}
 use Rattle.std.proofs.lemmas.Bool.{leb-false}

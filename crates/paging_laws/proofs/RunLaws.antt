@@ -1,5 +1,6 @@
 -- Whatever a fresh machine comes to has the shape of its entries, and stands in all for them where no record was forged.
-use Rattle.std.proofs.Common.{◌≡◌, zero, suc, ◌≤◌, sym, subst, arith, Option, Some, None, List, [], ◌∷◌, ◌++◌, length, All}
+use Rattle.std.proofs.Common.{◌≡◌, zero, suc, ◌≤◌, sym, subst, arith, Option, Some, None, List, [], ◌∷◌, ◌++◌, length}
+use Rattle.std.proofs.Common.{All}
 use Rattle.std.proofs.lemmas.List.{append-nil, length-append}
 use Rattle.std.proofs.lemmas.List.Elements.{All-append, All-nil, All-weaker}
 use Rattle.sgx_types.specs.declared.entries.Entry.{Entry}

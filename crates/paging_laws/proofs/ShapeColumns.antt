@@ -1,11 +1,14 @@
 -- Each row and each commit leaves the machine's columns as the longer list of entries has them.
-use Rattle.std.proofs.Common.{◌≡◌, ℕ, ◌+◌, ◌==◌, Bool, true, false, cond, refl, sym, ap, ◌∙◌, Option, Some, None, List, [], ◌∷◌, map, length}
+use Rattle.std.proofs.Common.{◌≡◌, ℕ, ◌+◌, ◌==◌, Bool, true, false, cond, refl, sym, ap, ◌∙◌, Option, Some, None}
+use Rattle.std.proofs.Common.{List, [], ◌∷◌, map, length}
 use Rattle.std.proofs.lemmas.Bool.{cond_both, eqb-true}
 use Rattle.sgx_types.specs.declared.entries.Entry.{Entry}
 use Rattle.sgx_types.specs.declared.entries.Actor.{Actor}
 use Rattle.sgx_types.specs.declared.entries.Actor.TheVariants as actors
 use Rattle.sgx_types.specs.declared.entries.Action.{Action}
-use Rattle.sgx_types.specs.declared.entries.Action.TheVariants.{Epa, Create, Add, Extend, Init, Enter, Resume, Exit, Aex, Fill, Load, Store, Xadd, Set, Plus, Pf, OutLoad, OutStore, Block, Track, EwbStart, Ewb, EldStart, Eld}
+use Rattle.sgx_types.specs.declared.entries.Action.TheVariants.{Epa, Create, Add, Extend, Init, Enter, Resume, Exit, Aex, Fill, Load, Store}
+use Rattle.sgx_types.specs.declared.entries.Action.TheVariants.{Xadd, Set, Plus, Pf, OutLoad, OutStore, Block, Track, EwbStart, Ewb}
+use Rattle.sgx_types.specs.declared.entries.Action.TheVariants.{EldStart, Eld}
 use Rattle.sgx_types.specs.declared.entries.Answer.{Answer}
 use Rattle.sgx_types.specs.declared.entries.Answer.TheVariants.{Version, Moved}
 use Rattle.sgx_types.specs.declared.entries.Cause.{Cause}
@@ -28,10 +31,13 @@ use Rattle.sgx_types.proofs.Pages.{same_page-swap}
 use Rattle.measure_log.specs.declared.measure.Measure.{Measure}
 use Rattle.cached_translations.specs.declared.cache.Translation.{Translation}
 use Rattle.cached_translations.specs.Translations.{with_translation}
-use Rattle.paging_laws.specs.Columns.{FrameColumns, CpuColumns, SlotColumns, HasColumns, frames_by, cpus_by, slots_by, enclaves_by, noted_inside, without_perm, seat_of_stay}
+use Rattle.paging_laws.specs.Columns.{FrameColumns, CpuColumns, SlotColumns, HasColumns, frames_by, cpus_by, slots_by, enclaves_by}
+use Rattle.paging_laws.specs.Columns.{noted_inside, without_perm, seat_of_stay}
 use Rattle.paging_laws.proofs.ColumnLaws.{sealing_is, start_is, inside_is, noted_is, translations_are, epoch_is, added_is}
 use Rattle.paging_laws.proofs.SlotLaws.{started_as}
-use Rattle.paging_laws.specs.State.{State, with_saved, after_epa, after_create, after_add, after_init, after_enter, after_resume, after_exit, after_aex, after_fill, after_block, after_track, after_ewbstart, after_eldstart, after_ewb, after_eld, after_failed_eld}
+use Rattle.paging_laws.specs.State.{State, with_saved, after_epa, after_create, after_add, after_init, after_enter, after_resume}
+use Rattle.paging_laws.specs.State.{after_exit, after_aex, after_fill, after_block, after_track, after_ewbstart, after_eldstart, after_ewb}
+use Rattle.paging_laws.specs.State.{after_eld, after_failed_eld}
 use Rattle.paging_laws.specs.Steps.{did_by, refused_by}
 use Rattle.paging_laws.proofs.TranslationLaws.{with_translation-map}
 

@@ -1,12 +1,15 @@
 -- What each row that is done brings, so that the state has the shape of one entry more.
-use Rattle.std.proofs.Common.{◌≡◌, ℕ, ◌/◌, ◌==◌, Bool, true, false, cond, refl, sym, ap, ◌∙◌, Option, Some, None, IfSome, is_some, is_none, List, ◌∷◌}
+use Rattle.std.proofs.Common.{◌≡◌, ℕ, ◌/◌, ◌==◌, Bool, true, false, cond, refl, sym, ap, ◌∙◌, Option, Some, None}
+use Rattle.std.proofs.Common.{IfSome, is_some, is_none, List, ◌∷◌}
 use Rattle.std.proofs.lemmas.Bool.{false≢true}
 use Rattle.std.proofs.lemmas.Option.{IfSome_then}
 use Rattle.sgx_types.specs.declared.entries.Entry.{Entry}
 use Rattle.sgx_types.specs.declared.entries.Actor.{Actor}
 use Rattle.sgx_types.specs.declared.entries.Actor.TheVariants as actors
 use Rattle.sgx_types.specs.declared.entries.Action.{Action}
-use Rattle.sgx_types.specs.declared.entries.Action.TheVariants.{Epa, Create, Add, Extend, Init, Enter, Resume, Exit, Aex, Fill, Load, Store, Xadd, Set, Plus, Pf, OutLoad, OutStore, Block, Track, EwbStart, Ewb, EldStart, Eld}
+use Rattle.sgx_types.specs.declared.entries.Action.TheVariants.{Epa, Create, Add, Extend, Init, Enter, Resume, Exit, Aex, Fill, Load, Store}
+use Rattle.sgx_types.specs.declared.entries.Action.TheVariants.{Xadd, Set, Plus, Pf, OutLoad, OutStore, Block, Track, EwbStart, Ewb}
+use Rattle.sgx_types.specs.declared.entries.Action.TheVariants.{EldStart, Eld}
 use Rattle.sgx_types.specs.declared.entries.AccessOp.{AccessOp}
 use Rattle.sgx_types.specs.declared.entries.Answer.{Answer}
 use Rattle.sgx_types.specs.declared.entries.Answer.TheVariants as answers
@@ -24,7 +27,8 @@ use Rattle.sgx_types.specs.Processors.{Seat, Stay, stay, stay_from, holds_number
 use Rattle.sgx_types.specs.Rules.{EvictRule, RisingRule, StaleRule}
 use Rattle.sgx_types.specs.Sights.{seat_of}
 use Rattle.sgx_types.specs.Starts.{BareStart}
-use Rattle.sgx_types.specs.Table.{EnclaveSight, FrameSight, is_valid, access_row, add_row, allows_read, allows_update, allows_write, create_row, epa_row, ewbstart_row, first_of_row}
+use Rattle.sgx_types.specs.Table.{EnclaveSight, FrameSight, is_valid, access_row, add_row, allows_read, allows_update, allows_write}
+use Rattle.sgx_types.specs.Table.{create_row, epa_row, ewbstart_row, first_of_row}
 use Rattle.sgx_types.specs.Flat.{enclave_sight_of}
 use Rattle.sgx_types.proofs.Rows.{none_holds}
 use Rattle.sgx_types.proofs.Goings.{goes_out}
@@ -35,12 +39,18 @@ use Rattle.cached_translations.specs.Translations.{translation_of}
 use Rattle.paging_laws.specs.Columns.{HasColumns}
 use Rattle.paging_laws.specs.State.{making_of}
 use Rattle.paging_laws.specs.Stands.{IsUsable, IsSound}
-use Rattle.paging_laws.specs.State.{State, sight, slot_sight, drain_sight, is_version_spent, translation, perm_of_held, with_acc, with_saved, word_at, cssa_in, saved_word, after_epa, after_create, after_add, after_extend, after_init, after_enter, after_resume, after_exit, after_aex, after_fill, after_store, after_xadd, after_block, after_track, after_ewbstart, after_eldstart, after_ewb, after_eld, after_failed_eld, row_of}
+use Rattle.paging_laws.specs.State.{State, sight, slot_sight, drain_sight, is_version_spent, translation, perm_of_held, with_acc}
+use Rattle.paging_laws.specs.State.{with_saved, word_at, cssa_in, saved_word, after_epa, after_create, after_add, after_extend, after_init}
+use Rattle.paging_laws.specs.State.{after_enter, after_resume, after_exit, after_aex, after_fill, after_store, after_xadd, after_block}
+use Rattle.paging_laws.specs.State.{after_track, after_ewbstart, after_eldstart, after_ewb, after_eld, after_failed_eld, row_of}
 use Rattle.paging_laws.specs.Steps.{did_by, refused_by}
 use Rattle.paging_laws.proofs.ColumnLaws.{inside_is, translations_are, next_version_is}
 use Rattle.paging_laws.proofs.SlotLaws.{started_as}
 use Rattle.paging_laws.proofs.SoundLaws.{seat_at, unused}
-use Rattle.paging_laws.proofs.ShapeColumns.{IsQuiet, is_eld, is_quiet, refused_quiet, did_quiet, quiet_columns, epa_columns, create_columns, add_columns, init_columns, enter_columns, resume_columns, exit_columns, aex_columns, fill_columns, block_columns, track_columns, ewbstart_columns, eldstart_columns, ewb_columns, eld_columns, failed_eld_columns}
+use Rattle.paging_laws.proofs.ShapeColumns.{IsQuiet, is_eld, is_quiet, refused_quiet, did_quiet, quiet_columns, epa_columns, create_columns}
+use Rattle.paging_laws.proofs.ShapeColumns.{add_columns, init_columns, enter_columns, resume_columns, exit_columns, aex_columns}
+use Rattle.paging_laws.proofs.ShapeColumns.{fill_columns, block_columns, track_columns, ewbstart_columns, eldstart_columns, ewb_columns}
+use Rattle.paging_laws.proofs.ShapeColumns.{eld_columns, failed_eld_columns}
 use Rattle.paging_laws.proofs.ShapeLaws.{drained_by, IsHeld, IsNextTo}
 use Rattle.paging_laws.proofs.TranslationLaws.{holds_number-map}
 use Rattle.paging_laws.proofs.MeasureLaws.{quiet}

@@ -1,12 +1,15 @@
 -- Each step takes a machine that has the shape of its entries on to one that does, whatever records are brought.
-use Rattle.std.proofs.Common.{◌≡◌, ℕ, ◌≤◌, inl, inr, Bool, true, false, refl, sym, ap, subst, ◌∙◌, Option, Some, None, MatchOption, is_some, unwrap_or, List, [], ◌∷◌}
+use Rattle.std.proofs.Common.{◌≡◌, ℕ, ◌≤◌, inl, inr, Bool, true, false, refl, sym, ap, subst, ◌∙◌, Option, Some, None}
+use Rattle.std.proofs.Common.{MatchOption, is_some, unwrap_or, List, [], ◌∷◌}
 use Rattle.std.proofs.lemmas.Bool.{false≢true}
 use Rattle.sgx_types.specs.declared.names.Page.{Page}
 use Rattle.sgx_types.specs.declared.entries.Entry.{Entry}
 use Rattle.sgx_types.specs.declared.entries.Actor.{Actor}
 use Rattle.sgx_types.specs.declared.entries.Actor.TheVariants as actors
 use Rattle.sgx_types.specs.declared.entries.Action.{Action}
-use Rattle.sgx_types.specs.declared.entries.Action.TheVariants.{Epa, Create, Add, Extend, Init, Enter, Resume, Exit, Aex, Fill, Load, Store, Xadd, Set, Plus, Pf, OutLoad, OutStore, Block, Track, EwbStart, EldStart, Eld}
+use Rattle.sgx_types.specs.declared.entries.Action.TheVariants.{Epa, Create, Add, Extend, Init, Enter, Resume, Exit, Aex, Fill, Load, Store}
+use Rattle.sgx_types.specs.declared.entries.Action.TheVariants.{Xadd, Set, Plus, Pf, OutLoad, OutStore, Block, Track, EwbStart, EldStart}
+use Rattle.sgx_types.specs.declared.entries.Action.TheVariants.{Eld}
 use Rattle.sgx_types.specs.declared.entries.Answer.TheVariants as answers
 use Rattle.sgx_types.specs.declared.names.Frame.{Frame}
 use Rattle.sgx_types.specs.declared.refusals.Refusal.{Refusal}
@@ -29,7 +32,10 @@ use Rattle.paging_laws.proofs.FrameLaws.{reloaded_frames, step_frames, written_f
 use Rattle.sgx_types.specs.Rules.{Along, FitsRule}
 use Rattle.sgx_types.proofs.Busy.{idle_free}
 use Rattle.paging_laws.proofs.ShapeLaws.{older_agrees, newer_agrees, IsHeld, IsNextTo, held_by, shaped_more}
-use Rattle.paging_laws.proofs.ShapeRows.{add_next, aex_next, block_next, create_next, eld_next, eldstart_next, enter_next, epa_next, ewb_next, ewbstart_next, exit_next, extend_next, failed_eld_next, fill_next, init_next, load_next, outload_next, outstore_next, pf_next, plus_next, refused_next, resume_next, set_next, store_next, track_next, xadd_next}
+use Rattle.paging_laws.proofs.ShapeRows.{add_next, aex_next, block_next, create_next, eld_next, eldstart_next, enter_next, epa_next}
+use Rattle.paging_laws.proofs.ShapeRows.{ewb_next, ewbstart_next, exit_next, extend_next, failed_eld_next, fill_next, init_next, load_next}
+use Rattle.paging_laws.proofs.ShapeRows.{outload_next, outstore_next, pf_next, plus_next, refused_next, resume_next, set_next, store_next}
+use Rattle.paging_laws.proofs.ShapeRows.{track_next, xadd_next}
 
 -- ---- every step
 

@@ -1,5 +1,6 @@
 -- What each row leaves of a sound state is sound.
-use Rattle.std.proofs.Common.{◌≡◌, ℕ, ◌==◌, Bool, true, false, cond, refl, sym, ap, ◌∙◌, Option, Some, None, IfSome, List, [], length}
+use Rattle.std.proofs.Common.{◌≡◌, ℕ, ◌==◌, Bool, true, false, cond, refl, sym, ap, ◌∙◌, Option, Some, None, IfSome, List}
+use Rattle.std.proofs.Common.{[], length}
 use Rattle.std.proofs.lemmas.Bool.{cond_both, false≢true, eqb-true}
 use Rattle.std.proofs.lemmas.List.Elements.{All-weaker}
 use Rattle.sgx_types.specs.declared.names.Page.{Page}

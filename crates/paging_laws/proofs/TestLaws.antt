@@ -1,5 +1,6 @@
 -- Facts on tests, rows and places.
-use Rattle.std.proofs.Common.{◌≡◌, ℕ, ◌==◌, ◌||◌, Bool, true, false, refl, Option, Some, None, IfSome, IsSomeAnd, is_some, is_none, List, [], ◌∷◌}
+use Rattle.std.proofs.Common.{◌≡◌, ℕ, ◌==◌, ◌||◌, Bool, true, false, refl, Option, Some, None, IfSome, IsSomeAnd, is_some}
+use Rattle.std.proofs.Common.{is_none, List, [], ◌∷◌}
 use Rattle.std.proofs.lemmas.Bool.{eq-eqb}
 use Rattle.sgx_types.specs.declared.entries.Entry.{Entry}
 use Rattle.sgx_types.specs.Rules.{AtEachPlace}

@@ -1,5 +1,6 @@
 -- The translations that a processor holds, with their permissions as the machine has them, and without as the entries do.
-use Rattle.std.proofs.Common.{◌≡◌, ℕ, ◌==◌, ◌||◌, Bool, true, false, cond, ltb, refl, ap, ◌∙◌, Some, List, [], ◌∷◌, ◌++◌, map, is_some, length, drop}
+use Rattle.std.proofs.Common.{◌≡◌, ℕ, ◌==◌, ◌||◌, Bool, true, false, cond, ltb, refl, ap, ◌∙◌, Some, List, []}
+use Rattle.std.proofs.Common.{◌∷◌, ◌++◌, map, is_some, length, drop}
 use Rattle.std.specs.List.{All, AllByRecursion}
 use Rattle.std.proofs.lemmas.Bool.{cond_both, eqb-true}
 use Rattle.std.proofs.lemmas.List.{length-map, map-append}

@@ -1,6 +1,7 @@
 -- A machine that stands in all for its entries and records goes on to, by each instruction and each commit, where no record is
 -- forged.
-use Rattle.std.proofs.Common.{◌≡◌, ℕ, ◌≤◌, inl, inr, true, refl, sym, ap, subst, ◌∙◌, Option, Some, None, List, [], ◌∷◌, ◌++◌}
+use Rattle.std.proofs.Common.{◌≡◌, ℕ, ◌≤◌, inl, inr, true, refl, sym, ap, subst, ◌∙◌, Option, Some, None, List, []}
+use Rattle.std.proofs.Common.{◌∷◌, ◌++◌}
 use Rattle.sgx_types.specs.declared.entries.Entry.{Entry}
 use Rattle.sgx_types.specs.declared.entries.Actor.{Actor}
 use Rattle.sgx_types.specs.declared.entries.Action.{Action}
@@ -35,7 +36,8 @@ use Rattle.paging_laws.proofs.ReloadLaws.{keeps_moves, reload_back, reload_fresh
 use Rattle.paging_laws.proofs.NextEntry.{Brings, once_before, stands_more}
 use Rattle.paging_laws.proofs.StepLaws.{step_brings}
 use Rattle.paging_laws.proofs.MoveLaws.{reloaded_brings, written_brings}
-use Rattle.paging_laws.proofs.StepRecords.{GivesRecord, made_same, made_same_eld, outside_reloaded, outside_written, sealed_quiet, sealed_quiet_eld}
+use Rattle.paging_laws.proofs.StepRecords.{GivesRecord, made_same, made_same_eld, outside_reloaded, outside_written, sealed_quiet}
+use Rattle.paging_laws.proofs.StepRecords.{sealed_quiet_eld}
 use Rattle.paging_laws.proofs.RowLaws.{step_entry, IsEntryOf}
 
 -- ---- the rules of one entry more

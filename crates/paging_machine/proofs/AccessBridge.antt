@@ -1,5 +1,6 @@
 -- What the rows of translations, accesses and the accumulator leave of the machine.
-use Rattle.std.proofs.Common.{◌≡◌, ℕ, ◌/◌, ◌<◌, ◌==◌, true, false, refl, sym, ap, ◌∙◌, Bool, Option, Some, None, List, length, set, is_some, length-set, unwrap_or}
+use Rattle.std.proofs.Common.{◌≡◌, ℕ, ◌/◌, ◌<◌, ◌==◌, true, false, refl, sym, ap, ◌∙◌, Bool, Option, Some, None}
+use Rattle.std.proofs.Common.{List, length, set, is_some, length-set, unwrap_or}
 use Rattle.std.specs.Prelude.{slice_set}
 use Rattle.std.proofs.lemmas.Bool.{cond_both, false≢true}
 use Rattle.std.proofs.lemmas.List.Elements.{recursion_from_All}
@@ -23,7 +24,8 @@ use Rattle.cached_translations.specs.Translations.{translation_of, with_translat
 use Rattle.enclave_access.specs.Access.{LeadsBelow, perm_of, perm_at, with_filled, word_through, with_word_in, with_stored}
 use Rattle.enclave_access.proofs.AccessLaws.{leads_below}
 use Rattle.paging_machine.specs.declared.machine.Machine.TheInside.{Inside}
-use Rattle.paging_laws.specs.State.{State, sight, seat_enclave, translation, perm_of_held, rewritten, frame_in, word_at, with_acc, after_fill, after_store}
+use Rattle.paging_laws.specs.State.{State, sight, seat_enclave, translation, perm_of_held, rewritten, frame_in, word_at, with_acc}
+use Rattle.paging_laws.specs.State.{after_fill, after_store}
 use Rattle.paging_laws.specs.Stands.{IsTranslation, IsSound}
 use Rattle.paging_machine.specs.Parts.{Parts, cpu_at, seat_of_mode, state_of}
 use Rattle.paging_machine.specs.Whole.{IsWithin, IsWhole, parts_of}

@@ -1,5 +1,6 @@
 -- The machine's parts after a row that builds an enclave, and the state that they make.
-use Rattle.std.proofs.Common.{◌≡◌, ℕ, ◌+◌, ◌/◌, ◌<◌, ◌≤◌, ◌==◌, ◌||◌, Bool, true, false, not, cond, leb, refl, sym, ap, ◌∙◌, Option, Some, None, List, length, set, is_some, length-set, ⊎_elim}
+use Rattle.std.proofs.Common.{◌≡◌, ℕ, ◌+◌, ◌/◌, ◌<◌, ◌≤◌, ◌==◌, ◌||◌, Bool, true, false, not, cond, leb}
+use Rattle.std.proofs.Common.{refl, sym, ap, ◌∙◌, Option, Some, None, List, length, set, is_some, length-set, ⊎_elim}
 use Rattle.std.specs.Prelude.{slice_index_or}
 use Rattle.std.proofs.lemmas.Bool.{cases_lt, cond_both, eqb-true, false≢true, leb-false, leb-true, ltb-true}
 use Rattle.std.proofs.lemmas.List.{get_or_past, length-replicate}
@@ -29,7 +30,8 @@ use Rattle.secs_state.specs.Sights.{sight_of}
 use Rattle.secs_state.proofs.Columns.{added_at-with_page}
 use Rattle.measure_log.specs.declared.measure.Measure.{Measure}
 use Rattle.enclave_build.specs.Build.{with_secs, with_added, with_resident}
-use Rattle.enclave_build.proofs.Columns.{length-with_secs, entry_at-with_secs, words_at-with_secs, length-with_added, entry_at-with_added, words_at-with_added}
+use Rattle.enclave_build.proofs.Columns.{length-with_secs, entry_at-with_secs, words_at-with_secs, length-with_added, entry_at-with_added}
+use Rattle.enclave_build.proofs.Columns.{words_at-with_added}
 use Rattle.version_array.specs.declared.va_page.VaSlot.{VaSlot}
 use Rattle.version_array.specs.Slots.{empty_slot, page_slots, pages_made, slot_in, version_in, is_busy_at}
 use Rattle.version_array.specs.Slots.{page_at as page_at_va, with_page as with_va_page}

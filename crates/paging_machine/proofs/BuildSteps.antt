@@ -1,5 +1,6 @@
 -- What enclave_build's instructions answer, as a step of the machine.
-use Rattle.std.proofs.Common.{◌≡◌, ℕ, ◌+◌, ◌*◌, ◌<◌, Bool, true, false, not, cond, refl, sym, ap, ◌∙◌, arith, ◌⊎◌, inl, inr, Option, Some, None, IfSome, List, length, get_or, set, is_some, ⊎_elim}
+use Rattle.std.proofs.Common.{◌≡◌, ℕ, ◌+◌, ◌*◌, ◌<◌, Bool, true, false, not, cond, refl, sym, ap, ◌∙◌, arith}
+use Rattle.std.proofs.Common.{◌⊎◌, inl, inr, Option, Some, None, IfSome, List, length, get_or, set, is_some, ⊎_elim}
 use Rattle.std.proofs.lemmas.Option.{cond_some}
 use Rattle.sgx_types.specs.declared.entries.Entry.{Entry}
 use Rattle.sgx_types.specs.declared.entries.Actor.{Actor}

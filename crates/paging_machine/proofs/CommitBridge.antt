@@ -1,5 +1,6 @@
 -- What the commits of EWB and ELDU leave of the machine's parts, and what they answer.
-use Rattle.std.proofs.Common.{◌≡◌, ℕ, ◌/◌, ◌<◌, ◌≤◌, true, false, refl, sym, ap, ◌∙◌, ◌⊎◌, inl, inr, Option, Some, None, IfSome, List, length, set, is_some, length-set}
+use Rattle.std.proofs.Common.{◌≡◌, ℕ, ◌/◌, ◌<◌, ◌≤◌, true, false, refl, sym, ap, ◌∙◌, ◌⊎◌, inl, inr}
+use Rattle.std.proofs.Common.{Option, Some, None, IfSome, List, length, set, is_some, length-set}
 use Rattle.std.specs.Option.{IsSomeAnd}
 use Rattle.std.proofs.lemmas.Bool.{cases_lt, false≢true}
 use Rattle.std.proofs.lemmas.List.{get_or_past}
@@ -46,7 +47,8 @@ use Rattle.paging_laws.specs.Steps.{SealsPage, IsWrittenOut, IsComing, IsReloade
 use Rattle.paging_machine.specs.Whole.{IsWhole, parts_of}
 use Rattle.paging_machine.proofs.KeptStates.{kept_ewb, kept_eld, kept_failed_eld}
 use Rattle.paging_machine.proofs.PagingSights.{added_same}
-use Rattle.paging_machine.proofs.PagingBridge.{IsWritable, written_parts, failed_parts, loaded_parts, ewb_state, failed_state, eld_state, table_ended, pages_ended, pages_marked, slots_marked}
+use Rattle.paging_machine.proofs.PagingBridge.{IsWritable, written_parts, failed_parts, loaded_parts, ewb_state, failed_state, eld_state}
+use Rattle.paging_machine.proofs.PagingBridge.{table_ended, pages_ended, pages_marked, slots_marked}
 use Rattle.paging_machine.proofs.WholeMachines.{Leaves, kept_of, done_step, refused_step}
 
 -- ---- the frame and the slot of a start

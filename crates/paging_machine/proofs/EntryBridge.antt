@@ -1,5 +1,6 @@
 -- What the rows that take a processor into an enclave and out of it leave of the machine.
-use Rattle.std.proofs.Common.{◌≡◌, ℕ, ◌+◌, ◌-◌, ◌<◌, ◌≤◌, ◌==◌, true, false, cond, refl, sym, ap, ◌∙◌, arith, ◌⊎◌, inl, inr, Some, None, List, [], length, set, is_some, length-set}
+use Rattle.std.proofs.Common.{◌≡◌, ℕ, ◌+◌, ◌-◌, ◌<◌, ◌≤◌, ◌==◌, true, false, cond, refl, sym, ap, ◌∙◌}
+use Rattle.std.proofs.Common.{arith, ◌⊎◌, inl, inr, Some, None, List, [], length, set, is_some, length-set}
 use Rattle.std.specs.Prelude.{slice_set}
 use Rattle.std.proofs.lemmas.Bool.{cond_both, cases_lt, leb-false}
 use Rattle.std.proofs.lemmas.List.Elements.{All-nil}
@@ -23,11 +24,13 @@ use Rattle.track_epoch.specs.Tracking.{Tracking, entered, left}
 use Rattle.track_epoch.specs.Tracks.{track_of, with_track}
 use Rattle.track_epoch.proofs.TracksLaws.{length-with_track}
 use Rattle.enclave_access.specs.Access.{LeadsBelow}
-use Rattle.entry_exit.specs.Entry.{IsItsEnclave, HasItsTcs, CountsIt, HasItsFrames, fields_at, with_entered, with_resumed, with_saved, with_its_saved, with_tcs_left, with_left, outside}
+use Rattle.entry_exit.specs.Entry.{IsItsEnclave, HasItsTcs, CountsIt, HasItsFrames, fields_at, with_entered, with_resumed, with_saved}
+use Rattle.entry_exit.specs.Entry.{with_its_saved, with_tcs_left, with_left, outside}
 use Rattle.entry_exit.specs.Entry.{enter_sight as seen_sight, row_of as way_row}
 use Rattle.entry_exit.specs.declared.way_in.WayIn.{WayIn}
 use Rattle.paging_machine.specs.declared.machine.Machine.TheInside.{Inside}
-use Rattle.paging_laws.specs.State.{State, enter_sight, from_outside, with_inside, rewritten, cssa_in, after_enter, after_resume, after_exit, after_aex}
+use Rattle.paging_laws.specs.State.{State, enter_sight, from_outside, with_inside, rewritten, cssa_in, after_enter, after_resume}
+use Rattle.paging_laws.specs.State.{after_exit, after_aex}
 use Rattle.paging_laws.specs.State.{with_saved as state_saved}
 use Rattle.evict_reload.specs.Sights.{AreVaPages}
 use Rattle.evict_reload.proofs.PageLaws.{pages-with_words}
@@ -40,7 +43,8 @@ use Rattle.paging_machine.proofs.Columns.{numbered, table_written}
 use Rattle.paging_laws.proofs.EntryLaws.{enters, enter_saves, enter_saved, resume_saves, resume_saved, sound-enter, sound-resume}
 use Rattle.paging_laws.proofs.ExitLaws.{sound-exit, sound-aex}
 use Rattle.paging_machine.proofs.KeptStates.{IsKept}
-use Rattle.paging_machine.proofs.ProcessorBridge.{is_some-mode, free_past, page_added, added_there, seat_added, words_state, inside_state, exit_state, marked_own}
+use Rattle.paging_machine.proofs.ProcessorBridge.{is_some-mode, free_past, page_added, added_there, seat_added, words_state, inside_state}
+use Rattle.paging_machine.proofs.ProcessorBridge.{exit_state, marked_own}
 use Rattle.paging_machine.proofs.TrackLaws.{tracked_entered, tracked_left, counted}
 use Rattle.paging_machine.proofs.WholeMachines.{Leaves, kept_of}
 use Rattle.paging_laws.proofs.GuardCpus.{guarded_enter, guarded_resume, guarded_exit, guarded_aex}

@@ -1,5 +1,6 @@
 -- The first free frame of the EPC is the least one of the state.
-use Rattle.std.proofs.Common.{◌≡◌, ℕ, suc, ◌+◌, ◌<◌, cond, refl, sym, ap, ◌∙◌, arith, Option, Some, None, List, [], ◌∷◌, length, get_or, add-zero}
+use Rattle.std.proofs.Common.{◌≡◌, ℕ, suc, ◌+◌, ◌<◌, cond, refl, sym, ap, ◌∙◌, arith, Option, Some, None, List, []}
+use Rattle.std.proofs.Common.{◌∷◌, length, get_or, add-zero}
 use Rattle.std.specs.List.{position, position_from}
 use Rattle.std.specs.Option.{option_map}
 use Rattle.std.proofs.lemmas.Iterator.Adapters.{position_from-zero}

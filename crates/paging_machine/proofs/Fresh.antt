@@ -1,5 +1,6 @@
 -- A machine as it is made is a fresh one: it stands for no entry, and keeps what every machine keeps.
-use Rattle.std.proofs.Common.{ℕ, zero, suc, ◌≡◌, ◌==◌, ◌-◌, ◌≤◌, ◌+◌, refl, sym, ap, subst, ◌∙◌, true, false, cond, mul-zero, ◌<◌, List, [], ◌∷◌, ◌++◌, Option, Some, None, length, replicate, get_or}
+use Rattle.std.proofs.Common.{ℕ, zero, suc, ◌≡◌, ◌==◌, ◌-◌, ◌≤◌, ◌+◌, refl, sym, ap, subst, ◌∙◌, true}
+use Rattle.std.proofs.Common.{false, cond, mul-zero, ◌<◌, List, [], ◌∷◌, ◌++◌, Option, Some, None, length, replicate, get_or}
 use Rattle.std.specs.Prelude.{Bool, count_by}
 use Rattle.std.proofs.lemmas.Bool.{cond_both}
 use Rattle.std.proofs.lemmas.List.{length-replicate, replicate-append-replicate}
@@ -28,7 +29,8 @@ use Rattle.paging_laws.specs.State.{making_of}
 use Rattle.paging_laws.specs.Shape.{ShapeWithRules}
 use Rattle.paging_laws.specs.State.{fresh}
 use Rattle.paging_laws.specs.Stands.{IsSound, IsMeasured, IsFramed}
-use Rattle.paging_machine.specs.Parts.{Parts, made, idle, is_noted, state_of, enclave_of, added_in, is_busy_in, seat_of_mode, noted_by, epoch_from, start_of}
+use Rattle.paging_machine.specs.Parts.{Parts, made, idle, is_noted, state_of, enclave_of, added_in, is_busy_in, seat_of_mode, noted_by}
+use Rattle.paging_machine.specs.Parts.{epoch_from, start_of}
 use Rattle.paging_machine.specs.Whole.{IsTable, IsWithin, IsTracked, IsWhole, parts_of}
 use Rattle.paging_machine.specs.declared.machine.Machine.TheInside.{Inside}
 use Rattle.paging_machine.proofs.Columns.{like}

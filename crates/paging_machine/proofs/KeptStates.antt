@@ -1,7 +1,8 @@
 -- What the rows that build, and those that move pages, keep of a state: created enclaves have measurements, pages in frames
 -- were added, translations lead to frames, processors inside stand on pages of their enclave, and only drained pages go out.
 use Rattle.paging_laws.proofs.Contents.{waits_for}
-use Rattle.std.proofs.Common.{◌≡◌, ℕ, ◌+◌, ◌==◌, Bool, true, false, cond, refl, subst, sym, List, length, Option, Some, None, is_some}
+use Rattle.std.proofs.Common.{◌≡◌, ℕ, ◌+◌, ◌==◌, Bool, true, false, cond, refl, subst, sym, List, length, Option, Some}
+use Rattle.std.proofs.Common.{None, is_some}
 use Rattle.std.proofs.lemmas.Bool.{cond_both}
 use Rattle.sgx_types.specs.declared.entries.PageInit.{PageInit}
 use Rattle.sgx_types.specs.declared.names.Page.{Page}
@@ -14,7 +15,9 @@ use Rattle.sgx_types.specs.Starts.{BareStart}
 use Rattle.sgx_types.specs.Table.{block_row, track_row, ewbstart_row, eldstart_row, first_of_row, is_loading}
 use Rattle.sgx_types.proofs.Pages.{same_page-at}
 use Rattle.measure_log.specs.declared.measure.Measure.{Measure}
-use Rattle.paging_laws.specs.State.{State, sight, track_sight, slot_sight, drain_sight, is_version_spent, with_content, after_epa, after_create, after_add, after_extend, after_init, after_block, after_track, after_ewbstart, after_eldstart, after_ewb, after_eld, after_failed_eld}
+use Rattle.paging_laws.specs.State.{State, sight, track_sight, slot_sight, drain_sight, is_version_spent, with_content, after_epa}
+use Rattle.paging_laws.specs.State.{after_create, after_add, after_extend, after_init, after_block, after_track, after_ewbstart}
+use Rattle.paging_laws.specs.State.{after_eldstart, after_ewb, after_eld, after_failed_eld}
 use Rattle.paging_laws.specs.Stands.{IsSound, IsMeasured, IsFramed}
 use Rattle.paging_laws.specs.Guarded.{IsPaged, IsGuarded}
 use Rattle.paging_machine.specs.Whole.{IsWithin}
@@ -22,7 +25,8 @@ use Rattle.paging_laws.proofs.SoundLaws.{sound-put}
 use Rattle.paging_laws.proofs.BuildLaws.{sound_add}
 use Rattle.paging_laws.proofs.GuardLaws.{guarded_put, guarded_made, guarded_create, guarded_add, guarded_extend, guarded_init}
 use Rattle.paging_laws.proofs.PagingSound.{sound_block, sound_track, sound_ewbstart, sound_eldstart, sound_ewb, sound_eld, sound_failed_eld}
-use Rattle.paging_laws.proofs.GuardMoves.{guarded_block, guarded_track, guarded_ewbstart, guarded_eldstart, guarded_ewb, guarded_eld, guarded_failed_eld}
+use Rattle.paging_laws.proofs.GuardMoves.{guarded_block, guarded_track, guarded_ewbstart, guarded_eldstart, guarded_ewb, guarded_eld}
+use Rattle.paging_laws.proofs.GuardMoves.{guarded_failed_eld}
 
 pub record IsKept (s : State) : Type 0 where
   pub measured : IsMeasured s

@@ -2,7 +2,8 @@
 use Rattle.paging_laws.proofs.Contents.{waits_for}
 use Rattle.secs_state.specs.Sights.{sight_of}
 use Rattle.sgx_types.specs.Flat.{enclave_sight_of}
-use Rattle.std.proofs.Common.{◌≡◌, ℕ, zero, suc, ◌+◌, ◌-◌, ◌<◌, ◌≤◌, ◌==◌, ◌&&◌, Bool, true, false, cond, refl, sym, ap, ◌∙◌, arith, Option, Some, None, IfSome, is_some, List, [], ◌∷◌, length, get_or}
+use Rattle.std.proofs.Common.{◌≡◌, ℕ, zero, suc, ◌+◌, ◌-◌, ◌<◌, ◌≤◌, ◌==◌, ◌&&◌, Bool, true, false, cond}
+use Rattle.std.proofs.Common.{refl, sym, ap, ◌∙◌, arith, Option, Some, None, IfSome, is_some, List, [], ◌∷◌, length, get_or}
 use Rattle.std.specs.Prelude.{count_by, nat_lt, nat_le, slice_get}
 use Rattle.std.specs.Option.{option_and_then, IsSomeAnd, option_map}
 use Rattle.std.proofs.lemmas.Bool.{ne_eqb, eqb-true, false≢true}
@@ -40,7 +41,8 @@ use Rattle.version_array.specs.Versions.{is_spent_at}
 use Rattle.evict_reload.specs.Sights as parts
 use Rattle.evict_reload.specs.Sights.{IsNumbered, drain_of}
 use Rattle.evict_reload.specs.Effects as effects
-use Rattle.paging_laws.specs.State.{State, sight, is_noting, number_noting, epoch_in, number_up_to, has_passed, track_sight, slot_sight, drain_sight, is_version_spent}
+use Rattle.paging_laws.specs.State.{State, sight, is_noting, number_noting, epoch_in, number_up_to, has_passed, track_sight, slot_sight}
+use Rattle.paging_laws.specs.State.{drain_sight, is_version_spent}
 use Rattle.paging_machine.specs.Parts.{Parts, idle, cpu_at, seat_of_mode, noted_by, is_noted, added_in, enclave_of, state_of}
 use Rattle.paging_machine.specs.Whole.{IsTable, IsTracked}
 use Rattle.paging_machine.proofs.Columns.{numbered}

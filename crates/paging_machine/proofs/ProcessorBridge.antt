@@ -1,5 +1,6 @@
 -- The machine's parts after a row of a processor, and the state that they make.
-use Rattle.std.proofs.Common.{◌≡◌, ℕ, ◌<◌, ◌≤◌, ◌==◌, Bool, true, false, cond, refl, sym, ap, ◌∙◌, Option, Some, None, List, [], length, get_or, set, is_some, length-set}
+use Rattle.std.proofs.Common.{◌≡◌, ℕ, ◌<◌, ◌≤◌, ◌==◌, Bool, true, false, cond, refl, sym, ap, ◌∙◌, Option, Some}
+use Rattle.std.proofs.Common.{None, List, [], length, get_or, set, is_some, length-set}
 use Rattle.std.proofs.lemmas.Bool.{cond_both, eqb-true}
 use Rattle.std.proofs.lemmas.List.{get_or_past}
 use Rattle.sgx_types.specs.declared.names.Frame.{Frame}

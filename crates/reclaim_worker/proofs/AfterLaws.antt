@@ -1,5 +1,6 @@
 -- What the pass stands for behind a look and behind a block.
-use Rattle.std.proofs.Common.{◌≡◌, inl, inr, ℕ, zero, suc, ◌+◌, ◌-◌, ◌<◌, ◌≤◌, true, false, refl, sym, ◌∙◌, ap, subst, List, [], ◌∷◌, ◌++◌}
+use Rattle.std.proofs.Common.{◌≡◌, inl, inr, ℕ, zero, suc, ◌+◌, ◌-◌, ◌<◌, ◌≤◌, true, false, refl, sym, ◌∙◌}
+use Rattle.std.proofs.Common.{ap, subst, List, [], ◌∷◌, ◌++◌}
 use Rattle.std.proofs.Common.{drop, length, nat_lt, Some, arith}
 use Rattle.std.proofs.lemmas.Bool.{eq-eqb}
 use Rattle.sgx_types.specs.declared.entries.Action.TheVariants.{Block, EwbStart, Track}
@@ -24,8 +25,8 @@ use Rattle.turn_rules.specs.Script.{frame_at}
 use Rattle.active_list.specs.declared.page_states.PageState.{PageState}
 use Rattle.active_list.specs.States.{state_of}
 use Rattle.driver_rules.specs.Ages.{head_of}
-use Rattle.driver_rules.specs.Passes.{Third, decided, free_count, keepers, kicks_on, pass, pass_after, Between, Blocking, First, Scan}
-use Rattle.driver_rules.specs.Passes.{Sealing, Second, ToKick, ToTrack, Tries, block_on, next_tries, scan_on, scanned, taken_by}
+use Rattle.driver_rules.specs.Passes.{Third, decided, free_count, keepers, kicks_on, pass, pass_after, Blocking, First}
+use Rattle.driver_rules.specs.Passes.{Sealing, Second, ToKick, ToTrack, Tries, block_on, next_tries, scan_on, taken_by}
 use Rattle.driver_rules.specs.Places.{Here, Leaving, active, place}
 use Rattle.sgx_types.specs.Starts.{open_start}
 use Rattle.driver_laws.specs.Sound.{slot_at, slot_of, IsSound, is_absent}

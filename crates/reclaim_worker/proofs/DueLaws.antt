@@ -1,5 +1,6 @@
 -- A turn of the pass is what the reclaimer does next.
-use Rattle.std.proofs.Common.{◌≡◌, inl, inr, ℕ, zero, suc, ◌+◌, ◌<◌, true, false, cond, refl, sym, ◌∙◌, ap, subst, List, [], ◌∷◌, drop}
+use Rattle.std.proofs.Common.{◌≡◌, inl, inr, ℕ, zero, suc, ◌+◌, ◌<◌, true, false, cond, refl, sym, ◌∙◌, ap, subst}
+use Rattle.std.proofs.Common.{List, [], ◌∷◌, drop}
 use Rattle.std.proofs.Common.{length, get_or, slice_get, count_by, Option, Some, Result, Ok, Err, IfOk, add-zero, arith}
 use Rattle.paging_laws.proofs.ColumnLaws.{content_is}
 use Rattle.std.proofs.lemmas.List.Sums.{sum_by-cons}
@@ -21,7 +22,7 @@ use Rattle.sgx_types.specs.Making.{Making}
 use Rattle.paging_laws.specs.State.{making_of}
 use Rattle.paging_machine.proofs.Columns.{get_or-default}
 use Rattle.driver_rules.specs.Passes as passes
-use Rattle.driver_rules.specs.Passes.{Between, Blocking, Pass, Scan, Tries, free_count, free_count_from, keepers, pass}
+use Rattle.driver_rules.specs.Passes.{Blocking, Pass, Scan, Tries, free_count, free_count_from, keepers, pass}
 use Rattle.driver_rules.specs.Places.{Leaving, place}
 use Rattle.driver_laws.specs.Tracks.{IsTracked, IsUntracked, KeepsTracks}
 use Rattle.driver_tables.specs.declared.driver.Driver.{Driver}

@@ -1,5 +1,6 @@
 -- What is due keeps the rules Age and Kick, moves its page, and tells what is so.
-use Rattle.std.proofs.Common.{◌≡◌, inl, inr, ℕ, ◌^◌, ◌==◌, Bool, true, false, if◌then◌else◌, refl, sym, ◌∙◌, subst, List, [], ◌∷◌, Option}
+use Rattle.std.proofs.Common.{◌≡◌, inl, inr, ℕ, ◌^◌, ◌==◌, Bool, true, false, if◌then◌else◌, refl, sym, ◌∙◌}
+use Rattle.std.proofs.Common.{subst, List, [], ◌∷◌, Option}
 use Rattle.std.proofs.Common.{Some, None}
 use Rattle.std.proofs.lemmas.Bool.{false≢true}
 use Rattle.sgx_types.specs.declared.entries.Action.TheVariants.{Track, EwbStart, Ewb}
@@ -34,7 +35,7 @@ use Rattle.driver_laws.proofs.AgreeLaws.{kept_is_free}
 use Rattle.driver_laws.proofs.EpochLaws.{drained_then}
 use Rattle.reclaim_worker.specs.declared.turns.PassTurn.{PassTurn}
 use Rattle.reclaim_worker.specs.declared.turns.PassTurn.TheVariants as turns
-use Rattle.driver_rules.specs.Dues.{Due, Makes, TriesOut}
+use Rattle.driver_rules.specs.Dues.{TriesOut}
 use Rattle.reclaim_worker.specs.Answers.{IsTurn, by_reclaimer, track_turn, try_turn}
 use Rattle.driver_rules.specs.Reclaims.{are_held, in_frame, leaving_due, look_at, look_due, pass_due, third_due}
 use Rattle.driver_rules.specs.Dues as dues

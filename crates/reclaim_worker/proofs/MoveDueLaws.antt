@@ -1,5 +1,6 @@
 -- A block, a track and a try of the pass are those that are due, and each is answered as the entries say.
-use Rattle.std.proofs.Common.{◌≡◌, ◌⊎◌, inl, inr, ℕ, ◌^◌, ◌==◌, Bool, true, false, if◌then◌else◌, refl, sym, ◌∙◌, ap, subst, List, Some}
+use Rattle.std.proofs.Common.{◌≡◌, ◌⊎◌, inl, inr, ℕ, ◌^◌, ◌==◌, Bool, true, false, if◌then◌else◌, refl, sym}
+use Rattle.std.proofs.Common.{◌∙◌, ap, subst, List, Some}
 use Rattle.std.proofs.Common.{None, MatchOption, is_some, not}
 use Rattle.turn_rules.specs.Script.{frame_at}
 use Rattle.paging_laws.proofs.ColumnLaws.{next_version_is, epoch_is, added_is}

@@ -12,7 +12,8 @@ use Rattle.sgx_types.specs.Rules.{Along}
 use Rattle.job_grammar.specs.Jobs.{JobView}
 use Rattle.paging_machine.specs.Parts.{Parts}
 use Rattle.driver_rules.specs.Ages.{AgeRule, PassOf}
-use Rattle.driver_rules.specs.Passes.{Between, Blocking, Form, Pass, Scan, Sealing, Third, ToKick, Tries, decided, keepers, free_count, pass, pass_after}
+use Rattle.driver_rules.specs.Passes.{Between, Blocking, Form, Pass, Scan, Sealing, Third, ToKick, Tries, decided, keepers, free_count}
+use Rattle.driver_rules.specs.Passes.{pass, pass_after}
 use Rattle.driver_rules.specs.Reclaims.{all_finished, due_with, pass_due, reclaimer_due}
 use Rattle.driver_rules.specs.Stops.{frame_started, is_spent, last_event}
 use Rattle.driver_tables.specs.declared.driver.Driver.{Driver}

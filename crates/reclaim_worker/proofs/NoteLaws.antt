@@ -1,5 +1,6 @@
 -- The pass stands for the list behind an entry, once it is decided whether it works, and behind the entries of others.
-use Rattle.std.proofs.Common.{◌≡◌, inl, inr, ℕ, zero, suc, ◌+◌, ◌<◌, ◌≤◌, false, refl, sym, ◌∙◌, ap, subst, List, [], ◌∷◌, drop, Option}
+use Rattle.std.proofs.Common.{◌≡◌, inl, inr, ℕ, zero, suc, ◌+◌, ◌<◌, ◌≤◌, false, refl, sym, ◌∙◌, ap, subst}
+use Rattle.std.proofs.Common.{List, [], ◌∷◌, drop, Option}
 use Rattle.std.proofs.Common.{Some, None, arith}
 use Rattle.sgx_types.specs.declared.entries.Action.TheVariants.{Block, Track, EwbStart, Ewb}
 use Rattle.sgx_types.specs.declared.entries.Entry.{Entry}
@@ -11,8 +12,8 @@ use Rattle.sgx_types.specs.Eviction.{keeps_back}
 use Rattle.sgx_types.specs.Processors.{Stay, stay}
 use Rattle.job_grammar.specs.Jobs.{JobView}
 use Rattle.driver_rules.specs.Passes as passes
-use Rattle.driver_rules.specs.Passes.{Between, Blocking, Pass, Scan, Tries, decided, keepers, keepers_behind, keepers_from, keepers_in}
-use Rattle.driver_rules.specs.Passes.{keeps_from, works_with}
+use Rattle.driver_rules.specs.Passes.{Pass, Scan, Tries, decided, keepers, keepers_behind, keepers_from, keepers_in}
+use Rattle.driver_rules.specs.Passes.{keeps_from}
 use Rattle.driver_rules.specs.Places.{Leaving, frame_leaving, place}
 use Rattle.driver_laws.specs.Kinds.{CanMove}
 use Rattle.driver_laws.specs.Sound.{IsSound, slot_at}

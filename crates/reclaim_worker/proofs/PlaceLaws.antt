@@ -1,5 +1,7 @@
 -- Each page of a pass that has still to go out keeps its place in the store.
-use Rattle.std.proofs.Common.{◌≡◌, ◌≤◌, ◌<◌, inl, inr, ℕ, zero, suc, ◌+◌, ◌-◌, Bool, true, false, if◌then◌else◌, refl, sym, subst, List, [], ◌∷◌, ◌++◌, Option, Some, None, length, count_by, min, nat_lt, slice_get, arith}
+use Rattle.std.proofs.Common.{◌≡◌, ◌≤◌, ◌<◌, inl, inr, ℕ, zero, suc, ◌+◌, ◌-◌, Bool, true, false}
+use Rattle.std.proofs.Common.{if◌then◌else◌, refl, sym, subst, List, [], ◌∷◌, ◌++◌, Option, Some, None, length, count_by}
+use Rattle.std.proofs.Common.{min, nat_lt, slice_get, arith}
 use Rattle.std.specs.Option.{IsSomeAnd}
 use Rattle.std.proofs.lemmas.List.{length-append}
 use Rattle.std.proofs.lemmas.Option.{slice_get_within}

@@ -1,5 +1,6 @@
 -- What the rows of a block, a track and a try say of a page that was taken.
-use Rattle.std.proofs.Common.{◌≡◌, ℕ, ◌&&◌, not, Bool, true, false, if◌then◌else◌, refl, sym, ◌∙◌, ap, List, Option, Some, None}
+use Rattle.std.proofs.Common.{◌≡◌, ℕ, ◌&&◌, not, Bool, true, false, if◌then◌else◌, refl, sym, ◌∙◌, ap, List, Option}
+use Rattle.std.proofs.Common.{Some, None}
 use Rattle.std.proofs.Common.{is_some, nat_lt, leb, arith}
 use Rattle.paging_laws.proofs.ColumnLaws.{blocked_is, content_is, epoch_is, is_blocked_is, sealing_is, version_is}
 use Rattle.std.proofs.lemmas.Bool.{eq-eqb}

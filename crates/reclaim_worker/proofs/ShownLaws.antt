@@ -1,5 +1,6 @@
 -- Behind a turn the tables say what the longer list says.
-use Rattle.std.proofs.Common.{◌≡◌, ◌⊎◌, inl, inr, ℕ, zero, suc, ◌==◌, true, false, refl, sym, ◌∙◌, ap, subst, List, [], ◌∷◌, drop, length}
+use Rattle.std.proofs.Common.{◌≡◌, ◌⊎◌, inl, inr, ℕ, zero, suc, ◌==◌, true, false, refl, sym, ◌∙◌, ap, subst, List}
+use Rattle.std.proofs.Common.{[], ◌∷◌, drop, length}
 use Rattle.std.proofs.Common.{map, slice_get, Some, None, Result, Ok, Err, IfOk, arith}
 use Rattle.sgx_types.specs.declared.entries.Action.TheVariants.{Block, EwbStart, Track}
 use Rattle.sgx_types.specs.declared.entries.Answer.TheVariants as answers
@@ -27,7 +28,7 @@ use Rattle.version_array.specs.Keeper.{Keeper, Takes}
 use Rattle.driver_rules.specs.Ages.{head_of}
 use Rattle.driver_rules.specs.Holds.{is_held, is_held_below}
 use Rattle.driver_rules.specs.Passes as passes
-use Rattle.driver_rules.specs.Passes.{Blocking, Pass, Tries, keepers, pass}
+use Rattle.driver_rules.specs.Passes.{Blocking, Tries, pass}
 use Rattle.driver_rules.specs.Places.{Here, Leaving, active, place}
 use Rattle.driver_laws.specs.Kinds.{is_quiet}
 use Rattle.driver_laws.specs.Agrees.{ShowsSlots, loaded_by}

@@ -1,5 +1,6 @@
 -- Behind the entry of a turn the pass stands for the longer list.
-use Rattle.std.proofs.Common.{◌≡◌, ◌⊎◌, inl, inr, ℕ, ◌+◌, ◌-◌, true, false, refl, sym, ◌∙◌, ap, subst, List, [], ◌∷◌, ◌++◌, drop}
+use Rattle.std.proofs.Common.{◌≡◌, ◌⊎◌, inl, inr, ℕ, ◌+◌, ◌-◌, true, false, refl, sym, ◌∙◌, ap, subst, List, []}
+use Rattle.std.proofs.Common.{◌∷◌, ◌++◌, drop}
 use Rattle.std.proofs.Common.{length, min, slice_get, arith}
 use Rattle.sgx_types.specs.declared.entries.Action.TheVariants.{Block, Track}
 use Rattle.sgx_types.specs.declared.entries.Answer.TheVariants as answers

@@ -1,5 +1,6 @@
 -- The end of a write-out is the one that is due, and behind it pass and tables say what the longer list says.
-use Rattle.std.proofs.Common.{◌≡◌, ℕ, ◌+◌, ◌||◌, Bool, true, false, refl, sym, ◌∙◌, ap, subst, List, [], ◌∷◌, drop, length, nat_lt}
+use Rattle.std.proofs.Common.{◌≡◌, ℕ, ◌+◌, ◌||◌, Bool, true, false, refl, sym, ◌∙◌, ap, subst, List, [], ◌∷◌}
+use Rattle.std.proofs.Common.{drop, length, nat_lt}
 use Rattle.std.proofs.Common.{slice_get, Option, Some, arith}
 use Rattle.std.specs.Option.{IsSomeAnd}
 use Rattle.std.proofs.lemmas.Bool.{eq-eqb}
@@ -18,7 +19,7 @@ use Rattle.sgx_types.proofs.Busy.{IsBareOf}
 use Rattle.job_grammar.specs.Jobs.{JobView}
 use Rattle.backing_store.specs.Calls.{Call}
 use Rattle.paging_laws.specs.Columns.{HasColumns}
-use Rattle.paging_laws.proofs.ColumnLaws.{content_is, start_is}
+use Rattle.paging_laws.proofs.ColumnLaws.{content_is}
 use Rattle.paging_laws.proofs.SlotLaws.{started_as}
 use Rattle.paging_machine.specs.Parts.{Parts, state_of}
 use Rattle.driver_rules.specs.Dues.{IsNext}

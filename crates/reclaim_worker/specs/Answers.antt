@@ -1,5 +1,6 @@
 -- When a turn of a pass is what the reclaimer does next.
-use Rattle.std.specs.Prelude.{ℕ, zero, suc, ◌≡◌, ◌==◌, ◌+◌, ◌*◌, ◌^◌, ◌⊎◌, Bool, true, false, if◌then◌else◌, List}
+use Rattle.std.specs.Prelude.{ℕ, zero, suc, ◌≡◌, ◌==◌, ◌+◌, ◌*◌, ◌^◌, ◌⊎◌, Bool, true, false}
+use Rattle.std.specs.Prelude.{if◌then◌else◌, List}
 use Rattle.std.specs.List.{list_any}
 use Rattle.sgx_types.specs.declared.entries.Entry.{Entry}
 use Rattle.sgx_types.specs.declared.entries.Event.{Event}

@@ -1,6 +1,7 @@
 //! A pass of the reclaimer, one turn at a time.
 
-ghost use Rattle.std.specs.Prelude.{◌≡◌, ◌≢◌, ◌+◌, ◌++◌, ◌≤◌, ◌<◌, ◌∷◌, ℕ, [], false, List, length, IfOk, OnErr, vec_len, vec_capacity};
+ghost use Rattle.std.specs.Prelude.{◌≡◌, ◌≢◌, ◌+◌, ◌++◌, ◌≤◌, ◌<◌, ◌∷◌, ℕ, [], false, List, length};
+ghost use Rattle.std.specs.Prelude.{IfOk, OnErr, vec_len, vec_capacity};
 ghost use Rattle.std.specs.Result.{IsOkAnd};
 ghost use Rattle.io_edges.specs.Faults.{HasCause};
 ghost use Rattle.reclaim_worker.specs.declared.turns.Taken.{Taken};

@@ -9,7 +9,8 @@ ghost use Rattle.job_grammar.specs.Jobs.{JobView};
 ghost use Rattle.paging_laws.specs.Shape.{FitsApart, ShapeWithRules};
 ghost use Rattle.reclaim_worker.specs.Ended.{IsEnded};
 ghost use Rattle.reclaim_worker.specs.Ready.{Ready};
-ghost use Rattle.reclaim_worker.specs.Stored.{frame_sealing, IsOpen, IsToSeal, IsStarted, IsStored, StoredSays, after_page, gone, next_phase, still_out, taken_in};
+ghost use Rattle.reclaim_worker.specs.Stored.{frame_sealing, IsOpen, IsToSeal, IsStarted, IsStored, StoredSays, after_page, gone};
+ghost use Rattle.reclaim_worker.specs.Stored.{next_phase, still_out, taken_in};
 
 use crate::passes::Pass;
 use crate::turns::{Form, Phase, Taken};

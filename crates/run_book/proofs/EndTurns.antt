@@ -1,5 +1,6 @@
 -- The end of a load, and that of a write-out, is the next of what driver and machine agree on.
-use Rattle.std.proofs.Common.{◌≡◌, ◌<◌, ◌+◌, ℕ, not, Bool, true, false, refl, sym, ◌∙◌, ap, subst, List, ◌∷◌, Option, Some, None, MatchOption, is_some, length}
+use Rattle.std.proofs.Common.{◌≡◌, ◌<◌, ◌+◌, ℕ, not, Bool, true, false, refl, sym, ◌∙◌, ap, subst, List, ◌∷◌}
+use Rattle.std.proofs.Common.{Option, Some, None, MatchOption, is_some, length}
 use Rattle.std.specs.Option.{IsSomeAnd}
 use Rattle.sgx_types.specs.declared.entries.Action.TheVariants.{Eld, Ewb}
 use Rattle.sgx_types.specs.declared.entries.Actor.TheVariants as actors
@@ -18,7 +19,6 @@ use Rattle.job_grammar.specs.Jobs.{JobView}
 use Rattle.backing_store.specs.Calls.{Call}
 use Rattle.paging_laws.specs.State.{State}
 use Rattle.paging_laws.specs.Steps.{IsReloaded, commit_row, did_by, refused_by}
-use Rattle.paging_laws.proofs.ColumnLaws.{start_is}
 use Rattle.paging_laws.proofs.SlotLaws.{started_as}
 use Rattle.paging_machine.specs.Parts.{Parts, state_of}
 use Rattle.version_array.specs.Keeper.{count_out}

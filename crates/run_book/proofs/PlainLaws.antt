@@ -1,5 +1,6 @@
 -- An instruction that moves no page out or back is the next of what driver and machine agree on.
-use Rattle.std.proofs.Common.{◌≡◌, ◌⊎◌, inl, inr, ℕ, not, true, false, refl, sym, ◌∙◌, ap, subst, List, [], ◌∷◌, Option, Some, None, is_some, length}
+use Rattle.std.proofs.Common.{◌≡◌, ◌⊎◌, inl, inr, ℕ, not, true, false, refl, sym, ◌∙◌, ap, subst, List, [], ◌∷◌}
+use Rattle.std.proofs.Common.{Option, Some, None, is_some, length}
 use Rattle.std.proofs.lemmas.Bool.{false≢true}
 use Rattle.sgx_types.specs.declared.entries.Action.{Action}
 use Rattle.sgx_types.specs.declared.entries.Action.TheVariants.{Aex, Block, EldStart, Eld, Enter, Ewb, EwbStart, Exit, Resume, Track}

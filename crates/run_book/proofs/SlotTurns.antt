@@ -1,5 +1,6 @@
 -- How many slots are out behind a turn of a pass.
-use Rattle.std.proofs.Common.{◌≡◌, inl, inr, ℕ, zero, suc, ◌≤◌, true, false, refl, sym, ap, subst, List, Option, Some, None, length, min, slice_get, arith}
+use Rattle.std.proofs.Common.{◌≡◌, inl, inr, ℕ, zero, suc, ◌≤◌, true, false, refl, sym, ap, subst, List, Option, Some, None}
+use Rattle.std.proofs.Common.{length, min, slice_get, arith}
 use Rattle.sgx_types.specs.declared.entries.Action.{Action}
 use Rattle.sgx_types.specs.declared.entries.Answer.{Answer}
 use Rattle.sgx_types.specs.declared.entries.Action.TheVariants.{Block, Track, EwbStart}

@@ -1,5 +1,7 @@
 -- The entry of a turn of a pass is the next of what driver and machine agree on.
-use Rattle.std.proofs.Common.{◌≡◌, ◌≤◌, ◌<◌, ◌+◌, ◌==◌, ◌^◌, inl, inr, ℕ, Bool, true, false, if◌then◌else◌, not, refl, sym, ◌∙◌, ap, subst, List, [], ◌∷◌, Option, Some, None, is_some, length, arith}
+use Rattle.std.proofs.Common.{◌≡◌, ◌≤◌, ◌<◌, ◌+◌, ◌==◌, ◌^◌, inl, inr, ℕ, Bool, true, false}
+use Rattle.std.proofs.Common.{if◌then◌else◌, not, refl, sym, ◌∙◌, ap, subst, List, [], ◌∷◌, Option, Some, None, is_some}
+use Rattle.std.proofs.Common.{length, arith}
 use Rattle.sgx_types.specs.declared.entries.Action.TheVariants.{Block, Track, EwbStart, Ewb}
 use Rattle.sgx_types.specs.declared.entries.Actor.TheVariants as actors
 use Rattle.sgx_types.specs.declared.entries.Answer.TheVariants as answers
@@ -25,7 +27,8 @@ use Rattle.turn_rules.specs.Script.{frame_at}
 use Rattle.driver_rules.specs.Ages.{head_of}
 use Rattle.driver_rules.specs.declared.waits.Why.TheVariants as waits
 use Rattle.driver_rules.specs.Dues.{Ends, Makes, TriesOut, Waits}
-use Rattle.driver_rules.specs.Passes.{Between, Blocking, First, Form, Kicks, Pass, Scan, Sealing, Second, Third, ToKick, ToTrack, Tries, keepers, pass}
+use Rattle.driver_rules.specs.Passes.{Between, Blocking, First, Form, Kicks, Pass, Scan, Sealing, Second, Third, ToKick, ToTrack, Tries}
+use Rattle.driver_rules.specs.Passes.{keepers, pass}
 use Rattle.driver_rules.specs.Places.{Absent, Away, Here, Leaving, Loading, Place, active, frame_leaving, place}
 use Rattle.driver_rules.specs.Reclaims.{are_held, form_due, in_frame, leaving_due, look_at, look_due, pass_due, third_due}
 use Rattle.driver_rules.specs.Scripts.{is_load}

@@ -1,6 +1,7 @@
 -- The end of a load carries the standing on, where no record was forged: the record at which it looks is the one that the store gave for
 -- its start, and the start is the machine's.
-use Rattle.std.proofs.Common.{◌≡◌, ℕ, Bool, true, false, refl, sym, ◌∙◌, ap, subst, List, [], ◌∷◌, ◌++◌, Option, Some, None, MatchOption}
+use Rattle.std.proofs.Common.{◌≡◌, ℕ, Bool, true, false, refl, sym, ◌∙◌, ap, subst, List, [], ◌∷◌, ◌++◌, Option}
+use Rattle.std.proofs.Common.{Some, None, MatchOption}
 use Rattle.std.proofs.lemmas.List.{append-nil}
 use Rattle.sgx_types.specs.declared.entries.Action.TheVariants.{Eld}
 use Rattle.sgx_types.specs.declared.entries.Actor.TheVariants as actors

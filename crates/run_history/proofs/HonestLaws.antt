@@ -1,5 +1,6 @@
 -- What a run has of an honest store.
-use Rattle.std.proofs.Common.{◌≡◌, ℕ, ◌==◌, Bool, true, false, if◌then◌else◌, refl, sym, ◌∙◌, ap, subst, List, [], ◌∷◌, Option, Some, None, is_some}
+use Rattle.std.proofs.Common.{◌≡◌, ℕ, ◌==◌, Bool, true, false, if◌then◌else◌, refl, sym, ◌∙◌, ap, subst, List, []}
+use Rattle.std.proofs.Common.{◌∷◌, Option, Some, None, is_some}
 use Rattle.std.proofs.lemmas.Bool.{eqb-true, eq-eqb, false≢true}
 use Rattle.sgx_types.proofs.Pages.{same_page-refl, same_pages}
 use Rattle.sgx_types.specs.declared.entries.Action.{Action}
@@ -18,7 +19,8 @@ use Rattle.sgx_types.specs.declared.names.Frame.{Frame}
 use Rattle.sgx_types.specs.declared.names.Page.{Page}
 use Rattle.sgx_types.specs.declared.names.SlotAt.{SlotAt}
 use Rattle.sgx_types.specs.Enclaves.{EnclavesAreFlat, created, created_by}
-use Rattle.sgx_types.specs.Flat.{FlatEnclave, FlatMemory, Inside, accepts, cpu_after, event_after, flat, header_at, memory_after, saved, stored, sum_of, word_seen}
+use Rattle.sgx_types.specs.Flat.{FlatEnclave, FlatMemory, Inside, accepts, cpu_after, event_after, flat, header_at, memory_after, saved}
+use Rattle.sgx_types.specs.Flat.{stored, sum_of, word_seen}
 use Rattle.sgx_types.specs.Frames.{Free, content, page_at, same_page}
 use Rattle.sgx_types.specs.Rules.{Along, FlatRule}
 use Rattle.sgx_types.specs.Fresh.{Out, last_out, out_after}

@@ -1,5 +1,6 @@
 -- Flat memory has each enclave and page as the entries made it, one entry longer, whatever the bytes of the pages are.
-use Rattle.std.proofs.Common.{◌≡◌, ℕ, ◌==◌, Bool, true, false, cond, if◌then◌else◌, refl, sym, ◌∙◌, ap, subst, List, [], ◌∷◌, Option, Some, None, MatchOption, ◌⊎◌, inl, inr, is_some}
+use Rattle.std.proofs.Common.{◌≡◌, ℕ, ◌==◌, Bool, true, false, cond, if◌then◌else◌, refl, sym, ◌∙◌, ap, subst, List}
+use Rattle.std.proofs.Common.{[], ◌∷◌, Option, Some, None, MatchOption, ◌⊎◌, inl, inr, is_some}
 use Rattle.std.proofs.lemmas.Bool.{cond_both}
 use Rattle.sgx_types.specs.declared.entries.Action.{Action}
 use Rattle.sgx_types.specs.declared.entries.Action.TheVariants.{Create, Add, Init, Aex, Store, Xadd}
@@ -18,7 +19,8 @@ use Rattle.sgx_types.specs.declared.names.Perm.{Perm}
 use Rattle.sgx_types.specs.declared.refusals.Refusal.{Refusal}
 use Rattle.sgx_types.specs.declared.refusals.Refusal.TheVariants as why
 use Rattle.sgx_types.specs.Enclaves.{EnclavesAreFlat, created, created_by}
-use Rattle.sgx_types.specs.Flat.{FlatEnclave, FlatMemory, Inside, accepts, added_as, cpu_after, enclave_sight_of, event_after, first_words, flat, flat_build_row, marked, memory_after, open_frame, saved, stored, sum_of, word_seen}
+use Rattle.sgx_types.specs.Flat.{FlatEnclave, FlatMemory, Inside, accepts, added_as, cpu_after, enclave_sight_of, event_after, first_words}
+use Rattle.sgx_types.specs.Flat.{flat, flat_build_row, marked, memory_after, open_frame, saved, stored, sum_of, word_seen}
 use Rattle.sgx_types.specs.Frames.{added, added_by, page_at, same_page}
 use Rattle.sgx_types.specs.Table.{add_row, create_row, first_of_row, init_row}
 use Rattle.sgx_types.proofs.Pages.{same_page-swap}

@@ -1,5 +1,6 @@
 -- A page in a frame is there as what it was added, where no page was added twice; and what flat memory has as the header of a page.
-use Rattle.std.proofs.Common.{◌≡◌, ℕ, ◌+◌, ◌≤◌, ◌==◌, Bool, true, false, cond, if◌then◌else◌, refl, sym, ◌∙◌, ap, subst, List, [], ◌∷◌, Option, Some, None, is_some, arith}
+use Rattle.std.proofs.Common.{◌≡◌, ℕ, ◌+◌, ◌≤◌, ◌==◌, Bool, true, false, cond, if◌then◌else◌, refl, sym}
+use Rattle.std.proofs.Common.{◌∙◌, ap, subst, List, [], ◌∷◌, Option, Some, None, is_some, arith}
 use Rattle.std.proofs.lemmas.Bool.{false≢true}
 use Rattle.sgx_types.specs.declared.entries.Action.TheVariants.{Epa, Create, Add, Ewb, EldStart, Eld}
 use Rattle.sgx_types.specs.declared.entries.Answer.TheVariants.{Moved}
@@ -10,7 +11,8 @@ use Rattle.sgx_types.specs.declared.names.Kind.{Kind}
 use Rattle.sgx_types.specs.declared.names.Page.{Page}
 use Rattle.sgx_types.specs.declared.names.Perm.{Perm}
 use Rattle.sgx_types.specs.Flat.{FlatEnclave, FlatPage, added_as, flat, header_at, header_by}
-use Rattle.sgx_types.specs.Frames.{Content, Free, Holds, IsLoading, IsVa, SecsOf, added, added_by, content, held_after, made_before, page_at, put_by, reloaded, same_page, vas_made}
+use Rattle.sgx_types.specs.Frames.{Content, Free, Holds, IsLoading, IsVa, SecsOf, added, added_by, content, held_after, made_before}
+use Rattle.sgx_types.specs.Frames.{page_at, put_by, reloaded, same_page, vas_made}
 use Rattle.sgx_types.specs.Sealed.{header_of}
 use Rattle.sgx_types.proofs.Pages.{same_page-refl}
 use Rattle.driver_laws.specs.Counted.{pages_added, with_added}

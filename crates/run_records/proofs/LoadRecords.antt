@@ -1,5 +1,6 @@
 -- A fault step's entry and the end of a load tell what is so of their records.
-use Rattle.std.proofs.Common.{◌≡◌, ℕ, ◌<◌, ◌==◌, ◌&&◌, not, Bool, true, false, if◌then◌else◌, refl, sym, ◌∙◌, ap, subst, List, ◌∷◌, Option, Some, None, MatchOption, Result, Ok, Err, length, sum}
+use Rattle.std.proofs.Common.{◌≡◌, ℕ, ◌<◌, ◌==◌, ◌&&◌, not, Bool, true, false, if◌then◌else◌, refl, sym}
+use Rattle.std.proofs.Common.{◌∙◌, ap, subst, List, ◌∷◌, Option, Some, None, MatchOption, Result, Ok, Err, length, sum}
 use Rattle.std.specs.Option.{IsSomeAnd}
 use Rattle.std.proofs.lemmas.Bool.{eqb-true}
 use Rattle.std.specs.Str.{bytes_eq}
@@ -38,7 +39,7 @@ use Rattle.active_list.specs.declared.page_states.PageState.{PageState}
 use Rattle.active_list.specs.declared.page_states.PageState.TheVariants as states
 use Rattle.paging_laws.specs.State.{State}
 use Rattle.paging_laws.specs.Steps.{IsComing, IsReloaded, commit_row, did_by, refused_by}
-use Rattle.paging_laws.proofs.ColumnLaws.{enclave_seen, page_seen, start_is}
+use Rattle.paging_laws.proofs.ColumnLaws.{enclave_seen, page_seen}
 use Rattle.paging_laws.proofs.SlotLaws.{started_as}
 use Rattle.paging_machine.specs.Parts.{Parts, state_of}
 use Rattle.driver_rules.specs.Places.{Loading}

@@ -1,5 +1,6 @@
 -- The entry of a turn of a pass and the end of a write-out tell what is so of their records.
-use Rattle.std.proofs.Common.{◌≡◌, ℕ, zero, suc, ◌≤◌, inl, inr, Bool, true, false, if◌then◌else◌, is_some, refl, sym, ◌∙◌, ap, subst, List, ◌∷◌, Option, Some, None, length, min, slice_get, sum, arith}
+use Rattle.std.proofs.Common.{◌≡◌, ℕ, zero, suc, ◌≤◌, inl, inr, Bool, true, false, if◌then◌else◌, is_some, refl, sym}
+use Rattle.std.proofs.Common.{◌∙◌, ap, subst, List, ◌∷◌, Option, Some, None, length, min, slice_get, sum, arith}
 use Rattle.std.specs.Option.{IsSomeAnd}
 use Rattle.sgx_types.specs.declared.entries.Actor.TheVariants as actors
 use Rattle.sgx_types.specs.declared.entries.Entry.{Entry}

@@ -1,5 +1,6 @@
 -- Each kick of a turn of kicks is the reclaimer's next, behind those before it.
-use Rattle.std.proofs.Common.{◌≡◌, ℕ, zero, suc, ◌+◌, ◌≤◌, Bool, true, false, if◌then◌else◌, refl, sym, ◌∙◌, ap, subst, List, [], ◌∷◌, ◌++◌, drop}
+use Rattle.std.proofs.Common.{◌≡◌, ℕ, zero, suc, ◌+◌, ◌≤◌, Bool, true, false, if◌then◌else◌, refl, sym, ◌∙◌}
+use Rattle.std.proofs.Common.{ap, subst, List, [], ◌∷◌, ◌++◌, drop}
 use Rattle.std.proofs.Common.{Option, None, Some, arith}
 use Rattle.sgx_types.specs.declared.entries.Actor.TheVariants as actors
 use Rattle.sgx_types.specs.declared.entries.Entry.{Entry}

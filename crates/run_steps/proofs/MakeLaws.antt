@@ -1,5 +1,6 @@
 -- An instruction that is due can be made: of the builder one that builds, of a processor one of its script.
-use Rattle.std.proofs.Common.{◌≡◌, ℕ, ◌<◌, Bool, true, false, if◌then◌else◌, refl, subst, List, Option, Some, None, slice_get, arith}
+use Rattle.std.proofs.Common.{◌≡◌, ℕ, ◌<◌, Bool, true, false, if◌then◌else◌, refl, subst, List, Option, Some, None}
+use Rattle.std.proofs.Common.{slice_get, arith}
 use Rattle.std.proofs.lemmas.Bool.{false≢true}
 use Rattle.sgx_types.specs.declared.entries.Action.{Action}
 use Rattle.sgx_types.specs.declared.entries.Action.TheVariants as actions
@@ -15,7 +16,8 @@ use Rattle.paging_laws.specs.Steps.{CanApply, MayNeedMemory}
 use Rattle.driver_rules.specs.declared.waits.Why.TheVariants as waits
 use Rattle.driver_rules.specs.Dues.{Due, Makes, Stopped, makes_or}
 use Rattle.driver_rules.specs.Stops.{is_spent}
-use Rattle.driver_rules.specs.Turns.{Fails, Last, Loads, Other, WasEnded, builder_due, cpu_due, due_after, is_last, last_of, step_turn, turn_due}
+use Rattle.driver_rules.specs.Turns.{Fails, Last, Loads, Other, WasEnded, builder_due, cpu_due, due_after, is_last, last_of, step_turn}
+use Rattle.driver_rules.specs.Turns.{turn_due}
 use Rattle.driver_laws.proofs.OwnLaws.{OfTurn, is_script, turn_script}
 use Rattle.table_notes.specs.Plain.{is_plain}
 

@@ -1,6 +1,7 @@
 //! What the turns of a book owe. A law is the contract of a function without arguments.
 
-ghost use Rattle.std.specs.Prelude.{ℕ, ◌≡◌, ◌+◌, ◌<◌, true, false, if◌then◌else◌, List, [], ◌∷◌, ◌++◌, Option, count_by, length};
+ghost use Rattle.std.specs.Prelude.{ℕ, ◌≡◌, ◌+◌, ◌<◌, true, false, if◌then◌else◌, List, [], ◌∷◌, ◌++◌};
+ghost use Rattle.std.specs.Prelude.{Option, count_by, length};
 ghost use Rattle.backing_store.specs.Calls.{Call};
 ghost use Rattle.cached_translations.specs.declared.processor.Mode.{Mode};
 ghost use Rattle.driver_laws.specs.Kinds.{CanMove};

@@ -1,5 +1,6 @@
 -- What a sum of loads gains by one more entry.
-use Rattle.std.proofs.Common.{◌≡◌, true, false, ◌++◌, [], ℕ, ◌+◌, ◌<◌, ◌%◌, ◌^◌, List, length, take, get_or, ap, sym, ◌∙◌}
+use Rattle.std.proofs.Common.{◌≡◌, true, false, ◌++◌, [], ℕ, ◌+◌, ◌<◌, ◌%◌, ◌^◌, List, length, take, get_or, ap}
+use Rattle.std.proofs.Common.{sym, ◌∙◌}
 use Rattle.std.specs.List.{sum_by}
 use Rattle.std.proofs.lemmas.List.Sums.{count_by_more_no, count_by_more_yes, sum_by_more}
 use Rattle.std.proofs.Math.Nat.{mod-add-mod}

@@ -1,5 +1,7 @@
 -- The end of a write-out can be taken in.
-use Rattle.std.proofs.Common.{◌≡◌, ℕ, ◌+◌, ◌*◌, ◌≤◌, Bool, true, false, if◌then◌else◌, List, ◌∷◌, Option, Some, None, IsSomeAnd, length, count_by, nat_lt, slice_get, vec_len, vec_capacity, refl, sym, ap, subst, ◌∙◌, arith}
+use Rattle.std.proofs.Common.{◌≡◌, ℕ, ◌+◌, ◌*◌, ◌≤◌, Bool, true, false, if◌then◌else◌, List, ◌∷◌, Option}
+use Rattle.std.proofs.Common.{Some, None, IsSomeAnd, length, count_by, nat_lt, slice_get, vec_len, vec_capacity, refl, sym, ap, subst}
+use Rattle.std.proofs.Common.{◌∙◌, arith}
 use Rattle.std.proofs.lemmas.Bool.{false≢true}
 use Rattle.sgx_types.specs.declared.entries.Action.TheVariants.{Ewb}
 use Rattle.sgx_types.specs.declared.entries.Actor.{Actor}

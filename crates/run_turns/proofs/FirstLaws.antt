@@ -1,5 +1,6 @@
 -- What holds before the first entry.
-use Rattle.std.proofs.Common.{◌≡◌, ℕ, suc, ◌≤◌, ◌<◌, false, cond, List, [], ◌∷◌, Option, Some, None, IfSome, length, reverse, count_by, vec_len, if◌then◌else◌, refl, sym, ap, subst, ◌∙◌, arith}
+use Rattle.std.proofs.Common.{◌≡◌, ℕ, suc, ◌≤◌, ◌<◌, false, cond, List, [], ◌∷◌, Option, Some, None, IfSome, length}
+use Rattle.std.proofs.Common.{reverse, count_by, vec_len, if◌then◌else◌, refl, sym, ap, subst, ◌∙◌, arith}
 use Rattle.std.proofs.lemmas.Bool.{false≢true}
 use Rattle.std.proofs.lemmas.List.Sums.{sum_by-cons}
 use Rattle.sgx_types.specs.Making.{Making}

@@ -1,5 +1,7 @@
 -- What a turn of the pass made can be taken in.
-use Rattle.std.proofs.Common.{◌≡◌, ℕ, ◌+◌, ◌*◌, ◌≤◌, ◌⊎◌, Bool, true, false, if◌then◌else◌, List, ◌∷◌, Option, Some, None, IfSome, length, count_by, is_some, vec_len, vec_capacity, refl, sym, ap, subst, ◌∙◌, arith, length-set}
+use Rattle.std.proofs.Common.{◌≡◌, ℕ, ◌+◌, ◌*◌, ◌≤◌, ◌⊎◌, Bool, true, false, if◌then◌else◌, List}
+use Rattle.std.proofs.Common.{◌∷◌, Option, Some, None, IfSome, length, count_by, is_some, vec_len, vec_capacity, refl, sym, ap, subst}
+use Rattle.std.proofs.Common.{◌∙◌, arith, length-set}
 use Rattle.std.proofs.lemmas.List.Sums.{count_by-le-length}
 use Rattle.sgx_types.specs.declared.entries.Actor.{Actor}
 use Rattle.sgx_types.specs.declared.entries.Entry.{Entry}

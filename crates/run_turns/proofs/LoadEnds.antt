@@ -1,5 +1,7 @@
 -- What stands behind the entries of a processor's turn.
-use Rattle.std.proofs.Common.{◌≡◌, ℕ, ◌+◌, ◌*◌, ◌≤◌, ◌<◌, Bool, true, false, if◌then◌else◌, List, [], ◌∷◌, ◌++◌, Option, Some, None, length, vec_len, vec_capacity, refl, sym, ap, subst, ◌∙◌, arith, IfSome}
+use Rattle.std.proofs.Common.{◌≡◌, ℕ, ◌+◌, ◌*◌, ◌≤◌, ◌<◌, Bool, true, false, if◌then◌else◌, List, []}
+use Rattle.std.proofs.Common.{◌∷◌, ◌++◌, Option, Some, None, length, vec_len, vec_capacity, refl, sym, ap, subst, ◌∙◌}
+use Rattle.std.proofs.Common.{arith, IfSome}
 use Rattle.std.proofs.lemmas.Bool.{eq-eqb}
 use Rattle.std.proofs.lemmas.List.Elements.{All-cons, All-nil}
 use Rattle.sgx_types.specs.declared.entries.Action.{Action}
@@ -65,7 +67,8 @@ use Rattle.run_turns.specs.Recording.{CanTake, IsRecorded, IsTaken}
 use Rattle.run_turns.specs.Turns.{EndsBy, EndsLoad, RefusesLoad}
 use Rattle.run_turns.proofs.KeepLaws.{few_cpus, room_behind}
 use Rattle.run_turns.proofs.LoadCourse.{Stands, is_open, kept_room, bus_starts, ended_starts, one_longer, stands_keeps, taken_stands}
-use Rattle.run_turns.proofs.LoadLaws.{IsOfAway, due_quiet, end_of_load, one, starts_set, end_quiet, loading_told, none_behind_bus, none_more}
+use Rattle.run_turns.proofs.LoadLaws.{IsOfAway, due_quiet, end_of_load, one, starts_set, end_quiet, loading_told, none_behind_bus}
+use Rattle.run_turns.proofs.LoadLaws.{none_more}
 use Rattle.run_turns.proofs.RecordLaws.{newest}
 use Rattle.run_turns.proofs.LoadMade.{Leaves, NotesBus, bus_made, bus_told, end_acts, end_by, end_made, fault_made, resolved_leaves}
 use Rattle.run_history.specs.Honest.{IsHonest}

@@ -1,5 +1,6 @@
 -- The entry of a fault step, the end of a load, and the bus behind a refused one are entries with which the book goes on.
-use Rattle.std.proofs.Common.{◌≡◌, ℕ, ◌<◌, Bool, true, false, if◌then◌else◌, cond, List, ◌∷◌, Option, Some, None, IfSome, Result, Ok, Err, length, slice_set, refl, sym, ap, subst, ◌∙◌, inl, inr}
+use Rattle.std.proofs.Common.{◌≡◌, ℕ, ◌<◌, Bool, true, false, if◌then◌else◌, cond, List, ◌∷◌, Option, Some, None}
+use Rattle.std.proofs.Common.{IfSome, Result, Ok, Err, length, slice_set, refl, sym, ap, subst, ◌∙◌, inl, inr}
 use Rattle.std.proofs.lemmas.List.{get_or-set_same}
 use Rattle.sgx_types.specs.declared.entries.Action.TheVariants.{Eld, EldStart}
 use Rattle.sgx_types.specs.declared.entries.Actor.TheVariants as actors

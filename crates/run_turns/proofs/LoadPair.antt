@@ -24,7 +24,8 @@ use Rattle.run_turns.specs.declared.course.Course.{Course}
 use Rattle.run_turns.specs.Courses.{Grows, KeepsCourse, past_of}
 use Rattle.run_turns.specs.Recording.{CanTake}
 use Rattle.run_turns.proofs.LoadCourse.{Stands, can_take, course_stands}
-use Rattle.run_turns.proofs.LoadEnds.{EndFacts, Takes, TookIn, grows_two, notes_of, own_last, refused_bus, refused_keeps, room_for_bus, took_in, took_past, took_stands, turns_room}
+use Rattle.run_turns.proofs.LoadEnds.{EndFacts, Takes, TookIn, grows_two, notes_of, own_last, refused_bus, refused_keeps, room_for_bus}
+use Rattle.run_turns.proofs.LoadEnds.{took_in, took_past, took_stands, turns_room}
 use Rattle.run_turns.proofs.LoadLaws.{fails_for_record}
 use Rattle.run_turns.proofs.LoadMade.{NotesBus}
 

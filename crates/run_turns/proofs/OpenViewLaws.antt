@@ -1,5 +1,6 @@
 -- The work of a started load, as the book shows it; and the turns of a processor.
-use Rattle.std.proofs.Common.{◌≡◌, ℕ, zero, suc, Bool, false, List, Option, Some, None, IfSome, is_some, Result, Ok, Err, IfOk, OnErr, reverse, refl, sym, ap, subst, ◌∙◌, inl, inr}
+use Rattle.std.proofs.Common.{◌≡◌, ℕ, zero, suc, Bool, false, List, Option, Some, None, IfSome, is_some, Result, Ok, Err, IfOk}
+use Rattle.std.proofs.Common.{OnErr, reverse, refl, sym, ap, subst, ◌∙◌, inl, inr}
 use Rattle.std.specs.Option.{IsSomeAnd}
 use Rattle.sgx_types.specs.declared.entries.Actor.TheVariants as actors
 use Rattle.sgx_types.specs.declared.names.Cpu.{Cpu}

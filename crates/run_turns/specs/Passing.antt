@@ -1,5 +1,6 @@
 -- What is done with what a turn of the reclaimer made.
-use Rattle.std.specs.Prelude.{ℕ, ◌≡◌, zero, ◌+◌, ◌*◌, ◌≤◌, Bool, true, false, if◌then◌else◌, List, ◌∷◌, Option, count_by, is_some, length, vec_len, vec_capacity}
+use Rattle.std.specs.Prelude.{ℕ, ◌≡◌, zero, ◌+◌, ◌*◌, ◌≤◌, Bool, true, false, if◌then◌else◌, List, ◌∷◌}
+use Rattle.std.specs.Prelude.{Option, count_by, is_some, length, vec_len, vec_capacity}
 use Rattle.sgx_types.specs.declared.entries.Actor.TheVariants as actors
 use Rattle.sgx_types.specs.declared.entries.Entry.{Entry}
 use Rattle.backing_store.specs.Calls.{Call}

@@ -1,5 +1,6 @@
 -- What each turn asks, and what it answers.
-use Rattle.std.specs.Prelude.{ℕ, zero, suc, ◌≡◌, ◌⊎◌, ◌<◌, ◌≤◌, true, false, List, [], ◌∷◌, Option, None, Some, length, vec_capacity}
+use Rattle.std.specs.Prelude.{ℕ, zero, suc, ◌≡◌, ◌⊎◌, ◌<◌, ◌≤◌, true, false, List, [], ◌∷◌, Option, None}
+use Rattle.std.specs.Prelude.{Some, length, vec_capacity}
 use Rattle.sgx_types.specs.declared.entries.Action.{Action}
 use Rattle.sgx_types.specs.declared.entries.Action.TheVariants.{Eld, Ewb}
 use Rattle.sgx_types.specs.declared.entries.Actor.{Actor}

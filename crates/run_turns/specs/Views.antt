@@ -1,5 +1,6 @@
 -- The book as its callers see it, and what is so of every book.
-use Rattle.std.specs.Prelude.{ℕ, zero, suc, ◌≡◌, ◌<◌, ◌++◌, ◌⊎◌, All, Bool, true, false, if◌then◌else◌, List, [], Option, None, Some, IfSome, length}
+use Rattle.std.specs.Prelude.{ℕ, zero, suc, ◌≡◌, ◌<◌, ◌++◌, ◌⊎◌, All, Bool, true, false, if◌then◌else◌, List}
+use Rattle.std.specs.Prelude.{[], Option, None, Some, IfSome, length}
 use Rattle.std.specs.Option.{IsSomeAnd}
 use Rattle.sgx_types.specs.declared.entries.Actor.{Actor}
 use Rattle.sgx_types.specs.declared.entries.Actor.TheVariants as actors

@@ -1,6 +1,7 @@
 //! The turns of the reclaimer.
 
-ghost use Rattle.std.specs.Prelude.{◌≡◌, ◌+◌, ◌≤◌, ◌∷◌, [], true, false, IfOk, OnErr, is_some, length, vec_len, vec_capacity};
+ghost use Rattle.std.specs.Prelude.{◌≡◌, ◌+◌, ◌≤◌, ◌∷◌, [], true, false, IfOk, OnErr, is_some, length, vec_len};
+ghost use Rattle.std.specs.Prelude.{vec_capacity};
 ghost use Rattle.driver_rules.specs.Reclaims.{all_finished};
 ghost use Rattle.driver_rules.specs.Stops.{is_spent};
 ghost use Rattle.reclaim_worker.specs.Standing.{is_sealing};

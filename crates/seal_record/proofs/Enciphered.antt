@@ -1,5 +1,6 @@
 -- A page of which the first blocks are enciphered.
-use Rattle.std.proofs.Common.{◌≡◌, ℕ, ◌+◌, ◌*◌, ◌≤◌, List, [], ◌++◌, length, take, drop, ap, sym, ◌∙◌, add-one, arith}
+use Rattle.std.proofs.Common.{◌≡◌, ℕ, ◌+◌, ◌*◌, ◌≤◌, List, [], ◌++◌, length, take, drop, ap, sym, ◌∙◌}
+use Rattle.std.proofs.Common.{add-one, arith}
 use Rattle.std.proofs.lemmas.List.{append-nil, take_all, drop_all}
 use borrow.Rule.Slice.PartMut.{put_mid}
 use Rattle.seal_record.specs.Cipher.{keystream, keystream_blocks, xor_bytes, cipher}

@@ -1,5 +1,6 @@
 -- The state of one enclave as contracts see it: its pages and the marks of its TCS pages stand in lists by page number.
-use Rattle.std.specs.Prelude.{◌≡◌, ℕ, ◌/◌, Bool, true, false, List, length, replicate, Option, None, Some, slice_index_or, slice_set}
+use Rattle.std.specs.Prelude.{◌≡◌, ℕ, ◌/◌, Bool, true, false, List, length, replicate, Option, None, Some, slice_index_or}
+use Rattle.std.specs.Prelude.{slice_set}
 use Rattle.sgx_types.specs.declared.names.Kind.{Kind}
 use Rattle.sgx_types.specs.declared.names.Perm.{Perm}
 use Rattle.sgx_types.specs.Table.{is_lawful}

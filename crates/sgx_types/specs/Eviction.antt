@@ -1,6 +1,7 @@
 -- When no translation of a blocked page can be left, by the places of blocks, tracks and entries alone. A place is the
 -- number of entries before it.
-use Rattle.std.specs.Prelude.{ℕ, ◌==◌, ◌&&◌, Bool, false, if◌then◌else◌, List, [], ◌∷◌, Option, Some, None, length, nat_lt, is_some}
+use Rattle.std.specs.Prelude.{ℕ, ◌==◌, ◌&&◌, Bool, false, if◌then◌else◌, List, [], ◌∷◌, Option, Some, None, length}
+use Rattle.std.specs.Prelude.{nat_lt, is_some}
 use Rattle.sgx_types.specs.declared.entries.Entry.{Entry}
 use Rattle.sgx_types.specs.Counts.{count_below}
 use Rattle.sgx_types.specs.Frames.{put_by, made_before, content, enclave_in, is_put, is_block}

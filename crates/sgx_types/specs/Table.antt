@@ -1,7 +1,8 @@
 -- The instruction table: for each instruction the refusals in their order, as a function of what it looks at. The
 -- machine reads what an instruction looks at from its own state, the rule on refusals from the entries, and flat memory
 -- from itself, so that no row can mean two things.
-use Rattle.std.specs.Prelude.{ℕ, ◌==◌, ◌+◌, ◌-◌, ◌/◌, ◌%◌, ◌^◌, ◌&&◌, ◌||◌, Bool, true, false, if◌then◌else◌, Option, Some, None, Result, Ok, Err, List, [], ◌∷◌, nat_le, nat_lt, not, is_none}
+use Rattle.std.specs.Prelude.{ℕ, ◌==◌, ◌+◌, ◌-◌, ◌/◌, ◌%◌, ◌^◌, ◌&&◌, ◌||◌, Bool, true, false}
+use Rattle.std.specs.Prelude.{if◌then◌else◌, Option, Some, None, Result, Ok, Err, List, [], ◌∷◌, nat_le, nat_lt, not, is_none}
 use Rattle.std.specs.Int.{is_power_of_two}
 use Rattle.sgx_types.specs.declared.refusals.Refusal.{Refusal}
 use Rattle.sgx_types.specs.declared.refusals.Refusal.TheVariants as why

@@ -1,5 +1,6 @@
 -- The entry of a step by its row: done, or refused. What it asks of the entries before it, and whose it is.
-use Rattle.std.proofs.Common.{◌≡◌, ◌⊎◌, inl, inr, ℕ, not, Bool, true, false, refl, sym, ◌∙◌, ap, List, Option, Some, None, MatchOption, is_some}
+use Rattle.std.proofs.Common.{◌≡◌, ◌⊎◌, inl, inr, ℕ, not, Bool, true, false, refl, sym, ◌∙◌, ap, List, Option, Some}
+use Rattle.std.proofs.Common.{None, MatchOption, is_some}
 use Rattle.std.proofs.lemmas.Bool.{false≢true}
 use Rattle.sgx_types.proofs.Rows.{none_holds}
 use Rattle.sgx_types.specs.declared.entries.Action.{Action}

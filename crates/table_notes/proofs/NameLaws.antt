@@ -1,5 +1,6 @@
 -- What a due instruction of a processor names: frames of the pages that the rules name, and pages that were added.
-use Rattle.std.proofs.Common.{◌≡◌, ◌≢◌, ℕ, ◌/◌, not, Bool, true, false, if◌then◌else◌, List, [], ◌∷◌, Option, Some, None, refl, sym, subst, ◌∙◌}
+use Rattle.std.proofs.Common.{◌≡◌, ◌≢◌, ℕ, ◌/◌, not, Bool, true, false, if◌then◌else◌, List, [], ◌∷◌, Option}
+use Rattle.std.proofs.Common.{Some, None, refl, sym, subst, ◌∙◌}
 use Rattle.sgx_types.specs.declared.entries.AccessOp.{AccessOp}
 use Rattle.sgx_types.specs.declared.entries.AccessOp.TheVariants as accesses
 use Rattle.sgx_types.specs.declared.entries.Action.{Action}
@@ -18,11 +19,15 @@ use Rattle.job_grammar.specs.Jobs.{JobView}
 use Rattle.turn_rules.specs.Script.{enter_with, frame_at, is_turned_away, resume_with}
 use Rattle.driver_rules.specs.declared.waits.Why.{Why}
 use Rattle.driver_rules.specs.declared.waits.Why.TheVariants as waits
-use Rattle.driver_rules.specs.Dues.{Due, Ends, Fetches, Finished, IsNext, IsTryOf, KicksAll, LooksAt, Makes, Reports, Stopped, TriesOut, Waits, makes_or}
-use Rattle.driver_rules.specs.Needs.{Interruption, interruption, needs_after, needs_to_enter, needs_to_resume, next_op, save_to_enter, save_to_resume}
+use Rattle.driver_rules.specs.Dues.{Due, Ends, Fetches, Finished, IsNext, IsTryOf, KicksAll, LooksAt, Makes, Reports, Stopped, TriesOut}
+use Rattle.driver_rules.specs.Dues.{Waits, makes_or}
+use Rattle.driver_rules.specs.Needs.{Interruption, interruption, needs_after, needs_to_enter, needs_to_resume, next_op, save_to_enter}
+use Rattle.driver_rules.specs.Needs.{save_to_resume}
 use Rattle.driver_rules.specs.Places.{Absent, Away, Here, Leaving, Loading, Place, frame_here, place}
 use Rattle.driver_rules.specs.Stops.{is_spent}
-use Rattle.driver_rules.specs.Turns.{Fails, Last, Loads, Other, WasEnded, accesses_by, cpu_due, due_after, early_turn, enters, fetches, fills, first_away, inside_turn, is_built, is_kicked, is_last, last_of, op_turn, outside_turn, resumes, save_frame, stay_turn, turn_due, with_pages}
+use Rattle.driver_rules.specs.Turns.{Fails, Last, Loads, Other, WasEnded, accesses_by, cpu_due, due_after, early_turn, enters, fetches}
+use Rattle.driver_rules.specs.Turns.{fills, first_away, inside_turn, is_built, is_kicked, is_last, last_of, op_turn, outside_turn, resumes}
+use Rattle.driver_rules.specs.Turns.{save_frame, stay_turn, turn_due, with_pages}
 use Rattle.driver_laws.specs.Sound.{IsSound, is_absent}
 use Rattle.driver_laws.proofs.SoundLaws.{lawful_there}
 

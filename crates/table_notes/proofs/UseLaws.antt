@@ -1,5 +1,6 @@
 -- The pages that a processor uses by an instruction that it has done are those that the tables find, and each was added.
-use Rattle.std.proofs.Common.{◌≡◌, ◌≢◌, ℕ, ◌+◌, ◌-◌, ◌/◌, ◌%◌, ◌^◌, ◌<◌, ◌==◌, ◌||◌, Bool, true, List, Option, Some, None, is_some, refl, sym, ap, subst, ◌∙◌, arith}
+use Rattle.std.proofs.Common.{◌≡◌, ◌≢◌, ℕ, ◌+◌, ◌-◌, ◌/◌, ◌%◌, ◌^◌, ◌<◌, ◌==◌, ◌||◌, Bool}
+use Rattle.std.proofs.Common.{true, List, Option, Some, None, is_some, refl, sym, ap, subst, ◌∙◌, arith}
 use Rattle.sgx_types.proofs.Rows.{none_holds}
 use Rattle.sgx_types.proofs.Truths.{not_false}
 use Rattle.sgx_types.specs.declared.entries.Action.{Action}
@@ -16,7 +17,8 @@ use Rattle.sgx_types.specs.Frames.{content, is_page, page_at, same_page}
 use Rattle.sgx_types.specs.Making.{Making}
 use Rattle.sgx_types.specs.Processors.{Seat, Stay, stay}
 use Rattle.sgx_types.specs.Sights.{seat_of}
-use Rattle.sgx_types.specs.Table.{FrameSight, access_row, allows_read, allows_update, allows_write, fill_row, first_of_row, is_reg, is_tcs, when}
+use Rattle.sgx_types.specs.Table.{FrameSight, access_row, allows_read, allows_update, allows_write, fill_row, first_of_row, is_reg, is_tcs}
+use Rattle.sgx_types.specs.Table.{when}
 use Rattle.cached_translations.specs.declared.processor.Mode.{Mode}
 use Rattle.cached_translations.specs.declared.processor.Mode.TheVariants.{Inside, Outside}
 use Rattle.cached_translations.specs.Modes.{enclave_inside}

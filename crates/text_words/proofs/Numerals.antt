@@ -1,5 +1,7 @@
 -- Numerals: what a digit that is none says of the whole, and that what is written of a number is read again.
-use Rattle.std.proofs.Common.{◌≡◌, ℕ, zero, suc, ◌+◌, ◌*◌, ◌^◌, ◌<◌, ◌≤◌, true, false, ltb, List, [], ◌∷◌, length, get_or, take, Option, Some, None, SomeIff, codes, decimal, bytes_eq, refl, sym, ap, ◌∙◌, arith, lit≤}
+use Rattle.std.proofs.Common.{◌≡◌, ℕ, zero, suc, ◌+◌, ◌*◌, ◌^◌, ◌<◌, ◌≤◌, true, false, ltb, List, []}
+use Rattle.std.proofs.Common.{◌∷◌, length, get_or, take, Option, Some, None, SomeIff, codes, decimal, bytes_eq, refl, sym, ap}
+use Rattle.std.proofs.Common.{◌∙◌, arith, lit≤}
 use Rattle.std.specs.Char.{digit_value}
 use Rattle.std.specs.Fmt.{digits}
 use Rattle.std.specs.List.{list_all}

@@ -1,5 +1,6 @@
 -- What is written of a number, a letter or a digest is a word, and is read again as that.
-use Rattle.std.proofs.Common.{◌≡◌, ℕ, ◌+◌, ◌^◌, ◌<◌, ◌≤◌, ◌/◌, ◌%◌, Bool, true, false, ltb, List, [], ◌∷◌, Some, None, length, slice_index, All, decimal, refl, sym, ap, ◌∙◌, arith, lit≤, inl, inr}
+use Rattle.std.proofs.Common.{◌≡◌, ℕ, ◌+◌, ◌^◌, ◌<◌, ◌≤◌, ◌/◌, ◌%◌, true, false, ltb, List, [], ◌∷◌}
+use Rattle.std.proofs.Common.{Some, None, length, slice_index, All, decimal, refl, sym, ap, ◌∙◌, arith, lit≤, inl, inr}
 use Rattle.std.specs.Char.{digit_value}
 use Rattle.std.specs.Fmt.{digits}
 use Rattle.std.specs.List.{list_all}

@@ -1,5 +1,6 @@
 -- A refusal that has no fields fits.
-use Rattle.std.proofs.Common.{◌≡◌, ℕ, Bool, true, false, List, [], ◌∷◌, Option, Some, None, IfSome, find, bytes_eq, refl, sym, subst, rules, if◌then◌else◌}
+use Rattle.std.proofs.Common.{◌≡◌, ℕ, Bool, true, false, List, [], ◌∷◌, Option, Some, IfSome, find, bytes_eq, sym, subst}
+use Rattle.std.proofs.Common.{rules, if◌then◌else◌}
 use Rattle.std.specs.List.{AllByRecursion}
 use Rattle.sgx_types.specs.declared.refusals.Refusal.{Refusal}
 use Rattle.trace_text.specs.Readable.{FitsRefusal}

@@ -1,42 +1,29 @@
 -- A readable entry's line is cut into the entry's words, and is read again as the entry.
-use Rattle.std.proofs.Common.{◌≡◌, ℕ, ◌+◌, ◌^◌, ◌<◌, ◌≤◌, true, eqb, List, [], ◌∷◌, ◌++◌, Option, Some, None, length, take, refl, sym, ap, ◌∙◌, arith, lit≤}
+use Rattle.std.proofs.Common.{◌≡◌, ℕ, ◌+◌, ◌^◌, ◌<◌, ◌≤◌, eqb, List, [], ◌∷◌, ◌++◌, Some, length, take}
+use Rattle.std.proofs.Common.{refl, sym, ap, ◌∙◌, arith, lit≤}
 use Rattle.std.specs.List.{join_with_byte, slice_split}
 use Rattle.std.proofs.lemmas.List.{length-append, take_all}
 use Rattle.sgx_types.specs.declared.entries.Entry.{Entry}
 use Rattle.sgx_types.specs.declared.entries.Event.{Event}
 use Rattle.sgx_types.specs.declared.entries.Event.TheVariants as events
-use Rattle.sgx_types.specs.declared.entries.Actor.{Actor}
-use Rattle.sgx_types.specs.declared.entries.Actor.TheVariants as actors
 use Rattle.sgx_types.specs.declared.entries.Action.{Action}
 use Rattle.sgx_types.specs.declared.entries.Action.TheVariants as actions
 use Rattle.sgx_types.specs.declared.entries.Answer.{Answer}
 use Rattle.sgx_types.specs.declared.entries.Answer.TheVariants as answers
 use Rattle.sgx_types.specs.declared.entries.PageInit.{PageInit}
 use Rattle.sgx_types.specs.declared.entries.PageInit.TheVariants as inits
-use Rattle.sgx_types.specs.declared.entries.Cause.{Cause}
-use Rattle.sgx_types.specs.declared.entries.Cause.TheVariants as causes
-use Rattle.sgx_types.specs.declared.entries.AccessOp.{AccessOp}
-use Rattle.sgx_types.specs.declared.entries.AccessOp.TheVariants as accesses
-use Rattle.sgx_types.specs.declared.entries.PfWhy.{PfWhy}
-use Rattle.sgx_types.specs.declared.entries.PfWhy.TheVariants as faults
-use Rattle.sgx_types.specs.declared.entries.Look.{Look}
-use Rattle.sgx_types.specs.declared.entries.Look.TheVariants as looks
-use Rattle.sgx_types.specs.declared.entries.BusWhy.{BusWhy}
-use Rattle.sgx_types.specs.declared.entries.BusWhy.TheVariants as stops
 use Rattle.sgx_types.specs.declared.refusals.Refusal.{Refusal}
 use Rattle.sgx_types.specs.declared.refusals.Refusal.TheVariants as why
-use Rattle.sgx_types.specs.declared.names.Kind.{Kind}
-use Rattle.sgx_types.specs.declared.names.Kind.TheVariants as kinds
-use Rattle.sgx_types.specs.declared.names.Perm.{Perm}
-use Rattle.sgx_types.specs.declared.names.Frame.{Frame}
-use Rattle.sgx_types.specs.declared.names.Cpu.{Cpu}
 use Rattle.text_words.specs.Words.{Words}
 use Rattle.text_words.proofs.Splits.{AreWords, IsApart, join-apart, split-join}
 use Rattle.text_words.proofs.WordLaws.{decimal-is_word, digest-is_word, hexadecimal-is_word}
 use Rattle.trace_text.specs.TraceText.{action_words, actor_word, answer_words, event_words, init_words, refusal_words, spelling}
-use Rattle.trace_text.specs.Readable.{FitsAction, FitsAnswer, FitsEvent, FitsInit, FitsRefusal, IsCssa, IsHash, IsMoved, IsPf, IsPlain, IsReadable, IsValue, IsVersion}
+use Rattle.trace_text.specs.Readable.{FitsAction, FitsAnswer, FitsEvent, FitsInit, FitsRefusal, IsCssa, IsHash, IsMoved, IsPf, IsPlain}
+use Rattle.trace_text.specs.Readable.{IsReadable, IsValue, IsVersion}
 use Rattle.trace_lines.specs.Reading.{entry_of, words_of}
-use Rattle.trace_words.proofs.WordReads.{access-is_word, actor-is_word, byte-is_word, cause-is_word, cpu-is_word, enclave-is_word, expect-is_word, fault-is_word, kind-is_word, look-is_word, perm-is_word, short-is_word, small-is_word, stop-is_word}
+use Rattle.trace_words.proofs.WordReads.{access-is_word, actor-is_word, byte-is_word, cause-is_word, cpu-is_word, enclave-is_word}
+use Rattle.trace_words.proofs.WordReads.{expect-is_word, fault-is_word, kind-is_word, look-is_word, perm-is_word, short-is_word}
+use Rattle.trace_words.proofs.WordReads.{small-is_word, stop-is_word}
 use Rattle.trace_lines.proofs.ReadLaws.{entry-read}
 
 append-words : (words others : Words) → AreWords words → AreWords others → AreWords (words ++ others)

@@ -1,42 +1,30 @@
 -- What is printed of a readable entry is read again as that entry, word by word.
-use Rattle.std.proofs.Common.{◌≡◌, ℕ, ◌^◌, ◌<◌, List, [], ◌∷◌, ◌++◌, Option, Some, None, decimal, refl, ap, ◌∙◌}
+use Rattle.std.proofs.Common.{◌≡◌, ℕ, ◌^◌, ◌<◌, [], ◌∷◌, ◌++◌, Some, refl, ◌∙◌}
 use Rattle.sgx_types.specs.declared.entries.Entry.{Entry}
 use Rattle.sgx_types.specs.declared.entries.Event.{Event}
 use Rattle.sgx_types.specs.declared.entries.Event.TheVariants as events
-use Rattle.sgx_types.specs.declared.entries.Actor.{Actor}
-use Rattle.sgx_types.specs.declared.entries.Actor.TheVariants as actors
 use Rattle.sgx_types.specs.declared.entries.Action.{Action}
 use Rattle.sgx_types.specs.declared.entries.Action.TheVariants as actions
 use Rattle.sgx_types.specs.declared.entries.Answer.{Answer}
 use Rattle.sgx_types.specs.declared.entries.Answer.TheVariants as answers
 use Rattle.sgx_types.specs.declared.entries.PageInit.{PageInit}
 use Rattle.sgx_types.specs.declared.entries.PageInit.TheVariants as inits
-use Rattle.sgx_types.specs.declared.entries.Cause.{Cause}
-use Rattle.sgx_types.specs.declared.entries.Cause.TheVariants as causes
-use Rattle.sgx_types.specs.declared.entries.AccessOp.{AccessOp}
-use Rattle.sgx_types.specs.declared.entries.AccessOp.TheVariants as accesses
-use Rattle.sgx_types.specs.declared.entries.PfWhy.{PfWhy}
-use Rattle.sgx_types.specs.declared.entries.PfWhy.TheVariants as faults
-use Rattle.sgx_types.specs.declared.entries.Look.{Look}
-use Rattle.sgx_types.specs.declared.entries.Look.TheVariants as looks
-use Rattle.sgx_types.specs.declared.entries.BusWhy.{BusWhy}
-use Rattle.sgx_types.specs.declared.entries.BusWhy.TheVariants as stops
 use Rattle.sgx_types.specs.declared.refusals.Refusal.{Refusal}
 use Rattle.sgx_types.specs.declared.refusals.Refusal.TheVariants as why
-use Rattle.sgx_types.specs.declared.names.Kind.{Kind}
-use Rattle.sgx_types.specs.declared.names.Kind.TheVariants as kinds
-use Rattle.sgx_types.specs.declared.names.Perm.{Perm}
-use Rattle.sgx_types.specs.declared.names.Frame.{Frame}
-use Rattle.sgx_types.specs.declared.names.Cpu.{Cpu}
 use Rattle.text_words.specs.Words.{Words}
-use Rattle.text_words.specs.Reading.{number_of, small_of, digest_of}
 use Rattle.text_words.proofs.Numerals.{number_of-decimal, number_of-hexadecimal}
 use Rattle.text_words.proofs.WordLaws.{digest_of-encode_lower, small_of-decimal}
 use Rattle.trace_text.specs.TraceText.{action_words, actor_word, answer_words, event_words, init_words, refusal_words}
 use Rattle.trace_words.specs.Names.{bare_of, row_of}
-use Rattle.trace_text.specs.Readable.{FitsAction, FitsAnswer, FitsEvent, FitsInit, FitsRefusal, IsCssa, IsHash, IsMoved, IsPf, IsPlain, IsReadable, IsValue, IsVersion}
-use Rattle.trace_lines.specs.Reading.{add_row, aex_row, block_row, create_row, eld_row, eldstart_row, enter_row, epa_row, ewb_row, ewbstart_row, extend_row, fill_row, init_row, load_row, outload_row, outstore_row, pf_row, plus_row, resume_row, set_row, store_row, track_row, xadd_row, action_of, age_of, answer_of, bus_of, cssa_of, done_of, entry_of, event_of, hash_of, kick_of, moved_of, one_of, page_init, pf_of, plain_of, refusal_of, refused_of, three_of, two_of, value_of, version_of}
-use Rattle.trace_words.proofs.WordReads.{access-read, actor-read, byte-read, cause-read, cpu-read, enclave-read, expect-read, fault-read, frame-read, kind-read, look-read, perm-read, short-read, stop-read}
+use Rattle.trace_text.specs.Readable.{FitsAction, FitsAnswer, FitsEvent, FitsInit, FitsRefusal, IsCssa, IsHash, IsMoved, IsPf, IsPlain}
+use Rattle.trace_text.specs.Readable.{IsReadable, IsValue, IsVersion}
+use Rattle.trace_lines.specs.Reading.{add_row, aex_row, block_row, create_row, eld_row, eldstart_row, enter_row, epa_row, ewb_row}
+use Rattle.trace_lines.specs.Reading.{ewbstart_row, extend_row, fill_row, init_row, load_row, outload_row, outstore_row, pf_row, plus_row}
+use Rattle.trace_lines.specs.Reading.{resume_row, set_row, store_row, track_row, xadd_row, action_of, age_of, answer_of, bus_of, cssa_of}
+use Rattle.trace_lines.specs.Reading.{done_of, entry_of, event_of, hash_of, kick_of, moved_of, one_of, page_init, pf_of, plain_of}
+use Rattle.trace_lines.specs.Reading.{refusal_of, refused_of, three_of, two_of, value_of, version_of}
+use Rattle.trace_words.proofs.WordReads.{access-read, actor-read, byte-read, cause-read, cpu-read, enclave-read, expect-read, fault-read}
+use Rattle.trace_words.proofs.WordReads.{frame-read, kind-read, look-read, perm-read, short-read, stop-read}
 
 init-read : (init : PageInit) (rest : Words) → FitsInit init → page_init (init_words init ++ rest) ≡ Some (init, rest)
 unfolding page_init

@@ -14,8 +14,6 @@ use Rattle.sgx_types.specs.declared.entries.PageInit.{PageInit}
 use Rattle.sgx_types.specs.declared.entries.PageInit.TheVariants as inits
 use Rattle.sgx_types.specs.declared.refusals.Refusal.{Refusal}
 use Rattle.sgx_types.specs.declared.refusals.Refusal.TheVariants as why
-use Rattle.sgx_types.specs.declared.names.Page.{Page}
-use Rattle.sgx_types.specs.declared.names.SlotAt.{SlotAt}
 use Rattle.text_words.specs.Words.{Words}
 use Rattle.text_words.specs.Reading.{◌>>=◌, number_of, small_of, digest_of}
 use Rattle.trace_words.specs.Reading.{actor_of, byte_of, cpu_of, enclave_of, expect_of, frame_of, short_of}

@@ -2,7 +2,10 @@
 
 ghost use Rattle.std.specs.Prelude.{◌≡◌, IfSome, option_map};
 ghost use Rattle.trace_text.specs.Readable.{FitsAction, FitsInit};
-ghost use Rattle.trace_lines.specs.Reading.{add_row, aex_row, block_row, create_row, eld_row, eldstart_row, enter_row, epa_row, ewb_row, ewbstart_row, extend_row, fill_row, init_row, load_row, outload_row, outstore_row, pf_row, plus_row, resume_row, set_row, store_row, track_row, xadd_row, action_of, by_row, front_of, page_init, texts};
+ghost use Rattle.trace_lines.specs.Reading.{add_row, aex_row, block_row, create_row, eld_row, eldstart_row, enter_row, epa_row, ewb_row};
+ghost use Rattle.trace_lines.specs.Reading.{ewbstart_row, extend_row, fill_row, init_row, load_row, outload_row, outstore_row, pf_row};
+ghost use Rattle.trace_lines.specs.Reading.{plus_row, resume_row, set_row, store_row, track_row, xadd_row, action_of, by_row, front_of};
+ghost use Rattle.trace_lines.specs.Reading.{page_init, texts};
 
 use sgx_types::entries::{Action, PageInit};
 use sgx_types::names::{Page, SlotAt};

@@ -1,6 +1,7 @@
 //! A trace given to a sink piece by piece.
 
-ghost use Rattle.std.specs.Prelude.{◌≡◌, ◌+◌, ◌≤◌, ◌++◌, [], reverse, vec_capacity, vec_len, IsErr, IsErrOf, OnErr, OnOk};
+ghost use Rattle.std.specs.Prelude.{◌≡◌, ◌+◌, ◌≤◌, ◌++◌, [], reverse, vec_capacity, vec_len, IsErr, IsErrOf, OnErr};
+ghost use Rattle.std.specs.Prelude.{OnOk};
 ghost use Rattle.io_edges.specs.Faults.{HasCause};
 ghost use Rattle.io_edges.specs.Sinks.{followed_by, GivesPart};
 ghost use Rattle.trace_pieces.specs.Held.{IsHeld};

@@ -1,21 +1,22 @@
 -- Which line of a text is its first fault, by the lines that a reader took.
-use Rattle.std.proofs.Common.{◌≡◌, ℕ, zero, suc, ◌+◌, ◌<◌, ◌≤◌, ◌/◌, ◌%◌, if◌then◌else◌, true, false, eqb, List, [], ◌∷◌, ◌++◌, length, map, take, drop, codes, decimal, refl, sym, ap, subst, ◌∙◌, arith, inl, inr, append_assoc, All}
+use Rattle.std.proofs.Common.{◌≡◌, ℕ, zero, suc, ◌+◌, ◌<◌, ◌≤◌, ◌/◌, ◌%◌, if◌then◌else◌, true, false}
+use Rattle.std.proofs.Common.{eqb, List, [], ◌∷◌, ◌++◌, length, map, take, drop, decimal, refl, sym, ap, ◌∙◌, arith}
+use Rattle.std.proofs.Common.{append_assoc}
 use Rattle.std.specs.Fmt.{digits, digits_onto, digit_glyph}
-use Rattle.std.specs.List.{AllByRecursion}
-use Rattle.std.proofs.lemmas.Bool.{ne_eqb}
-use Rattle.std.proofs.lemmas.List.{append-nil, append_cancel_left, length-append, length-map, take-append-le, take-append-drop, length-take, take_all}
+use Rattle.std.proofs.lemmas.List.{append-nil, append_cancel_left, length-append, take-append-le, take-append-drop, length-take, take_all}
 use Rattle.std.proofs.lemmas.List.Elements.{All-nil, All-cons, All-append, All-from_recursion}
 use Rattle.std.proofs.lemmas.Bool.Decides.{nat_tests}
 use Rattle.sgx_types.specs.declared.entries.Entry.{Entry}
 use Rattle.text_words.proofs.Splits.{IsApart}
-use Rattle.trace_text.specs.Readable.{AreReadable, IsReadable}
+use Rattle.trace_text.specs.Readable.{AreReadable}
 use Rattle.trace_text.specs.TraceText.{spelling}
 use Rattle.trace_lines.proofs.LineReads.{spelling_apart}
 use Rattle.trace_reader.specs.declared.lines.Lines.{Lines}
 use Rattle.trace_reader.specs.declared.lines.Stage.{Stage}
 use Rattle.trace_reader.specs.declared.lines.Stage.TheVariants.{First, Entries, Ended}
 use Rattle.trace_reader.specs.Faults.{IsBegun, IsFirstFault, text_of, whole_lines}
-use Rattle.trace_reader.specs.Lines.{CannotFollow, HasNoFeed, IsKept, IsRefused, IsTaken, NoneBefore, first_line, joined, last_line, lines_at, taken, trace_lines}
+use Rattle.trace_reader.specs.Lines.{CannotFollow, HasNoFeed, IsKept, IsRefused, first_line, joined, last_line, lines_at, taken}
+use Rattle.trace_reader.specs.Lines.{trace_lines}
 use Rattle.trace_reader.proofs.TextLaws.{AreApart, text-joined, whole-all, whole-joined, whole-line, whole-part}
 use Rattle.trace_reader.proofs.FollowLaws.{not_whole, same_entries}
 

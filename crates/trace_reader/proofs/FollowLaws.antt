@@ -1,5 +1,6 @@
 -- Behind some lines of a trace comes the line of an entry, or the last line, and nothing else.
-use Rattle.std.proofs.Common.{◌≡◌, ℕ, ◌+◌, refl, sym, ap, ◌∙◌, List, [], ◌∷◌, ◌++◌, append_assoc, codes, decimal, length, map, take, get_or, eqb, Bool, true, false}
+use Rattle.std.proofs.Common.{◌≡◌, ℕ, ◌+◌, refl, sym, ap, ◌∙◌, List, [], ◌∷◌, ◌++◌, append_assoc, decimal}
+use Rattle.std.proofs.Common.{length, map, take, get_or, eqb, Bool, true, false}
 use Rattle.std.specs.List.{join_with_byte}
 use Rattle.std.proofs.lemmas.List.{append-nil}
 use Rattle.sgx_types.specs.declared.entries.Entry.{Entry}

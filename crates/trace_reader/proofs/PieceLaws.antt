@@ -1,14 +1,14 @@
 -- Lines of a piece that are taken or refused, and what a text lacks that ends.
-use Rattle.std.proofs.Common.{◌≡◌, ℕ, suc, arith, ◌+◌, Bool, true, false, eqb, List, [], ◌∷◌, ◌++◌, Option, Some, None, Ok, Err, MatchBool, length, refl, sym, ap, subst, ◌∙◌, append_assoc}
+use Rattle.std.proofs.Common.{◌≡◌, ℕ, suc, arith, ◌+◌, Bool, true, false, eqb, List, [], ◌∷◌, ◌++◌, Option, Some}
+use Rattle.std.proofs.Common.{None, Ok, Err, MatchBool, length, refl, sym, ap, subst, ◌∙◌, append_assoc}
 use Rattle.std.proofs.lemmas.Bool.{ne_eqb}
 use Rattle.std.proofs.lemmas.List.{append-nil}
-use Rattle.sgx_types.specs.declared.entries.Entry.{Entry}
 use Rattle.trace_reader.specs.declared.refusals.TraceRefusal.{TraceRefusal}
 use Rattle.trace_reader.specs.declared.refusals.TraceRefusal.TheVariants.{Fault, Memory}
 use Rattle.trace_reader.specs.declared.lines.Lines.{Lines}
 use Rattle.trace_reader.specs.declared.lines.Stage.{Stage}
 use Rattle.trace_reader.specs.declared.lines.Stage.TheVariants.{First, Entries, Ended}
-use Rattle.trace_reader.specs.Faults.{IsFirstFault, Progress, Reading, Faulted, text_of}
+use Rattle.trace_reader.specs.Faults.{IsFirstFault, Progress, Reading, text_of}
 use Rattle.trace_reader.specs.Kept.{progress_at}
 use Rattle.trace_reader.specs.Lines.{CannotFollow, HasNoFeed, IsKept, IsRefused, IsTaken, is_last_stage, joined, taken}
 use Rattle.trace_reader.specs.Outcomes.{Feeds, Finishes, Tells}

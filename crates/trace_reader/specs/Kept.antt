@@ -1,7 +1,6 @@
 -- What a reader in pieces keeps.
 use Rattle.std.specs.Prelude.{ℕ, List, Option, Some, None, ◌++◌}
 use Rattle.trace_reader.specs.declared.reader.TraceReader.TheInside.{Inside}
-use Rattle.trace_reader.specs.declared.lines.Lines.{Lines}
 use Rattle.trace_reader.specs.Faults.{Progress, Reading, Faulted}
 use Rattle.trace_reader.specs.Lines.{HasNoFeed, IsKept, joined, taken}
 

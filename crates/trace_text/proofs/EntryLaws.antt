@@ -1,5 +1,6 @@
 -- What a text gains by one more entry, where the entries that a printer is given stand oldest first.
-use Rattle.std.proofs.Common.{◌≡◌, ℕ, ◌+◌, ◌<◌, List, [], ◌∷◌, ◌++◌, length, take, reverse, get_or, sym, ap, ◌∙◌}
+use Rattle.std.proofs.Common.{◌≡◌, ℕ, ◌+◌, ◌<◌, List, [], ◌∷◌, ◌++◌, length, take, reverse, get_or, sym, ap}
+use Rattle.std.proofs.Common.{◌∙◌}
 use Rattle.std.proofs.lemmas.List.{append_assoc, reverse-append, take_more}
 use Rattle.sgx_types.specs.declared.entries.Entry.{Entry}
 use Rattle.trace_text.specs.TraceText.{entry_text, entries_text}

@@ -1,7 +1,8 @@
 //! The text of a trace.
 
 ghost use Rattle.std.specs.Prelude.{◌≡◌, ◌++◌, drop, reverse, OnErr, OnOk, IfOk};
-ghost use Rattle.trace_text.specs.TraceText.{actor_word, answer_words, entry_text, event_words, first_line, last_line, refusal_words, spelling, trace_of};
+ghost use Rattle.trace_text.specs.TraceText.{actor_word, answer_words, entry_text, event_words, first_line, last_line, refusal_words};
+ghost use Rattle.trace_text.specs.TraceText.{spelling, trace_of};
 ghost use Rattle.text_words.specs.Room.{LacksRoom, UsesRoom};
 ghost use Rattle.text_words.specs.Words.{with_words};
 

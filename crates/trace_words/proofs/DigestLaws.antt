@@ -1,8 +1,8 @@
 -- What is read of a digest's word is a digest.
-use Rattle.std.proofs.Common.{◌≡◌, ℕ, ◌*◌, ◌<◌, List, Option, Some, None, Result, Ok, Err, IfSome, length, sym, ◌∙◌, refl, arith}
+use Rattle.std.proofs.Common.{◌≡◌, ℕ, ◌*◌, ◌<◌, List, Option, Some, None, Result, Ok, Err, IfSome, sym, ◌∙◌, arith}
 use Rattle.std.specs.Result.{result_ok}
 use Rattle.std.proofs.lemmas.List.Elements.{All-from_get_or}
-use Rattle.hex.specs.Hex.{decode_of, decode_sized}
+use Rattle.hex.specs.Hex.{decode_sized}
 use Rattle.hex.specs.declared.error.FromHexError.{FromHexError}
 use Rattle.hex.proofs.HexLemmas.{decode_of-ok, decode_sized-ok, decode_sized-twice}
 use Rattle.text_words.specs.Reading.{IsDigest, digest_of}

@@ -1,5 +1,7 @@
 -- A word that is printed is a word, and is read again as what it was printed of.
-use Rattle.std.proofs.Common.{◌≡◌, ℕ, ◌+◌, ◌*◌, ◌^◌, ◌<◌, ◌≤◌, Bool, true, false, ltb, List, [], ◌∷◌, ◌++◌, Option, Some, None, length, decimal, codes, bytes_eq, refl, sym, ap, ◌∙◌, arith, lit≤, inl, inr, ◌⊎◌}
+use Rattle.std.proofs.Common.{◌≡◌, ℕ, ◌+◌, ◌*◌, ◌^◌, ◌<◌, ◌≤◌, Bool, true, false, ltb, List, [], ◌∷◌}
+use Rattle.std.proofs.Common.{◌++◌, Option, Some, None, length, decimal, codes, bytes_eq, refl, ap, ◌∙◌, arith, lit≤, inl, inr}
+use Rattle.std.proofs.Common.{◌⊎◌}
 use Rattle.std.specs.List.{list_all}
 use Rattle.std.proofs.lemmas.Bool.{lt-ltb, le-leb, lt-leb, cases_lt, false_from_ne_true, and_from, and_parts}
 use Rattle.std.proofs.lemmas.Slice.Eq.{bytes_eq-Decides}
@@ -9,17 +11,8 @@ use Rattle.std.specs.Char.{digit_value}
 use Rattle.std.specs.Str.Parse.{AllDigits}
 use Rattle.hex.specs.Hex.{lower_digits}
 use Rattle.hex.proofs.HexLemmas.{length-encode_with}
-use Rattle.sgx_types.specs.declared.entries.Entry.{Entry}
-use Rattle.sgx_types.specs.declared.entries.Event.{Event}
-use Rattle.sgx_types.specs.declared.entries.Event.TheVariants as events
 use Rattle.sgx_types.specs.declared.entries.Actor.{Actor}
 use Rattle.sgx_types.specs.declared.entries.Actor.TheVariants as actors
-use Rattle.sgx_types.specs.declared.entries.Action.{Action}
-use Rattle.sgx_types.specs.declared.entries.Action.TheVariants as actions
-use Rattle.sgx_types.specs.declared.entries.Answer.{Answer}
-use Rattle.sgx_types.specs.declared.entries.Answer.TheVariants as answers
-use Rattle.sgx_types.specs.declared.entries.PageInit.{PageInit}
-use Rattle.sgx_types.specs.declared.entries.PageInit.TheVariants as inits
 use Rattle.sgx_types.specs.declared.entries.Cause.{Cause}
 use Rattle.sgx_types.specs.declared.entries.Cause.TheVariants as causes
 use Rattle.sgx_types.specs.declared.entries.AccessOp.{AccessOp}
@@ -30,19 +23,18 @@ use Rattle.sgx_types.specs.declared.entries.Look.{Look}
 use Rattle.sgx_types.specs.declared.entries.Look.TheVariants as looks
 use Rattle.sgx_types.specs.declared.entries.BusWhy.{BusWhy}
 use Rattle.sgx_types.specs.declared.entries.BusWhy.TheVariants as stops
-use Rattle.sgx_types.specs.declared.refusals.Refusal.{Refusal}
-use Rattle.sgx_types.specs.declared.refusals.Refusal.TheVariants as why
 use Rattle.sgx_types.specs.declared.names.Kind.{Kind}
 use Rattle.sgx_types.specs.declared.names.Kind.TheVariants as kinds
 use Rattle.sgx_types.specs.declared.names.Perm.{Perm}
-use Rattle.sgx_types.specs.declared.names.Frame.{Frame}
 use Rattle.sgx_types.specs.declared.names.Cpu.{Cpu}
-use Rattle.text_words.specs.Words.{Words, digest_word, enclave_word, letter}
-use Rattle.text_words.specs.Reading.{IsDigest, number_of, small_of, letter_of, digest_of}
+use Rattle.text_words.specs.Words.{digest_word, enclave_word, letter}
+use Rattle.text_words.specs.Reading.{letter_of}
 use Rattle.text_words.proofs.Numerals.{number_of-decimal}
 use Rattle.text_words.proofs.Splits.{is_word}
-use Rattle.text_words.proofs.WordLaws.{decimal-is_word, digest-is_word, digest_of-encode_lower, letter-is_word, letter_of-letter, small_of-decimal}
-use Rattle.trace_text.specs.TraceText.{access_word, actor_word, cause_word, expect_word, fault_word, kind_word, look_word, perms_word, stop_word}
+use Rattle.text_words.proofs.WordLaws.{decimal-is_word, digest-is_word, digest_of-encode_lower, letter-is_word, letter_of-letter}
+use Rattle.text_words.proofs.WordLaws.{small_of-decimal}
+use Rattle.trace_text.specs.TraceText.{access_word, actor_word, cause_word, expect_word, fault_word, kind_word, look_word, perms_word}
+use Rattle.trace_text.specs.TraceText.{stop_word}
 use Rattle.trace_text.specs.Readable.{FitsActor, FitsExpect}
 use Rattle.trace_words.specs.Names.{access_of, cause_of, fault_of, kind_of, look_of, perm_of, stop_of}
 use Rattle.trace_words.specs.Reading.{actor_of, byte_of, cpu_of, enclave_of, expect_of, frame_of, short_of}

@@ -1,5 +1,5 @@
 -- Names that are read: each kind of value by the word that the text has for it.
-use Rattle.std.specs.Prelude.{ℕ, Bool, true, false, List, [], ◌∷◌, Option, Some, None, find, codes, bytes_eq}
+use Rattle.std.specs.Prelude.{ℕ, Bool, true, false, List, [], ◌∷◌, Option, find, codes, bytes_eq}
 use Rattle.sgx_types.specs.declared.entries.Cause.{Cause}
 use Rattle.sgx_types.specs.declared.entries.Cause.TheVariants as causes
 use Rattle.sgx_types.specs.declared.entries.AccessOp.{AccessOp}

@@ -1,5 +1,6 @@
 -- What entering, leaving and tracking do to the noted epochs and to the two counts.
-use Rattle.std.proofs.Common.{◌≡◌, ℕ, ◌+◌, ◌-◌, ◌<◌, ◌≤◌, suc, zero, Bool, true, false, cond, eqb, ltb, leb, List, [], ◌∷◌, length, get_or, refl, sym, ap₂, ◌∙◌, zero-add, one-add, ◌⊎◌, inl, inr, arith}
+use Rattle.std.proofs.Common.{◌≡◌, ℕ, ◌+◌, ◌-◌, ◌<◌, ◌≤◌, suc, zero, Bool, true, false, cond, eqb, ltb, leb, List}
+use Rattle.std.proofs.Common.{[], ◌∷◌, length, get_or, refl, sym, ap₂, ◌∙◌, zero-add, one-add, ◌⊎◌, inl, inr, arith}
 use Rattle.std.specs.Prelude.{All, Contains, count_by}
 use Rattle.std.specs.List.Sorted.{IsNonDecreasing}
 use Rattle.std.proofs.lemmas.Bool.{eqb-true, eqb-false, ltb-false, leb-true, leb-false, lt-ltb, le-ltb, le-leb, lt-leb, cases_lt}
@@ -9,7 +10,8 @@ use Rattle.std.proofs.lemmas.List.Sums.{sum_by_push, sum_by-cons}
 use Rattle.std.proofs.lemmas.List.Sorted.{IsNonDecreasingBy-push}
 use Rattle.sgx_types.specs.declared.names.TheConstants.{LAST_EPOCH, PROCESSORS}
 use Rattle.track_epoch.specs.Counters.{noted_by}
-use Rattle.track_epoch.specs.Tracking.{Tracking, starting_at, entered, without, left, tracked, number_older, number_newer, number_up_to, IsDrained, IsRecent, IsTracking}
+use Rattle.track_epoch.specs.Tracking.{Tracking, starting_at, entered, without, left, tracked, number_older, number_newer, number_up_to}
+use Rattle.track_epoch.specs.Tracking.{IsDrained, IsRecent, IsTracking}
 
 -- ---- lists with one element fewer
 

@@ -1,5 +1,6 @@
 -- What a write to one enclave's track leaves.
-use Rattle.std.proofs.Common.{◌≡◌, ◌≢◌, ℕ, ◌-◌, ◌<◌, ◌≤◌, suc, zero, cond, eqb, List, [], ◌∷◌, Some, length, set, length-set, refl, ap, ◌⊎◌, inl, inr, arith}
+use Rattle.std.proofs.Common.{◌≡◌, ◌≢◌, ℕ, ◌-◌, ◌<◌, ◌≤◌, suc, zero, cond, eqb, List, [], ◌∷◌, Some}
+use Rattle.std.proofs.Common.{length, set, length-set, refl, ap, ◌⊎◌, inl, inr, arith}
 use Rattle.std.specs.Prelude.{slice_get}
 use Rattle.std.proofs.lemmas.Bool.{eq-eqb, ne_eqb, cases_eq}
 use Rattle.track_epoch.specs.Tracking.{Tracking}

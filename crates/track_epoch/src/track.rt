@@ -1,6 +1,7 @@
 //! The tracking of one enclave.
 
-ghost use Rattle.std.specs.Prelude.{◌≡◌, ◌==◌, ◌&&◌, ◌+◌, ◌<◌, ◌≤◌, ◌↔◌, if◌then◌else◌, IsTrue, OnOk, OnErr, Contains, length, nat_lt};
+ghost use Rattle.std.specs.Prelude.{◌≡◌, ◌==◌, ◌&&◌, ◌+◌, ◌<◌, ◌≤◌, ◌↔◌, if◌then◌else◌, IsTrue};
+ghost use Rattle.std.specs.Prelude.{OnOk, OnErr, Contains, length, nat_lt};
 ghost use Rattle.std.specs.Prelude.{nat_le};
 ghost use Rattle.track_epoch.specs.Tracking.{starting_at, entered, left, tracked, track_answer, number_older, number_newer, number_up_to};
 ghost use Rattle.track_epoch.specs.Tracking.{IsDrained, IsTracking};

@@ -1,5 +1,6 @@
 -- The steps that are left, and the first of them.
-use Rattle.std.proofs.Common.{◌≡◌, ℕ, zero, suc, ◌+◌, ◌-◌, ◌/◌, ◌<◌, ◌≤◌, Bool, true, false, cond, refl, arith, sym, ◌∙◌, Some, List, [], ◌∷◌, ◌++◌, length, get_or, slice_get, map, drop, replicate}
+use Rattle.std.proofs.Common.{◌≡◌, ℕ, zero, suc, ◌+◌, ◌-◌, ◌/◌, ◌<◌, ◌≤◌, Bool, true, false, cond, refl}
+use Rattle.std.proofs.Common.{arith, sym, ◌∙◌, Some, List, [], ◌∷◌, ◌++◌, length, get_or, slice_get, map, drop, replicate}
 use Rattle.std.specs.List.{All, flat_map}
 use Rattle.std.proofs.lemmas.List.{append-nil, append_assoc, drop_more}
 use Rattle.std.proofs.lemmas.List.Concat.{flat_map-cons}

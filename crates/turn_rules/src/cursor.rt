@@ -1,6 +1,7 @@
 //! What the builder has to do under a job, step by step.
 
-ghost use Rattle.std.specs.Prelude.{ℕ, ◌≡◌, ◌+◌, ◌≤◌, true, false, [], ◌∷◌, if◌then◌else◌, IfNone, IfSome, length};
+ghost use Rattle.std.specs.Prelude.{ℕ, ◌≡◌, ◌+◌, ◌≤◌, true, false, [], ◌∷◌, if◌then◌else◌, IfNone, IfSome};
+ghost use Rattle.std.specs.Prelude.{length};
 ghost use Rattle.job_grammar.specs.Jobs.{first_page, page_count};
 ghost use Rattle.turn_rules.specs.Script.{build_of, line_steps};
 ghost use Rattle.turn_rules.specs.Cursor.{IsCursor, IsRun, left, run_left};

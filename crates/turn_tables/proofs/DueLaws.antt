@@ -1,14 +1,13 @@
 -- The answers are what is due.
-use Rattle.std.proofs.Common.{◌≡◌, ℕ, zero, suc, ◌+◌, ◌-◌, ◌/◌, ◌%◌, ◌^◌, ◌==◌, ◌<◌, ◌≤◌, ◌||◌, ◌++◌, not, Bool, true, false, if◌then◌else◌, List, [], ◌∷◌, Option, Some, None, is_some, length, drop, min, nat_le, slice_get, refl, sym, ap, subst, ◌∙◌, arith}
-use Rattle.std.specs.Option.{option_map}
-use Rattle.std.proofs.lemmas.Bool.{eq-eqb, eqb-false, eqb-true, le-leb, leb-true}
+use Rattle.std.proofs.Common.{◌≡◌, ℕ, zero, suc, ◌+◌, ◌-◌, ◌/◌, ◌%◌, ◌^◌, ◌==◌, ◌<◌, ◌≤◌}
+use Rattle.std.proofs.Common.{◌||◌, ◌++◌, not, Bool, true, false, if◌then◌else◌, List, [], ◌∷◌, Option, Some, None}
+use Rattle.std.proofs.Common.{is_some, length, drop, min, nat_le, slice_get, refl, sym, ap, ◌∙◌, arith}
+use Rattle.std.proofs.lemmas.Bool.{eqb-false, eqb-true, le-leb, leb-true}
 use Rattle.std.proofs.lemmas.List.{append-nil}
 use Rattle.sgx_types.specs.declared.entries.AccessOp.{AccessOp}
 use Rattle.sgx_types.specs.declared.entries.AccessOp.TheVariants as accesses
 use Rattle.sgx_types.specs.declared.entries.Action.{Action}
 use Rattle.sgx_types.specs.declared.entries.Action.TheVariants as actions
-use Rattle.sgx_types.specs.declared.entries.Actor.{Actor}
-use Rattle.sgx_types.specs.declared.entries.Cause.TheVariants as causes
 use Rattle.sgx_types.specs.declared.entries.Entry.{Entry}
 use Rattle.sgx_types.specs.declared.names.Frame.{Frame}
 use Rattle.sgx_types.specs.declared.names.Page.{Page}
@@ -29,15 +28,19 @@ use Rattle.job_grammar.specs.Valid.{IsValid, IsValidOp}
 use Rattle.turn_rules.specs.declared.steps.BuildStep.{BuildStep}
 use Rattle.turn_rules.specs.declared.steps.BuildStep.TheVariants as builds
 use Rattle.turn_rules.specs.Cursor.{left}
-use Rattle.turn_rules.specs.Script.{build_of, built, enter_with, frame_at, is_initialised, is_turned_away, replied, resume_with, saved, script_of, step_due, with_frame as frame_step}
+use Rattle.turn_rules.specs.Script.{build_of, built, enter_with, frame_at, is_turned_away, replied, resume_with, saved, script_of, step_due}
+use Rattle.turn_rules.specs.Script.{with_frame as frame_step}
 use Rattle.paging_laws.specs.Columns.{seat_of_stay}
 use Rattle.paging_machine.specs.Parts.{Parts, seat_of_mode, state_of}
 use Rattle.driver_rules.specs.declared.waits.Why.TheVariants as waits
-use Rattle.driver_rules.specs.Dues.{Due, Ends, Finished, Makes, Reports, Stopped, Waits, makes_or}
-use Rattle.driver_rules.specs.Needs.{Interruption, access_page, interruption, last_save, listed, needs_after, needs_to_enter, needs_to_resume, next_op, next_save, save_to_enter, save_to_resume}
+use Rattle.driver_rules.specs.Dues.{Due, Makes, Stopped, makes_or}
+use Rattle.driver_rules.specs.Needs.{Interruption, access_page, interruption, last_save, listed, needs_after, needs_to_resume, next_op}
+use Rattle.driver_rules.specs.Needs.{next_save, save_to_enter, save_to_resume}
 use Rattle.driver_rules.specs.Places.{frame_here, place}
 use Rattle.driver_rules.specs.Stops.{is_spent}
-use Rattle.driver_rules.specs.Turns.{Last, accesses_by, accesses_inside, builder_due, cpu_due, due_after, early_turn, enters, fills, first_away, inside_turn, is_built, is_kicked, is_last, last_of, op_turn, outside_turn, resumes, save_frame, stay_turn, step_turn, turn_due, with_pages}
+use Rattle.driver_rules.specs.Turns.{Last, accesses_by, accesses_inside, builder_due, cpu_due, due_after, early_turn, enters, fills}
+use Rattle.driver_rules.specs.Turns.{first_away, inside_turn, is_kicked, is_last, last_of, op_turn, outside_turn, resumes, save_frame}
+use Rattle.driver_rules.specs.Turns.{stay_turn, step_turn, turn_due, with_pages}
 use Rattle.driver_tables.specs.declared.driver.Driver.{Driver}
 use Rattle.driver_steps.specs.Agrees.{Agrees}
 use Rattle.turn_tables.specs.declared.cpu_turns.CpuTurn.{CpuTurn}
@@ -46,9 +49,11 @@ use Rattle.turn_tables.specs.declared.cpu_turns.Last as lasts
 use Rattle.turn_tables.specs.declared.cpu_turns.Last.TheVariants as ways
 use Rattle.turn_tables.specs.declared.dues.TurnDue.{TurnDue}
 use Rattle.turn_tables.specs.declared.dues.TurnDue.TheVariants as dues
-use Rattle.turn_tables.specs.declared.tcs_turns.TcsTurn.{TcsTurn}
 use Rattle.turn_tables.specs.declared.turns.Turns.{Turns}
-use Rattle.turn_tables.specs.Asked.{Looks, access_by, access_in, access_page as access_told, after_by, after_last, builder_by, built_by, cpu_by, early_by, enters_by, fill_by, inside_by, is_last_by, last_save_of, looks_at, next_save_of, next_step, op_at, op_by, outside_by, page_of, resumes_by, standing_seen, step_by, turn_by, turned_away, with_access, with_frame}
+use Rattle.turn_tables.specs.Asked.{Looks, access_by, access_in, access_page as access_told, after_by, after_last, builder_by, built_by}
+use Rattle.turn_tables.specs.Asked.{cpu_by, early_by, enters_by, fill_by, inside_by, is_last_by, last_save_of, looks_at, next_save_of}
+use Rattle.turn_tables.specs.Asked.{next_step, op_at, op_by, outside_by, page_of, resumes_by, standing_seen, step_by, turn_by, turned_away}
+use Rattle.turn_tables.specs.Asked.{with_access, with_frame}
 use Rattle.turn_tables.specs.CpuTurns.{interruption_told, last_told, turn_at}
 use Rattle.turn_tables.specs.Due.{IsOrderly, IsWithin, due_in}
 use Rattle.turn_tables.specs.Shown.{ShowsCpu, ShowsTurns, last_actor}

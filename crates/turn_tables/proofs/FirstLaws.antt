@@ -1,5 +1,7 @@
 -- The holds before a job's first entry, and how large counts get.
-use Rattle.std.proofs.Common.{◌≡◌, ℕ, zero, suc, ◌+◌, ◌-◌, ◌/◌, ◌^◌, ◌<◌, ◌≤◌, ⊎_elim, Bool, true, false, if◌then◌else◌, List, [], ◌∷◌, ◌++◌, Option, Some, None, IfSome, length, replicate, slice_get, refl, sym, ap, subst, ◌∙◌, arith}
+use Rattle.std.proofs.Common.{◌≡◌, ℕ, zero, suc, ◌+◌, ◌-◌, ◌/◌, ◌^◌, ◌<◌, ◌≤◌, ⊎_elim, Bool, true}
+use Rattle.std.proofs.Common.{false, if◌then◌else◌, List, [], ◌∷◌, ◌++◌, Option, Some, None, IfSome, length, replicate}
+use Rattle.std.proofs.Common.{slice_get, refl, sym, ap, subst, ◌∙◌, arith}
 use Rattle.std.proofs.lemmas.Bool.{cases_lt}
 use Rattle.std.proofs.lemmas.List.{get_or_past}
 use Rattle.sgx_types.specs.declared.entries.Entry.{Entry}
@@ -9,9 +11,8 @@ use Rattle.job_grammar.specs.declared.jobs.PageLine.TheVariants as lines
 use Rattle.job_grammar.specs.Jobs.{JobView, lines_at, tcs_line, va_pages}
 use Rattle.turn_rules.specs.declared.steps.BuildStep.{BuildStep}
 use Rattle.turn_rules.specs.declared.steps.BuildStep.TheVariants as builds
-use Rattle.turn_rules.specs.Script.{build_of, enclaves_steps, is_reply_of, leaves_by, replied, saved}
-use Rattle.active_list.specs.Holds.{own_of}
-use Rattle.driver_rules.specs.Holds.{builder_holds, page_extended}
+use Rattle.turn_rules.specs.Script.{enclaves_steps, is_reply_of, leaves_by, replied, saved}
+use Rattle.driver_rules.specs.Holds.{page_extended}
 use Rattle.driver_laws.specs.Sound.{times}
 use Rattle.driver_tables.proofs.FirstLaws.{all_same}
 use Rattle.driver_tables.proofs.HeldLaws.{holds_begin}
@@ -22,7 +23,7 @@ use Rattle.turn_tables.specs.CpuTurns.{first_turn, turn_at}
 use Rattle.turn_tables.specs.Holding.{KeepsHolds}
 use Rattle.turn_tables.specs.Noting.{AreFew}
 use Rattle.turn_tables.specs.Shown.{ShowsTurns}
-use Rattle.turn_tables.specs.TcsTurns.{tcs_at, tcs_by}
+use Rattle.turn_tables.specs.TcsTurns.{tcs_by}
 use Rattle.turn_tables.proofs.OrderLaws.{saved_step}
 
 -- ---- holds

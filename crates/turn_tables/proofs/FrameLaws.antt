@@ -1,13 +1,12 @@
 -- The answers that ask for pages, by where the pages are.
-use Rattle.std.proofs.Common.{◌≡◌, ℕ, Bool, true, false, if◌then◌else◌, List, [], ◌∷◌, ◌++◌, Option, Some, None, is_some, refl, sym, ap, ◌∙◌}
+use Rattle.std.proofs.Common.{◌≡◌, ℕ, true, false, if◌then◌else◌, List, [], ◌∷◌, ◌++◌, Option, Some, None, refl}
+use Rattle.std.proofs.Common.{sym, ap, ◌∙◌}
 use Rattle.std.specs.Option.{option_map}
-use Rattle.sgx_types.specs.declared.entries.Action.{Action}
 use Rattle.sgx_types.specs.declared.entries.Entry.{Entry}
 use Rattle.sgx_types.specs.declared.names.Frame.{Frame}
 use Rattle.sgx_types.specs.declared.names.Page.{Page}
 use Rattle.job_grammar.specs.Jobs.{JobView}
-use Rattle.driver_rules.specs.declared.waits.Why.{Why}
-use Rattle.driver_rules.specs.Dues.{Due, Waits, makes_or}
+use Rattle.driver_rules.specs.Dues.{Due}
 use Rattle.driver_rules.specs.Needs.{listed}
 use Rattle.driver_rules.specs.Places.{Absent, Away, Here, Leaving, Loading, Place, frame_here, is_here, place}
 use Rattle.driver_rules.specs.Turns.{first_away, save_frame, with_pages}

@@ -1,5 +1,7 @@
 -- The holds behind an entry are those of the entries with it, and each can be held.
-use Rattle.std.proofs.Common.{◌≡◌, ◌≢◌, ℕ, zero, suc, ◌+◌, ◌-◌, ◌/◌, ◌==◌, ◌<◌, ◌≤◌, ◌||◌, Bool, true, false, if◌then◌else◌, List, [], ◌∷◌, ◌++◌, ⊎_elim, Option, Some, None, IfSome, is_some, drop, length, slice_get, get_or, set, refl, sym, ap, subst, ◌∙◌, arith}
+use Rattle.std.proofs.Common.{◌≡◌, ◌≢◌, ℕ, zero, suc, ◌+◌, ◌-◌, ◌/◌, ◌==◌, ◌<◌, ◌≤◌, ◌||◌, Bool}
+use Rattle.std.proofs.Common.{true, false, if◌then◌else◌, List, [], ◌∷◌, ◌++◌, ⊎_elim, Option, Some, None, IfSome}
+use Rattle.std.proofs.Common.{is_some, drop, length, slice_get, set, refl, sym, ap, subst, ◌∙◌, arith}
 use Rattle.std.proofs.lemmas.Bool.{cases_lt, eq-eqb, eqb-false, eqb-true, false≢true}
 use Rattle.std.proofs.lemmas.List.{append-nil, get_or-set_same, get_or_past, length-set, set_past}
 use Rattle.std.proofs.lemmas.List.Folds.{list_any-append}
@@ -29,8 +31,10 @@ use Rattle.active_list.specs.Holds.{holds_page, joined, most_of, own_of}
 use Rattle.active_list.specs.Places.{IsPlaced}
 use Rattle.paging_laws.specs.Columns.{seat_of_stay}
 use Rattle.paging_machine.specs.Parts.{seat_of_mode}
-use Rattle.driver_rules.specs.Holds.{access_of_stay, builder_holds, front_to, holds, holds_by, is_among, page_extended, page_in, page_of_stay, up_to}
-use Rattle.driver_rules.specs.Needs.{Interruption, access_page, interruption, listed, needs, needs_by, next_op, save_to_enter, save_to_resume}
+use Rattle.driver_rules.specs.Holds.{access_of_stay, builder_holds, front_to, holds, holds_by, is_among, page_extended, page_in}
+use Rattle.driver_rules.specs.Holds.{page_of_stay, up_to}
+use Rattle.driver_rules.specs.Needs.{Interruption, access_page, interruption, listed, needs, needs_by, next_op, save_to_enter}
+use Rattle.driver_rules.specs.Needs.{save_to_resume}
 use Rattle.driver_rules.specs.Places.{frame_here, place}
 use Rattle.driver_rules.specs.Turns.{save_frame}
 use Rattle.driver_laws.specs.Sound.{IsSound, is_absent, times}
@@ -46,7 +50,9 @@ use Rattle.turn_tables.specs.declared.turns.Turns.{Turns}
 use Rattle.turn_tables.specs.Asked.{Looks, last_save_of, looks_at, next_save_of, op_at}
 use Rattle.turn_tables.specs.CpuTurns.{interruption_told, turn_at}
 use Rattle.turn_tables.specs.Due.{IsOrderly}
-use Rattle.turn_tables.specs.Holding.{CanHold, FitsAll, FitsEntry, FitsHold, FitsNext, FitsOwn, HoldsOnce, KeepsHolds, access_inside_of, held_after, held_of, holding, holding_all, loads_held, measured_next, needed_of, own_after, own_held, page_inside_of, pages_of, replies}
+use Rattle.turn_tables.specs.Holding.{CanHold, FitsAll, FitsEntry, FitsHold, FitsNext, FitsOwn, HoldsOnce, KeepsHolds, access_inside_of}
+use Rattle.turn_tables.specs.Holding.{held_after, held_of, holding, holding_all, loads_held, measured_next, needed_of, own_after, own_held}
+use Rattle.turn_tables.specs.Holding.{page_inside_of, pages_of, replies}
 use Rattle.turn_tables.specs.Shown.{ShowsCpu}
 use Rattle.turn_tables.proofs.DueLaws.{access_is, enclave_same, enter_save_is, resume_save_is}
 use Rattle.turn_tables.proofs.LineLaws.{op_valid}

@@ -1,6 +1,6 @@
 -- What driver, machine and tables show is what the entries say.
-use Rattle.std.proofs.Common.{◌≡◌, ℕ, ◌/◌, ◌%◌, ◌^◌, ◌<◌, ◌≤◌, Bool, true, false, List, ◌∷◌, Option, Some, None, is_some, length, map, nat_lt, slice_index, refl, sym, ap, subst, ◌∙◌, arith}
-use Rattle.std.specs.Option.{option_map}
+use Rattle.std.proofs.Common.{◌≡◌, ℕ, ◌/◌, ◌%◌, ◌^◌, ◌<◌, ◌≤◌, Bool, true, false, List, ◌∷◌, Option}
+use Rattle.std.proofs.Common.{length, map, slice_index, refl, sym, ap, subst, ◌∙◌, arith}
 use Rattle.std.proofs.lemmas.Bool.{false≢true, ltb-true, lt-ltb}
 use Rattle.sgx_types.specs.declared.entries.AccessOp.{AccessOp}
 use Rattle.sgx_types.specs.declared.entries.Entry.{Entry}
@@ -8,22 +8,21 @@ use Rattle.sgx_types.specs.declared.names.Frame.{Frame}
 use Rattle.sgx_types.specs.declared.names.Page.{Page}
 use Rattle.sgx_types.specs.Frames.{added, content, frame_of, least_free}
 use Rattle.sgx_types.specs.Making.{Making}
-use Rattle.sgx_types.specs.Processors.{BareTranslation, Seat, holds_number, stay, translations}
+use Rattle.sgx_types.specs.Processors.{holds_number, stay, translations}
 use Rattle.sgx_types.specs.Table.{is_lawful_access}
-use Rattle.cached_translations.specs.Translations.{translation_of}
 use Rattle.job_grammar.specs.Jobs.{JobView, lines_at, tcs_line}
 use Rattle.turn_rules.specs.Script.{is_initialised, saved}
 use Rattle.active_list.specs.Places.{IsPlaced}
 use Rattle.active_list.specs.States.{state_of as page_state}
 use Rattle.active_list.specs.declared.page_states.PageState.{PageState}
 use Rattle.active_list.specs.declared.page_states.PageState.TheVariants as states
-use Rattle.paging_laws.specs.Columns.{CpuColumns, EnclaveColumns, FrameColumns, seat_of_stay, without_perm}
+use Rattle.paging_laws.specs.Columns.{CpuColumns, EnclaveColumns, FrameColumns, seat_of_stay}
 use Rattle.paging_laws.proofs.TranslationLaws.{holds_number-map}
 use Rattle.paging_machine.specs.Parts.{Parts, cpu_at, seat_of_mode, state_of}
 use Rattle.driver_rules.specs.Places.{Absent, Away, Here, Leaving, Loading, Place, frame_here, place}
 use Rattle.driver_laws.specs.Sound.{is_absent}
 use Rattle.driver_tables.specs.declared.driver.Driver.{Driver}
-use Rattle.driver_tables.specs.Tables.{ShowsTables, place_in}
+use Rattle.driver_tables.specs.Tables.{place_in}
 use Rattle.driver_steps.specs.Agrees.{Agrees}
 use Rattle.turn_tables.specs.declared.turns.Turns.{Turns}
 use Rattle.turn_tables.specs.Asked.{CanAsk, Looks, frame_seen, here_if, looks_at, standing_seen, stands_if}

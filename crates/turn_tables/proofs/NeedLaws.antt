@@ -1,5 +1,6 @@
 -- What a processor begins to hold by an instruction that is due: pages that were added, and those that the tables name.
-use Rattle.std.proofs.Common.{◌≡◌, ℕ, ◌+◌, ◌/◌, ◌==◌, ◌||◌, ◌++◌, not, Bool, true, false, if◌then◌else◌, List, [], ◌∷◌, Option, Some, None, is_some, refl, sym, ap, subst, ◌∙◌}
+use Rattle.std.proofs.Common.{◌≡◌, ℕ, ◌+◌, ◌/◌, ◌==◌, ◌||◌, ◌++◌, not, Bool, true, false, if◌then◌else◌}
+use Rattle.std.proofs.Common.{List, [], ◌∷◌, Option, Some, None, is_some, refl, sym, ap, subst, ◌∙◌}
 use Rattle.std.proofs.lemmas.Bool.{false≢true}
 use Rattle.sgx_types.specs.declared.entries.AccessOp.{AccessOp}
 use Rattle.sgx_types.specs.declared.entries.AccessOp.TheVariants as accesses
@@ -28,12 +29,16 @@ use Rattle.job_grammar.specs.Jobs.{JobView}
 use Rattle.turn_rules.specs.Script.{action_of, enter_with, frame_at, is_interrupted, is_reply, is_reply_action, is_turned_away, resume_with}
 use Rattle.driver_rules.specs.declared.waits.Why.{Why}
 use Rattle.driver_rules.specs.declared.waits.Why.TheVariants as waits
-use Rattle.driver_rules.specs.Dues.{Due, Ends, Fetches, Finished, IsFetch, IsKickOf, IsLook, IsNext, IsTryOf, KicksAll, LooksAt, Makes, Reports, Stopped, TriesOut, Waits, makes_or}
+use Rattle.driver_rules.specs.Dues.{Due, Ends, Fetches, Finished, IsFetch, IsKickOf, IsLook, IsNext, IsTryOf, KicksAll, LooksAt, Makes}
+use Rattle.driver_rules.specs.Dues.{Reports, Stopped, TriesOut, Waits, makes_or}
 use Rattle.driver_rules.specs.Holds.{access_of_stay, front_to, holds_by, is_among, page_in, page_of_stay, up_to}
-use Rattle.driver_rules.specs.Needs.{Interruption, access_page, interruption, listed, needs, needs_after, needs_to_enter, needs_to_resume, next_op, save_to_enter, save_to_resume}
+use Rattle.driver_rules.specs.Needs.{Interruption, access_page, interruption, listed, needs, needs_after, needs_to_enter, needs_to_resume}
+use Rattle.driver_rules.specs.Needs.{next_op, save_to_enter, save_to_resume}
 use Rattle.driver_rules.specs.Places.{Absent, Away, Here, Leaving, Loading, Place, frame_here, is_here, place}
 use Rattle.driver_rules.specs.Stops.{is_spent}
-use Rattle.driver_rules.specs.Turns.{Fails, Last, Loads, Other, WasEnded, accesses_by, cpu_due, due_after, early_turn, enters, fetches, fills, first_away, inside_turn, is_built, is_kicked, is_last, last_of, op_turn, outside_turn, resumes, save_frame, stay_turn, turn_due, with_pages}
+use Rattle.driver_rules.specs.Turns.{Fails, Last, Loads, Other, WasEnded, accesses_by, cpu_due, due_after, early_turn, enters, fetches}
+use Rattle.driver_rules.specs.Turns.{fills, first_away, inside_turn, is_built, is_kicked, is_last, last_of, op_turn, outside_turn, resumes}
+use Rattle.driver_rules.specs.Turns.{save_frame, stay_turn, turn_due, with_pages}
 use Rattle.driver_laws.specs.Sound.{IsSound, is_absent}
 use Rattle.driver_laws.specs.Three.{HoldsThree}
 use Rattle.driver_laws.proofs.PlaceLaws.{here_there, stands_there}

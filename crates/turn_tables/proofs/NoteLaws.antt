@@ -1,5 +1,7 @@
 -- The tables that show some entries show one more.
-use Rattle.std.proofs.Common.{◌≡◌, ℕ, ◌+◌, ◌-◌, ◌==◌, ◌<◌, ◌≤◌, ◌&&◌, ◌||◌, Bool, true, false, if◌then◌else◌, List, ◌∷◌, Option, Some, None, is_some, length, map, drop, get_or, set, refl, sym, ap, subst, ◌∙◌, arith}
+use Rattle.std.proofs.Common.{◌≡◌, ℕ, ◌+◌, ◌-◌, ◌==◌, ◌<◌, ◌≤◌, ◌&&◌, ◌||◌, Bool, true, false}
+use Rattle.std.proofs.Common.{if◌then◌else◌, List, ◌∷◌, Option, Some, None, is_some, length, map, drop, get_or, set, refl, sym}
+use Rattle.std.proofs.Common.{ap, subst, ◌∙◌, arith}
 use Rattle.std.specs.Option.{option_map}
 use Rattle.std.proofs.lemmas.Bool.{eq-eqb, eqb-false, eqb-true}
 use Rattle.std.proofs.lemmas.List.{drop-drop, get_or-set_other, get_or-set_same, length-set}
@@ -18,7 +20,7 @@ use Rattle.sgx_types.specs.declared.refusals.Refusal.{Refusal}
 use Rattle.sgx_types.specs.declared.refusals.Refusal.TheVariants as why
 use Rattle.sgx_types.specs.Frames.{page_at, same_page}
 use Rattle.sgx_types.specs.Processors.{Seat, Stay, is_by, stay}
-use Rattle.sgx_types.specs.Starts.{Start, open_start}
+use Rattle.sgx_types.specs.Starts.{open_start}
 use Rattle.sgx_types.proofs.Pages.{same_pages}
 use Rattle.cached_translations.specs.declared.processor.Mode.{Mode}
 use Rattle.cached_translations.specs.declared.processor.Mode.TheVariants.{Inside, Outside}
@@ -27,13 +29,13 @@ use Rattle.job_grammar.specs.declared.jobs.PageLine.TheVariants as lines
 use Rattle.job_grammar.specs.Jobs.{JobView, lines_at, tcs_line}
 use Rattle.turn_rules.specs.declared.cursor.BuildCursor.{BuildCursor}
 use Rattle.turn_rules.specs.Cursor.{IsCursor, left}
-use Rattle.turn_rules.specs.Script.{build_of, built, is_initialised, is_interrupted, is_reply, is_reply_of, is_seated_at, leaves_by, replied, saved, saved_after}
+use Rattle.turn_rules.specs.Script.{build_of, built, is_initialised, is_interrupted, is_seated_at, replied, saved}
 use Rattle.paging_laws.specs.Columns.{seat_of_stay}
 use Rattle.paging_machine.specs.Parts.{seat_of_mode}
 use Rattle.driver_rules.specs.Needs.{Interruption, interrupted_by, interrupted_in, interruption, interruption_after}
-use Rattle.driver_rules.specs.Stops.{is_spent, spends}
+use Rattle.driver_rules.specs.Stops.{spends}
 use Rattle.driver_rules.specs.Turns.{Fails, Last, Loads, Other, WasEnded, fails_with, is_kicked, kicked_after, last_by, last_of, load_of}
-use Rattle.driver_laws.specs.Loads.{EndsOwn, LoadsAreTheirs, TheirRule}
+use Rattle.driver_laws.specs.Loads.{EndsOwn, LoadsAreTheirs}
 use Rattle.driver_laws.proofs.EndLaws.{their_rule}
 use Rattle.driver_laws.proofs.SoundLaws.{entry_of}
 use Rattle.turn_tables.specs.declared.cpu_turns.CpuTurn.{CpuTurn}
@@ -43,10 +45,11 @@ use Rattle.turn_tables.specs.declared.cpu_turns.Last.TheVariants as ways
 use Rattle.turn_tables.specs.declared.tcs_turns.TcsTurn.{TcsTurn}
 use Rattle.turn_tables.specs.declared.turns.Turns.{Turns}
 use Rattle.turn_tables.specs.CpuTurns.{first_turn, interruption_told, last_told, turn_at}
-use Rattle.turn_tables.specs.TcsTurns.{changed, one_less, one_more, tcs_at, tcs_by, with_less, with_more}
+use Rattle.turn_tables.specs.TcsTurns.{changed, one_less, one_more, tcs_at, tcs_by}
 use Rattle.turn_tables.specs.Entries.{CanNote, StoodSo}
-use Rattle.turn_tables.specs.Noting.{IsBuilt, IsNoted, broken_after, broken_by, broken_in, exits, failed_by, inits_after, kicked, last_after, more_if, page_inside, page_left, page_loaded, saves_after, turn_after, with_kick, with_own}
-use Rattle.turn_tables.specs.Shown.{ShowsCpu, ShowsTurns, last_actor}
+use Rattle.turn_tables.specs.Noting.{IsBuilt, IsNoted, broken_after, broken_by, broken_in, failed_by, inits_after, kicked, last_after}
+use Rattle.turn_tables.specs.Noting.{more_if, page_inside, page_left, page_loaded, saves_after, turn_after, with_kick, with_own}
+use Rattle.turn_tables.specs.Shown.{ShowsCpu, ShowsTurns}
 use Rattle.turn_tables.proofs.TableLaws.{changed_at, get_set, lengths_changed}
 
 -- ---- the builder

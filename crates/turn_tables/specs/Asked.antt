@@ -1,5 +1,6 @@
 -- What an answer goes by: what the driver, the machine and the tables show of pages and of a processor.
-use Rattle.std.specs.Prelude.{ℕ, ◌≡◌, ◌==◌, ◌<◌, ◌+◌, ◌-◌, ◌/◌, ◌%◌, ◌^◌, ◌||◌, min, not, Bool, true, false, if◌then◌else◌, List, Option, None, Some, is_some, length, map, nat_le, slice_get, slice_index_or}
+use Rattle.std.specs.Prelude.{ℕ, ◌≡◌, ◌==◌, ◌<◌, ◌+◌, ◌-◌, ◌/◌, ◌%◌, ◌^◌, ◌||◌, min, not, Bool}
+use Rattle.std.specs.Prelude.{true, false, if◌then◌else◌, Option, None, Some, is_some, length, map, nat_le, slice_get, slice_index_or}
 use Rattle.std.specs.Option.{option_map}
 use Rattle.sgx_types.specs.declared.entries.AccessOp.{AccessOp}
 use Rattle.sgx_types.specs.declared.entries.AccessOp.TheVariants as accesses
@@ -27,7 +28,6 @@ use Rattle.active_list.specs.declared.page_states.PageState.{PageState}
 use Rattle.active_list.specs.declared.page_states.PageState.TheVariants as states
 use Rattle.active_list.specs.States.{state_of as page_state}
 use Rattle.paging_machine.specs.Parts.{Parts, cpu_at, state_of}
-use Rattle.driver_rules.specs.declared.waits.Why.{Why}
 use Rattle.driver_rules.specs.declared.waits.Why.TheVariants as waits
 use Rattle.driver_tables.specs.declared.driver.Driver.{Driver}
 use Rattle.turn_tables.specs.declared.cpu_turns.CpuTurn.{CpuTurn}
@@ -38,7 +38,6 @@ use Rattle.turn_tables.specs.declared.dues.TurnDue.{TurnDue}
 use Rattle.turn_tables.specs.declared.dues.TurnDue.TheVariants.{Stopped, Finished, Waits, Ends, Makes, Reports, Needs}
 use Rattle.turn_tables.specs.declared.tcs_turns.TcsTurn.{TcsTurn}
 use Rattle.turn_tables.specs.declared.turns.Turns.{Turns}
-use Rattle.turn_tables.specs.CpuTurns.{turn_at}
 use Rattle.turn_tables.specs.TcsTurns.{has_place, tcs_at}
 
 -- ---- pages

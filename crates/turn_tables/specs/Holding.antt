@@ -1,5 +1,6 @@
 -- The holds behind an entry, by what the tables show.
-use Rattle.std.specs.Prelude.{ℕ, ◌≡◌, ◌<◌, ◌≤◌, Bool, true, false, if◌then◌else◌, List, ◌∷◌, ◌++◌, Option, None, Some, IfSome, is_some, length, slice_get}
+use Rattle.std.specs.Prelude.{ℕ, ◌≡◌, ◌<◌, ◌≤◌, Bool, true, false, if◌then◌else◌, List, ◌∷◌, ◌++◌, Option}
+use Rattle.std.specs.Prelude.{None, Some, IfSome, is_some, length, slice_get}
 use Rattle.sgx_types.specs.declared.entries.Action.{Action}
 use Rattle.sgx_types.specs.declared.entries.Action.TheVariants.{Aex, EldStart, Fill, Resume}
 use Rattle.sgx_types.specs.declared.entries.Actor.{Actor}

@@ -1,5 +1,6 @@
 -- The tables say what the entries say.
-use Rattle.std.specs.Prelude.{ℕ, ◌≡◌, ◌<◌, ◌≤◌, false, ◌∷◌, List, [], Option, None, Some, drop, length, map, slice_index_or}
+use Rattle.std.specs.Prelude.{ℕ, ◌≡◌, ◌<◌, ◌≤◌, false, ◌∷◌, List, [], Option, None, Some, drop, length, map}
+use Rattle.std.specs.Prelude.{slice_index_or}
 use Rattle.sgx_types.specs.declared.entries.Actor.{Actor}
 use Rattle.sgx_types.specs.declared.entries.Entry.{Entry}
 use Rattle.sgx_types.specs.declared.names.Page.{Page}

@@ -6,7 +6,8 @@ ghost use Rattle.sgx_types.specs.declared.names.Page.{Page};
 ghost use Rattle.turn_rules.specs.Cursor.{IsCursor};
 ghost use Rattle.turn_tables.specs.CpuTurns.{turn_at};
 ghost use Rattle.turn_tables.specs.Entries.{CanNote};
-ghost use Rattle.turn_tables.specs.Noting.{AreFew, IsAmong, IsBuilt, IsNoted, IsStepped, inits_after, page_left, saves_after, with_kick, with_own};
+ghost use Rattle.turn_tables.specs.Noting.{AreFew, IsAmong, IsBuilt, IsNoted, IsStepped, inits_after, page_left, saves_after, with_kick};
+ghost use Rattle.turn_tables.specs.Noting.{with_own};
 ghost use Rattle.turn_tables.specs.Shown.{ShowsTurns};
 ghost use Rattle.turn_tables.specs.TcsTurns.{tcs_at};
 

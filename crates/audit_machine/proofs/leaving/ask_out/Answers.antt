@@ -1,4 +1,4 @@
-use Rattle.std.proofs.Common.{refl, sym, ap, subst, ◌∙◌, ◌≡◌, length, List, ℕ}
+use Rattle.std.proofs.Common.{refl, sym, ap, ◌∙◌, ◌≡◌, length, List, ℕ}
 use Rattle.audit_machine.proofs.LeaveLaws.{none_leaves, out_alike, out_apart, out_plain, out_tag, seals_same}
 use Rattle.audit_machine.proofs.leaving.ask_out.Goals as goal
 

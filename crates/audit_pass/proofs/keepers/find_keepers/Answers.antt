@@ -1,4 +1,5 @@
-use Rattle.std.proofs.Common.{ℕ, ◌≡◌, Bool, List, [], ◌∷◌, ◌++◌, length, refl, subst, sym, ◌<◌, ◌∙◌, arith, rules}
+use Rattle.std.proofs.Common.{ℕ, ◌≡◌, Bool, List, [], ◌∷◌, ◌++◌, length, refl, subst, sym, ◌<◌, ◌∙◌, arith}
+use Rattle.std.proofs.Common.{rules}
 use Rattle.paging_machine.specs.Parts.{cpu_at}
 use Rattle.std.proofs.lemmas.List.{length-append}
 use Rattle.sgx_types.specs.declared.names.Cpu.{Cpu}

@@ -5,7 +5,8 @@ use Rattle.epoch_words.specs.Known.{Known}
 use Rattle.epoch_words.specs.Seen.{HasRoom, tracked}
 use Rattle.epoch_words.specs.Seen as words
 use Rattle.epoch_notes.specs.Notes.{NotesView, TellsEntries, after_enter, seen_of}
-use Rattle.epoch_notes.proofs.EntryLaws.{IsQuiet, counted, entered_tells, enters_by, leaves_by, left_tells, may_begin, moves_calm, no_instruction, other_action, other_tells, quiet_tells, room, tracked_tells}
+use Rattle.epoch_notes.proofs.EntryLaws.{IsQuiet, counted, entered_tells, enters_by, leaves_by, left_tells, may_begin, moves_calm}
+use Rattle.epoch_notes.proofs.EntryLaws.{no_instruction, other_action, other_tells, quiet_tells, room, tracked_tells}
 use Rattle.epoch_notes.proofs.notes.EpochNotes.note.Goals as goal
 
 pub enter-requires-clause-room : goal.enter-requires-clause-room

@@ -8,7 +8,8 @@ use Rattle.run_turns.specs.Courses.{past_of}
 use Rattle.run_turns.specs.Recording.{CanTake}
 use Rattle.run_turns.proofs.InstructLaws.{cpus_of}
 use Rattle.run_turns.proofs.LoadCourse.{can_take, course_stands}
-use Rattle.run_turns.proofs.LoadEnds.{Takes, back_keeps, end_facts, grows_one, load_ends_here, load_ends_so, opened_can, own_last, took_in, took_past}
+use Rattle.run_turns.proofs.LoadEnds.{Takes, back_keeps, end_facts, grows_one, load_ends_here, load_ends_so, opened_can, own_last, took_in}
+use Rattle.run_turns.proofs.LoadEnds.{took_past}
 use Rattle.run_turns.proofs.LoadPair.{back_done, end_last, first_stands, pair_grows, second_can, took_first}
 use Rattle.run_turns.proofs.course.Course.end_load.Goals as goal
 

@@ -1,5 +1,6 @@
 use Rattle.std.proofs.Common.{◌∙◌, sym}
-use Rattle.trace_auditor.proofs.JudgeLaws.{age_broken, among, answered_by, asked_by, broken_judged, can_ask, can_follow, judged, kick_broken, ready, script_broken, script_kept}
+use Rattle.trace_auditor.proofs.JudgeLaws.{age_broken, among, answered_by, asked_by, broken_judged, can_ask, can_follow, judged}
+use Rattle.trace_auditor.proofs.JudgeLaws.{kick_broken, ready, script_broken, script_kept}
 use Rattle.trace_auditor.proofs.auditing.Auditing.judge.Goals as goal
 
 pub keeps_script-requires : goal.keeps_script-requires

@@ -1,8 +1,5 @@
 -- The line is no readable entry's and not the last, so that no trace goes on with it.
-use Rattle.std.proofs.Common.{◌≡◌, List, ℕ, Some, None}
-use Rattle.sgx_types.specs.declared.entries.Entry.{Entry}
-use Rattle.trace_text.specs.Readable.{IsReadable}
-use Rattle.trace_text.specs.TraceText.{spelling}
+use Rattle.std.proofs.Common.{◌≡◌, ℕ}
 use Rattle.trace_reader.proofs.FollowLaws.{later_refused}
 use Rattle.trace_reader.proofs.lines.Lines.take_later.Goals as goal
 

@@ -1,5 +1,5 @@
 -- The text that was fed is a trace's, or lacks a line.
-use Rattle.trace_reader.proofs.PieceLaws.{finishes_fault, finishes_ok}
+use Rattle.trace_reader.proofs.PieceLaws.{finishes_ok}
 use Rattle.trace_reader.proofs.reader.TraceReader.finish.Goals as goal
 
 pub returns-in-None : goal.returns-in-None
