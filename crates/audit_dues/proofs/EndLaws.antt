@@ -4,6 +4,7 @@ use Rattle.std.proofs.Common.{if◌then◌else◌, List, [], ◌∷◌, Option, 
 use Rattle.std.proofs.Common.{◌∙◌, arith}
 use Rattle.std.proofs.lemmas.Bool.{eq-eqb, eqb-false, eqb-true, ne_eqb}
 use Rattle.std.proofs.lemmas.Option.{slice_get_within}
+use Rattle.std.proofs.Math.Bool.{and-false}
 use Rattle.sgx_types.specs.declared.entries.Actor.{Actor}
 use Rattle.sgx_types.specs.declared.entries.Actor.TheVariants as actors
 use Rattle.sgx_types.specs.declared.entries.Entry.{Entry}
@@ -147,15 +148,11 @@ pub not_all_done : (j : JobView) (t : Turns) (m : Parts) (n p : ℕ) → p < n �
 not_all_done j t m zero p low h = absurd (omega arith)
 not_all_done j t m (suc n) p low h = by_test (p == n) refl (λ k. not_all_done j t m n p k h)
   where
-    and_false : (b : Bool) → (b && false) ≡ false
-    and_false true = refl
-    and_false false = refl
-
     by_test : (b : Bool) → (p == n) ≡ b → (p < n → are_done_by j t m n ≡ false) → (is_done_by j t m n && are_done_by j t m n) ≡ false
     by_test true same below = ap (λ b. b && are_done_by j t m n) (ap (is_done_by j t m) (sym (eqb-true p n same)) ∙ h)
     by_test false other below =
         let apart : p ≡ n → ⊥ = eqb-false p n other in
-        ap (λ b. is_done_by j t m n && b) (below (omega (arith, apart))) ∙ and_false (is_done_by j t m n)
+        ap (λ b. is_done_by j t m n && b) (below (omega (arith, apart))) ∙ and-false (is_done_by j t m n)
 
 module _ (j : JobView) (t : Turns) (m : Parts) (cpus : ℕ) (fresh : t.is_spent ≡ false) where
   pub end_by_cpus : none_left (next_step j t) ≡ true → are_done_by j t m cpus ≡ is_ended_by j t m cpus

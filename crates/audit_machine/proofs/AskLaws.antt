@@ -3,6 +3,7 @@ use Rattle.std.specs.Prelude.{MatchOption, true, false}
 use Rattle.std.proofs.Common.{◌≡◌, ℕ, refl, sym, subst, ◌∙◌, ◌⊎◌, inl, inr, List, [], ◌∷◌, ◌++◌, Option, Some}
 use Rattle.std.proofs.Common.{None}
 use Rattle.std.proofs.lemmas.List.{append-nil}
+use Rattle.std.proofs.lemmas.Option.{none-some, same_Some}
 use Rattle.sgx_types.specs.declared.entries.Entry.{Entry}
 use Rattle.sgx_types.specs.declared.entries.Event.{Event}
 use Rattle.sgx_types.specs.declared.entries.Event.TheVariants.{Did, Refused}
@@ -27,12 +28,6 @@ use Rattle.audit_rules.specs.Same.{same_end}
 use Rattle.audit_rules.proofs.SameLaws.{ends_alike, ends_apart}
 use Rattle.audit_machine.specs.Asked.{Breaks, GoesOnWith}
 use Rattle.audit_machine.proofs.KeptLaws.{last_kept}
-
-action-inj : {x y : Action} → Some x ≡ Some y → x ≡ y
-action-inj e = cc
-
-none-some : {x : Action} → None ≡ Some x → ⊥
-none-some e = cc
 
 -- ---- the machine's entry is of the instruction that it was asked for
 
@@ -104,9 +99,9 @@ pub no_load : (cpus : ℕ) (actor : Actor) (event : Event) (action : Action) →
     → is_load_refused event ≡ false
 no_load cpus actor (Did one answer) action own can = refl
 no_load cpus actor (Refused (Eld f) refusal) action own can =
-    let same : Eld f ≡ action = action-inj own in absurd (subst (CanApply cpus actor) (sym same) can)
+    let same : Eld f ≡ action = same_Some _ _ own in absurd (subst (CanApply cpus actor) (sym same) can)
 no_load cpus actor (Refused one refusal) action own can = refl
-no_load cpus actor event action own can = absurd (none-some own)
+no_load cpus actor event action own can = absurd (none-some _ own)
 
 -- ---- an instruction but the ends of starts
 

@@ -2,8 +2,9 @@
 use Rattle.std.specs.Prelude.{MatchOption, not, bytes_eq, ◌&&◌}
 use Rattle.std.proofs.Common.{◌≡◌, ℕ, ◌==◌, Bool, true, false, if◌then◌else◌, refl, sym, ap, subst, ◌∙◌, ◌⊎◌}
 use Rattle.std.proofs.Common.{inl, inr, List, [], ◌∷◌, Option, Some, None}
-use Rattle.std.proofs.lemmas.Bool.{eqb-true, eq-eqb, and_from}
+use Rattle.std.proofs.lemmas.Bool.{eqb-true, eq-eqb, and_from, false≢true}
 use Rattle.std.proofs.lemmas.Slice.Eq.{bytes_eq-Decides}
+use Rattle.std.proofs.lemmas.Option.{none-some, same_Some}
 use Rattle.sgx_types.specs.declared.entries.Entry.{Entry}
 use Rattle.sgx_types.specs.declared.entries.Event.{Event}
 use Rattle.sgx_types.specs.declared.entries.Event.TheVariants.{Did, Refused}
@@ -52,38 +53,20 @@ use Rattle.audit_machine.proofs.AskLaws.{IsMadeOf, Tells, alike, made_of_it}
 use Rattle.audit_machine.proofs.KeptLaws.{last_kept}
 use Rattle.audit_machine.proofs.OtherRefusal.{other_refusal}
 
-action-inj : {x y : Action} → Some x ≡ Some y → x ≡ y
-action-inj e = cc
-
-none-some : {x : Action} → None ≡ Some x → ⊥
-none-some e = cc
-
-some-start : {x y : Start} → Some x ≡ Some y → x ≡ y
-some-start e = cc
-
-some-page : {x y : Page} → Some x ≡ Some y → x ≡ y
-some-page e = cc
-
-some-header : {x y : Header} → Some x ≡ Some y → x ≡ y
-some-header e = cc
-
-clash : {b : Bool} → b ≡ false → b ≡ true → ⊥
-clash is_not is = let e = sym is_not ∙ is in absurd (let f : false ≡ true = e in cc)
-
 -- ---- a frame that waits for no page
 
 no-end : (j : JobView) (past : List Entry) (actor : Actor) (event : Event) (f : Frame) → action_of event ≡ Some (Eld f)
     → ((page : Page) → EndsIn past f.0 page → ⊥) → RefusalRule (machine_of j) past (record { actor = actor; event = event }) → ⊥
 no-end j past actor (Did action answer) f own none h =
     let back : IsBack past f.0 answer = (subst (λ a. RefusalRule (machine_of j) past (record { actor = actor; event = Did a answer }))
-    (action-inj own) h).1 in
+    (same_Some _ _ own) h).1 in
     none back.page back.ends
 no-end j past actor (Refused action refusal) f own none h =
     let back : IsNotBack past f.0 refusal = subst (λ a. RefusalRule (machine_of j) past
     (record { actor = actor; event = Refused a refusal }))
-    (action-inj own) h in
+    (same_Some _ _ own) h in
     none back.page back.ends
-no-end j past actor event f own none h = absurd (none-some own)
+no-end j past actor event f own none h = absurd (none-some _ own)
 
 pub none_comes : (s : State) (e : Entry) (f : Frame) → action_of e.event ≡ Some (Eld f) → is_loading (s.content f.0) ≡ false
     → Breaks s e rules.Refusal
@@ -94,7 +77,7 @@ none_comes s e f own idle j past records h script = refusal_fails j past e scrip
         let loading = (starts_apart (machine_of j) past (keeps_moves (machine_of j) s past records h)).loading f.0 ends.start page
         ends.opened
         ends.loads in
-        clash idle (ap is_loading (content_is h.shaped.shape.columns f.0 ∙ loading))
+        false≢true (sym idle ∙ ap is_loading (content_is h.shaped.shape.columns f.0 ∙ loading))
 
 -- ---- headers
 
@@ -117,7 +100,7 @@ number-apart n e = by_test (tested (n == 0))
   where
     by_test : ((n == 0) ≡ true) ⊎ ((n == 0) ≡ false) → ⊥
     by_test (inl is) = let f : 1 ≡ n = rw is at e in let g : 1 ≡ 0 = f ∙ eqb-true n 0 is in absurd cc
-    by_test (inr differs) = let f : 0 ≡ n = rw differs at e in clash differs (eq-eqb n 0 (sym f))
+    by_test (inr differs) = let f : 0 ≡ n = rw differs at e in false≢true (sym differs ∙ eq-eqb n 0 (sym f))
 
 -- ---- the page that a frame waits for, and its own record
 
@@ -131,16 +114,16 @@ module _ (k : Making) (s : State) (past : List Entry) (records : List Made) (f :
   pub brings_in : BringsIn k.key past s f.0 rec
   brings_in start g opened loads =
       let same : without_place own.start ≡ start = own-start start opened in
-      let page : own.page ≡ g = some-page (sym own.loads ∙ ap (λ (x : BareStart). x.loads) same ∙ loads) in
+      let page : own.page ≡ g = same_Some _ _ (sym own.loads ∙ ap (λ (x : BareStart). x.loads) same ∙ loads) in
       subst (λ (x : BareStart). BringsBack k.key past f.0 g x.version rec) same
       (subst (λ p. BringsBack k.key past f.0 p own.start.version rec) page own.brings)
 
   own-page : (coming : IsComing s f.0) → own.page ≡ coming.page
-  own-page coming = some-page (sym own.loads ∙ ap (λ (x : BareStart). x.loads) (own-start coming.start coming.opened) ∙ coming.loads)
+  own-page coming = same_Some _ _ (sym own.loads ∙ ap (λ (x : BareStart). x.loads) (own-start coming.start coming.opened) ∙ coming.loads)
 
   own-header : (coming : IsComing s f.0) → rec.header ≡ coming.header
   own-header coming =
-      some-header (sym own.header ∙ ap (header_at past) (own-page coming) ∙ coming_header s past f.0 h.standing.stands coming)
+      same_Some _ _ (sym own.header ∙ ap (header_at past) (own-page coming) ∙ coming_header s past f.0 h.standing.stands coming)
 
   own-tag : (coming : IsComing s f.0) → rec.tag ≡ tag s.key coming.start.version rec.header rec.cipher
   own-tag coming =
@@ -216,12 +199,12 @@ does-not-fit : (past : List Entry) (g : Page) (own : Header) (reason : Refusal) 
     → DoesNotFit past g reason
 does-not-fit past g own (why.MacFail given computed) headed unfit = λ same.
     let is : bytes_eq given computed ≡ true = (bytes_eq-Decides given computed).1 same in
-    clash (ap not is) unfit
+    false≢true (sym (ap not is) ∙ unfit)
 does-not-fit past g own (why.BadHeader enclave address flags) headed unfit = λ told.
-    let same : own ≡ record { enclave = enclave; address = address; flags = flags } = some-header (sym headed ∙ told) in
+    let same : own ≡ record { enclave = enclave; address = address; flags = flags } = same_Some _ _ (sym headed ∙ told) in
     let is : same_header own (record { enclave = enclave; address = address; flags = flags }) ≡ true =
     subst (λ x. same_header own x ≡ true) same (header-own own) in
-    clash (ap not is) unfit
+    false≢true (sym (ap not is) ∙ unfit)
 does-not-fit past g own reason headed unfit = absurd cc
 
 fits : (past : List Entry) (g : Page) (own : Header) (reason : Refusal) → header_at past g ≡ Some own → is_unfit own reason ≡ false
@@ -237,8 +220,8 @@ pub reason_fits : (s : State) (actor : Actor) (f : Frame) (rec : Sealed) (reason
     → FailsHere j past (Some (refused_by actor (Eld f) reason)) rules.Refusal
 reason_fits s actor f rec reason fit j past records h own script =
     refusal_fails j past (refused_by actor (Eld f) reason) script (λ (back : IsNotBack past f.0 reason).
-    let start : own.start ≡ back.ends.start = some-start (sym own.opened ∙ back.ends.opened) in
-    let page : back.page ≡ own.page = some-page (sym back.ends.loads ∙ ap (λ (x : Start). x.loads) (sym start) ∙ own.loads) in
+    let start : own.start ≡ back.ends.start = same_Some _ _ (sym own.opened ∙ back.ends.opened) in
+    let page : back.page ≡ own.page = same_Some _ _ (sym back.ends.loads ∙ ap (λ (x : Start). x.loads) (sym start) ∙ own.loads) in
     fits past back.page rec.header reason (ap (header_at past) page ∙ own.header) fit back.unfit)
 
 module _ (s t : State) (actor : Actor) (f : Frame) (rec other : Sealed) (reason : Refusal) (made : Entry)
@@ -273,6 +256,6 @@ module _ (s t : State) (actor : Actor) (f : Frame) (rec other : Sealed) (reason 
 pub refused_entry : (e : Entry) (f : Frame) (action : Action) (reason : Refusal) → e.event ≡ Refused action reason
     → action_of e.event ≡ Some (Eld f) → refused_by e.actor (Eld f) reason ≡ e
 refused_entry e f action reason is own =
-    let act : action ≡ Eld f = action-inj (sym (ap action_of is) ∙ own) in
+    let act : action ≡ Eld f = same_Some _ _ (sym (ap action_of is) ∙ own) in
     let event : e.event ≡ Refused (Eld f) reason = is ∙ (λ k. Refused (act k) reason) in
     λ i. record { actor = e.actor; event = sym event i }

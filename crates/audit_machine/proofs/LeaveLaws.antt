@@ -2,6 +2,8 @@
 use Rattle.std.specs.Prelude.{true, false}
 use Rattle.std.proofs.Common.{◌≡◌, ℕ, ◌==◌, Bool, if◌then◌else◌, refl, sym, ap, subst, ◌∙◌, ◌⊎◌, inl, inr}
 use Rattle.std.proofs.Common.{List, [], ◌∷◌, ◌++◌, Option, Some, None, length}
+use Rattle.std.proofs.lemmas.Option.{none-some, same_Some}
+use Rattle.std.proofs.lemmas.Bool.{false≢true}
 use Rattle.sgx_types.specs.declared.entries.Entry.{Entry}
 use Rattle.sgx_types.specs.declared.entries.Event.{Event}
 use Rattle.sgx_types.specs.declared.entries.Event.TheVariants.{Did, Refused}
@@ -45,9 +47,6 @@ use Rattle.audit_machine.proofs.AskLaws.{IsMadeOf, Tells, alike, broken, made_of
 abbrev Writes : Option Start → Type 0
 Writes o = (start : Start) × ((o ≡ Some start) × (start.loads ≡ None))
 
-none-start : {x : Start} → None ≡ Some x → ⊥
-none-start e = cc
-
 loads-none : {x start : Start} (page : Page) → x.loads ≡ Some page → Some x ≡ Some start → start.loads ≡ None → ⊥
 loads-none page loads same none = let e = sym loads ∙ ap (λ (o : Option Start). loads_in o) same ∙ none in cc
   where
@@ -66,7 +65,7 @@ writes-after actor place (Did (EwbStart f slot) answer) n o b before w = by_test
 writes-after actor place (Did (Ewb f) answer) n o b before w = by_test (tested (f.0 == n))
   where
     by_test : ((f.0 == n) ≡ true) ⊎ ((f.0 == n) ≡ false) → (if f.0 == n then false else b) ≡ true
-    by_test (inl is) = let v : Writes None = rw is at w in absurd (none-start v.1.0)
+    by_test (inl is) = let v : Writes None = rw is at w in absurd (none-some _ v.1.0)
     by_test (inr differs) = rw differs (before (rw differs at w))
 writes-after actor place (Did (EldStart f page slot) answer) n o b before w = by_test (tested (f.0 == n))
   where
@@ -79,39 +78,30 @@ writes-after actor place (Did (EldStart f page slot) answer) n o b before w = by
 writes-after actor place (Did (Eld f) answer) n o b before w = by_test (tested (f.0 == n))
   where
     by_test : ((f.0 == n) ≡ true) ⊎ ((f.0 == n) ≡ false) → b ≡ true
-    by_test (inl is) = let v : Writes None = rw is at w in absurd (none-start v.1.0)
+    by_test (inl is) = let v : Writes None = rw is at w in absurd (none-some _ v.1.0)
     by_test (inr differs) = before (rw differs at w)
 writes-after actor place (Refused (Eld f) refusal) n o b before w = by_test (tested (f.0 == n))
   where
     by_test : ((f.0 == n) ≡ true) ⊎ ((f.0 == n) ≡ false) → b ≡ true
-    by_test (inl is) = let v : Writes None = rw is at w in absurd (none-start v.1.0)
+    by_test (inl is) = let v : Writes None = rw is at w in absurd (none-some _ v.1.0)
     by_test (inr differs) = before (rw differs at w)
 writes-after actor place event n o b before w = before w
 
 is-leaving : (past : List Entry) (n : ℕ) → Writes (open_start past n) → is_sealing past n ≡ true
-is-leaving [] n w = absurd (none-start w.1.0)
+is-leaving [] n w = absurd (none-some _ w.1.0)
 is-leaving (e ∷ past) n w = writes-after e.actor (length past) e.event n (open_start past n) (is_sealing past n) (is-leaving past n) w
 
 -- ---- so where none is on its way out there is nothing to end
-
-action-inj : {x y : Action} → Some x ≡ Some y → x ≡ y
-action-inj e = cc
-
-none-some : {x : Action} → None ≡ Some x → ⊥
-none-some e = cc
-
-clash : {b : Bool} → b ≡ false → b ≡ true → ⊥
-clash is_not is = let e = sym is_not ∙ is in absurd (let f : false ≡ true = e in cc)
 
 no-end : (j : JobView) (past : List Entry) (actor : Actor) (event : Event) (f : Frame) → action_of event ≡ Some (Ewb f)
     → is_sealing past f.0 ≡ false → RefusalRule (machine_of j) past (record { actor = actor; event = event }) → ⊥
 no-end j past actor (Did action answer) f own still h =
     let ends : EndsOut past f.0 answer = (subst (λ a. RefusalRule (machine_of j) past (record { actor = actor; event = Did a answer }))
-    (action-inj own) h).1 in
-    clash still (is-leaving past f.0 (ends.start, (ends.opened, ends.writes)))
+    (same_Some _ _ own) h).1 in
+    false≢true (sym still ∙ is-leaving past f.0 (ends.start, (ends.opened, ends.writes)))
 no-end j past actor (Refused action refusal) f own still h =
-    subst (λ a. RefusalRule (machine_of j) past (record { actor = actor; event = Refused a refusal })) (action-inj own) h
-no-end j past actor event f own still h = absurd (none-some own)
+    subst (λ a. RefusalRule (machine_of j) past (record { actor = actor; event = Refused a refusal })) (same_Some _ _ own) h
+no-end j past actor event f own still h = absurd (none-some _ own)
 
 pub none_leaves : (s : State) (e : Entry) (f : Frame) → action_of e.event ≡ Some (Ewb f) → s.is_sealing f.0 ≡ false
     → Breaks s e rules.Refusal
@@ -125,9 +115,9 @@ bare-start e = cc
 
 no-load : (event : Event) (f : Frame) → action_of event ≡ Some (Ewb f) → is_load_refused event ≡ false
 no-load (Did action answer) f own = refl
-no-load (Refused (Eld g) refusal) f own = let same : Eld g ≡ Ewb f = action-inj own in absurd cc
+no-load (Refused (Eld g) refusal) f own = let same : Eld g ≡ Ewb f = same_Some _ _ own in absurd cc
 no-load (Refused action refusal) f own = refl
-no-load event f own = absurd (none-some own)
+no-load event f own = absurd (none-some _ own)
 
 -- what was sealed, by what was to be sealed
 pub seals_same : (s : State) (f : ℕ) (k key : List ℕ) (v version : ℕ) (header : Header) (p plain : List ℕ) → SealsPage s f k v header p

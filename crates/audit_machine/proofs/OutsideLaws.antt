@@ -1,6 +1,7 @@
 -- An instruction of processors that the reclaimer made breaks the rule that is told, and none before it.
 use Rattle.std.proofs.Common.{◌≡◌, ℕ, Bool, true, false, refl, sym, ap, subst, ◌∙◌, ◌⊎◌, List, Option, Some, None}
 use Rattle.std.proofs.lemmas.Bool.{false≢true}
+use Rattle.std.proofs.lemmas.Option.{none-some, same_Some}
 use Rattle.sgx_types.specs.declared.entries.Entry.{Entry}
 use Rattle.sgx_types.specs.declared.entries.Event.{Event}
 use Rattle.sgx_types.specs.declared.entries.Event.TheVariants.{Did, Refused}
@@ -48,18 +49,6 @@ abbrev first : JobView → List Entry → Action → Option Refusal
 first j past action = first_of_row (row_at (machine_of j) past actors.Reclaimer action)
 
 -- ---- processors' instructions
-
-clash : {x : Refusal} (o : Option Refusal) → o ≡ None → o ≡ Some x → ⊥
-clash o none some = let e = sym none ∙ some in cc
-
-some-inj : {x y : Refusal} → Some x ≡ Some y → x ≡ y
-some-inj e = cc
-
-action-inj : {x y : Action} → Some x ≡ Some y → x ≡ y
-action-inj e = cc
-
-none-some : {x : Action} → None ≡ Some x → ⊥
-none-some e = cc
 
 -- the answer of each has a form that a test tells
 not_apart : (action : Action) → is_of_cpus action ≡ true → is_apart action ≡ false
@@ -143,12 +132,12 @@ module _ (j : JobView) (past : List Entry) (action : Action) (own : is_of_cpus a
       subst (λ b. FailsHere j past (Some (refused action r)) (outside.rule_of_refused b)) (sym is)
       (refusal_fails j past (refused action r) script (λ h.
       ends_apart (Refused action r) (Refused action found) action refl is
-      (ap (Refused action) (some-inj (sym (refusal_is j past action r own h) ∙ at)))))
+      (ap (Refused action) (same_Some _ _ (sym (refusal_is j past action r own h) ∙ at)))))
 
   by_first : (event : Event) (o : Option Refusal) → action_of event ≡ Some action
       → ScriptRule j past (record { actor = actors.Reclaimer; event = event }) → KeepsRules (machine_of j) past → first j past action ≡ o
       → FailsHere j past (Some (record { actor = actors.Reclaimer; event = event })) (rule_outside o event)
-  by_first (Did one answer) None same script keeps at = with_same one (sym (action-inj same)) script
+  by_first (Did one answer) None same script keeps at = with_same one (sym (same_Some _ _ same)) script
     where
       with_same : (one : Action) → action ≡ one → ScriptRule j past (done one answer)
           → FailsHere j past (Some (done one answer)) (rule_outside None (Did one answer))
@@ -156,18 +145,18 @@ module _ (j : JobView) (past : List Entry) (action : Action) (own : is_of_cpus a
           (done_form answer (has_form action answer) refl (subst (λ x. ScriptRule j past (done x answer)) (sym eq) script) at)
   by_first (Did one answer) (Some found) same script keeps at =
       refusal_fails j past (done one answer) script (λ h.
-      clash (first j past action) (ap (first j past) (sym (action-inj same)) ∙ h.0) at)
+      clash (first j past action) (ap (first j past) (sym (same_Some _ _ same)) ∙ h.0) at)
   by_first (Refused one r) None same script keeps at =
       refusal_fails j past (refused one r) script (λ h.
       clash (first j past action) at (refusal_is j past action r own
-      (subst (λ x. RefusalRule (machine_of j) past (refused x r)) (action-inj same) h)))
-  by_first (Refused one r) (Some found) same script keeps at = with_same one (sym (action-inj same)) script
+      (subst (λ x. RefusalRule (machine_of j) past (refused x r)) (same_Some _ _ same) h)))
+  by_first (Refused one r) (Some found) same script keeps at = with_same one (sym (same_Some _ _ same)) script
     where
       with_same : (one : Action) → action ≡ one → ScriptRule j past (refused one r)
           → FailsHere j past (Some (refused one r)) (rule_outside (Some found) (Refused one r))
       with_same one eq script = subst (λ x. FailsHere j past (Some (refused x r)) (rule_outside (Some found) (Refused x r))) eq
           (refused_so r found (same_refusal r found) refl (subst (λ x. ScriptRule j past (refused x r)) (sym eq) script) keeps at)
-  by_first event o same script keeps at = absurd (none-some same)
+  by_first event o same script keeps at = absurd (none-some _ same)
 
 pub outside_breaks : (s : State) (e : Entry) (action : Action) → action_of e.event ≡ Some action → is_of_cpus action ≡ true
     → e.actor ≡ actors.Reclaimer → Breaks s e (rule_outside (first_of_row (row_outside s action)) e.event)

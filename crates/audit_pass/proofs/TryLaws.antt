@@ -3,6 +3,7 @@ use Rattle.std.proofs.Common.{◌≡◌, ℕ, zero, suc, ◌+◌, ◌-◌, ◌�
 use Rattle.std.proofs.Common.{if◌then◌else◌, refl, sym, ◌∙◌, ap, subst}
 use Rattle.std.proofs.Common.{List, [], ◌∷◌, ◌++◌, Option, Some, None, drop, length, nat_le, nat_lt, arith}
 use Rattle.std.proofs.lemmas.List.{get_or_past}
+use Rattle.std.proofs.Math.Bool.{and-true}
 use Rattle.paging_laws.proofs.ColumnLaws.{inside_is, noted_is}
 use Rattle.sgx_types.specs.ByEpochs.{IsTrackedBlock, notes}
 use Rattle.sgx_types.specs.declared.entries.Actor.{Actor}
@@ -126,10 +127,6 @@ keepers_are m past g e h s t few told =
 
 -- ---- within the tries
 
-and_true : (b : Bool) → b ≡ (b && true)
-and_true true = refl
-and_true false = refl
-
 kick_told_by : (ps : List ℕ) (event : Event) → kick_is (first_of ps) event ≡ is_kick_of ps event
 kick_told_by [] event = refl
 kick_told_by (p ∷ ps) (Kick cpu) = refl
@@ -172,7 +169,7 @@ module _ (m : Parts) (past : List Entry) (kicks : List ℕ) (t : Taken) where
 
   actor_told : (rest : List Page) (form : Form) (actor : Actor) (event : Event) → Keeps form → by_actor m kicks form actor event t
       ≡ (form_of past (Tries t.page rest (form_in kicks form)) actor event && beside_of (Tries t.page rest (form_in kicks form)) actor)
-  actor_told rest form actors.Reclaimer event k = form_told form event k ∙ and_true (is_in_form past t.page (form_in kicks form) event)
+  actor_told rest form actors.Reclaimer event k = form_told form event k ∙ sym (and-true (is_in_form past t.page (form_in kicks form) event))
   actor_told rest form actors.Builder event k = beside_told form
   actor_told rest form (actors.Cpu p) event k = beside_told form
 

@@ -3,6 +3,7 @@ use Rattle.std.proofs.Common.{◌≡◌, ℕ, Bool, true, false, cond, refl, sym
 use Rattle.std.proofs.Common.{Option, Some, None}
 use Rattle.std.specs.List.{Any}
 use Rattle.std.proofs.lemmas.List.Quantifiers.{Any-push}
+use Rattle.std.proofs.lemmas.Option.{same_Some}
 use Rattle.sgx_types.specs.declared.entries.Action.{Action}
 use Rattle.sgx_types.specs.declared.entries.Action.TheVariants.{Add, Ewb, Eld}
 use Rattle.sgx_types.specs.declared.entries.Answer.{Answer}
@@ -32,6 +33,7 @@ use Rattle.turn_rules.specs.Machines.{machine_of}
 use Rattle.turn_rules.specs.Script.{action_of}
 use Rattle.paging_laws.specs.Histories.{StandsWithAllRules}
 use Rattle.paging_laws.specs.State.{State}
+use Rattle.paging_laws.proofs.OutsideLaws.{not_framed}
 use Rattle.run_history.specs.Histories.{GoesOn}
 use Rattle.audit_machine.specs.Asked.{GoesOnWith, HasLeft, IsDoneBack}
 use Rattle.audit_records.specs.Kept.{HasRecord, KeepsRecords, Records, is_done_ewb, is_ewb, with_record, without_record}
@@ -65,11 +67,6 @@ pub none_out : (key : List ℕ) (kept : Records) → KeepsRecords key [] kept
 none_out key kept g slot v there = cc
 
 -- ---- an entry that puts no page out
-
-not_framed : (b : Bool) (n : ℕ) (o : Option Copy) (slot : SlotAt) (v : ℕ) → cond b (Some (InFrame n)) o ≡ Some (InSlot slot v)
-    → o ≡ Some (InSlot slot v)
-not_framed true n o slot v there = cc
-not_framed false n o slot v there = there
 
 event_stays : (opened : ℕ → Option Start) (g : Page) (o : Option Copy) (slot : SlotAt) (v : ℕ) (event : Event) → is_done_ewb event ≡ false
     → copy_after event opened g o ≡ Some (InSlot slot v) → o ≡ Some (InSlot slot v)
@@ -147,12 +144,6 @@ record_left j s t past e f work action page version tag kept left told h keeps =
 
 -- ---- a page that comes back
 
-some-start : {x y : Start} → Some x ≡ Some y → x ≡ y
-some-start e = cc
-
-some-page : {x y : Page} → Some x ≡ Some y → x ≡ y
-some-page e = cc
-
 -- its copy is in the frame, and those of the others stay
 module _ (key : List ℕ) (past : List Entry) (actor : Actor) (f : Frame) (page : Page) (version : ℕ) (tag : List ℕ) (kept : Records)
     (keeps : KeepsRecords key past kept) where
@@ -175,8 +166,8 @@ record_back j past e f start page kept goes done opened loads keeps = by_event e
     by_back : (answer : Answer) → IsBack past f.0 answer
         → KeepsRecords j.key (record { actor = e.actor; event = Did (Eld f) answer } ∷ past) (without_record kept page)
     by_back answer back =
-        let same : back.ends.start ≡ start = some-start (sym back.ends.opened ∙ opened) in
-        let its : back.page ≡ page = some-page (sym back.ends.loads ∙ ap (λ (x : Start). x.loads) same ∙ loads) in
+        let same : back.ends.start ≡ start = same_Some _ _ (sym back.ends.opened ∙ opened) in
+        let its : back.page ≡ page = same_Some _ _ (sym back.ends.loads ∙ ap (λ (x : Start). x.loads) same ∙ loads) in
         rw (back.told, its) (record_dropped j.key past e.actor f page back.version back.tag kept keeps)
 
     by_event : (event : Event) → IsDoneBack event f → RefusalRule (machine_of j) past (record { actor = e.actor; event = event })

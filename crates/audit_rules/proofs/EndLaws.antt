@@ -1,7 +1,8 @@
 -- Two ends of one write-out, and two of one load: which rule the one breaks that is not the machine's.
 use Rattle.std.specs.Prelude.{◌==◌, if◌then◌else◌}
 use Rattle.std.proofs.Common.{◌≡◌, ℕ, Bool, true, false, refl, sym, ap, subst, ◌∙◌, ◌⊎◌, inl, inr, List, Option, Some}
-use Rattle.std.proofs.lemmas.Bool.{eqb-true, eq-eqb}
+use Rattle.std.proofs.lemmas.Bool.{eqb-true, eq-eqb, false≢true}
+use Rattle.std.proofs.lemmas.Option.{same_Some}
 use Rattle.sgx_types.specs.declared.entries.Entry.{Entry}
 use Rattle.sgx_types.specs.declared.entries.Event.TheVariants.{Did}
 use Rattle.sgx_types.specs.declared.entries.Actor.{Actor}
@@ -29,19 +30,10 @@ use Rattle.run_history.specs.Histories.{FailsHere}
 use Rattle.audit_rules.specs.Rivals.{KeepsMachines, rule_back, rule_out}
 use Rattle.audit_rules.proofs.OrderLaws.{evict_fails, fresh_fails, refusal_fails, sealed_fails}
 
-clash : {b : Bool} → b ≡ false → b ≡ true → ⊥
-clash is_not is = let e = sym is_not ∙ is in absurd (let f : false ≡ true = e in cc)
-
 -- ---- what a place has one of
 
 holds-page : {g h : Page} {k l : Kind} {p q : Perm} → Holds g k p ≡ Holds h l q → g ≡ h
 holds-page e = cc
-
-some-start : {x y : Start} → Some x ≡ Some y → x ≡ y
-some-start e = cc
-
-some-page : {x y : Page} → Some x ≡ Some y → x ≡ y
-some-page e = cc
 
 some-out : {x y : Out} → Some x ≡ Some y → x ≡ y
 some-out e = cc
@@ -60,12 +52,12 @@ out-page past n g h v w s t one other =
 back-page : (past : List Entry) (n : ℕ) (g h : Page) (v w : ℕ) (s t : List ℕ) → IsBack past n (answers.Moved g v s)
     → IsBack past n (answers.Moved h w t) → g ≡ h
 back-page past n g h v w s t one other =
-    moved-page one.told ∙ some-page (sym one.ends.loads ∙ ap (λ (x : Start). x.loads) (some-start (sym one.ends.opened ∙ other.ends.opened))
+    moved-page one.told ∙ same_Some _ _ (sym one.ends.loads ∙ ap (λ (x : Start). x.loads) (same_Some _ _ (sym one.ends.opened ∙ other.ends.opened))
     ∙ other.ends.loads) ∙ sym (moved-page other.told)
 
 write-out-version : (o : Option Start) (v w : ℕ) → EndsWriteOut o v → EndsWriteOut o w → v ≡ w
 write-out-version o v w one other =
-    sym one.told ∙ ap (λ (x : Start). x.version) (some-start (sym one.opened ∙ other.opened)) ∙ other.told
+    sym one.told ∙ ap (λ (x : Start). x.version) (same_Some _ _ (sym one.opened ∙ other.opened)) ∙ other.told
 
 module _ (j : JobView) (past : List Entry) (actor : Actor) (f : Frame) where
   abbrev out : Answer → Entry
@@ -136,7 +128,7 @@ module _ (j : JobView) (past : List Entry) (actor : Actor) (f : Frame) where
             → FailsHere j past (Some (out (answers.Moved g version tag))) (if version == v then rules.Sealed else rules.Evict)
         by_test (inl same) = rw same (at-version version tag (eqb-true version v same) script other)
         by_test (inr differs) =
-            rw differs (of-version version tag script (λ e. clash differs (eq-eqb version v e)))
+            rw differs (of-version version tag script (λ e. false≢true (sym differs ∙ eq-eqb version v e)))
 
     moved-out : (page : Page) (version : ℕ) (tag : List ℕ) → ScriptRule j past (out (answers.Moved page version tag))
         → (answers.Moved page version tag ≡ answers.Moved g v t → ⊥)
@@ -152,7 +144,7 @@ module _ (j : JobView) (past : List Entry) (actor : Actor) (f : Frame) where
             (rule_out (answers.Moved page version tag) (answers.Moved g v t))
         by_test (inl same) = subst Says_of (sym (same_pages page g same)) (at-page version tag) script other
         by_test (inr differs) =
-            rw differs (of-page page version tag script (λ e. clash differs (subst (λ x. same_page page x ≡ true) e (same_page-refl page))))
+            rw differs (of-page page version tag script (λ e. false≢true (sym differs ∙ subst (λ x. same_page page x ≡ true) e (same_page-refl page))))
 
     -- an end that names nothing
     bare-out : (answer : Answer) → ScriptRule j past (out answer) → (EndsOut past f.0 answer → ⊥)

@@ -2,6 +2,7 @@
 -- none before it.
 use Rattle.std.proofs.Common.{◌≡◌, ℕ, Bool, true, false, refl, sym, ap, subst, ◌∙◌, ◌⊎◌, inl, inr, List, Option, Some}
 use Rattle.std.proofs.Common.{None}
+use Rattle.std.proofs.lemmas.Option.{none-some, same_Some}
 use Rattle.sgx_types.specs.declared.entries.Entry.{Entry}
 use Rattle.sgx_types.specs.declared.entries.Event.{Event}
 use Rattle.sgx_types.specs.declared.entries.Event.TheVariants.{Did, Refused}
@@ -32,25 +33,13 @@ use Rattle.audit_rules.proofs.EndLaws.{other_back, other_out}
 use Rattle.audit_rules.proofs.FormLaws.{has_its_form, is_of_its_form}
 use Rattle.audit_rules.proofs.OrderLaws.{flat_fails, fresh_fails, measure_fails, refusal_fails}
 
-clash : {x : Refusal} (o : Option Refusal) → o ≡ None → o ≡ Some x → ⊥
-clash o none some = let e = sym none ∙ some in cc
-
-some-inj : {x y : Refusal} → Some x ≡ Some y → x ≡ y
-some-inj e = cc
-
-action-inj : {x y : Action} → Some x ≡ Some y → x ≡ y
-action-inj e = cc
-
-none-some : {x : Action} → None ≡ Some x → ⊥
-none-some e = cc
-
 not-both : (expect : Option (List ℕ)) (digest : List ℕ) → IsExpected expect digest → IsOther expect digest → ⊥
 not-both None digest is other = other
 not-both (Some wanted) digest is other = other is
 
 from-case : (enclave : ℕ) (expect : Option (List ℕ)) (found x : Refusal) → Some x ≡ case_of (Init enclave expect) found → x ≡ found
 from-case enclave expect (why.BadMeasure made) x e = absurd (clash None refl (sym e))
-from-case enclave expect found x e = some-inj e
+from-case enclave expect found x e = same_Some _ _ e
 
 module _ (j : JobView) (past : List Entry) (actor : Actor) where
   abbrev done : Action → Answer → Entry
@@ -130,7 +119,7 @@ module _ (j : JobView) (past : List Entry) (actor : Actor) where
   refused-refused (Init enclave expect) refusal found ends ended script keeps other =
       init-both enclave expect refusal found script keeps other
   refused-refused action refusal found ends ended script keeps other =
-      refusal_fails j past _ script (λ h. other (some-inj (sym (refused-first action refusal ends h)
+      refusal_fails j past _ script (λ h. other (same_Some _ _ (sym (refused-first action refusal ends h)
       ∙ refused-first action found ended (keeps.each rules.Refusal refl))))
 
   -- ---- where both are done
@@ -221,26 +210,26 @@ by-events : (j : JobView) (past : List Entry) (actor : Actor) (event made : Even
     → ScriptRule j past (record { actor = actor; event = event }) → KeepsMachines j past (record { actor = actor; event = made })
     → FailsHere j past (Some (record { actor = actor; event = event })) (rule_of event made)
 by-events j past actor (Did one answer) (Did two right) action own same ends ended other script keeps =
-    let act : two ≡ one = action-inj (same ∙ sym own) in
+    let act : two ≡ one = same_Some _ _ (same ∙ sym own) in
     done-done j past actor one answer right script
     (subst (λ a. KeepsMachines j past (record { actor = actor; event = Did a right })) act keeps)
     (λ e. other (λ i. Did (sym act i) (e i)))
 by-events j past actor (Did one answer) (Refused two found) action own same ends ended other script keeps =
-    let act : two ≡ one = action-inj (same ∙ sym own) in
+    let act : two ≡ one = same_Some _ _ (same ∙ sym own) in
     done-refused j past actor one answer found (subst (λ a. is_load_refused (Refused a found) ≡ false) act ended) script
     (subst (λ a. KeepsMachines j past (record { actor = actor; event = Refused a found })) act keeps)
 by-events j past actor (Refused one refusal) (Did two right) action own same ends ended other script keeps =
-    let act : two ≡ one = action-inj (same ∙ sym own) in
+    let act : two ≡ one = same_Some _ _ (same ∙ sym own) in
     refused-done j past actor one refusal right ends script
     (subst (λ a. KeepsMachines j past (record { actor = actor; event = Did a right })) act keeps)
 by-events j past actor (Refused one refusal) (Refused two found) action own same ends ended other script keeps =
-    let act : two ≡ one = action-inj (same ∙ sym own) in
+    let act : two ≡ one = same_Some _ _ (same ∙ sym own) in
     refused-refused j past actor one refusal found ends (subst (λ a. is_load_refused (Refused a found) ≡ false) act ended) script
     (subst (λ a. KeepsMachines j past (record { actor = actor; event = Refused a found })) act keeps)
     (λ e. other (λ i. Refused (sym act i) (e i)))
-by-events j past actor (Did one answer) made action own same ends ended other script keeps = absurd (none-some same)
-by-events j past actor (Refused one refusal) made action own same ends ended other script keeps = absurd (none-some same)
-by-events j past actor event made action own same ends ended other script keeps = absurd (none-some own)
+by-events j past actor (Did one answer) made action own same ends ended other script keeps = absurd (none-some _ same)
+by-events j past actor (Refused one refusal) made action own same ends ended other script keeps = absurd (none-some _ same)
+by-events j past actor event made action own same ends ended other script keeps = absurd (none-some _ own)
 
 -- an entry breaks the rule that its event and the machine's name, and none before it
 pub first_broken : (j : JobView) (past : List Entry) (e made : Entry) → AreRivals e made → ScriptRule j past e → KeepsMachines j past made

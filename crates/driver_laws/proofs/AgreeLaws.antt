@@ -2,8 +2,10 @@
 use Rattle.std.proofs.Common.{◌≡◌, ℕ, ◌==◌, ◌&&◌, ◌||◌, not, Bool, true, false, if◌then◌else◌, refl, sym}
 use Rattle.std.proofs.Common.{◌∙◌, ap, subst, List, [], ◌∷◌, Option, Some, None, length}
 use Rattle.std.specs.List.{list_any}
-use Rattle.std.proofs.lemmas.Bool.{eqb-true, eq-eqb, false≢true}
+use Rattle.std.proofs.lemmas.Bool.{eqb-true, eq-eqb, false≢true, or_left, or_right}
 use Rattle.std.proofs.lemmas.List.Folds.{list_any-append}
+use Rattle.std.proofs.lemmas.Option.{none-some, same_Some}
+use Rattle.std.proofs.Math.Bool.{or-false}
 use Rattle.sgx_types.proofs.Pages.{same_page-refl, same_pages, same_slots}
 use Rattle.sgx_types.specs.declared.entries.Action.TheVariants.{Epa, Create, Add, EwbStart, Ewb, EldStart, Eld}
 use Rattle.sgx_types.specs.declared.entries.Actor.{Actor}
@@ -35,7 +37,6 @@ use Rattle.sgx_types.proofs.Contents.{loading_no_va, page_is_no_other}
 use Rattle.driver_laws.specs.Sound.{IsSound, load_slot, slot_at, slot_loading, slot_of, stands_in}
 use Rattle.driver_laws.proofs.PlaceLaws.{load_slot_is}
 use Rattle.driver_laws.proofs.SlotLaws.{same_slot-refl}
-use Rattle.driver_laws.proofs.ThreeEntryLaws.{or_left, or_right}
 use Rattle.driver_laws.proofs.SoundLaws.{entry_of, load_start, named}
 use Rattle.driver_laws.proofs.SlotMoves.{SameSlots, same_add, same_age, same_eldstart, same_ewb, same_refused, slot_back, slot_back_other}
 use Rattle.driver_laws.proofs.SlotMoves.{slot_started, slot_started_other}
@@ -110,12 +111,6 @@ shows_eldstart j keeper past a f page slot answer can sound s =
 
 -- ---- a page goes out
 
-none_some : (slot : SlotAt) → None ≡ Some slot → ⊥
-none_some slot h = cc
-
-some_same : (slot other : SlotAt) → Some slot ≡ Some other → slot ≡ other
-some_same slot other h = cc
-
 -- a start takes a slot of the keeper
 pub shows_ewbstart : (j : JobView) (old new : Keeper) (past : List Entry) (a : Actor) (f : Frame) (slot : SlotAt) (answer : Answer)
     (page : Page) → place past page ≡ Leaving f.0 → open_start past f.0 ≡ None → IsSound past → Takes old slot new
@@ -141,7 +136,7 @@ shows_ewbstart j old new past a f slot answer page at none sound takes s = recor
     others g = slot_started_other past a f slot answer page g sound at
 
     apart : (g : Page) (t : SlotAt) (b : Bool) → same_page page g ≡ b → slot_of past g ≡ Some t → same_page page g ≡ false
-    apart g t true is k = absurd (none_some t (sym before ∙ ap (slot_of past) (same_pages page g is) ∙ k))
+    apart g t true is k = absurd (none-some t (sym before ∙ ap (slot_of past) (same_pages page g is) ∙ k))
     apart g t false is k = is
 
     by_out : (t : SlotAt) (b : Bool) → same_slot slot t ≡ b → (b || is_out old t) ≡ true
@@ -154,7 +149,7 @@ shows_ewbstart j old new past a f slot answer page at none sound takes s = recor
     by_used : (g : Page) (t : SlotAt) (b : Bool) → same_page page g ≡ b → slot_of (entry ∷ past) g ≡ Some t
         → (same_slot slot t || is_out old t) ≡ true
     by_used g t true is k =
-        let same = some_same slot t (sym mine ∙ ap (slot_of (entry ∷ past)) (same_pages page g is) ∙ k) in
+        let same = same_Some slot t (sym mine ∙ ap (slot_of (entry ∷ past)) (same_pages page g is) ∙ k) in
         or_left (same_slot slot t) (is_out old t) (subst (λ u. same_slot slot u ≡ true) same (same_slot-refl slot))
     by_used g t false is k = or_right (same_slot slot t) (is_out old t) (s.used g t (sym (others g is) ∙ k))
 
@@ -240,7 +235,7 @@ shows_eld j old new past a f page version tag slot loading sound gives s = recor
     apart : (g : Page) (t : SlotAt) (b : Bool) → same_page page g ≡ b → same_slot slot t ≡ false → slot_of past g ≡ Some t
         → same_page page g ≡ false
     apart g t true is other k =
-        let equal = some_same slot t (sym mine ∙ ap (slot_of past) (same_pages page g is) ∙ k) in
+        let equal = same_Some slot t (sym mine ∙ ap (slot_of past) (same_pages page g is) ∙ k) in
         absurd (false≢true (sym other ∙ subst (λ u. same_slot slot u ≡ true) equal (same_slot-refl slot)))
     apart g t false is other k = is
 
@@ -262,7 +257,7 @@ shows_eld j old new past a f page version tag slot loading sound gives s = recor
     by_used : (g : Page) (t : SlotAt) (b : Bool) → same_page page g ≡ b → slot_of (entry ∷ past) g ≡ Some t
         → (not (same_slot slot t) && is_out old t) ≡ true
     by_used g t true same k =
-        absurd (none_some t (sym (slot_back past a f page version tag) ∙ ap (slot_of (entry ∷ past)) (same_pages page g same) ∙ k))
+        absurd (none-some t (sym (slot_back past a f page version tag) ∙ ap (slot_of (entry ∷ past)) (same_pages page g same) ∙ k))
     by_used g t false same k =
         let before : slot_of past g ≡ Some t = sym (others g same) ∙ k in
         rw (slots_apart g t (same_slot slot t) refl same before) (s.used g t before)
@@ -326,17 +321,13 @@ shows_epa j old new past a f answer free none adds s = record {
   empty = λ t k. s.empty t (sym (adds.out t) ∙ k);
 }
   where
-    or_false : (x : Bool) → (x || false) ≡ x
-    or_false true = refl
-    or_false false = refl
-
     or_end : (x : Bool) → (x || (true || false)) ≡ true
     or_end true = refl
     or_end false = refl
 
     by_frame : (n : ℕ) (b : Bool) → (f.0 == n) ≡ b → (is_added old n || ((f.0 == n) || false)) ≡ is_va (if b then IsVa (vas_made past) else content past n)
     by_frame n true is = rw is (or_end (is_added old n))
-    by_frame n false is = rw is (or_false (is_added old n) ∙ s.frames n)
+    by_frame n false is = rw is (or-false (is_added old n) ∙ s.frames n)
 
 -- ---- entries that move no page into or out of a slot
 

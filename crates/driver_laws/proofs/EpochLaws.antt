@@ -2,7 +2,7 @@
 use Rattle.std.proofs.Common.{◌≡◌, ℕ, ◌+◌, ◌<◌, ◌≤◌, ◌==◌, ◌&&◌, ◌||◌, not, Bool, true, false}
 use Rattle.std.proofs.Common.{if◌then◌else◌, zero, suc, refl, sym, ◌∙◌, ap, subst, List, [], ◌∷◌, ◌++◌, Option, Some}
 use Rattle.std.proofs.Common.{None, length, nat_lt, arith}
-use Rattle.std.proofs.lemmas.Bool.{eqb-true}
+use Rattle.std.proofs.lemmas.Bool.{eqb-true, not-false}
 use Rattle.sgx_types.specs.Making.{Making}
 use Rattle.sgx_types.specs.Rules.{RefusalRule}
 use Rattle.sgx_types.proofs.Keystone.{BlockedAt, FirstTrack, blocked_at, first_track, tracks_behind}
@@ -20,11 +20,12 @@ use Rattle.sgx_types.specs.Processors.{stay}
 use Rattle.sgx_types.specs.Sights.{drain_sight_at, sight_at, slot_sight_at}
 use Rattle.sgx_types.specs.Table.{DrainSight, FrameSight, SlotSight, ewbstart_row, first_of_row, is_busy, is_out_of_range, is_secs, is_va}
 use Rattle.sgx_types.proofs.Contents.{page_enclave}
+use Rattle.sgx_types.proofs.CountLaws.{count_below-zero}
 use Rattle.driver_rules.specs.Passes.{keepers, keepers_behind, keepers_from, keepers_in, keeps_from}
 use Rattle.driver_rules.specs.Places.{frame_leaving}
 use Rattle.driver_laws.specs.Sound.{IsSound}
 use Rattle.driver_laws.specs.Tracks.{IsCalm, IsTracked, IsUntracked, IsWaiting, TryTells}
-use Rattle.driver_laws.proofs.TrackLaws.{count_none, drained_waiting, first_last, last_low, waiting_holds}
+use Rattle.driver_laws.proofs.TrackLaws.{drained_waiting, first_last, last_low, waiting_holds}
 
 -- ---- the block's epoch
 
@@ -88,7 +89,7 @@ block_epoch_before first past g t s =
 
 -- the track of a page's tries is refused for no older processor
 pub none_older : (past : List Entry) (e : ℕ) → IsCalm past e → older_at past e ≡ 0
-none_older past e calm = count_none (λ p. is_in_before e (last_track past e) (stay past p)) 16 calm
+none_older past e calm = count_below-zero (λ p. is_in_before e (last_track past e) (stay past p)) 16 calm
 
 none_keeps : (past : List Entry) (e from p count : ℕ) → keepers_from past e from p count ≡ [] → (q : ℕ) → p ≤ q → q < p + count
     → keeps_from past e from q ≡ false
@@ -115,7 +116,7 @@ drained_then past g t s none =
     ap (λ p. keepers_in past g.enclave (frame_leaving p)) t.waiting.leaving ∙ ap (keepers_behind past g.enclave) t.waiting.blocked in
     let counted : number_kept_back past g.enclave t.block ≡ 0
     =
-    count_none (λ p. keeps_back g.enclave (track_behind past g.enclave t.block) (stay past p)) 16
+    count_below-zero (λ p. keeps_back g.enclave (track_behind past g.enclave t.block) (stay past p)) 16
     (λ p low. none_keeps past g.enclave t.block 0 16 (sym all ∙ none) p (omega arith) (omega (arith, low))) in
     drained_waiting past g t.frame t.block s t.waiting ∙ rw (counted, t.first) refl
 
@@ -126,10 +127,6 @@ skip : (b : Bool) (refusal : Refusal) (rest found : Option Refusal) → (Some re
 skip true refusal rest found other h = absurd (other h)
 skip false refusal rest found other h = (refl, h)
 
-not_true : (b : Bool) → not b ≡ false → b ≡ true
-not_true true h = refl
-not_true false h = cc
-
 not_drained_row : (s : FrameSight) (slot : SlotSight) (d : DrainSight) (spent : Bool) (e o : ℕ)
     → first_of_row (ewbstart_row s slot d spent) ≡ Some (why.NotTracked e o) → (s.is_blocked ≡ true) × (d.is_drained ≡ false)
 not_drained_row s slot d spent e o h =
@@ -139,7 +136,7 @@ not_drained_row s slot d spent e o h =
     let k = skip (is_secs s.content || is_va s.content || not (is_va slot.frame.content)) why.BadKind _ (Some (why.NotTracked e o))
     (λ x. cc) c.1 in
     let l = skip (not s.is_blocked) why.PageNotBlocked _ (Some (why.NotTracked e o)) (λ x. cc) k.1 in
-    (not_true s.is_blocked l.0, by_test d.is_drained l.1)
+    (not-false s.is_blocked l.0, by_test d.is_drained l.1)
   where
     by_test : (b : Bool)
         → (if not b then Some (why.NotTracked d.epoch d.kept_back) else if not (slot.version == 0) then Some
@@ -166,7 +163,7 @@ drained_row s slot d spent h =
     let k = skip (is_secs s.content || is_va s.content || not (is_va slot.frame.content)) why.BadKind _ None (λ x. cc) c.1 in
     let l = skip (not s.is_blocked) why.PageNotBlocked _ None (λ x. cc) k.1 in
     let m = skip (not d.is_drained) (why.NotTracked d.epoch d.kept_back) _ None (λ x. cc) l.1 in
-    not_true d.is_drained m.0
+    not-false d.is_drained m.0
 
 -- a try tells what is so where it is answered by its row
 pub try_tells : (k : Making) (past : List Entry) (e : Entry) → RefusalRule k past e → TryTells past e.event

@@ -1,7 +1,7 @@
 -- In a history places, the list and the slots are sound throughout, and a pass keeps what it says of tracks.
 use Rattle.std.proofs.Common.{◌≡◌, ℕ, ◌+◌, ◌≤◌, ◌^◌, ◌==◌, not, Bool, true, false, if◌then◌else◌, zero, suc}
 use Rattle.std.proofs.Common.{refl, sym, ◌∙◌, ap, subst, List, [], ◌∷◌, Option, Some, None, is_some, arith}
-use Rattle.std.proofs.lemmas.Bool.{eqb-true, eq-eqb, false≢true}
+use Rattle.std.proofs.lemmas.Bool.{eqb-true, eq-eqb, false≢true, not-false}
 use Rattle.page_history.proofs.CopyLaws.{out_is_gone}
 use Rattle.page_history.proofs.DrawnLaws.{drawn_once}
 use Rattle.page_history.proofs.FlatLaws.{added_flat}
@@ -236,13 +236,9 @@ empty_row : (k : Making) (past : List Entry) (f : Frame) (slot : SlotAt) (is_spe
     → NoneHolds (ewbstart_row (sight_at k.frames past f.0) (slot_sight_at k.frames past slot)
     (drain_sight_at k.first_epoch past f.0) is_spent) → IsEmpty past slot
 empty_row k past f slot is_spent keeps none = (
-  eqb-true (version_in past slot) 0 (not_not (version_in past slot == 0) none.1.1.1.1.1.1.0),
+  eqb-true (version_in past slot) 0 (not-false (version_in past slot == 0) none.1.1.1.1.1.1.0),
   not_busy_idle k.frames past slot (starts_apart k past keeps).below (neither _ (is_slot_busy k.frames past slot) none.1.0).1,
 )
-  where
-    not_not : (b : Bool) → not b ≡ false → b ≡ true
-    not_not true h = refl
-    not_not false h = cc
 
 empty_slot : (k : Making) (past : List Entry) (a : Actor) (f : Frame) (slot : SlotAt) → KeepsMoves k past
     → first_of_row (row_at k past a (actions.EwbStart f slot)) ≡ None → IsEmpty past slot

@@ -2,6 +2,7 @@
 use Rattle.std.proofs.Common.{◌≡◌, ℕ, ◌==◌, ◌≤◌, Bool, true, false, if◌then◌else◌, refl, sym, ◌∙◌, ap, List}
 use Rattle.std.proofs.Common.{[], ◌∷◌, Option, Some, None, is_some, length}
 use Rattle.std.proofs.lemmas.Bool.{eqb-true, eq-eqb, false≢true}
+use Rattle.std.proofs.lemmas.Option.{none-some, same_Some}
 use Rattle.sgx_types.specs.declared.entries.Action.{Action}
 use Rattle.sgx_types.specs.declared.entries.Action.TheVariants as actions
 use Rattle.sgx_types.specs.declared.entries.Actor.{Actor}
@@ -39,9 +40,6 @@ use Rattle.driver_laws.proofs.SoundLaws.{entry_of}
 
 abbrev LoadsNone : Last → Type 0
 LoadsNone l = (n : ℕ) (g : Page) → l ≡ Loads n g → ⊥
-
-some_apart : (g : Page) → None ≡ Some g → ⊥
-some_apart g h = cc
 
 frame_same : (m n : ℕ) (g h : Page) → Loads m g ≡ Loads n h → m ≡ n
 frame_same m n g h k = cc
@@ -89,17 +87,14 @@ loads_begin loads last f c page free none h = record {
     others p n g true is k = absurd (none n g (ap last (eqb-true c p is) ∙ k))
     others p n g false is k = k
 
-    some_same : (g : Page) → Some page ≡ Some g → page ≡ g
-    some_same g k = cc
-
     by_frame : (n : ℕ) (g : Page) (b : Bool) → (f == n) ≡ b → (if b then Some page else loads n) ≡ Some g
         → (p : ℕ) × ((if c == p then Loads f page else last p) ≡ Loads n g)
-    by_frame n g true is k = (c, rw (eq-eqb c c refl) (λ i. Loads (eqb-true f n is i) (some_same g k i)))
+    by_frame n g true is k = (c, rw (eq-eqb c c refl) (λ i. Loads (eqb-true f n is i) (same_Some page g k i)))
     by_frame n g false is k = let o = h.owner n g k in (o.0, others o.0 n g (c == o.0) refl o.1)
 
     -- a processor from before has another frame
     frame_apart : (p n : ℕ) (g : Page) → last p ≡ Loads n g → (f == n) ≡ true → ⊥
-    frame_apart p n g k is = some_apart g (sym free ∙ ap loads (eqb-true f n is) ∙ h.started p n g k)
+    frame_apart p n g k is = none-some g (sym free ∙ ap loads (eqb-true f n is) ∙ h.started p n g k)
 
     still : (p n : ℕ) (g : Page) (b : Bool) → (f == n) ≡ b → last p ≡ Loads n g → (if b then Some page else loads n) ≡ Some g
     still p n g true is k = absurd (frame_apart p n g k is)
@@ -139,7 +134,7 @@ loads_end loads last f c page to mine none h = record {
 
     by_frame : (n : ℕ) (g : Page) (b : Bool) → (f == n) ≡ b → (if b then None else loads n) ≡ Some g
         → (p : ℕ) × ((if c == p then to else last p) ≡ Loads n g)
-    by_frame n g true is k = absurd (some_apart g k)
+    by_frame n g true is k = absurd (none-some g k)
     by_frame n g false is k = let o = h.owner n g k in (o.0, others o.0 n g (c == o.0) refl is o.1)
 
     still : (p n : ℕ) (g : Page) (b : Bool) → (c == p) ≡ false → (f == n) ≡ b → last p ≡ Loads n g → (if b then None else loads n) ≡ Some g
@@ -163,7 +158,7 @@ loading_place past n g s h = by_start (open_start past n) refl h
     found x is = rw (is, same_page-refl g) refl
 
     by_start : (o : Option Start) → open_start past n ≡ o → load_of o ≡ Some g → (slot : SlotAt) × (place past g ≡ Loading n slot)
-    by_start None is k = absurd (some_apart g k)
+    by_start None is k = absurd (none-some g k)
     by_start (Some x) is k =
         (x.slot, loading_is (place past g) n x.slot (sym (s.places.loads g n) ∙ ap (λ o. load_slot o g) is ∙ found x k))
 
@@ -212,10 +207,7 @@ loads_kept past e s can no_start no_end n = by_event e.event can no_start no_end
 -- ---- how an entry leaves its processor
 
 none_loads : (l : Last) → frame_loaded l ≡ None → LoadsNone l
-none_loads l h n g is = none_some (sym h ∙ ap frame_loaded is)
-  where
-    none_some : None ≡ Some n → ⊥
-    none_some k = cc
+none_loads l h n g is = none-some n (sym h ∙ ap frame_loaded is)
 
 last_none : (ev : Event) (opened : ℕ → Option Start) → begins ev ≡ false → LoadsNone (last_by ev opened)
 last_none (Did (actions.EldStart f page slot) answer) opened h n g k = absurd (false≢true (sym h))
@@ -240,9 +232,6 @@ by_loader : (past : List Entry) (c : Cpu) (ev : Event) (n : ℕ) (page : Page) �
     → LoadsAreTheirs past → LoadsAreTheirs (entry_of (actors.Cpu c) ev ∷ past)
 by_loader past c ev n page mine ends h = by_event ev ends
   where
-    some_same : (m : ℕ) → Some m ≡ Some n → m ≡ n
-    some_same m k = cc
-
     ended : (f : ℕ) (to : Last) → f ≡ n → LoadsNone to
         → LoadsAreOwned (λ m. load_of (if f == m then None else open_start past m)) (λ p. if c.0 == p then to else last_of past p)
     ended f to same none =
@@ -253,12 +242,12 @@ by_loader past c ev n page mine ends h = by_event ev ends
 
     done : (a : Action) (answer : Answer) → load_ended (Did a answer) ≡ Some n
         → LoadsAreTheirs (entry_of (actors.Cpu c) (Did a answer) ∷ past)
-    done (actions.Eld f) answer k = ended f.0 Other (some_same f.0 k) (none_loads Other refl)
+    done (actions.Eld f) answer k = ended f.0 Other (same_Some f.0 n k) (none_loads Other refl)
     done _ answer k = absurd cc
 
     refused : (a : Action) (r : Refusal) → load_ended (Refused a r) ≡ Some n → LoadsAreTheirs (entry_of (actors.Cpu c) (Refused a r) ∷ past)
     refused (actions.Eld f) r k =
-        ended f.0 (fails_with (load_of (open_start past f.0)) r) (some_same f.0 k)
+        ended f.0 (fails_with (load_of (open_start past f.0)) r) (same_Some f.0 n k)
         (none_loads (fails_with (load_of (open_start past f.0)) r) (fails_none (load_of (open_start past f.0)) r))
     refused _ r k = absurd cc
 

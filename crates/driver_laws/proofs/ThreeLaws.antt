@@ -1,7 +1,7 @@
 -- What a processor holds is always of the three pages that it needs at once.
 use Rattle.std.proofs.Common.{◌≡◌, ℕ, ◌+◌, ◌/◌, ◌≤◌, ◌||◌, not, Bool, true, false, if◌then◌else◌, refl, sym}
 use Rattle.std.proofs.Common.{◌∙◌, ap, subst, List, [], ◌∷◌, ◌++◌, Option, Some, None, is_some, length, arith}
-use Rattle.std.proofs.lemmas.Bool.{eq-eqb, false≢true}
+use Rattle.std.proofs.lemmas.Bool.{eq-eqb, false≢true, or_left, or_right}
 use Rattle.sgx_types.proofs.Pages.{same_page-refl, same_pages}
 use Rattle.sgx_types.specs.declared.entries.AccessOp.{AccessOp}
 use Rattle.sgx_types.specs.declared.entries.AccessOp.TheVariants as accesses
@@ -43,7 +43,7 @@ use Rattle.driver_rules.specs.Turns.{fills, first_away, inside_turn, is_built, i
 use Rattle.driver_rules.specs.Turns.{save_frame, stay_turn, turn_due, with_pages}
 use Rattle.driver_laws.proofs.SoundLaws.{entry_of}
 use Rattle.driver_laws.proofs.ThreeEntryLaws.{IsStill, access_in, all_append, all_refl, away_among, listed_in, more_among, none_among}
-use Rattle.driver_laws.proofs.ThreeEntryLaws.{or_left, or_right, or_true, own_end, own_fault, own_kick, own_past, own_reply, own_resume}
+use Rattle.driver_laws.proofs.ThreeEntryLaws.{or_true, own_end, own_fault, own_kick, own_past, own_reply, own_resume}
 use Rattle.driver_laws.proofs.ThreeEntryLaws.{own_still, page_in_among, refused_still, up_to_among}
 
 -- ---- what is due keeps it

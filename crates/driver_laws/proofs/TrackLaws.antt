@@ -20,30 +20,13 @@ use Rattle.sgx_types.specs.Frames.{Free, content, is_block, is_blocked, is_page,
 use Rattle.sgx_types.specs.Starts.{is_load_of, open_start}
 use Rattle.sgx_types.specs.Processors.{Enters, Keeps, Leaves, Move, Stay, is_by, move_by, stay, stay_after}
 use Rattle.sgx_types.proofs.Contents.{load_no_page, page_enclave}
+use Rattle.sgx_types.proofs.CountLaws.{count_below-zero, count_below-none}
 use Rattle.driver_laws.specs.Kinds.{CanMove}
 use Rattle.driver_rules.specs.Places.{Absent, Away, Leaving, Loading, Place, after_look, back_to, place}
 use Rattle.driver_laws.specs.Sound.{IsSound, load_slot, slot_loading, stands_in}
 use Rattle.driver_laws.specs.Tracks.{IsCalm, IsTracked, IsWaiting, moves_out}
 use Rattle.driver_laws.proofs.SoundLaws.{entry_of}
 use Rattle.driver_laws.proofs.PlaceLaws.{load_slot_is, of_same}
-
--- ---- counts
-
-pub none_counted : (test : ℕ → Bool) (n : ℕ) → count_below test n ≡ 0 → (p : ℕ) → p < n → test p ≡ false
-unfolding count_below
-none_counted test zero h p low = absurd (omega arith)
-none_counted test (suc n) h p low = by_last (test n) refl h (p == n) refl (λ k under. none_counted test n k p under)
-  where
-    by_last : (b : Bool) → test n ≡ b → (if b then 1 else 0) + count_below test n ≡ 0 → (c : Bool) → (p == n) ≡ c
-        → (count_below test n ≡ 0 → p < n → test p ≡ false) → test p ≡ false
-    by_last true is k c q before = absurd (omega (arith, k))
-    by_last false is k true q before = ap test (eqb-true p n q) ∙ is
-    by_last false is k false q before = before (omega (arith, k)) (grind arith)
-
-pub count_none : (test : ℕ → Bool) (n : ℕ) → ((p : ℕ) → p < n → test p ≡ false) → count_below test n ≡ 0
-unfolding count_below
-count_none test zero h = refl
-count_none test (suc n) h = rw (h n (omega arith), count_none test n (λ p low. h p (omega (arith, low)))) refl
 
 -- ---- places of tracks and blocks
 
@@ -271,7 +254,7 @@ none_since past g f b s calm w not_drained = by_track (track_behind past g.encla
     by_track (Some k) is =
         let later = first_last past g.enclave b k is in
         let none : number_kept_back past g.enclave b ≡ 0 =
-        count_none (λ p. keeps_back g.enclave (track_behind past g.enclave b) (stay past p)) 16
+        count_below-zero (λ p. keeps_back g.enclave (track_behind past g.enclave b) (stay past p)) 16
         (λ p low. ap (λ t. keeps_back g.enclave t (stay past p)) is ∙ keeps_before g.enclave k (stay past p)
         ∙ gone g.enclave k later.0 (stay past p) later.2 (sym (ap (λ t. is_in_before g.enclave t (stay past p)) later.1) ∙ calm p low)) in
         absurd (false≢true (sym not_drained ∙ drained_waiting past g f b s w ∙ rw (none, is) refl))
@@ -282,7 +265,7 @@ pub calm_drained : (past : List Entry) (g : Page) (t : IsTracked past g) → IsS
 calm_drained past g t s drained p low =
     let asked = both_true (is_some (track_behind past g.enclave t.block)) (number_kept_back past g.enclave t.block == 0)
     (sym (drained_waiting past g t.frame t.block s t.waiting) ∙ drained) in
-    let none = none_counted (λ q. keeps_back g.enclave (track_behind past g.enclave t.block) (stay past q)) 16
+    let none = count_below-none (λ q. keeps_back g.enclave (track_behind past g.enclave t.block) (stay past q)) 16
     (eqb-true (number_kept_back past g.enclave t.block) 0 asked.1) p low in
     ap (λ k. is_in_before g.enclave k (stay past p)) t.last ∙ sym (keeps_before g.enclave t.track (stay past p)) ∙ sym
     (ap (λ k. keeps_back g.enclave k (stay past p)) t.first) ∙ none

@@ -4,6 +4,7 @@ use Rattle.std.proofs.Common.{false, if◌then◌else◌, List, [], ◌∷◌, �
 use Rattle.std.proofs.Common.{subst, ◌∙◌, arith}
 use Rattle.std.proofs.lemmas.Bool.{eqb-true, eqb-false}
 use Rattle.std.proofs.lemmas.List.{get_or-set_other, length-set}
+use Rattle.std.proofs.Math.Bool.{or-false}
 use Rattle.sgx_types.specs.declared.entries.Actor.TheVariants as actors
 use Rattle.sgx_types.specs.declared.entries.Entry.{Entry}
 use Rattle.sgx_types.specs.declared.names.Cpu.{Cpu}
@@ -23,10 +24,6 @@ use Rattle.driver_tables.specs.Held.{ShowsHolds}
 abbrev any_below : List (List Page) → Page → ℕ → Bool
 any_below own g zero = false
 any_below own g (suc n) = holds_page (own_of own n) g || any_below own g n
-
-or_false : (b : Bool) → (b || false) ≡ b
-or_false true = refl
-or_false false = refl
 
 or_swap : (a b c : Bool) → (a || (b || c)) ≡ (b || (a || c))
 or_swap true true c = refl
@@ -130,7 +127,7 @@ pub holds_joined : (pages : List Page) (page g : Page) → holds_page (joined pa
 holds_joined pages page g = by_test (holds_page pages page) refl
   where
     append : (xs : List Page) → holds_page (xs ++ page ∷ []) g ≡ (holds_page xs g || same_page g page)
-    append [] = or_false (same_page g page)
+    append [] = or-false (same_page g page)
     append (x ∷ xs) = ap (λ b. same_page g x || b) (append xs) ∙ or_apart (same_page g x) (holds_page xs g) (same_page g page)
       where
         or_apart : (a b c : Bool) → (a || (b || c)) ≡ ((a || b) || c)
@@ -143,7 +140,7 @@ holds_joined pages page g = by_test (holds_page pages page) refl
         or_true : (a : Bool) → (a || true) ≡ true
         or_true true = refl
         or_true false = refl
-    found false is h = sym (or_false (holds_page pages g))
+    found false is h = sym (or-false (holds_page pages g))
 
     by_test : (b : Bool) → holds_page pages page ≡ b
         → holds_page (if b then pages else pages ++ page ∷ []) g ≡ (holds_page pages g || same_page g page)

@@ -18,6 +18,7 @@ use Rattle.sgx_types.specs.Epochs.{epoch, is_in_before, is_track, last_track, no
 use Rattle.sgx_types.specs.Processors.{Enters, Keeps, Leaves, Move, Seat, Stay, is_by, move_by, stay, stay_after, stay_from}
 use Rattle.sgx_types.specs.Rules.{Along}
 use Rattle.sgx_types.proofs.Keystone.{IsNoted, all_noted}
+use Rattle.sgx_types.proofs.CountLaws.{count_below-none}
 use Rattle.driver_laws.specs.Tracking.{CanTrack, TrackTells, TrackingRule}
 use Rattle.epoch_words.specs.declared.seen.Seen.{Seen}
 use Rattle.epoch_words.specs.Rule.{at}
@@ -25,7 +26,7 @@ use Rattle.epoch_words.specs.Seen.{HasRoom, IsInside, entered, left, seen, start
 use Rattle.epoch_words.specs.Seen as words
 use Rattle.epoch_notes.specs.declared.notes.Inside.{Inside}
 use Rattle.epoch_notes.specs.Notes.{IsIn, NotesView, TellsEntries, after_enter, after_leave, seen_of, since, TableId, word_by}
-use Rattle.epoch_notes.proofs.WordLaws.{before_track, has_room, is_counted, none_passes, word_entered, is_newer, word_left, word_none}
+use Rattle.epoch_notes.proofs.WordLaws.{before_track, has_room, is_counted, word_entered, is_newer, word_left, word_none}
 use Rattle.epoch_notes.proofs.WordLaws.{word_tracked, word_with}
 
 -- ---- along a run
@@ -71,7 +72,7 @@ near_more first e past p low t inside tells near = by_track (is_track e.event t.
     by_track true is =
         let can = track_of first past e.event t.seat.enclave is tells in
         let off : is_in_before t.seat.enclave (last_track past t.seat.enclave) (stay past p) ≡ false =
-        none_passes (λ q. is_in_before t.seat.enclave (last_track past t.seat.enclave) (stay past q)) 16 p can.none_older low in
+        count_below-none (λ q. is_in_before t.seat.enclave (last_track past t.seat.enclave) (stay past q)) 16 can.none_older p low in
         let noted_one : IsNoted first past m t = rw inside at (all_noted first past p) in
         let here : (t.seat.enclave == t.seat.enclave) ≡ true = eq-eqb t.seat.enclave t.seat.enclave refl in
         let lt : ltb m (epoch first past t.seat.enclave) ≡ false =

@@ -1,112 +1,20 @@
 -- What one entry more does to the word of an enclave by the entries.
-use Rattle.std.proofs.Common.{◌≡◌, ◌==◌, ◌&&◌, ◌<◌, ◌≤◌, ◌+◌, ◌-◌, ◌⊎◌, inl, inr, ℕ, zero, suc, not}
-use Rattle.std.proofs.Common.{Bool, true, false, cond, ltb, List, [], length, refl, sym, ap, ◌∙◌, subst, Option, Some, None, IfSome}
+use Rattle.std.proofs.Common.{◌≡◌, ◌==◌, ◌&&◌, ◌<◌, ◌≤◌, ◌+◌, ◌-◌, ◌⊎◌, inl, inr, ℕ, not}
+use Rattle.std.proofs.Common.{Bool, true, false, cond, ltb, List, [], length, refl, sym, ap, ◌∙◌, Option, Some, None, IfSome}
 use Rattle.std.proofs.Common.{arith}
 use Rattle.std.proofs.lemmas.Bool.{cases_lt, eq-eqb, eqb-true, false≢true, le-ltb, lt-ltb}
+use Rattle.std.proofs.Math.Bool.{and-false, and-true}
 use Rattle.sgx_types.specs.Counts.{count_below}
 use Rattle.sgx_types.specs.declared.entries.Entry.{Entry}
 use Rattle.sgx_types.specs.Epochs.{epoch, is_before, is_in, is_in_before, last_track, newer_at, noted, older_at}
 use Rattle.sgx_types.specs.Processors.{Seat, Stay, stay, stay_from}
-use Rattle.sgx_types.proofs.CountLaws.{count_below-agrees}
+use Rattle.sgx_types.proofs.CountLaws.{count_below-agrees, count_below-more, count_below-missing, count_below-splits, count_below-zero}
+use Rattle.sgx_types.proofs.CountLaws.{one_if, one_of_those}
 use Rattle.sgx_types.proofs.Keystone.{IsNoted, LastTrack, all_noted, last_track_is}
 use Rattle.sgx_types.proofs.Truths.{apart}
-use Rattle.driver_laws.proofs.TrackLaws.{count_none}
 use Rattle.epoch_words.specs.declared.seen.Seen.{Seen}
 use Rattle.epoch_words.specs.Seen.{HasRoom, IsInside, entered, left, seen, starting_at, tracked}
 use Rattle.epoch_notes.specs.Notes.{word_by}
-
--- ---- counts
-
-one_if : Bool → ℕ
-one_if b = cond b 1 0
-
-count_alike : (f g : ℕ → Bool) (n : ℕ) → ((p : ℕ) → p < n → f p ≡ g p) → count_below f n ≡ count_below g n
-unfolding count_below
-count_alike f g zero same = refl
-count_alike f g (suc n) same = rw (same n (omega arith), count_alike f g n (λ p low. same p (omega arith))) refl
-
--- one more passes
-count_one : (f g : ℕ → Bool) (x : ℕ) → f x ≡ false → g x ≡ true → ((p : ℕ) → (x == p) ≡ false → f p ≡ g p) → (n : ℕ) → x < n
-    → count_below g n ≡ count_below f n + 1
-unfolding count_below
-count_one f g x off on same zero low = absurd (omega arith)
-count_one f g x off on same (suc n) low = by_test (count_one f g x off on same n) (x == n) refl
-  where
-    apart_from : (p : ℕ) → p < n → (b : Bool) → (x == p) ≡ b → x ≡ n → f p ≡ g p
-    apart_from p below true is here = absurd (let there : x ≡ p = eqb-true x p is in omega arith)
-    apart_from p below false is here = same p is
-
-    by_test : (x < n → count_below g n ≡ count_below f n + 1) → (b : Bool) → (x == n) ≡ b
-        → cond (g n) 1 0 + count_below g n ≡ (cond (f n) 1 0 + count_below f n) + 1
-    by_test before true is =
-        let here : x ≡ n = eqb-true x n is in
-        let one : g n ≡ true = subst (λ k. g k ≡ true) here on in
-        let none : f n ≡ false = subst (λ k. f k ≡ false) here off in
-        let rest : count_below f n ≡ count_below g n = count_alike f g n (λ p below. apart_from p below (x == p) refl here) in
-        rw (one, none, rest) (omega arith)
-    by_test before false is =
-        let below : x < n = below_it (cases_lt x n) in
-        let rest : count_below g n ≡ count_below f n + 1 = before below in
-        rw (same n is, rest) (omega arith)
-      where
-        below_it : (x < n) ⊎ (n ≤ x) → x < n
-        below_it (inl lt) = lt
-        below_it (inr le) = absurd (false≢true (sym is ∙ eq-eqb x n (omega arith)))
-
-count_few : (test : ℕ → Bool) (n : ℕ) → count_below test n ≤ n
-unfolding count_below
-count_few test zero = omega arith
-count_few test (suc n) = by_last (test n) (count_few test n)
-  where
-    by_last : (b : Bool) → count_below test n ≤ n → cond b 1 0 + count_below test n ≤ suc n
-    by_last true h = omega (arith, h)
-    by_last false h = omega (arith, h)
-
--- not all pass, where one does not
-count_missing : (test : ℕ → Bool) (n x : ℕ) → test x ≡ false → x < n → count_below test n < n
-unfolding count_below
-count_missing test zero x off low = absurd (omega arith)
-count_missing test (suc n) x off low = by_test (test n) refl (count_missing test n x off)
-  where
-    by_test : (b : Bool) → test n ≡ b → (x < n → count_below test n < n) → cond b 1 0 + count_below test n < suc n
-    by_test false is before = let all = count_few test n in omega (arith, all)
-    by_test true is before = let rest = before (below (cases_lt x n)) in omega (arith, rest)
-      where
-        below : (x < n) ⊎ (n ≤ x) → x < n
-        below (inl lt) = lt
-        below (inr le) = let here : x ≡ n = omega (arith, le, low) in absurd (false≢true (sym off ∙ (ap test here ∙ is)))
-
--- where none passes, none does
-pub none_passes : (test : ℕ → Bool) (n x : ℕ) → count_below test n ≡ 0 → x < n → test x ≡ false
-unfolding count_below
-none_passes test zero x none low = absurd (omega arith)
-none_passes test (suc n) x none low = by_test (test n) refl none (none_passes test n x)
-  where
-    by_test : (b : Bool) → test n ≡ b → cond b 1 0 + count_below test n ≡ 0 → (count_below test n ≡ 0 → x < n → test x ≡ false)
-        → test x ≡ false
-    by_test true is zeroes before = absurd (omega (arith, zeroes))
-    by_test false is zeroes before = by_place (cases_lt x n)
-      where
-        by_place : (x < n) ⊎ (n ≤ x) → test x ≡ false
-        by_place (inl lt) = before (omega (arith, zeroes)) lt
-        by_place (inr le) = let here : x ≡ n = omega (arith, le, low) in ap test here ∙ is
-
-count_splits : (p q r : ℕ → Bool) → ((k : ℕ) → one_if (p k) + one_if (q k) ≡ one_if (r k)) → (n : ℕ)
-    → count_below p n + count_below q n ≡ count_below r n
-unfolding count_below one_if
-count_splits p q r h zero = refl
-count_splits p q r h (suc n) =
-    let now : cond (p n) 1 0 + cond (q n) 1 0 ≡ cond (r n) 1 0 = h n in
-    let rest : count_below p n + count_below q n ≡ count_below r n = count_splits p q r h n in
-    omega arith
-
-and_false : (b : Bool) → (b && false) ≡ false
-and_false true = refl
-and_false false = refl
-
-and_true : (b : Bool) → (b && true) ≡ b
-and_true true = refl
-and_true false = refl
 
 -- ---- stays and tracks
 
@@ -134,23 +42,16 @@ before_track first past n m t is same = by_track (last_track past n) (last_track
 abbrev pub is_newer : ℕ → Option ℕ → Option Stay → Bool
 is_newer n k o = is_in n o && not (is_in_before n k o)
 
-of_two : (b c : Bool) → one_if (b && c) + one_if (b && not (b && c)) ≡ one_if b
-unfolding one_if
-of_two true true = refl
-of_two true false = refl
-of_two false c = refl
-
 nothing_and_nothing : one_if false + one_if false ≡ one_if false
-unfolding one_if
 nothing_and_nothing = refl
 
 both : (n : ℕ) (k : Option ℕ) (o : Option Stay) → one_if (is_in_before n k o) + one_if (is_newer n k o) ≡ one_if (is_in n o)
 both n k None = nothing_and_nothing
-both n k (Some t) = of_two (t.seat.enclave == n) (is_before k t.entered)
+both n k (Some t) = one_of_those (t.seat.enclave == n) (is_before k t.entered)
 
 -- all that are inside are older or newer
 all_inside : (past : List Entry) (n : ℕ) → older_at past n + newer_at past n ≡ count_below (λ p. is_in n (stay past p)) 16
-all_inside past n = count_splits _ _ (λ p. is_in n (stay past p)) (λ p. both n (last_track past n) (stay past p)) 16
+all_inside past n = count_below-splits _ _ _ (λ p. is_in n (stay past p)) (λ p. both n (last_track past n) (stay past p)) 16
 
 -- ---- one processor's stay changes
 
@@ -176,12 +77,12 @@ module _ (past : List Entry) (n q : ℕ) (low : q < 16) (k : Option ℕ) (now : 
   one_more : (test : Option Stay → Bool) → test (stay past q) ≡ false → test now ≡ true
       → count_below (λ p. test (stays p)) 16 ≡ count_below (λ p. test (stay past p)) 16 + 1
   one_more test off on =
-      count_one (λ p. test (stay past p)) (λ p. test (stays p)) q off (here test ∙ on) (elsewhere test) 16 low
+      count_below-more (λ p. test (stay past p)) (λ p. test (stays p)) q off (here test ∙ on) (elsewhere test) 16 low
 
   one_fewer : (test : Option Stay → Bool) → test (stay past q) ≡ true → test now ≡ false
       → count_below (λ p. test (stay past p)) 16 ≡ count_below (λ p. test (stays p)) 16 + 1
   one_fewer test on off =
-      count_one (λ p. test (stays p)) (λ p. test (stay past p)) q (here test ∙ off) on (λ p is. sym (elsewhere test p is)) 16 low
+      count_below-more (λ p. test (stays p)) (λ p. test (stay past p)) q (here test ∙ off) on (λ p is. sym (elsewhere test p is)) 16 low
 
 -- the word of an enclave with one processor's stay changed
 abbrev pub word_with : ℕ → List Entry → ℕ → ℕ → Option Stay → Seen
@@ -212,7 +113,7 @@ module _ (first : ℕ) (past : List Entry) (n q : ℕ) (low : q < 16) where
       now = Some (stay_from past seat)
 
       not_older : is_in_before n k now ≡ false
-      not_older = rw (track_past past n) (and_false (seat.enclave == n))
+      not_older = rw (track_past past n) (and-false (seat.enclave == n))
 
       was_not : (test : Option Stay → Bool) → test None ≡ false → test (stay past q) ≡ false
       was_not test none = rw out none
@@ -231,7 +132,7 @@ module _ (first : ℕ) (past : List Entry) (n q : ℕ) (low : q < 16) where
   pub has_room : stay past q ≡ None → HasRoom w
   has_room out =
       let all = all_inside past n in
-      let few = count_missing (λ p. is_in n (stay past p)) 16 q (ap (is_in n) out) low in
+      let few = count_below-missing (λ p. is_in n (stay past p)) 16 q (ap (is_in n) out) low in
       omega (arith, all, few)
 
   -- a processor that was inside leaves, which has noted this epoch or the one before
@@ -305,7 +206,7 @@ word_tracked first past n enclave calm = by_enclave (enclave == n) refl
     all_before : (p : ℕ) (o : Option Stay) → IfSome o (IsNoted first past (noted first past p))
         → is_in_before n (Some (length past)) o ≡ is_in n o
     all_before p None is = refl
-    all_before p (Some t) is = rw (lt-ltb t.entered (length past) is.below) (and_true (t.seat.enclave == n))
+    all_before p (Some t) is = rw (lt-ltb t.entered (length past) is.below) (and-true (t.seat.enclave == n))
 
     older : count_below (λ p. is_in_before n (Some (length past)) (stay past p)) 16 ≡ older_at past n + newer_at past n
     older = count_below-agrees _ _ (λ p. all_before p (stay past p) (all_noted first past p)) 16 ∙ sym (all_inside past n)
@@ -316,7 +217,7 @@ word_tracked first past n enclave calm = by_enclave (enclave == n) refl
 
     newer : count_below (λ p. is_newer n (Some (length past)) (stay past p)) 16 ≡ 0
     newer =
-        count_none _ 16
+        count_below-zero _ 16
         (λ p low. ap (λ b. is_in n (stay past p) && not b) (all_before p (stay past p) (all_noted first past p))
         ∙ none (is_in n (stay past p)))
 
@@ -334,4 +235,4 @@ word_tracked first past n enclave calm = by_enclave (enclave == n) refl
 
 -- with no entry each enclave is at the first epoch, with no processor inside
 pub word_none : (first n : ℕ) → word_by first [] n ≡ starting_at first
-word_none first n = λ i. seen first (count_none _ 16 (λ p low. refl) i) (count_none _ 16 (λ p low. refl) i)
+word_none first n = λ i. seen first (count_below-zero _ 16 (λ p low. refl) i) (count_below-zero _ 16 (λ p low. refl) i)

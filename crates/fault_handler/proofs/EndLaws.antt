@@ -3,6 +3,7 @@ use Rattle.std.proofs.Common.{◌≡◌, ℕ, ◌+◌, ◌<◌, not, Bool, true,
 use Rattle.std.proofs.Common.{Some, MatchOption, ⊎_elim, ◌⊎◌, inl, inr, length, is_some, refl, sym, ap, subst, ◌∙◌}
 use Rattle.std.proofs.lemmas.Bool.{eq-eqb}
 use Rattle.std.specs.Str.{bytes_eq}
+use Rattle.std.proofs.lemmas.Option.{same_Some}
 use Rattle.sgx_types.specs.declared.entries.Action.TheVariants.{Eld}
 use Rattle.sgx_types.specs.declared.entries.Actor.TheVariants as actors
 use Rattle.sgx_types.specs.declared.entries.Answer.TheVariants.{Moved}
@@ -85,10 +86,7 @@ record IsKeptFor (k : Option Kept) (page : Page) : Type 0 where
 
 kept_for : (k : Option Kept) (page : Page) → page_kept k ≡ Some page → IsKeptFor k page
 kept_for None page h = cc
-kept_for (Some k) page h = record { rec = k.sealed; kept = ap (λ p. Some (keeping p k.sealed)) (pages k.page page h) }
-  where
-    pages : (a b : Page) → Some a ≡ Some b → a ≡ b
-    pages a b e = cc
+kept_for (Some k) page h = record { rec = k.sealed; kept = ap (λ p. Some (keeping p k.sealed)) (same_Some k.page page h) }
 
 module _ (made : Making) (j : JobView) (past : List Entry) (d : Driver) (m : Parts) (r : Agrees made j past d m) (cpu : Cpu) (page : Page)
     (n : ℕ) (last : last_of past cpu.0 ≡ Loads n page) where
@@ -103,6 +101,13 @@ module _ (made : Making) (j : JobView) (past : List Entry) (d : Driver) (m : Par
 
   state_is : IsLoadingState (page_state d.states page) n at.0
   state_is = loading_state (page_state d.states page) n at.0 (r.shows.states page placed ∙ at.1)
+
+  -- the load that it ends is into the frame that its last entry names
+  pub end_frame : (can : CanFinish cpu page d m) → n ≡ can.frame.0
+  end_frame can = sym state_is.number ∙ frames state_is.frame can.frame at.0 can.slot (sym state_is.state ∙ can.tables.loading)
+    where
+      frames : (a b : Frame) (x y : SlotAt) → states.Loading a x ≡ states.Loading b y → a.0 ≡ b.0
+      frames a b x y k = cc
 
   copy : IsKeptFor (kept_at d.kept cpu.0) page
   copy = kept_for (kept_at d.kept cpu.0) page (r.shows.copies cpu.0 ∙ ap loaded_by last)

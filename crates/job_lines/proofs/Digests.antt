@@ -5,12 +5,10 @@ use Rattle.std.proofs.Common.{arith, inl, inr}
 use Rattle.std.specs.Result.{result_ok}
 use Rattle.std.proofs.lemmas.Bool.{cases_Bool, and_parts, leb-true, eqb-true}
 use Rattle.std.proofs.lemmas.List.Elements.{All-nil, All-cons}
+use Rattle.std.proofs.lemmas.Option.{same_Some}
 use Rattle.hex.specs.declared.error.FromHexError.{FromHexError}
 use Rattle.hex.specs.Hex.{decode_pairs, decode_sized, digit_or_error, hex_digit_value, pair_value, value_at, ◌>>=◌}
 use Rattle.text_words.specs.Reading.{IsDigest, digest_of}
-
-some-same : {X : Type 0} (x y : X) → Some x ≡ Some y → x ≡ y
-some-same x y e = cc
 
 ok-same : {X : Type 0} (x y : X) → ◌≡◌ {A = Result X FromHexError} (Ok x) (Ok y) → x ≡ y
 ok-same x y e = cc
@@ -18,13 +16,13 @@ ok-same x y e = cc
 digit-small : (c v : ℕ) → hex_digit_value c ≡ Some v → v < 16
 digit-small c v e =
     elim (cases_Bool (nat_le 65 c && nat_le c 70)) [
-      | inl upper ↦ (let p = and_parts (nat_le 65 c) (nat_le c 70) upper in let is = some-same (c - 55) v (rw upper at e) in omega
+      | inl upper ↦ (let p = and_parts (nat_le 65 c) (nat_le c 70) upper in let is = same_Some (c - 55) v (rw upper at e) in omega
           (arith, leb-true 65 c p.0, leb-true c 70 p.1, is))
       | inr not_upper ↦ elim (cases_Bool (nat_le 97 c && nat_le c 102)) [
-        | inl lower ↦ (let p = and_parts (nat_le 97 c) (nat_le c 102) lower in let is = some-same (c - 87) v
+        | inl lower ↦ (let p = and_parts (nat_le 97 c) (nat_le c 102) lower in let is = same_Some (c - 87) v
             (rw (not_upper, lower) at e) in omega (arith, leb-true 97 c p.0, leb-true c 102 p.1, is))
         | inr not_lower ↦ elim (cases_Bool (nat_le 48 c && nat_le c 57)) [
-          | inl digit ↦ (let p = and_parts (nat_le 48 c) (nat_le c 57) digit in let is = some-same (c - 48) v
+          | inl digit ↦ (let p = and_parts (nat_le 48 c) (nat_le c 57) digit in let is = same_Some (c - 48) v
               (rw (not_upper, not_lower, digit) at e) in omega (arith, leb-true 48 c p.0, leb-true c 57 p.1, is))
           | inr none ↦ (let no = rw (not_upper, not_lower, none) at e in absurd cc)
         ]

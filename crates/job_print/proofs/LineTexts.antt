@@ -3,7 +3,7 @@ use Rattle.std.proofs.Common.{◌≡◌, ℕ, ◌<◌, ◌≤◌, ◌||◌, Bool
 use Rattle.std.proofs.Common.{None, Ok, length, map, flat_map, All, refl, ap, ◌∙◌, arith, inl, inr, cond}
 use Rattle.std.specs.List.{AllByRecursion, join_with_byte, list_all, slice_split}
 use Rattle.std.specs.Str.{IsAscii, is_utf8}
-use Rattle.std.proofs.lemmas.Bool.{and_parts, cases_lt, ltb-true, ne_eqb}
+use Rattle.std.proofs.lemmas.Bool.{and_parts, cases_lt, ltb-true, ne_eqb, not-false, or_parts}
 use Rattle.std.proofs.lemmas.Str.{IsUtf8-from_ascii, is_utf8-from_IsUtf8}
 use Rattle.std.proofs.lemmas.List.{get_or_past}
 use Rattle.std.proofs.lemmas.List.Elements.{All-append, All-cons, All-get_or, All-head, All-nil, All-tail, All-weaker}
@@ -129,18 +129,6 @@ none-first : (d : Draft) (s : Statement) → HasNoFault d s → first_of (faults
 unfolding faults
 none-first d s h = rw (h.order, h.once, h.range, h.few, h.stands, h.own) refl
 
-or_left : (a b : Bool) → (a || b) ≡ false → a ≡ false
-or_left true b e = absurd cc
-or_left false b e = refl
-
-or_right : (a b : Bool) → (a || b) ≡ false → b ≡ false
-or_right true b e = absurd cc
-or_right false b e = e
-
-not_not : (b : Bool) → not b ≡ false → b ≡ true
-not_not true e = refl
-not_not false e = absurd cc
-
 said-by : (d : Draft) (s : Statement) → HasNoFault d s → IsSaidBy (has_some d.scripts) s
 unfolding is_out_of_order
 said-by d (says.Epc frames) h = tt
@@ -151,13 +139,13 @@ said-by d (says.Enclave enclave base size) h = tt
 said-by d (says.Tcs page ossa nssa plain) h = tt
 said-by d (says.Reg first count perm value plain) h = tt
 said-by d (says.Expect digest) h = tt
-said-by d (says.Plan plan) h = no-later (has_some d.scripts) _ (or_left _ _ h.order)
+said-by d (says.Plan plan) h = no-later (has_some d.scripts) _ (or_parts _ _ h.order).0
   where
     no-later : (b : Bool) (n : ℕ) → ltb 3 (cond b 4 n) ≡ false → b ≡ false
     no-later true n e = absurd cc
     no-later false n e = refl
 said-by d (says.Cpu number) h = tt
-said-by d (says.Operation op) h = not_not (has_some d.scripts) (or_right _ _ h.order)
+said-by d (says.Operation op) h = not-false (has_some d.scripts) (or_parts _ _ h.order).1
 
 unfoldable pub line_of : Statement → List ℕ
 line_of s = join_with_byte 32 (statement_words s)

@@ -3,7 +3,7 @@ use Rattle.std.proofs.Common.{◌≡◌, ℕ, suc, ◌+◌, ◌-◌, ◌^◌, �
 use Rattle.std.proofs.Common.{◌||◌, cond, Bool, true, false, List, [], ◌∷◌, ◌++◌, Option, Some, None, is_some, nat_lt, length}
 use Rattle.std.proofs.Common.{take, sum_by, count_by, All, refl, sym, ap, ◌∙◌, arith, inl, inr}
 use Rattle.std.specs.List.{list_any}
-use Rattle.std.proofs.lemmas.Bool.{cases_Bool, ne_eqb, and_parts, ltb-true, leb-true, ltb-false, eqb-true, false≢true}
+use Rattle.std.proofs.lemmas.Bool.{cases_Bool, ne_eqb, and_parts, ltb-true, leb-true, ltb-false, eqb-true, false≢true, or_parts}
 use Rattle.std.proofs.lemmas.List.Elements.{All-nil, All-cons, All-head, All-tail, All-push, All-weaker}
 use Rattle.std.proofs.lemmas.List.{length-append}
 use Rattle.std.proofs.lemmas.List.Sums.{sum_by-cons, sum_by_push}
@@ -37,14 +37,6 @@ use Rattle.job_text.proofs.LastItem.{enclave-more, length-change_last, ops-more,
 use Rattle.job_text.proofs.PageLaws.{once-more, free-of}
 
 -- ---- nothing stands of a part behind
-
-pub or_right : (a b : Bool) → (a || b) ≡ false → b ≡ false
-or_right true b e = absurd cc
-or_right false b e = e
-
-pub or_left : (a b : Bool) → (a || b) ≡ false → a ≡ false
-or_left true b e = absurd cc
-or_left false b e = refl
 
 some-not : {X : Type 0} (xs : List X) → has_some xs ≡ false → xs ≡ []
 some-not [] e = refl
@@ -136,7 +128,7 @@ enclave-range d enclave base size h = let p = and_parts _ _ h.range in (p.0, leb
 in-order : (d : Draft) (s : Statement) → HasNoFault d s → part_of s < latest_part d → ⊥
 unfolding is_out_of_order
 in-order d s h lt =
-    let le = ltb-false (part_of s) (latest_part d) (or_left (nat_lt (part_of s) (latest_part d)) (is_misplaced d s) h.order) in
+    let le = ltb-false (part_of s) (latest_part d) (or_parts (nat_lt (part_of s) (latest_part d)) (is_misplaced d s) h.order).0 in
     omega (arith, le, lt)
 
 noted-push : (ts : List TcsLine) (n base size : ℕ) (es : List EnclaveView) → AreNoted ts n es
@@ -308,8 +300,8 @@ one-last p f (x ∷ y ∷ xs) none =
     let e : length (x ∷ y ∷ xs) - 1 ≡ suc (length (y ∷ xs) - 1) = omega arith in
     let split = rw e at none in
     let count = sum_by-cons (λ z. cond (p z) 1 0) x (change_last f (y ∷ xs)) in
-    let others = one-last p f (y ∷ xs) (or_right (p x) _ split) in
-    let none_here = rw (or_left (p x) _ split) at count in
+    let others = one-last p f (y ∷ xs) (or_parts (p x) _ split).1 in
+    let none_here = rw (or_parts (p x) _ split).0 at count in
     omega (arith, none_here, others)
 
 pub any-push : {X : Type 0} (p : X → Bool) (xs : List X) (x : X) → p x ≡ false → list_any p (xs ++ x ∷ []) ≡ list_any p xs

@@ -21,6 +21,7 @@ use Rattle.sgx_types.specs.Table.{first_of_row}
 use Rattle.sgx_types.proofs.Contents.{enclave_no_va, free_there}
 use Rattle.sgx_types.proofs.Rows.{none_holds}
 use Rattle.sgx_types.proofs.Truths.{both_true, neither, not_false}
+use Rattle.sgx_types.proofs.CountLaws.{count_below-none}
 use Rattle.cached_translations.specs.declared.cache.Translation.{Translation}
 use Rattle.paging_laws.specs.State.{State, sight, is_noting, number_noting, epoch_in, track_sight, slot_sight, drain_sight, has_passed}
 use Rattle.paging_laws.specs.State.{is_version_spent, after_block, after_track, after_ewbstart, after_eldstart, after_ewb, after_eld}
@@ -84,17 +85,6 @@ guarded_block s f allowed sound h = record {
           (λ t x. later seat (s.noted p) k.not_ahead t.frame.0 (ap enclave_in x.page)) (s.cache p) at.cache k.cache;
     }
 
--- where a count is 0 none passes
-pub none_passes : (test : ℕ → Bool) (n : ℕ) → count_below test n ≡ 0 → (k : ℕ) → k < n → test k ≡ false
-unfolding count_below
-none_passes test zero h k low = absurd (omega arith)
-none_passes test (suc n) h k low = by_test (test n) refl h (none_passes test n)
-  where
-    by_test : (b : Bool) → test n ≡ b → cond b 1 0 + count_below test n ≡ 0 → (count_below test n ≡ 0 → (i : ℕ) → i < n → test i ≡ false)
-        → test k ≡ false
-    by_test true e none before = absurd (omega arith)
-    by_test false e none before = below_more (λ i. test i ≡ false) n (before (omega arith)) e k (omega arith)
-
 -- .. where that is the count of the processors inside an enclave, none of them passes
 pub none_inside : (s : State) → IsGuarded s → (enclave : ℕ) (test : ℕ → Bool) → number_noting s enclave test ≡ 0 → (p : ℕ) (seat : Seat)
     → s.inside p ≡ Some seat → seat.enclave ≡ enclave → test (s.noted p) ≡ false
@@ -102,7 +92,7 @@ none_inside s h enclave test none p seat is same = by_number (cases_lt p 16)
   where
     in_range : p < 16 → test (s.noted p) ≡ false
     in_range low =
-        rw (is, eq-eqb seat.enclave enclave same) at (none_passes (λ q. is_noting enclave test (s.inside q) (s.noted q)) 16 none p low)
+        rw (is, eq-eqb seat.enclave enclave same) at (count_below-none (λ q. is_noting enclave test (s.inside q) (s.noted q)) 16 none p low)
 
     by_number : (p < 16) ⊎ (16 ≤ p) → test (s.noted p) ≡ false
     by_number (inl low) = in_range low

@@ -3,6 +3,7 @@ use Rattle.std.proofs.Common.{◌≡◌, ℕ, not, Bool, true, false, cond, refl
 use Rattle.std.proofs.lemmas.Bool.{false≢true, eq-eqb}
 use Rattle.std.proofs.lemmas.Slice.Eq.{bytes_eq-Decides}
 use Rattle.std.specs.Str.{bytes_eq}
+use Rattle.std.proofs.lemmas.Option.{same_Some}
 use Rattle.sgx_types.specs.declared.entries.Entry.{Entry}
 use Rattle.sgx_types.specs.declared.entries.Actor.{Actor}
 use Rattle.sgx_types.specs.declared.entries.Actor.TheVariants as actors
@@ -87,20 +88,16 @@ one_header a b is = rw is (itself b)
     itself : (x : Header) → same_header x x ≡ true
     itself x = rw (eq-eqb x.enclave x.enclave refl, eq-eqb x.address x.address refl, eq-eqb x.flags x.flags refl) refl
 
--- a value that is there is one
-pub same_value : {X : Type 0} (x y : X) → Some x ≡ Some y → x ≡ y
-same_value {X} x y e = cc
-
 -- a page's header is made of its enclave's base and of what it was added as
 header_told : (g : Page) (o : Option FlatEnclave) (x : Option FlatPage) (enclave : FlatEnclave) (kind : Kind) (perm : Perm)
     → o ≡ Some enclave → added_as x ≡ Some (kind, perm) → header_by o g x ≡ Some (header_of enclave.base g kind perm)
 header_told g None x enclave kind perm made added = cc
 header_told g (Some y) None enclave kind perm made added = cc
 header_told g (Some y) (Some x) enclave kind perm made added =
-    let one : y ≡ enclave = same_value y enclave made in
+    let one : y ≡ enclave = same_Some y enclave made in
     let was : Kind × Perm = (x.kind, x.perm) in
     let now : Kind × Perm = (kind, perm) in
-    let alike : was ≡ now = same_value was now added in
+    let alike : was ≡ now = same_Some was now added in
     λ i. Some (header_of (one i).base g (alike i).0 (alike i).1)
 
 -- the page that a frame waits for has its header in flat memory
@@ -133,7 +130,7 @@ ends_refused s past f coming rec r h stands refused = record {
         let told : why.BadHeader rec.header.enclave rec.header.address rec.header.flags ≡ r = cc in
         rw (← told) (λ (x : header_at past coming.page ≡ Some rec.header).
         false≢true (sym is ∙ one_header rec.header coming.header
-        (same_value rec.header coming.header (sym x ∙ coming_header s past f stands coming))))
+        (same_Some rec.header coming.header (sym x ∙ coming_header s past f stands coming))))
 
     by_tag : (b : Bool) → bytes_eq rec.tag computed ≡ b
         → cond (not b) (Some (why.MacFail rec.tag computed))

@@ -1,6 +1,7 @@
 -- The instructions that move pages: what each brings where it is done, and each commit.
 use Rattle.std.proofs.Common.{◌≡◌, ℕ, ◌<◌, ◌==◌, true, false, cond, refl, sym, ap, ◌∙◌, Option, Some, None}
 use Rattle.std.proofs.Common.{MatchOption, is_some, List}
+use Rattle.std.proofs.lemmas.Option.{same_Some}
 use Rattle.sgx_types.specs.declared.entries.Entry.{Entry}
 use Rattle.sgx_types.specs.declared.entries.Actor.{Actor}
 use Rattle.sgx_types.specs.declared.entries.Action.TheVariants.{Block, Track, EwbStart, Ewb, EldStart, Eld}
@@ -23,7 +24,7 @@ use Rattle.paging_laws.specs.State.{State, row_of, after_block, after_eldstart, 
 use Rattle.paging_laws.specs.Steps.{IsComing, IsReloaded, IsWrittenOut, commit_row}
 use Rattle.paging_laws.proofs.FrameLaws.{open_below}
 use Rattle.paging_laws.specs.Guarded.{IsGuarded}
-use Rattle.paging_laws.proofs.MoveEnds.{IsDoneBack, IsRefusedBack, ends_back, ends_out, ends_refused, same_value}
+use Rattle.paging_laws.proofs.MoveEnds.{IsDoneBack, IsRefusedBack, ends_back, ends_out, ends_refused}
 use Rattle.paging_laws.proofs.BuildLaws.{words_put}
 use Rattle.paging_laws.proofs.NextEntry.{Brings, BringsDone, done_brings, brings_as}
 use Rattle.paging_laws.proofs.ColumnLaws.{added_flat, version_is}
@@ -124,7 +125,7 @@ back_words pages page kind perm words added same g kind' perm' e = as_held (by_p
     by_page (Some x) is e =
         let was : Kind × Perm = (x.kind, x.perm) in
         let now : Kind × Perm = (kind, perm) in
-        let alike = same_value was now is in
+        let alike = same_Some was now is in
         λ i. Some (record { kind = (alike i).0; perm = (alike i).1; words = sym e i })
 
     as_held : pages page ≡ Some (record { kind = kind; perm = perm; words = words }) → Holds page kind perm ≡ Holds g kind' perm'

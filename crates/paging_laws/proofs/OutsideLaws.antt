@@ -87,7 +87,7 @@ pub refused_keeps : (past : List Entry) (a : Actor) (action : Action) (r : Refus
 refused_keeps past a action r = record { made = λ key. refl; stays = λ g slot v there. there; words = λ g slot v there. refl }
 
 -- a page that was put into a frame is not outside
-not_framed : (b : Bool) (n : ℕ) (o : Option Copy) (slot : SlotAt) (v : ℕ) → cond b (Some (InFrame n)) o ≡ Some (InSlot slot v)
+pub not_framed : (b : Bool) (n : ℕ) (o : Option Copy) (slot : SlotAt) (v : ℕ) → cond b (Some (InFrame n)) o ≡ Some (InSlot slot v)
     → o ≡ Some (InSlot slot v)
 not_framed true n o slot v there = cc
 not_framed false n o slot v there = there

@@ -5,6 +5,7 @@ use Rattle.std.specs.List.{All}
 use Rattle.std.specs.Option.{IsSomeAnd}
 use Rattle.std.proofs.lemmas.List.Elements.{All-weaker, All-map}
 use Rattle.std.proofs.lemmas.Option.{IfSome_then}
+use Rattle.std.proofs.Math.Bool.{and-true}
 use Rattle.sgx_types.specs.declared.entries.Entry.{Entry}
 use Rattle.sgx_types.specs.declared.names.Page.{Page}
 use Rattle.sgx_types.specs.Counts.{count_below}
@@ -15,7 +16,7 @@ use Rattle.sgx_types.specs.Eviction.{is_drained}
 use Rattle.sgx_types.specs.Frames.{content, enclave_in, is_sealing, page_at}
 use Rattle.sgx_types.specs.Processors.{Seat, Stay, stay}
 use Rattle.sgx_types.specs.Rules.{EvictRule, FitsRule, IsCurrent, IsUndisturbed, NoneStale, RisingRule, StaleRule}
-use Rattle.sgx_types.proofs.CountLaws.{count_below-agrees}
+use Rattle.sgx_types.proofs.CountLaws.{count_below-agrees, count_below-splits, one_if, one_of_those}
 use Rattle.sgx_types.proofs.Keystone.{epochs_tell}
 use Rattle.sgx_types.proofs.Pages.{same_page-at}
 use Rattle.sgx_types.specs.Making.{Making}
@@ -31,17 +32,6 @@ use Rattle.paging_laws.proofs.SoundLaws.{seat_at}
 use Rattle.paging_laws.proofs.SlotLaws.{slot_busy_is}
 
 -- ---- how many processors inside are older, and how many newer
-
--- 1 where a test passes, and else 0
-abbrev one_if : Bool → ℕ
-one_if b = cond b 1 0
-
--- what passes one of two tests is counted by one of them
-count_below-splits : (p q r : ℕ → Bool) → ((k : ℕ) → one_if (p k) + one_if (q k) ≡ one_if (r k)) → (n : ℕ)
-    → count_below p n + count_below q n ≡ count_below r n
-unfolding count_below
-count_below-splits p q r h zero = refl
-count_below-splits p q r h (suc n) = let now = h n in let rest = count_below-splits p q r h n in omega (arith, now, rest)
 
 -- the machine's processors have noted what the entries say
 pub noting_agrees : (s : State) (past : List Entry) → HasColumns s past → (enclave : ℕ) (test : ℕ → Bool)
@@ -64,17 +54,6 @@ one_of_two : (b c : Bool) → one_if (b && c) + one_if (b && not c) ≡ one_if (
 one_of_two true true = refl
 one_of_two true false = refl
 one_of_two false c = refl
-
--- .. also where the second is told by the first
-one_of_those : (b c : Bool) → one_if (b && c) + one_if (b && not (b && c)) ≡ one_if b
-one_of_those true true = refl
-one_of_those true false = refl
-one_of_those false c = refl
-
--- a test beside one that always passes
-and_true : (b : Bool) → (b && true) ≡ b
-and_true true = refl
-and_true false = refl
 
 -- all that are inside are older or newer, by epochs and by places
 pub newer_agrees : (s : State) (past : List Entry) → HasColumns s past → (e : ℕ)
@@ -100,7 +79,7 @@ newer_agrees s past h e = omega (arith, by_epochs, by_places, all_agree, older_a
 
     in_it : (o : Option Stay) (m : ℕ) → is_noting e (λ m. true) (seat_of_stay o) m ≡ is_in e o
     in_it None m = refl
-    in_it (Some t) m = and_true (t.seat.enclave == e)
+    in_it (Some t) m = and-true (t.seat.enclave == e)
 
     all_agree : number_noting s e (λ m. true) ≡ count_below (λ p. is_in e (stay past p)) 16
     all_agree = count_below-agrees _ _ (λ p. rw (inside_is h p) (in_it (stay past p) (s.noted p))) 16

@@ -5,6 +5,7 @@ use Rattle.std.specs.Prelude.{Contains, count_by}
 use Rattle.std.proofs.lemmas.Bool.{eqb-true, eq-eqb}
 use Rattle.std.proofs.lemmas.List.Sums.{sum_by-set, sum_by_push, sum_by-cons, count_by-le-length}
 use Rattle.sgx_types.specs.declared.names.Frame.{Frame}
+use Rattle.sgx_types.proofs.CountLaws.{one_if}
 use Rattle.cached_translations.specs.declared.processor.Processor.{Processor}
 use Rattle.cached_translations.specs.declared.processor.Mode.{Mode}
 use Rattle.cached_translations.specs.declared.processor.Mode.TheVariants as modes
@@ -15,10 +16,6 @@ use Rattle.track_epoch.proofs.TrackingLaws.{count_by-without}
 use Rattle.track_epoch.proofs.TracksLaws.{track_of-with_track}
 use Rattle.paging_machine.specs.Parts.{is_noted, idle}
 use Rattle.paging_machine.specs.Whole.{IsTracked}
-
--- 1 where a test passes, and else 0
-abbrev one_if : Bool → ℕ
-one_if b = cond b 1 0
 
 -- how many processors pass, where one is written
 count_written : (test : Mode → Bool) (cpus : List Processor) (p : ℕ) (v : Processor) → p < length cpus

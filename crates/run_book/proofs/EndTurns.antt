@@ -9,7 +9,6 @@ use Rattle.sgx_types.specs.declared.entries.Entry.{Entry}
 use Rattle.sgx_types.specs.declared.names.Cpu.{Cpu}
 use Rattle.sgx_types.specs.declared.names.Frame.{Frame}
 use Rattle.sgx_types.specs.declared.names.Page.{Page}
-use Rattle.sgx_types.specs.declared.names.SlotAt.{SlotAt}
 use Rattle.sgx_types.specs.declared.refusals.Refusal.{Refusal}
 use Rattle.sgx_types.specs.Making.{Making}
 use Rattle.sgx_types.specs.Sealed.{Sealed}
@@ -23,12 +22,11 @@ use Rattle.paging_laws.proofs.SlotLaws.{started_as}
 use Rattle.paging_machine.specs.Parts.{Parts, state_of}
 use Rattle.version_array.specs.Keeper.{count_out}
 use Rattle.turn_rules.specs.Script.{frame_at}
-use Rattle.active_list.specs.Places.{IsPlaced}
 use Rattle.driver_rules.specs.Ages.{LookOf}
 use Rattle.driver_laws.specs.Kinds.{CanMove}
 use Rattle.driver_rules.specs.Dues.{Ends, IsNext}
 use Rattle.driver_rules.specs.Passes.{pass}
-use Rattle.driver_rules.specs.Places.{Leaving, Loading, place}
+use Rattle.driver_rules.specs.Places.{Leaving, place}
 use Rattle.driver_rules.specs.Reclaims.{is_refused}
 use Rattle.driver_rules.specs.Stops.{is_spent}
 use Rattle.driver_rules.specs.Turns.{Loads, cpu_due, last_of}
@@ -38,15 +36,15 @@ use Rattle.driver_laws.specs.Stages.{HasPages}
 use Rattle.driver_laws.specs.Tracking.{TrackingRule}
 use Rattle.driver_laws.specs.Tracks.{TryTells}
 use Rattle.driver_laws.specs.Used.{StartTells}
-use Rattle.driver_laws.proofs.LoadLaws.{loading_place}
 use Rattle.driver_tables.specs.declared.driver.Driver.{Driver}
-use Rattle.driver_tables.specs.Tables.{ShowsTables, place_in}
+use Rattle.driver_tables.specs.Tables.{ShowsTables}
 use Rattle.driver_steps.specs.Agrees.{Agrees}
 use Rattle.driver_steps.specs.Asked.{IsNextOf}
 use Rattle.fault_handler.specs.declared.answers.Loaded.{Loaded}
 use Rattle.fault_handler.specs.declared.answers.Loaded.TheVariants as ends
 use Rattle.fault_handler.specs.Due.{IsEnd, IsRightEnd, ShowsEnd}
 use Rattle.fault_handler.specs.Finishing.{CanFinish, IsFinished}
+use Rattle.fault_handler.proofs.EndLaws.{end_frame}
 use Rattle.reclaim_worker.specs.declared.turns.Phase.{Phase}
 use Rattle.reclaim_worker.specs.declared.turns.Phase.TheVariants as phases
 use Rattle.reclaim_worker.specs.declared.turns.Taken.{Taken}
@@ -104,15 +102,7 @@ module _ (made : Making) (j : JobView) (past : List Entry) (d d' : Driver) (m m'
 
   -- the load is into the frame that the processor's last entry names
   frame_is : n ≡ can.frame.0
-  frame_is =
-      let at = loading_place past n page r.sound (r.theirs.started cpu.0 n page last) in
-      let here : Loading can.frame.0 can.slot ≡ Loading n at.0 =
-      sym (ap place_in can.tables.loading)
-      ∙ r.shows.states page (subst (λ c. IsPlaced c page) (sym can.tables.counts) can.tables.placed) ∙ at.1 in
-      sym (frames can.frame.0 n can.slot at.0 here)
-    where
-      frames : (a b : ℕ) (x y : SlotAt) → Loading a x ≡ Loading b y → a ≡ b
-      frames a b x y k = cc
+  frame_is = end_frame made j past d m r cpu page n last can
 
   due : cpu_due j past cpu.0 ≡ Ends (Eld can.frame)
   due = by_frame ∙ ap (λ k. Ends (Eld (frame_at k))) frame_is

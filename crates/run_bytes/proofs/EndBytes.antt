@@ -10,7 +10,6 @@ use Rattle.sgx_types.specs.declared.entries.Entry.{Entry}
 use Rattle.sgx_types.specs.declared.names.Cpu.{Cpu}
 use Rattle.sgx_types.specs.declared.names.Frame.{Frame}
 use Rattle.sgx_types.specs.declared.names.Page.{Page}
-use Rattle.sgx_types.specs.declared.names.SlotAt.{SlotAt}
 use Rattle.sgx_types.specs.declared.refusals.Refusal.{Refusal}
 use Rattle.sgx_types.specs.Making.{Making}
 use Rattle.sgx_types.specs.Sealed.{Sealed}
@@ -26,16 +25,13 @@ use Rattle.paging_laws.specs.Steps.{IsReloaded, commit_row, did_by, refused_by}
 use Rattle.paging_laws.proofs.ColumnLaws.{start_is}
 use Rattle.paging_machine.specs.Parts.{Parts, state_of}
 use Rattle.active_list.specs.Keeping.{record_kept}
-use Rattle.active_list.specs.Places.{IsPlaced}
-use Rattle.driver_rules.specs.Places.{Loading}
 use Rattle.driver_rules.specs.Reclaims.{is_refused}
 use Rattle.driver_rules.specs.Turns.{Loads, last_of}
-use Rattle.driver_laws.proofs.LoadLaws.{loading_place}
 use Rattle.driver_tables.specs.declared.driver.Driver.{Driver}
-use Rattle.driver_tables.specs.Tables.{place_in}
 use Rattle.driver_steps.specs.Agrees.{Agrees}
 use Rattle.fault_handler.specs.declared.answers.Loaded.{Loaded}
 use Rattle.fault_handler.specs.Finishing.{CanFinish, IsFinished}
+use Rattle.fault_handler.proofs.EndLaws.{end_frame}
 use Rattle.run_history.specs.Calls.{before}
 use Rattle.run_history.specs.Given.{UnforgedRun, gift, given_in, given_more, looked_at, made_in, made_more}
 use Rattle.book_laws.specs.Stores.{TellsStore}
@@ -76,15 +72,7 @@ module _ (made : Making) (j : JobView) (past : List Entry) (calls : List Call) (
     (is : IsFinished cpu page can.slot can.frame can.kept d (state_of m) loaded d' (state_of m')) where
   -- the load is into the frame that the processor's last entry names
   frame_is : n ≡ can.frame.0
-  frame_is =
-      let at = loading_place past n page r.sound (r.theirs.started cpu.0 n page last) in
-      let here : Loading can.frame.0 can.slot ≡ Loading n at.0 =
-      sym (ap place_in can.tables.loading)
-      ∙ r.shows.states page (subst (λ c. IsPlaced c page) (sym can.tables.counts) can.tables.placed) ∙ at.1 in
-      sym (frames can.frame.0 n can.slot at.0 here)
-    where
-      frames : (a b : ℕ) (x y : SlotAt) → Loading a x ≡ Loading b y → a ≡ b
-      frames a b x y k = cc
+  frame_is = end_frame made j past d m r cpu page n last can
 
   -- the kept record is the one that the store gave
   gift_is : gift past calls can.frame.0 ≡ Some can.kept

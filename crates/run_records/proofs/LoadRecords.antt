@@ -45,9 +45,7 @@ use Rattle.paging_machine.specs.Parts.{Parts, state_of}
 use Rattle.driver_rules.specs.Places.{Loading}
 use Rattle.driver_rules.specs.Reclaims.{is_refused}
 use Rattle.driver_rules.specs.Turns.{Loads, last_of}
-use Rattle.driver_laws.proofs.LoadLaws.{loading_place}
 use Rattle.driver_tables.specs.declared.driver.Driver.{Driver}
-use Rattle.driver_tables.specs.Tables.{place_in}
 use Rattle.driver_steps.specs.Agrees.{Agrees}
 use Rattle.turn_tables.specs.declared.turns.Turns.{Turns}
 use Rattle.run_history.specs.Calls.{before}
@@ -62,6 +60,7 @@ use Rattle.fault_handler.specs.declared.answers.Loaded.{Loaded}
 use Rattle.fault_handler.specs.declared.answers.Loaded.TheVariants as ends
 use Rattle.fault_handler.specs.Finishing.{CanFinish, IsFinished}
 use Rattle.fault_handler.specs.Resolving.{IsFetch, IsGot, IsResolved}
+use Rattle.fault_handler.proofs.EndLaws.{end_frame}
 use Rattle.run_book.specs.Books.{AreTold, IsTold, KeepsBook}
 use Rattle.run_book.specs.Loads.{OfAnswer, entry_in}
 use Rattle.run_records.specs.Builds.{is_building}
@@ -281,15 +280,7 @@ module _ (made : Making) (j : JobView) (past : List Entry) (calls : List Call) (
 
   -- the load is into the frame that the processor's last entry names
   frame_is : n ≡ can.frame.0
-  frame_is =
-      let at = loading_place past n page r.sound (r.theirs.started cpu.0 n page last) in
-      let here : Loading can.frame.0 can.slot ≡ Loading n at.0 =
-      sym (ap place_in can.tables.loading)
-      ∙ r.shows.states page (subst (λ c. IsPlaced c page) (sym can.tables.counts) can.tables.placed) ∙ at.1 in
-      sym (frames can.frame.0 n can.slot at.0 here)
-    where
-      frames : (a b : ℕ) (x y : SlotAt) → Loading a x ≡ Loading b y → a ≡ b
-      frames a b x y e = cc
+  frame_is = end_frame made j past d m r cpu page n last can
 
   -- the kept record is the one that was given for this load
   pub given : gift past calls can.frame.0 ≡ Some can.kept

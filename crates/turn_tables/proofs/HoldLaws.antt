@@ -2,9 +2,10 @@
 use Rattle.std.proofs.Common.{◌≡◌, ◌≢◌, ℕ, zero, suc, ◌+◌, ◌-◌, ◌/◌, ◌==◌, ◌<◌, ◌≤◌, ◌||◌, Bool}
 use Rattle.std.proofs.Common.{true, false, if◌then◌else◌, List, [], ◌∷◌, ◌++◌, ⊎_elim, Option, Some, None, IfSome}
 use Rattle.std.proofs.Common.{is_some, drop, length, slice_get, set, refl, sym, ap, subst, ◌∙◌, arith}
-use Rattle.std.proofs.lemmas.Bool.{cases_lt, eq-eqb, eqb-false, eqb-true, false≢true}
+use Rattle.std.proofs.lemmas.Bool.{cases_lt, eq-eqb, eqb-false, eqb-true, false≢true, or_right}
 use Rattle.std.proofs.lemmas.List.{append-nil, get_or-set_same, get_or_past, length-set, set_past}
 use Rattle.std.proofs.lemmas.List.Folds.{list_any-append}
+use Rattle.std.proofs.Math.Bool.{or-false}
 use Rattle.sgx_types.specs.declared.entries.Action.{Action}
 use Rattle.sgx_types.specs.declared.entries.Action.TheVariants as actions
 use Rattle.sgx_types.specs.declared.entries.Actor.{Actor}
@@ -58,13 +59,9 @@ use Rattle.turn_tables.proofs.DueLaws.{access_is, enclave_same, enter_save_is, r
 use Rattle.turn_tables.proofs.LineLaws.{op_valid}
 use Rattle.turn_tables.proofs.LookLaws.{IsSeen, looks_are}
 use Rattle.turn_tables.proofs.NeedLaws.{Fits, fits_entry}
-use Rattle.turn_tables.proofs.OnceLaws.{holds_all, holds_if, join_all, join_if, longer_if, once_all, once_if, or_right, pigeons}
+use Rattle.turn_tables.proofs.OnceLaws.{holds_all, holds_if, join_all, join_if, longer_if, once_all, once_if, pigeons}
 
 -- ---- what is held of a list
-
-or_false : (b : Bool) → (b || false) ≡ b
-or_false true = refl
-or_false false = refl
 
 or_twice : (a b : Bool) → (a || (a || b)) ≡ (a || b)
 or_twice true b = refl
@@ -78,7 +75,7 @@ abbrev Same : List Page → List Page → Type 0
 Same xs ys = (g : Page) → is_among xs g ≡ is_among ys g
 
 among_only : (x g : Page) → (same_page x g || false) ≡ true → x ≡ g
-among_only x g h = same_pages x g (sym (or_false (same_page x g)) ∙ h)
+among_only x g h = same_pages x g (sym (or-false (same_page x g)) ∙ h)
 
 -- a page that is brought back, with those before it
 tail_same : (access : Option Page) (page g : Page) → is_among (listed access) page ≡ true

@@ -1,7 +1,7 @@
 -- What a processor begins to hold by an instruction that is due: pages that were added, and those that the tables name.
 use Rattle.std.proofs.Common.{◌≡◌, ℕ, ◌+◌, ◌/◌, ◌==◌, ◌||◌, ◌++◌, not, Bool, true, false, if◌then◌else◌}
 use Rattle.std.proofs.Common.{List, [], ◌∷◌, Option, Some, None, is_some, refl, sym, ap, subst, ◌∙◌}
-use Rattle.std.proofs.lemmas.Bool.{false≢true}
+use Rattle.std.proofs.lemmas.Bool.{false≢true, or_right}
 use Rattle.sgx_types.specs.declared.entries.AccessOp.{AccessOp}
 use Rattle.sgx_types.specs.declared.entries.AccessOp.TheVariants as accesses
 use Rattle.sgx_types.specs.declared.entries.Action.{Action}
@@ -43,7 +43,6 @@ use Rattle.driver_laws.specs.Sound.{IsSound, is_absent}
 use Rattle.driver_laws.specs.Three.{HoldsThree}
 use Rattle.driver_laws.proofs.PlaceLaws.{here_there, stands_there}
 use Rattle.driver_laws.proofs.SoundLaws.{lawful_there}
-use Rattle.turn_tables.proofs.OnceLaws.{or_right}
 
 -- ---- places
 

@@ -1,8 +1,9 @@
 -- Lists of pages that have each page once.
 use Rattle.std.proofs.Common.{◌≡◌, ℕ, ◌+◌, ◌<◌, ◌≤◌, ◌||◌, Bool, true, false, if◌then◌else◌, List, []}
 use Rattle.std.proofs.Common.{◌∷◌, ◌++◌, Option, Some, None, length, refl, sym, ap, subst, ◌∙◌, arith}
-use Rattle.std.proofs.lemmas.Bool.{false≢true}
+use Rattle.std.proofs.lemmas.Bool.{false≢true, or_right}
 use Rattle.std.proofs.lemmas.List.{length_push}
+use Rattle.std.proofs.Math.Bool.{or-false}
 use Rattle.sgx_types.specs.declared.names.Page.{Page}
 use Rattle.sgx_types.specs.Frames.{same_page}
 use Rattle.sgx_types.proofs.Pages.{same_page-refl, same_page-swap, same_pages}
@@ -14,17 +15,9 @@ use Rattle.driver_tables.proofs.HeldLaws.{holds_joined}
 use Rattle.turn_tables.specs.Holding.{pages_of}
 use Rattle.turn_tables.specs.declared.holding.HeldPages.{HeldPages}
 
-or_false : (b : Bool) → (b || false) ≡ b
-or_false true = refl
-or_false false = refl
-
 or_apart : (a b c : Bool) → ((a || b) || c) ≡ (a || (b || c))
 or_apart true b c = refl
 or_apart false b c = refl
-
-pub or_right : (a b : Bool) → b ≡ true → (a || b) ≡ true
-or_right true b h = refl
-or_right false b h = h
 
 -- a list without a page
 abbrev without : Page → List Page → List Page
@@ -135,17 +128,17 @@ longer_if pages (Some p) = longer_joined pages p
 
 pub holds_if : (pages : List Page) (o : Option Page) (g : Page) → holds_page (join_if pages o) g ≡ (holds_page pages g || is_among
     (listed o) g)
-holds_if pages None g = sym (or_false (holds_page pages g))
+holds_if pages None g = sym (or-false (holds_page pages g))
 holds_if pages (Some p) g =
     holds_joined pages p g
-    ∙ ap (λ b. holds_page pages g || b) (same_page-swap g p ∙ sym (or_false (same_page p g)))
+    ∙ ap (λ b. holds_page pages g || b) (same_page-swap g p ∙ sym (or-false (same_page p g)))
 
 abbrev pub join_all : List Page → HeldPages → List Page
 join_all pages h = join_if (join_if (join_if pages h.first) h.second) h.third
 
 among_listed : (o : Option Page) (xs : List Page) (g : Page) → is_among (listed o ++ xs) g ≡ (is_among (listed o) g || is_among xs g)
 among_listed None xs g = refl
-among_listed (Some p) xs g = ap (λ b. b || is_among xs g) (sym (or_false (same_page p g)))
+among_listed (Some p) xs g = ap (λ b. b || is_among xs g) (sym (or-false (same_page p g)))
 
 pub holds_all : (pages : List Page) (h : HeldPages) (g : Page)
     → holds_page (join_all pages h) g ≡ (holds_page pages g || is_among (pages_of h) g)

@@ -4,7 +4,7 @@ ghost use Rattle.std.specs.Prelude.{◌≡◌, [], ◌+◌, ◌*◌, ◌<◌, �
 ghost use Rattle.std.specs.Prelude.{nat_lt, slice_index_or, None, IfOk, IfSome, IfNone};
 ghost use Rattle.slab.specs.Slab.{slab_len};
 ghost use Rattle.version_array.specs.Keeper.{new_keeper, is_added, is_out, count_all, count_out, Adds, Takes, Gives, AllOut};
-ghost use Rattle.version_array.specs.Keys.{is_taken, count_below, IsCounted, Frees, is_frame};
+ghost use Rattle.version_array.specs.Keys.{is_taken, IsCounted, Frees, is_frame};
 
 use crate::va_page::SLOTS;
 use sgx_types::names::{Frame, Memory, SlotAt};

@@ -1,17 +1,15 @@
 -- What was printed again is not the line, which is then no readable entry's.
 use Rattle.std.proofs.Common.{◌≡◌, true, false, List, ℕ, ◌++◌, Some, sym, ap, ◌∙◌}
 use Rattle.std.proofs.lemmas.Slice.Eq.{bytes_eq-Decides}
+use Rattle.std.proofs.lemmas.Option.{same_Some}
 use Rattle.sgx_types.specs.declared.entries.Entry.{Entry}
 use Rattle.trace_text.specs.TraceText.{spelling}
 use Rattle.trace_lines.proofs.LineReads.{line_read}
 use Rattle.trace_lines.proofs.lines.read_line.Goals as goal
 
-some-inj : {x y : Entry} → Some x ≡ Some y → x ≡ y
-some-inj e = cc
-
 pub returns-else-eq-clause-only : goal.returns-else-eq-clause-only
 returns-else-eq-clause-only c e readable same =
-    let own : c.in-Some.entry ≡ e = some-inj
+    let own : c.in-Some.entry ≡ e = same_Some _ _
     (sym c.in-Some.is ∙ c.in_ok-entry.ensures.read ∙ line_read e c.args.line.now readable same) in
     let printed = c.in_ok-print_spelling.ensures.text ∙ ap (λ (t : List ℕ). t ++ spelling c.in-Some.entry) c.clear.ensures.items
     ∙ ap spelling own in
