@@ -106,10 +106,14 @@ fn whole_turn<R: Wait, B: Backing, N: Run>(
 {
     // The lock is free again behind this line.
     let turn = shared.lock(rt).turn(alloc, words, who)?;
-    match (turn, who) {
-        (Turn::Seal(work), _) => Ok(sealed_turn(rt, shared, work)),
-        (Turn::Unseal(work), Actor::Cpu(cpu)) => Ok(opened_turn(rt, shared, cpu, work)),
-        (turn, _) => Ok(after(turn)),
+    match turn {
+        Turn::Seal(work) => Ok(sealed_turn(rt, shared, work)),
+        Turn::Unseal(work) => match who {
+            Actor::Cpu(cpu) => Ok(opened_turn(rt, shared, cpu, work)),
+            // Nobody else loads.
+            Actor::Builder | Actor::Reclaimer => Ok(Next::Goes),
+        },
+        turn => Ok(after(turn)),
     }
 }
 

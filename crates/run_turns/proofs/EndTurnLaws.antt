@@ -4,23 +4,19 @@ use Rattle.std.proofs.Common.{Some, None, IsSomeAnd, length, count_by, nat_lt, s
 use Rattle.std.proofs.Common.{◌∙◌, arith}
 use Rattle.std.proofs.lemmas.Bool.{false≢true}
 use Rattle.sgx_types.specs.declared.entries.Action.TheVariants.{Ewb}
-use Rattle.sgx_types.specs.declared.entries.Actor.{Actor}
 use Rattle.sgx_types.specs.declared.entries.Actor.TheVariants as actors
 use Rattle.sgx_types.specs.declared.entries.Answer.{Answer}
 use Rattle.sgx_types.specs.declared.entries.Entry.{Entry}
 use Rattle.sgx_types.specs.declared.entries.Event.TheVariants.{Did}
 use Rattle.sgx_types.specs.declared.names.Frame.{Frame}
 use Rattle.backing_store.specs.Calls.{Call}
-use Rattle.cached_translations.specs.declared.processor.Mode.TheVariants.{Outside}
 use Rattle.turn_rules.specs.Machines.{machine_of}
 use Rattle.paging_laws.specs.Shape.{FitsApart, ShapeWithRules}
 use Rattle.paging_laws.specs.State.{State}
 use Rattle.paging_machine.specs.Parts.{Parts, state_of}
-use Rattle.driver_rules.specs.Ages.{AgeRule}
-use Rattle.driver_rules.specs.Passes.{pass, pass_after}
+use Rattle.driver_rules.specs.Passes.{pass}
 use Rattle.driver_rules.specs.Stops.{is_spent}
 use Rattle.driver_tables.specs.declared.driver.Driver.{Driver}
-use Rattle.driver_steps.specs.Asked.{IsNextOf}
 use Rattle.reclaim_worker.specs.declared.passes.Pass as worker
 use Rattle.reclaim_worker.specs.declared.turns.Form.TheVariants as forms
 use Rattle.reclaim_worker.specs.declared.turns.Phase.{Phase}
@@ -35,17 +31,13 @@ use Rattle.reclaim_worker.proofs.OpenLaws.{can_store}
 use Rattle.run_book.proofs.EndTurns.{out_next}
 use Rattle.run_bytes.proofs.StepBytes.{stored_bytes}
 use Rattle.run_records.proofs.PassRecords.{out_flat, out_told}
-use Rattle.table_notes.specs.Arrays.{KeepsArrays}
-use Rattle.table_notes.proofs.ArrayLaws.{arrays_in_pass}
-use Rattle.turn_tables.specs.Holding.{mode_of}
 use Rattle.turn_tables.specs.Noting.{with_kick}
 use Rattle.turn_tables.specs.Entries.{EntersApart}
 use Rattle.run_turns.specs.declared.course.Course.{Course}
 use Rattle.run_turns.specs.Courses.{KeepsCourse, has_open_load, past_of}
 use Rattle.run_turns.specs.Passing.{IsOwnEntry}
 use Rattle.run_turns.proofs.FollowLaws.{course_ready}
-use Rattle.run_turns.proofs.OwnLaws.{own_ends, own_none}
-use Rattle.run_records.proofs.HonestRecords.{not_lost}
+use Rattle.run_turns.proofs.TakeLaws.{own_entry}
 use Rattle.driver_rules.specs.Stops.{is_bus}
 
 -- ---- before it
@@ -120,60 +112,36 @@ pub end_is_own : (c : Course) (told longer : Option (List Call)) (before spare f
     → ShapeWithRules (machine_of c.job) (state_of m) (e ∷ past_of c) → FitsApart (machine_of c.job).frames (e ∷ past_of c)
     → length m.cpus ≡ length c.machine.cpus
     → IsOwnEntry (record c { pass = p; driver = d; machine = m }) e longer spare
-end_is_own c told longer before spare faults faults' e p d m k going waits ended says to places shape fits cpus = record {
-  take = record {
-    can = record {
-      told = told;
-      longer = longer;
-      d = c.driver;
-      m = c.machine;
-      tcs = k.tcs;
-      book = k.book;
-      made = record {
-        next = next;
-        own = is.own;
+end_is_own c told longer before spare faults faults' e p d m k going waits ended says to places shape fits cpus =
+    own_entry c told longer before spare e p d m k record {
+      next =
+          out_next (machine_of c.job) c.job (past_of c) c.driver d c.machine m c.pass.taken.items c.pass.phase told longer faults faults' e
+          p.taken.items p.phase k.book.agrees ready going says ended (record { shape = shape; fits = fits }) cpus;
+      own = is.own;
+      mine = record {
+        actor = ap (λ (x : Entry). x.actor) is.is;
         enters = subst (λ (x : Entry). EntersApart x.event) (sym is.is) tt;
-        flat = out_flat (past_of c) c.pass.taken.items c.pass.phase (state_of c.machine) (state_of m) c.driver d
-            told longer faults faults' e
-            says k.book.flat;
-        store = out_told (machine_of c.job) c.job (past_of c) told longer c.driver d c.machine m c.turns c.pass.taken.items c.pass.phase
-            faults faults' e k.book refl ready says;
-        bytes = stored_bytes (machine_of c.job) c.job (past_of c) c.driver d c.machine m c.pass.taken.items c.pass.phase told longer
-            faults faults' e says;
-        honest = not_lost longer e.event (subst (λ (x : Entry). is_bus x.event ≡ false) (sym is.is) refl);
+        back = subst (λ (x : Entry). is_bus x.event ≡ false) (sym is.is) refl;
       };
-      stood = subst (λ (a : Actor). Outside ≡ mode_of c.machine a) (sym mine) refl;
-      place = omega (arith, room);
-    };
-    stands = subst (λ (a : Actor). StandsFor c.job.start_epoch (e ∷ past_of c) p.taken.items p.phase
-        (pass_after c.job (past_of c) a e.event (pass c.job (past_of c)))) (sym mine) ended.stands;
-  };
-  same = refl;
-  actor = mine;
-  places = places;
-  arrays = subst (λ (a : Actor). KeepsArrays c.job d.slots (record { actor = a; event = e.event } ∷ past_of c)) (sym mine)
-      (arrays_in_pass c.job d.slots (past_of c) e.event k.book.agrees.sound k.book.agrees.pages
-      (subst (λ (a : Actor). AgeRule c.job (past_of c) (record { actor = a; event = e.event })) mine next.age) next.can);
-  ends = own_ends (past_of c) e mine k.ends;
-  none = own_none (past_of c) e mine k.none;
-  room = subst (λ (x : Entry). vec_len c.entries + 1 + 2 * (count_by has_open_load (with_kick x.event c.turns.cpus)
-      + (if is_sealing p.phase then 1 else 0)) ≤ vec_capacity c.entries) (sym is.is)
-      (subst (λ b. vec_len c.entries + 1 + 2 * (count_by has_open_load c.turns.cpus + (if b then 1 else 0)) ≤ vec_capacity c.entries)
-      (sym (ap is_sealing to ∙ closed c.pass.taken.items c.pass.phase waits)) (omega (arith, room)));
-}
+      flat = out_flat (past_of c) c.pass.taken.items c.pass.phase (state_of c.machine) (state_of m) c.driver d told longer faults faults' e
+          says k.book.flat;
+      store = out_told (machine_of c.job) c.job (past_of c) told longer c.driver d c.machine m c.turns c.pass.taken.items c.pass.phase
+          faults faults' e k.book refl ready says;
+      bytes = stored_bytes (machine_of c.job) c.job (past_of c) c.driver d c.machine m c.pass.taken.items c.pass.phase told longer
+          faults faults' e says;
+      stands = ended.stands;
+      places = places;
+      room = subst (λ (x : Entry). vec_len c.entries + 1 + 2 * (count_by has_open_load (with_kick x.event c.turns.cpus)
+          + (if is_sealing p.phase then 1 else 0)) ≤ vec_capacity c.entries) (sym is.is)
+          (subst (λ b. vec_len c.entries + 1 + 2 * (count_by has_open_load c.turns.cpus + (if b then 1 else 0)) ≤ vec_capacity c.entries)
+          (sym (ap is_sealing to ∙ closed c.pass.taken.items c.pass.phase waits)) (omega (arith, room)));
+    }
   where
     is : IsEnd e c.driver d
     is = end_of c.pass.taken.items c.pass.phase (state_of c.machine) (state_of m) c.driver d told longer faults faults' e says
 
-    mine : e.actor ≡ actors.Reclaimer
-    mine = ap (λ (x : Entry). x.actor) is.is
-
     ready : Ready (machine_of c.job) c.job (past_of c) c.pass.taken.items c.pass.phase c.driver c.machine
     ready = course_ready c told before k
-
-    next : IsNextOf (machine_of c.job) c.job (past_of c) c.driver c.machine e d m
-    next = out_next (machine_of c.job) c.job (past_of c) c.driver d c.machine m c.pass.taken.items c.pass.phase told longer faults faults' e
-        p.taken.items p.phase k.book.agrees ready going says ended (record { shape = shape; fits = fits }) cpus
 
     room : vec_len c.entries + 2 * (count_by has_open_load c.turns.cpus + 1) ≤ vec_capacity c.entries
     room = subst (λ b. vec_len c.entries + 2 * (count_by has_open_load c.turns.cpus + (if b then 1 else 0)) ≤ vec_capacity c.entries)

@@ -3,21 +3,18 @@ use Rattle.std.proofs.Common.{◌≡◌, ℕ, ◌+◌, ◌*◌, ◌≤◌, ◌�
 use Rattle.std.proofs.Common.{◌∷◌, Option, Some, None, IfSome, length, count_by, is_some, vec_len, vec_capacity, refl, sym, ap, subst}
 use Rattle.std.proofs.Common.{◌∙◌, arith, length-set}
 use Rattle.std.proofs.lemmas.List.Sums.{count_by-le-length}
-use Rattle.sgx_types.specs.declared.entries.Actor.{Actor}
 use Rattle.sgx_types.specs.declared.entries.Entry.{Entry}
 use Rattle.sgx_types.specs.declared.entries.Event.{Event}
 use Rattle.sgx_types.specs.declared.entries.Event.TheVariants.{Age, Bus, Did, Kick, Refused}
 use Rattle.sgx_types.specs.Making.{Making}
 use Rattle.sgx_types.specs.Enclaves.{EnclavesAreFlat}
 use Rattle.backing_store.specs.Calls.{Call}
-use Rattle.cached_translations.specs.declared.processor.Mode.TheVariants.{Outside}
 use Rattle.turn_rules.specs.Machines.{machine_of}
 use Rattle.version_array.specs.Keeper.{AllOut}
 use Rattle.paging_laws.specs.State.{State}
 use Rattle.paging_machine.specs.Parts.{Parts, state_of}
-use Rattle.driver_rules.specs.Ages.{AgeRule}
 use Rattle.driver_rules.specs.Dues.{KicksAll}
-use Rattle.driver_rules.specs.Passes.{pass, pass_after, pass_by}
+use Rattle.driver_rules.specs.Passes.{pass, pass_by}
 use Rattle.driver_rules.specs.Places.{Leaving, place}
 use Rattle.driver_rules.specs.Reclaims.{pass_due}
 use Rattle.driver_rules.specs.Stops.{is_spent}
@@ -49,19 +46,16 @@ use Rattle.run_book.proofs.TurnLaws.{turn_next}
 use Rattle.run_bytes.proofs.TurnBytes.{turn_bytes}
 use Rattle.run_records.proofs.PassRecords.{turn_flat, turn_stays, turn_told}
 use Rattle.table_notes.specs.Arrays.{KeepsArrays}
-use Rattle.table_notes.proofs.ArrayLaws.{arrays_in_pass}
 use Rattle.turn_tables.specs.declared.cpu_turns.CpuTurn.{CpuTurn}
-use Rattle.turn_tables.specs.Holding.{mode_of}
 use Rattle.turn_tables.specs.Noting.{with_kick}
 use Rattle.run_turns.specs.declared.course.Course.{Course}
 use Rattle.run_turns.specs.Courses.{KeepsCourse, has_open_load, past_of}
 use Rattle.run_turns.specs.Passing.{FollowsBy, IsOwnEntry, IsOwnKicks}
 use Rattle.run_turns.proofs.KeepLaws.{few_cpus}
-use Rattle.run_turns.proofs.OwnLaws.{own_ends, own_none}
 use Rattle.run_turns.proofs.PassTurnLaws.{AtTries, IsTrackSpent, IsTrySpent, IsTurnEntry, Leaves, StaysAtTries, TellsDue}
 use Rattle.run_turns.proofs.PassTurnLaws.{spent_pass, spent_stands, turn_leaves, turn_tells}
 use Rattle.run_turns.proofs.RestLaws.{book_of_state}
-use Rattle.run_records.proofs.HonestRecords.{not_lost}
+use Rattle.run_turns.proofs.TakeLaws.{own_entry}
 
 -- ---- before a turn
 
@@ -134,38 +128,15 @@ module _ (c : Course) (told longer : Option (List Call)) (before spare : ℕ) (p
       → ((calls : List Call) → CarriesBytes (machine_of c.job) c.job (past_of c) c.machine e m calls)
       → StandsFor c.job.start_epoch (e ∷ past_of c) p.taken.items p.phase (pass_by c.job (past_of c) e.event (pass c.job (past_of c)))
       → still_out p.taken.items p.phase ≤ spare → IsOwnEntry behind e longer spare
-  by_entry e next own mine flat store bytes stands places = record {
-    take = record {
-      can = record {
-        told = told;
-        longer = longer;
-        d = c.driver;
-        m = c.machine;
-        tcs = k.tcs;
-        book = k.book;
-        made = record {
-          next = next;
-          own = own;
-          enters = mine.enters;
-          flat = flat;
-          store = store;
-          bytes = every (CarriesBytes (machine_of c.job) c.job (past_of c) c.machine e m) longer bytes;
-          honest = not_lost longer e.event mine.back;
-        };
-        stood = subst (λ (a : Actor). Outside ≡ mode_of c.machine a) (sym mine.actor) refl;
-        place = omega (arith, room);
-      };
-      stands = subst (λ (a : Actor). StandsFor c.job.start_epoch (e ∷ past_of c) p.taken.items p.phase
-          (pass_after c.job (past_of c) a e.event (pass c.job (past_of c)))) (sym mine.actor) stands;
-    };
-    same = refl;
-    actor = mine.actor;
+  by_entry e next own mine flat store bytes stands places = own_entry c told longer before spare e p d m k record {
+    next = next;
+    own = own;
+    mine = mine;
+    flat = flat;
+    store = store;
+    bytes = every (CarriesBytes (machine_of c.job) c.job (past_of c) c.machine e m) longer bytes;
+    stands = stands;
     places = places;
-    arrays = subst (λ (a : Actor). KeepsArrays c.job d.slots (record { actor = a; event = e.event } ∷ past_of c)) (sym mine.actor)
-        (arrays_in_pass c.job d.slots (past_of c) e.event k.book.agrees.sound k.book.agrees.pages
-        (subst (λ (a : Actor). AgeRule c.job (past_of c) (record { actor = a; event = e.event })) mine.actor next.age) next.can);
-    ends = own_ends (past_of c) e mine.actor k.ends;
-    none = own_none (past_of c) e mine.actor k.none;
     room = enough (is_sealing p.phase);
   }
     where

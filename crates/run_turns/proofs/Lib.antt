@@ -6,6 +6,7 @@ pub mod BuilderLaws
 pub mod RestLaws
 pub mod OwnLaws
 pub mod PassTurnLaws
+pub mod TakeLaws
 pub mod FollowLaws
 pub mod KickTurnLaws
 pub mod EndTurnLaws

@@ -85,6 +85,17 @@ fn slots_keep_versions_and_marks(rt: HostRuntime) -> Result<(), Fail> {
 }
 
 #[test]
+fn version_array_pages_are_counted(rt: HostRuntime) -> Result<(), Fail> {
+    let mut table = VaTable::new();
+    assert_eq!(rt; table.made(), 0);
+    table.epa(rt.alloc(), Frame(3))?;
+    assert_eq!(rt; table.made(), 1);
+    table.epa(rt.alloc(), Frame(1))?;
+    assert_eq!(rt; table.made(), 2);
+    Ok(())
+}
+
+#[test]
 fn the_greatest_version_is_drawn_once(rt: HostRuntime) {
     let mut versions = Versions::new(18446744073709551614);
     assert_eq!(rt; versions.draw(), Ok(18446744073709551614));
