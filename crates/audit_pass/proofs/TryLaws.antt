@@ -169,7 +169,8 @@ module _ (m : Parts) (past : List Entry) (kicks : List ℕ) (t : Taken) where
 
   actor_told : (rest : List Page) (form : Form) (actor : Actor) (event : Event) → Keeps form → by_actor m kicks form actor event t
       ≡ (form_of past (Tries t.page rest (form_in kicks form)) actor event && beside_of (Tries t.page rest (form_in kicks form)) actor)
-  actor_told rest form actors.Reclaimer event k = form_told form event k ∙ sym (and-true (is_in_form past t.page (form_in kicks form) event))
+  actor_told rest form actors.Reclaimer event k = form_told form event k
+      ∙ sym (and-true (is_in_form past t.page (form_in kicks form) event))
   actor_told rest form actors.Builder event k = beside_told form
   actor_told rest form (actors.Cpu p) event k = beside_told form
 

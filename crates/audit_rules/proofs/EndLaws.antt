@@ -52,8 +52,10 @@ out-page past n g h v w s t one other =
 back-page : (past : List Entry) (n : ℕ) (g h : Page) (v w : ℕ) (s t : List ℕ) → IsBack past n (answers.Moved g v s)
     → IsBack past n (answers.Moved h w t) → g ≡ h
 back-page past n g h v w s t one other =
-    moved-page one.told ∙ same_Some _ _ (sym one.ends.loads ∙ ap (λ (x : Start). x.loads) (same_Some _ _ (sym one.ends.opened ∙ other.ends.opened))
-    ∙ other.ends.loads) ∙ sym (moved-page other.told)
+    moved-page one.told
+    ∙ same_Some _ _ (sym one.ends.loads
+    ∙ ap (λ (x : Start). x.loads) (same_Some _ _ (sym one.ends.opened ∙ other.ends.opened)) ∙ other.ends.loads)
+    ∙ sym (moved-page other.told)
 
 write-out-version : (o : Option Start) (v w : ℕ) → EndsWriteOut o v → EndsWriteOut o w → v ≡ w
 write-out-version o v w one other =
@@ -144,7 +146,8 @@ module _ (j : JobView) (past : List Entry) (actor : Actor) (f : Frame) where
             (rule_out (answers.Moved page version tag) (answers.Moved g v t))
         by_test (inl same) = subst Says_of (sym (same_pages page g same)) (at-page version tag) script other
         by_test (inr differs) =
-            rw differs (of-page page version tag script (λ e. false≢true (sym differs ∙ subst (λ x. same_page page x ≡ true) e (same_page-refl page))))
+            rw differs (of-page page version tag script
+            (λ e. false≢true (sym differs ∙ subst (λ x. same_page page x ≡ true) e (same_page-refl page))))
 
     -- an end that names nothing
     bare-out : (answer : Answer) → ScriptRule j past (out answer) → (EndsOut past f.0 answer → ⊥)

@@ -325,7 +325,8 @@ shows_epa j old new past a f answer free none adds s = record {
     or_end true = refl
     or_end false = refl
 
-    by_frame : (n : ℕ) (b : Bool) → (f.0 == n) ≡ b → (is_added old n || ((f.0 == n) || false)) ≡ is_va (if b then IsVa (vas_made past) else content past n)
+    by_frame : (n : ℕ) (b : Bool) → (f.0 == n) ≡ b
+        → (is_added old n || ((f.0 == n) || false)) ≡ is_va (if b then IsVa (vas_made past) else content past n)
     by_frame n true is = rw is (or_end (is_added old n))
     by_frame n false is = rw is (or-false (is_added old n) ∙ s.frames n)
 

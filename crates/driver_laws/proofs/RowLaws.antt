@@ -148,7 +148,8 @@ try_goes frames j keeper past g slot w drain is_spent s sealing shows ours free 
     page = in_page j keeper past slot shows ours
 
     frame : IsNoOther (content past w.frame)
-    frame = page_is_no_other (content past w.frame) g (holds_here past g (Leaving w.frame) w.frame s w.leaving (eq-eqb w.frame w.frame refl))
+    frame = page_is_no_other (content past w.frame) g
+        (holds_here past g (Leaving w.frame) w.frame s w.leaving (eq-eqb w.frame w.frame refl))
 
     near : is_out_of_range sight (slot_sight_at frames past slot) ≡ false
     near = rw (low, slot_low, page.within) refl

@@ -69,7 +69,8 @@ only_once false false h e = e
 holds_below : (frames : ℕ) (past : List Entry) (n : ℕ) (g : Page) → all_along (puts_below frames) past ≡ true
     → is_page (content past n) g ≡ true → (n < frames) ⊎ (frames ≤ n) → n < frames
 holds_below frames past n g low here (inl below) = below
-holds_below frames past n g low here (inr beyond) = absurd (false≢true (subst (λ c. is_page c g ≡ true) (free_beyond frames past n low beyond) here))
+holds_below frames past n g low here (inr beyond) =
+    absurd (false≢true (subst (λ c. is_page c g ≡ true) (free_beyond frames past n low beyond) here))
 
 once : (frames : ℕ) (past : List Entry) → is_page_once frames past ≡ true → NoPageTwice past
 once frames past h m n g at_m at_n =

@@ -14,6 +14,7 @@ use Rattle.sgx_types.specs.declared.names.Cpu.{Cpu}
 use Rattle.sgx_types.specs.declared.names.Frame.{Frame}
 use Rattle.sgx_types.specs.declared.names.Page.{Page}
 use Rattle.sgx_types.specs.declared.refusals.Refusal.TheVariants as why
+use Rattle.sgx_types.proofs.CountLaws.{one_if}
 use Rattle.cached_translations.specs.declared.processor.Mode.{Mode}
 use Rattle.job_grammar.specs.Jobs.{JobView}
 use Rattle.turn_rules.specs.Machines.{machine_of}
@@ -55,7 +56,7 @@ use Rattle.run_steps.proofs.StayLaws.{passes_stay_next}
 use Rattle.run_turns.specs.declared.course.Course.{Course}
 use Rattle.run_turns.specs.Courses.{KeepsCourse, has_open_load, open_starts, past_of}
 use Rattle.run_turns.specs.Recording.{CanTake, IsRecorded, IsTaken}
-use Rattle.run_turns.proofs.LoadLaws.{IsEndOfLoad, one, starts_set}
+use Rattle.run_turns.proofs.LoadLaws.{IsEndOfLoad, starts_set}
 use Rattle.run_turns.proofs.RecordLaws.{newest}
 
 -- ---- what is taken in
@@ -148,9 +149,10 @@ ended_starts j c c' before cpu e low loads by end noted sealing =
     let cpus : c'.turns.cpus ≡ set c.turns.cpus cpu.0 turn = noted.cpus
     ∙ end.kicks (with_own e.actor e.event before c.turns.cpus) ∙ ap (λ a. with_own a e.event before c.turns.cpus) by in
     let counts = starts_set c.turns.cpus cpu.0 turn low in
-    let was : one (has_open_load (turn_at c.turns.cpus cpu.0)) ≡ 1 = ap one loads in
-    let now : one (has_open_load turn) ≡ 0 = ap one (end.stops (turn_at c.turns.cpus cpu.0).last) in
-    let count : count_by has_open_load c'.turns.cpus ≡ count_by has_open_load (set c.turns.cpus cpu.0 turn) = ap (count_by has_open_load) cpus in
+    let was : one_if (has_open_load (turn_at c.turns.cpus cpu.0)) ≡ 1 = ap one loads in
+    let now : one_if (has_open_load turn) ≡ 0 = ap one_if (end.stops (turn_at c.turns.cpus cpu.0).last) in
+    let count : count_by has_open_load c'.turns.cpus ≡ count_by has_open_load (set c.turns.cpus cpu.0 turn) =
+    ap (count_by has_open_load) cpus in
     let seals = ap sealing_starts sealing in
     omega (arith, counts, was, now, count, seals)
 
@@ -164,7 +166,7 @@ bus_starts j c c' before cpu page reason low noted sealing =
     let count : count_by has_open_load c'.turns.cpus ≡ count_by has_open_load (set c.turns.cpus cpu.0 turn) =
     ap (count_by has_open_load) noted.cpus in
     let seals = ap sealing_starts sealing in
-    let now : one (has_open_load turn) ≡ 0 = refl in
+    let now : one_if (has_open_load turn) ≡ 0 = refl in
     omega (arith, counts, count, seals, now)
 
 -- one entry more

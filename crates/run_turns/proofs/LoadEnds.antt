@@ -23,6 +23,7 @@ use Rattle.job_grammar.specs.Jobs.{JobView}
 use Rattle.turn_rules.specs.Machines.{machine_of}
 use Rattle.turn_rules.specs.Script.{action_of}
 use Rattle.sgx_types.specs.Making.{Making}
+use Rattle.sgx_types.proofs.CountLaws.{one_if}
 use Rattle.backing_store.specs.Calls.{Call}
 use Rattle.active_list.specs.Places.{IsPlaced}
 use Rattle.active_list.specs.States.{state_of as page_state}
@@ -67,7 +68,7 @@ use Rattle.run_turns.specs.Recording.{CanTake, IsRecorded, IsTaken}
 use Rattle.run_turns.specs.Turns.{EndsBy, EndsLoad, RefusesLoad}
 use Rattle.run_turns.proofs.KeepLaws.{few_cpus, room_behind}
 use Rattle.run_turns.proofs.LoadCourse.{Stands, is_open, kept_room, bus_starts, ended_starts, one_longer, stands_keeps, taken_stands}
-use Rattle.run_turns.proofs.LoadLaws.{IsOfAway, due_quiet, end_of_load, one, starts_set, end_quiet, loading_told, none_behind_bus}
+use Rattle.run_turns.proofs.LoadLaws.{IsOfAway, due_quiet, end_of_load, starts_set, end_quiet, loading_told, none_behind_bus}
 use Rattle.run_turns.proofs.LoadLaws.{none_more}
 use Rattle.run_turns.proofs.RecordLaws.{newest}
 use Rattle.run_turns.proofs.LoadMade.{Leaves, NotesBus, bus_made, bus_told, end_acts, end_by, end_made, fault_made, resolved_leaves}
@@ -393,7 +394,7 @@ end_facts s d' m' told spare cpu page loaded k mine going loads does rights cpus
   opened = opened;
   place =
       let counts = starts_set s.turns.cpus cpu.0 first_turn low in
-      let was : one (has_open_load (turn_at s.turns.cpus cpu.0)) ≡ 1 = ap one opened in
+      let was : one_if (has_open_load (turn_at s.turns.cpus cpu.0)) ≡ 1 = ap one opened in
       let room = k.room in omega (arith, counts, was, room);
   entry = right.entry;
   ended = right.end;

@@ -17,6 +17,7 @@ use Rattle.sgx_types.specs.declared.refusals.Refusal.{Refusal}
 use Rattle.sgx_types.specs.declared.refusals.Refusal.TheVariants as why
 use Rattle.sgx_types.specs.Processors.{is_by}
 use Rattle.sgx_types.specs.Starts.{open_start}
+use Rattle.sgx_types.proofs.CountLaws.{one_if}
 use Rattle.turn_rules.specs.Script.{action_of}
 use Rattle.driver_rules.specs.Dues.{IsFetch, IsNext}
 use Rattle.driver_rules.specs.Places.{Absent, Away, Here, Leaving, Loading, Place}
@@ -161,10 +162,8 @@ loading_told ways.WasEnded frame page is = cc
 loading_told ways.Other frame page is = cc
 
 -- one where it is so
-abbrev pub one : Bool → ℕ
-one b = cond b 1 0
-
 -- how many are open where the turn of a processor changes
 pub starts_set : (turns : List CpuTurn) (p : ℕ) (turn : CpuTurn) → p < length turns
-    → count_by has_open_load (set turns p turn) + one (has_open_load (turn_at turns p)) ≡ count_by has_open_load turns + one (has_open_load turn)
-starts_set turns p turn low = sum_by-set (λ (x : CpuTurn). one (has_open_load x)) turns p turn first_turn low
+    → count_by has_open_load (set turns p turn) + one_if (has_open_load (turn_at turns p)) ≡ count_by has_open_load turns
+    + one_if (has_open_load turn)
+starts_set turns p turn low = sum_by-set (λ (x : CpuTurn). one_if (has_open_load x)) turns p turn first_turn low

@@ -38,8 +38,8 @@ pub record IsOwnEntry (c : Course) (e : Entry) (longer : Option (List Call)) (sp
   pub ends : EndsAreTold (e ∷ past_of c)
   pub none : NoneFails (e ∷ past_of c)
   -- the entry, and the ends of the starts that are open behind it
-  pub room : vec_len c.entries + 1 + 2 * (count_by has_open_load (with_kick e.event c.turns.cpus) + (if is_sealing c.pass.phase then 1 else 0))
-      ≤ vec_capacity c.entries
+  pub room : vec_len c.entries + 1 + 2
+      * (count_by has_open_load (with_kick e.event c.turns.cpus) + (if is_sealing c.pass.phase then 1 else 0)) ≤ vec_capacity c.entries
 
 pub record CanTakeOwn (c : Course) (e : Entry) : Type 0 where
   pub longer : Option (List Call)

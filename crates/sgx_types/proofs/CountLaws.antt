@@ -114,7 +114,8 @@ unfolding count_below
 count_below-further test n zero none = ap (count_below test) (omega arith)
 count_below-further test n (suc more) none =
     let next : n + suc more ≡ suc (n + more) = omega arith in
-    let rest : count_below test (n + more) ≡ count_below test n = count_below-further test n more (λ k from low. none k from (omega arith)) in
+    let rest : count_below test (n + more) ≡ count_below test n =
+    count_below-further test n more (λ k from low. none k from (omega arith)) in
     ap (count_below test) next ∙ rw (none (n + more) (omega arith) (omega arith)) (omega (arith, rest))
 
 -- what passes one test passes another beside it or not

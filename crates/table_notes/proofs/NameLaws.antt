@@ -117,7 +117,8 @@ module _ (j : JobView) (past : List Entry) (p : ℕ) (sound : IsSound past) wher
       there : is_lawful_access (added past (at_offset s.seat.enclave off)) op ≡ true → NamesInside past p (off / 4096)
       there is x at =
           let same : s ≡ x = cc in
-          subst (λ (y : Stay). There past (at_offset y.seat.enclave off)) same (lawful_there past (at_offset s.seat.enclave off) op sound is)
+          subst (λ (y : Stay). There past (at_offset y.seat.enclave off)) same
+          (lawful_there past (at_offset s.seat.enclave off) op sound is)
 
       by_lawful : (b : Bool) → is_lawful_access (added past (at_offset s.seat.enclave off)) op ≡ b
           → DueNames j past p (if not b then Makes (actions.Pf op off)

@@ -28,12 +28,14 @@ invariant_of-self-2 c =
     let f = c.args.frame.0 in
     let k = takes-epa (parts_of m) f (rw (← c.self.view_is) at c.requires) in
     whole _ (after_epa (state_of (parts_of m)) f)
-    (epa_leaves m c.self.invariant f _ _ c.set.new.self c.epa.new.self k c.made-made.ensures c.set.ensures (c.in_ok-epa.ensures {u = tt}).done)
+    (epa_leaves m c.self.invariant f _ _ c.set.new.self c.epa.new.self k c.made-made.ensures c.set.ensures
+    (c.in_ok-epa.ensures {u = tt}).done)
 
 pub returns-clause-done : goal.returns-clause-done
 returns-clause-done c =
     let m = c.self.inside in
     let f = c.args.frame.0 in
     let k = takes-epa (parts_of m) f (rw (← c.self.view_is) at c.requires) in
-    let left = epa_leaves m c.self.invariant f _ _ c.set.new.self c.epa.new.self k c.made-made.ensures c.set.ensures (c.in_ok-epa.ensures {u = tt}).done in
+    let left = epa_leaves m c.self.invariant f _ _ c.set.new.self c.epa.new.self k c.made-made.ensures c.set.ensures
+    (c.in_ok-epa.ensures {u = tt}).done in
     rw (← c.self.view_is) left.state
