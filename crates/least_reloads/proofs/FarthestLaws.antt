@@ -7,11 +7,12 @@ use Rattle.std.proofs.lemmas.List.{length-append, append-nil}
 use Rattle.sgx_types.specs.declared.names.Page.{Page}
 use Rattle.sgx_types.specs.Frames.{same_page}
 use Rattle.sgx_types.proofs.Pages.{same_page-refl}
+use Rattle.sgx_types.proofs.CountLaws.{one_if}
 use Rattle.least_reloads.specs.Plans.{StepView, PlanView, has, kept, after, IsStep, IsRun, loads_of, IsLawful, IsLeast}
 use Rattle.least_reloads.specs.Farthest.{stays, comes, swaps, IsUsedLast, IsBest, Hit, Fill, Swap, IsBestRun, Holds}
 use Rattle.least_reloads.proofs.Pages.{none_distinct, one_distinct}
 use Rattle.least_reloads.proofs.Held.{has-kept, has_one, loaded, distinct-after}
-use Rattle.least_reloads.proofs.Soon.{one, count, soon, count-append, count-le, count-filter, count-all, none_soon}
+use Rattle.least_reloads.proofs.Soon.{count, soon, count-append, count-le, count-filter, count-all, none_soon}
 use Rattle.least_reloads.proofs.Soon.{count-or_is_held, count-or_is_absent, count-or_is_once, without, count-without, length-without}
 
 -- no more of their held pages are used soon than of ours, but for d, however soon is meant
@@ -35,7 +36,7 @@ soon-after t coming held step =
 
 -- the next held pages, with a page that is used now among them
 soon-used : (t : ℕ) (page : Page) (coming held : List Page) → has held page ≡ true
-    → soon t coming held + 1 ≤ soon (suc t) (page ∷ coming) held + one (has (take t coming) page)
+    → soon t coming held + 1 ≤ soon (suc t) (page ∷ coming) held + one_if (has (take t coming) page)
 soon-used t page coming held is = count-or_is_held (has (take t coming)) page held is
 
 -- what a step of ours and one of theirs leave of the difference: as much as ours loads more
@@ -114,7 +115,7 @@ next_swap frames page coming theirs ours d step old distinct is_step behind abse
     by_use t true used =
         omega (
           arith,
-          ap one used,
+          ap one_if used,
           count-all (has (take t coming)) ours (farthest t used),
           count-without (has (take t coming)) old ours distinct held,
           count-append (has (take t coming)) (kept ours (swaps old page)) (page ∷ []),
@@ -125,7 +126,7 @@ next_swap frames page coming theirs ours d step old distinct is_step behind abse
     by_use t false unused =
         omega (
           arith,
-          ap one unused,
+          ap one_if unused,
           ahead frames page coming theirs ours d step is_step behind absent,
           count-without (has (take t coming)) old ours distinct held,
           count-append (has (take t coming)) (kept ours (swaps old page)) (page ∷ []),

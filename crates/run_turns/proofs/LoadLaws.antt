@@ -161,7 +161,6 @@ loading_told (ways.Fails g why) frame page is = cc
 loading_told ways.WasEnded frame page is = cc
 loading_told ways.Other frame page is = cc
 
--- one where it is so
 -- how many are open where the turn of a processor changes
 pub starts_set : (turns : List CpuTurn) (p : ℕ) (turn : CpuTurn) → p < length turns
     → count_by has_open_load (set turns p turn) + one_if (has_open_load (turn_at turns p)) ≡ count_by has_open_load turns
