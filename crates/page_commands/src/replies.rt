@@ -2,7 +2,7 @@
 
 ghost use Rattle.std.specs.Prelude.{◌≡◌, [], ◌++◌, reverse, flat_map, OnOk, IfOk};
 ghost use Rattle.sgx_types.specs.Processors.{is_by};
-ghost use Rattle.turn_rules.specs.Script.{interrupted_after, is_reply, is_reply_action, numbers_from};
+ghost use Rattle.turn_rules.specs.Script.{interrupted_after, numbers_from};
 ghost use Rattle.text_words.specs.Words.{line_text};
 ghost use Rattle.page_commands.specs.Ending.{ending_lines};
 ghost use Rattle.page_commands.specs.OutText.{cpu_lines, done_reply, enclave_lines, init_line, out_of, refused_reply, reply_words};
@@ -15,6 +15,7 @@ use std::alloc::Global;
 use text_words::words::Word::{Decimal, Enclave, Name};
 use text_words::words::push_line;
 use trace_text::names::{fault_name, refusal_name};
+use turn_rules::replies::is_reply;
 
 /// How an enclave's EINIT ended.
 #[derive(Clone, Copy)]
@@ -182,43 +183,6 @@ fn push_reply(event: &Event, onto: &mut Vec<u8>) -> Result<(), Memory>
         Event::Refused { why, .. } => push_refused_reply(why, onto),
         Event::Bus { .. } => push_line(Name("bus"), &[], onto),
         _ => push_empty_line(onto),
-    }
-}
-
-// Whether an instruction answers an operation of a script. A resumption answers one where the processor was not
-// interrupted.
-fn is_reply_action(interrupted: bool, action: &Action) -> bool
-    ensures { result ≡ is_reply_action interrupted action.now }
-{
-    match action {
-        Action::Resume { .. } => !interrupted,
-        Action::Enter { .. }
-        | Action::Exit
-        | Action::Aex {
-            cause: Cause::Timer,
-        }
-        | Action::Load { .. }
-        | Action::Store { .. }
-        | Action::Xadd { .. }
-        | Action::Set { .. }
-        | Action::Plus { .. }
-        | Action::Pf { .. }
-        | Action::OutLoad { .. }
-        | Action::OutStore { .. } => true,
-        _ => false,
-    }
-}
-
-fn is_reply(interrupted: bool, event: &Event) -> bool
-    ensures { result ≡ is_reply interrupted event.now }
-{
-    match event {
-        Event::Did { action, .. } | Event::Refused { action, .. } => is_reply_action(
-            interrupted,
-            action,
-        ),
-        Event::Bus { .. } => true,
-        _ => false,
     }
 }
 

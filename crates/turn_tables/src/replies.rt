@@ -1,7 +1,6 @@
 //! What an entry says of the processor that made it.
 
 ghost use Rattle.std.specs.Prelude.{◌≡◌, ◌<◌, ◌^◌};
-ghost use Rattle.turn_rules.specs.Script.{is_reply, is_reply_action};
 ghost use Rattle.driver_rules.specs.Stops.{is_last_refusal, spends};
 ghost use Rattle.turn_tables.specs.Noting.{broken_after, broken_by, broken_in, exits, failed_by, last_after, page_loaded, turn_after};
 
@@ -10,6 +9,7 @@ use cached_translations::processor::Mode;
 use sgx_types::entries::{Action, BusWhy, Cause, Event};
 use sgx_types::names::Page;
 use sgx_types::refusals::Refusal;
+use turn_rules::replies::is_reply;
 
 /// What stands of a processor behind an event of its own, before which it stood so.
 pub(crate) fn turn_after(turn: CpuTurn, event: &Event, before: Mode) -> CpuTurn
@@ -26,41 +26,6 @@ pub(crate) fn turn_after(turn: CpuTurn, event: &Event, before: Mode) -> CpuTurn
         is_kicked: turn.is_kicked && !exits(event),
         interruption: interruption_after(event, before, turn.interruption),
         last: last_after(event, turn.last),
-    }
-}
-
-/// Whether an entry answers an operation of a script. A resumption answers one where the processor was not interrupted.
-pub(crate) fn is_reply(interrupted: bool, event: &Event) -> bool
-    ensures { result ≡ is_reply interrupted event.now }
-{
-    match event {
-        Event::Did { action, .. } | Event::Refused { action, .. } => {
-            is_reply_action(interrupted, action)
-        }
-        Event::Bus { .. } => true,
-        Event::Age { .. } | Event::Kick { .. } => false,
-    }
-}
-
-fn is_reply_action(interrupted: bool, action: &Action) -> bool
-    ensures { result ≡ is_reply_action interrupted action.now }
-{
-    match action {
-        Action::Resume { .. } => !interrupted,
-        Action::Enter { .. }
-        | Action::Exit
-        | Action::Aex {
-            cause: Cause::Timer,
-        }
-        | Action::Load { .. }
-        | Action::Store { .. }
-        | Action::Xadd { .. }
-        | Action::Set { .. }
-        | Action::Plus { .. }
-        | Action::Pf { .. }
-        | Action::OutLoad { .. }
-        | Action::OutStore { .. } => true,
-        _ => false,
     }
 }
 
