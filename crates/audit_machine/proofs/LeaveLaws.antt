@@ -8,7 +8,6 @@ use Rattle.sgx_types.specs.declared.entries.Entry.{Entry}
 use Rattle.sgx_types.specs.declared.entries.Event.{Event}
 use Rattle.sgx_types.specs.declared.entries.Event.TheVariants.{Did, Refused}
 use Rattle.sgx_types.specs.declared.entries.Actor.{Actor}
-use Rattle.sgx_types.specs.declared.entries.Action.{Action}
 use Rattle.sgx_types.specs.declared.entries.Action.TheVariants.{EwbStart, Ewb, EldStart, Eld}
 use Rattle.sgx_types.specs.declared.entries.Answer.TheVariants.{Moved}
 use Rattle.sgx_types.specs.declared.names.Frame.{Frame}
@@ -110,9 +109,6 @@ none_leaves s e f own still j past records h script =
 
 -- ---- the end that the machine makes
 
-bare-start : {x y : BareStart} → Some x ≡ Some y → x ≡ y
-bare-start e = cc
-
 no-load : (event : Event) (f : Frame) → action_of event ≡ Some (Ewb f) → is_load_refused event ≡ false
 no-load (Did action answer) f own = refl
 no-load (Refused (Eld g) refusal) f own = let same : Eld g ≡ Ewb f = same_Some _ _ own in absurd cc
@@ -145,7 +141,7 @@ module _ (s t : State) (e made : Entry) (f : Frame) (rec : Sealed) (own : action
 
   module _ (key : List ℕ) (version : ℕ) (header : Header) (plain : List ℕ) (seals : SealsPage s f.0 key version header plain) where
     own-version : step.leaving.start.version ≡ version
-    own-version = ap (λ (x : BareStart). x.version) (bare-start (sym step.leaving.opened ∙ seals.leaving.opened)) ∙ sym seals.version
+    own-version = ap (λ (x : BareStart). x.version) (same_Some _ _ (sym step.leaving.opened ∙ seals.leaving.opened)) ∙ sym seals.version
 
     own-record : rec ≡ sealed key version step.leaving.header plain
     own-record = step.sealed ∙ (λ i. sealed (sym seals.key i) (own-version i) step.leaving.header (sym seals.plain i))

@@ -145,10 +145,10 @@ module _ (j : JobView) (past : List Entry) (action : Action) (own : is_of_cpus a
           (done_form answer (has_form action answer) refl (subst (λ x. ScriptRule j past (done x answer)) (sym eq) script) at)
   by_first (Did one answer) (Some found) same script keeps at =
       refusal_fails j past (done one answer) script (λ h.
-      clash (first j past action) (ap (first j past) (sym (same_Some _ _ same)) ∙ h.0) at)
+      none-some _ (sym (ap (first j past) (sym (same_Some _ _ same)) ∙ h.0) ∙ at))
   by_first (Refused one r) None same script keeps at =
       refusal_fails j past (refused one r) script (λ h.
-      clash (first j past action) at (refusal_is j past action r own
+      none-some _ (sym at ∙ refusal_is j past action r own
       (subst (λ x. RefusalRule (machine_of j) past (refused x r)) (same_Some _ _ same) h)))
   by_first (Refused one r) (Some found) same script keeps at = with_same one (sym (same_Some _ _ same)) script
     where

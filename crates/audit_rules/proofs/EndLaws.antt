@@ -1,6 +1,6 @@
 -- Two ends of one write-out, and two of one load: which rule the one breaks that is not the machine's.
 use Rattle.std.specs.Prelude.{◌==◌, if◌then◌else◌}
-use Rattle.std.proofs.Common.{◌≡◌, ℕ, Bool, true, false, refl, sym, ap, subst, ◌∙◌, ◌⊎◌, inl, inr, List, Option, Some}
+use Rattle.std.proofs.Common.{◌≡◌, ℕ, true, false, refl, sym, ap, subst, ◌∙◌, ◌⊎◌, inl, inr, List, Option, Some}
 use Rattle.std.proofs.lemmas.Bool.{eqb-true, eq-eqb, false≢true}
 use Rattle.std.proofs.lemmas.Option.{same_Some}
 use Rattle.sgx_types.specs.declared.entries.Entry.{Entry}
@@ -15,7 +15,7 @@ use Rattle.sgx_types.specs.declared.names.Page.{Page}
 use Rattle.sgx_types.specs.declared.names.Perm.{Perm}
 use Rattle.sgx_types.specs.Ends.{EndsIn, EndsOut, IsBack}
 use Rattle.sgx_types.specs.Flat.{flat}
-use Rattle.sgx_types.specs.Fresh.{IsLastOut, Out}
+use Rattle.sgx_types.specs.Fresh.{IsLastOut}
 use Rattle.sgx_types.specs.Frames.{Holds, same_page}
 use Rattle.sgx_types.specs.Rules.{EndsWriteOut}
 use Rattle.sgx_types.specs.Sealed.{Sealed}
@@ -34,12 +34,6 @@ use Rattle.audit_rules.proofs.OrderLaws.{evict_fails, fresh_fails, refusal_fails
 
 holds-page : {g h : Page} {k l : Kind} {p q : Perm} → Holds g k p ≡ Holds h l q → g ≡ h
 holds-page e = cc
-
-some-out : {x y : Out} → Some x ≡ Some y → x ≡ y
-some-out e = cc
-
-some-sealed : {x y : Sealed} → Some x ≡ Some y → x ≡ y
-some-sealed e = cc
 
 moved-page : {g h : Page} {v w : ℕ} {s t : List ℕ} → answers.Moved g v s ≡ answers.Moved h w t → g ≡ h
 moved-page e = cc
@@ -106,7 +100,7 @@ module _ (j : JobView) (past : List Entry) (actor : Actor) (f : Frame) where
         mine = keeps.each rules.Sealed refl
 
         told : IsSealed j.key (flat past) g v tag → tag ≡ t
-        told h = h.told ∙ ap (λ (x : Sealed). x.tag) (some-sealed (sym h.made ∙ mine.made)) ∙ sym mine.told
+        told h = h.told ∙ ap (λ (x : Sealed). x.tag) (same_Some _ _ (sym h.made ∙ mine.made)) ∙ sym mine.told
 
     of-page : (page : Page) (version : ℕ) (tag : List ℕ) → ScriptRule j past (out (answers.Moved page version tag)) → (page ≡ g → ⊥)
         → FailsHere j past (Some (out (answers.Moved page version tag))) rules.Refusal
@@ -192,7 +186,7 @@ module _ (j : JobView) (past : List Entry) (actor : Actor) (f : Frame) where
 
         same : IsLastOut past f.0 g version tag → answers.Moved g version tag ≡ answers.Moved g v t
         same h =
-            let e = some-out (sym h.last ∙ mine.last) in
+            let e = same_Some _ _ (sym h.last ∙ mine.last) in
             λ i. answers.Moved g ((e i).version) ((e i).tag)
 
     moved-back : (page : Page) (version : ℕ) (tag : List ℕ) → ScriptRule j past (back (answers.Moved page version tag))
@@ -213,8 +207,8 @@ module _ (j : JobView) (past : List Entry) (actor : Actor) (f : Frame) where
         by_test (inl same) = subst Says_of (sym (same_pages page g same)) at-page script other
         by_test (inr differs) =
             rw differs (refusal_fails j past (back (answers.Moved page version tag)) script (λ h.
-            clash differs
-            (subst (λ x. same_page page x ≡ true) (back-page past f.0 page g version v tag t h.1 is-back) (same_page-refl page))))
+            false≢true (sym differs
+            ∙ subst (λ x. same_page page x ≡ true) (back-page past f.0 page g version v tag t h.1 is-back) (same_page-refl page))))
 
     back-other : (answer : Answer) → ScriptRule j past (back answer) → (answer ≡ answers.Moved g v t → ⊥)
         → FailsHere j past (Some (back answer)) (rule_back answer (answers.Moved g v t))

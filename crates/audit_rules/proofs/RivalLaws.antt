@@ -38,7 +38,7 @@ not-both None digest is other = other
 not-both (Some wanted) digest is other = other is
 
 from-case : (enclave : ℕ) (expect : Option (List ℕ)) (found x : Refusal) → Some x ≡ case_of (Init enclave expect) found → x ≡ found
-from-case enclave expect (why.BadMeasure made) x e = absurd (clash None refl (sym e))
+from-case enclave expect (why.BadMeasure made) x e = absurd (none-some _ (sym e))
 from-case enclave expect found x e = same_Some _ _ e
 
 module _ (j : JobView) (past : List Entry) (actor : Actor) where
@@ -88,7 +88,7 @@ module _ (j : JobView) (past : List Entry) (actor : Actor) where
   done-refused (Init enclave expect) answer (why.BadMeasure made) ends script keeps =
       refusal_fails j past _ script (λ h. let form = h.1.1 in cc)
   done-refused action answer found ends script keeps =
-      refusal_fails j past _ script (λ h. clash (first action) h.0 (refused-first action found ends (keeps.each rules.Refusal refl)))
+      refusal_fails j past _ script (λ h. none-some _ (sym h.0 ∙ refused-first action found ends (keeps.each rules.Refusal refl)))
 
   refused-done : (action : Action) (refusal : Refusal) (right : Answer) → is_load_refused (Refused action refusal) ≡ false
       → ScriptRule j past (refused action refusal) → KeepsMachines j past (done action right)
@@ -97,7 +97,7 @@ module _ (j : JobView) (past : List Entry) (actor : Actor) where
       init-refused enclave expect made _ script keeps (keeps.each rules.Refusal refl).0 (λ h.
       not-both expect (measurement past enclave) (keeps.each rules.Measure refl).1 h.1)
   refused-done action refusal right ends script keeps =
-      refusal_fails j past _ script (λ h. clash (first action) (keeps.each rules.Refusal refl).0 (refused-first action refusal ends h))
+      refusal_fails j past _ script (λ h. none-some _ (sym (keeps.each rules.Refusal refl).0 ∙ refused-first action refusal ends h))
 
   -- ---- where both refuse
 
@@ -108,7 +108,7 @@ module _ (j : JobView) (past : List Entry) (actor : Actor) where
       init-refused enclave expect given _ script keeps (keeps.each rules.Refusal refl) (λ h.
       other (ap why.BadMeasure (h.0 ∙ sym (keeps.each rules.Measure refl).0)))
   init-both enclave expect (why.BadMeasure given) found script keeps other =
-      refusal_fails j past _ script (λ h. clash _ h (keeps.each rules.Refusal refl))
+      refusal_fails j past _ script (λ h. none-some _ (sym h ∙ keeps.each rules.Refusal refl))
   init-both enclave expect refusal found script keeps other =
       refusal_fails j past _ script (λ h. other (from-case enclave expect found refusal (sym h ∙ keeps.each rules.Refusal refl)))
 

@@ -1,8 +1,9 @@
 -- The tests hold exactly where two answers, and two refusals, are the same.
 use Rattle.std.proofs.Common.{◌≡◌, ℕ, ◌-◌, Bool, true, false, refl, sym, ap, subst, ◌∙◌, ◌⊎◌, inl, inr, List, []}
-use Rattle.std.proofs.Common.{◌∷◌, get_or, Option, Some, None, bytes_eq}
+use Rattle.std.proofs.Common.{◌∷◌, get_or, Option, Some, bytes_eq}
 use Rattle.std.proofs.lemmas.Bool.{eqb-true, eq-eqb, and_parts, and_from}
 use Rattle.std.proofs.lemmas.Slice.Eq.{bytes_eq-Decides}
+use Rattle.std.proofs.lemmas.Option.{none-some}
 use Rattle.sgx_types.specs.declared.entries.Action.{Action}
 use Rattle.sgx_types.specs.declared.entries.Event.{Event}
 use Rattle.sgx_types.specs.declared.entries.Event.TheVariants.{Did, Refused}
@@ -114,9 +115,6 @@ refusal-own a = refl
 own-action : {x y : Action} {o : Option Action} → Some x ≡ o → o ≡ Some y → x ≡ y
 own-action e f = let g = e ∙ f in cc
 
-none-some : {x : Action} → None ≡ Some x → ⊥
-none-some e = absurd cc
-
 pub ends_alike : (e made : Event) (action : Action) → action_of e ≡ Some action → action_of made ≡ Some action
     → same_end e made ≡ true → e ≡ made
 ends_alike (Did one answer) (Did other right) action own its h =
@@ -128,7 +126,7 @@ ends_alike e made action own its h = absurd cc
 end-own : (e : Event) (action : Action) → action_of e ≡ Some action → same_end e e ≡ true
 end-own (Did one answer) action own = answer-own answer
 end-own (Refused one refusal) action own = refusal-own refusal
-end-own e action own = absurd (none-some own)
+end-own e action own = absurd (none-some _ own)
 
 both-ways : {b : Bool} → b ≡ false → b ≡ true → ⊥
 both-ways no-way way = let e = sym no-way ∙ way in absurd (let f : false ≡ true = e in cc)

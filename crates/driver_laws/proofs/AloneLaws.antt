@@ -1,6 +1,7 @@
 -- No two open starts name one slot, none names that of a page that is away, and none is of a free frame.
 use Rattle.std.proofs.Common.{◌≡◌, ℕ, not, refl, sym, ◌∙◌, ap, List, Option, Some, None, is_some}
 use Rattle.std.proofs.lemmas.Bool.{eq-eqb, false≢true}
+use Rattle.std.proofs.lemmas.Option.{none-some, same_Some}
 use Rattle.sgx_types.specs.declared.entries.Entry.{Entry}
 use Rattle.sgx_types.specs.declared.names.Page.{Page}
 use Rattle.sgx_types.specs.declared.names.SlotAt.{SlotAt}
@@ -42,24 +43,18 @@ started past n x s is_open = by_loads x.loads refl
 pub alone : (past : List Entry) → IsSound past → StartsAlone past
 alone past s = record { apart = apart; away = away }
   where
-    some_same : (m n : ℕ) → Some m ≡ Some n → m ≡ n
-    some_same m n h = cc
-
     apart : (m n : ℕ) (x y : Start) → open_start past m ≡ Some x → open_start past n ≡ Some y → x.slot ≡ y.slot → m ≡ n
     apart m n x y open_x open_y same =
         let a = started past m x s open_x in
         let b = started past n y s open_y in
         let one = s.apart a.page b.page y.slot (a.names ∙ ap Some same) b.names in
-        some_same m n (sym a.moving ∙ ap (λ g. frame_moving (place past g)) one ∙ b.moving)
+        same_Some m n (sym a.moving ∙ ap (λ g. frame_moving (place past g)) one ∙ b.moving)
 
     away : (n : ℕ) (x : Start) (g : Page) → open_start past n ≡ Some x → place past g ≡ Away x.slot → ⊥
     away n x g is_open at =
         let a = started past n x s is_open in
         let one = s.apart a.page g x.slot a.names (ap (slot_at (open_start past)) at) in
-        none_some (sym (ap frame_moving at) ∙ ap (λ h. frame_moving (place past h)) (sym one) ∙ a.moving)
-      where
-        none_some : None ≡ Some n → ⊥
-        none_some h = cc
+        none-some n (sym (ap frame_moving at) ∙ ap (λ h. frame_moving (place past h)) (sym one) ∙ a.moving)
 
 -- no start of a free frame is open
 pub free_none : (past : List Entry) (n : ℕ) → IsSound past → content past n ≡ Free → open_start past n ≡ None

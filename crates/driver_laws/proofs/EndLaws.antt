@@ -1,6 +1,7 @@
 -- By the rule Script loads are processors' alone, and each ends its own.
 use Rattle.std.proofs.Common.{◌≡◌, ℕ, Bool, true, false, if◌then◌else◌, refl, sym, ◌∙◌, ap, List, Option, Some, None}
 use Rattle.std.proofs.lemmas.Bool.{false≢true}
+use Rattle.std.proofs.lemmas.Option.{none-some, same_Some}
 use Rattle.sgx_types.specs.declared.entries.Action.{Action}
 use Rattle.sgx_types.specs.declared.entries.Action.TheVariants as actions
 use Rattle.sgx_types.specs.declared.entries.Actor.{Actor}
@@ -149,15 +150,9 @@ ended_by past actors.Builder ev n rule ends = absurd (false≢true (sym rule ∙
 ended_by past actors.Reclaimer ev n rule ends = absurd (false≢true (sym rule ∙ ended_load ev n ends))
 ended_by past (actors.Cpu c) ev n rule ends = by_last (last_of past c.0) refl rule
   where
-    none_some : None ≡ Some n → ⊥
-    none_some h = cc
-
-    some_same : (m : ℕ) → Some m ≡ Some n → m ≡ n
-    some_same m h = cc
-
     by_last : (l : Last) → last_of past c.0 ≡ l → EndsOwn l ev → IsEndedBy past (actors.Cpu c) n
     by_last (Loads m page) is k =
-        record { cpu = c; page = page; actor_is = refl; last = is ∙ ap (λ x. Loads x page) (some_same m (sym k ∙ ends)) }
-    by_last (Fails page why) is k = absurd (none_some (sym k ∙ ends))
-    by_last WasEnded is k = absurd (none_some (sym k ∙ ends))
-    by_last Other is k = absurd (none_some (sym k ∙ ends))
+        record { cpu = c; page = page; actor_is = refl; last = is ∙ ap (λ x. Loads x page) (same_Some m n (sym k ∙ ends)) }
+    by_last (Fails page why) is k = absurd (none-some n (sym k ∙ ends))
+    by_last WasEnded is k = absurd (none-some n (sym k ∙ ends))
+    by_last Other is k = absurd (none-some n (sym k ∙ ends))

@@ -1,7 +1,7 @@
 -- The list with its marks, one entry longer.
 use Rattle.std.proofs.Common.{◌≡◌, ℕ, ◌+◌, ◌||◌, not, Bool, true, false, if◌then◌else◌, refl, sym, ◌∙◌, ap}
 use Rattle.std.proofs.Common.{subst, List, [], ◌∷◌, ◌++◌, drop, map, Some, arith}
-use Rattle.std.proofs.lemmas.Bool.{false≢true}
+use Rattle.std.proofs.lemmas.Bool.{false≢true, not-true}
 use Rattle.sgx_types.proofs.Pages.{same_page-refl, same_pages}
 use Rattle.sgx_types.specs.declared.entries.Action.{Action}
 use Rattle.sgx_types.specs.declared.entries.Action.TheVariants.{Add, Enter, Resume, Fill, Load, Store, Xadd, Eld}
@@ -265,16 +265,12 @@ listed-quiet past e quiet = by_event e.event quiet
         ap (map (marked (entry_of e.actor ev ∷ past))) list ∙ map_same (marked (entry_of e.actor ev ∷ past)) (marked past) (active past)
         (λ g k. marked_same past (entry_of e.actor ev) g (is_young past g) (marks g))
 
-    not_use : (b : Bool) → not b ≡ true → b ≡ false
-    not_use true k = cc
-    not_use false k = refl
-
     by_event : (ev : Event) → is_markless ev ≡ true → listed_by (entry_of e.actor ev ∷ past) ≡ listed_by past
     by_event (Did (Add enclave number f kind perm init) answer) k = cc
     by_event (Did (Eld f) answer) k = cc
     by_event (Age page look) k = cc
     by_event (Did x answer) k =
-        each (Did x answer) refl (λ g. ap (λ b. b || is_young past g) (no_uses past e.actor x g (not_use (is_use x) k)))
+        each (Did x answer) refl (λ g. ap (λ b. b || is_young past g) (no_uses past e.actor x g (not-true (is_use x) k)))
     by_event (Refused x refusal) k = each (Refused x refusal) refl (λ g. refl)
     by_event (Kick cpu) k = each (Kick cpu) refl (λ g. refl)
     by_event (Bus page why) k = each (Bus page why) refl (λ g. refl)

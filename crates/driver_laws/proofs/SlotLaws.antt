@@ -2,6 +2,7 @@
 use Rattle.std.proofs.Common.{◌≡◌, ℕ, ◌==◌, ◌⊎◌, inl, inr, not, Bool, true, false, if◌then◌else◌, refl, sym}
 use Rattle.std.proofs.Common.{◌∙◌, ap, subst, List, Option, Some, None, is_some}
 use Rattle.std.proofs.lemmas.Bool.{eqb-true, eq-eqb, false≢true}
+use Rattle.std.proofs.lemmas.Option.{none-some}
 use Rattle.sgx_types.proofs.Pages.{same_page-refl, same_slots}
 use Rattle.sgx_types.specs.Fresh.{Out}
 use Rattle.sgx_types.specs.declared.names.Page.{Page}
@@ -96,10 +97,8 @@ apart_taken at opened a f h here none =
     by_page : (g : Page) (slot : SlotAt) (b : Bool) → same_page a g ≡ b → slot_at opened (if b then leaves (at g) else at g) ≡ Some slot
         → slot_at opened (at g) ≡ Some slot
     by_page g slot true is k =
-        absurd (none_some (sym (ap slot_of_start none) ∙ sym (ap (λ y. slot_at opened (leaves y)) (of_same at (Here f) a g here is)) ∙ k))
-      where
-        none_some : None ≡ Some slot → ⊥
-        none_some e = cc
+        absurd (none-some slot
+        (sym (ap slot_of_start none) ∙ sym (ap (λ y. slot_at opened (leaves y)) (of_same at (Here f) a g here is)) ∙ k))
     by_page g slot false is k = k
 
 -- the write-out of a page starts, by a slot that is no other page's
@@ -130,14 +129,8 @@ apart_starting at held opened f a slot v q who s leaving fresh h =
     by_place g t (Leaving n) it k = by_frame g t n (f == n) refl it (sym (ap (slot_at now) it) ∙ k)
     by_place g t (Away u) it k = inl (ap (slot_at opened) it ∙ sym (ap (slot_at now) it) ∙ k)
     by_place g t (Loading n u) it k = inl (ap (slot_at opened) it ∙ sym (ap (slot_at now) it) ∙ k)
-    by_place g t (Here n) it k = absurd (none_some (sym (ap (slot_at now) it) ∙ k))
-      where
-        none_some : None ≡ Some t → ⊥
-        none_some e = cc
-    by_place g t Absent it k = absurd (none_some (sym (ap (slot_at now) it) ∙ k))
-      where
-        none_some : None ≡ Some t → ⊥
-        none_some e = cc
+    by_place g t (Here n) it k = absurd (none-some t (sym (ap (slot_at now) it) ∙ k))
+    by_place g t Absent it k = absurd (none-some t (sym (ap (slot_at now) it) ∙ k))
 
 -- a frame's start ends
 abbrev closed : (ℕ → Option Start) → ℕ → ℕ → Option Start

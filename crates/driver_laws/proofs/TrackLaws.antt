@@ -1,10 +1,9 @@
 -- Tracks, blocks and stays, one entry longer.
 use Rattle.std.proofs.Common.{◌≡◌, ℕ, ◌+◌, ◌<◌, ◌≤◌, ◌==◌, ◌&&◌, ◌||◌, not, Bool, true, false}
-use Rattle.std.proofs.Common.{if◌then◌else◌, zero, suc, refl, sym, ◌∙◌, ap, subst, List, [], ◌∷◌, Option, Some, None}
+use Rattle.std.proofs.Common.{if◌then◌else◌, refl, sym, ◌∙◌, ap, subst, List, [], ◌∷◌, Option, Some, None}
 use Rattle.std.proofs.Common.{length, nat_lt, is_some, arith}
 use Rattle.std.proofs.lemmas.Bool.{eqb-true, eq-eqb, false≢true}
 use Rattle.sgx_types.proofs.Truths.{both_true}
-use Rattle.sgx_types.specs.Counts.{count_below}
 use Rattle.sgx_types.specs.declared.entries.Action.TheVariants.{Epa, Create, Add, Block, Ewb, EldStart, Eld}
 use Rattle.sgx_types.specs.declared.entries.Answer.TheVariants.{Moved}
 use Rattle.sgx_types.specs.declared.entries.Entry.{Entry}

@@ -3,7 +3,7 @@ use Rattle.std.proofs.Common.{◌≡◌, ℕ, zero, suc, ◌<◌, ◌≤◌, ◌
 use Rattle.std.proofs.Common.{sym, ap, ◌∙◌, subst, List, [], ◌∷◌, Option, Some, None, IfSome, length, arith, ◌⊎◌, inl}
 use Rattle.std.proofs.Common.{inr}
 use Rattle.std.specs.List.{All}
-use Rattle.std.proofs.lemmas.Bool.{eqb-true, false≢true, cases_lt}
+use Rattle.std.proofs.lemmas.Bool.{eqb-true, false≢true, cases_lt, not-true}
 use Rattle.std.proofs.lemmas.List.Elements.{All-cons, All-nil}
 use Rattle.sgx_types.specs.declared.entries.Action.TheVariants.{Add}
 use Rattle.sgx_types.specs.declared.entries.Actor.{Actor}
@@ -28,10 +28,6 @@ use Rattle.driver_rules.proofs.SameLaws.{action-true}
 use Rattle.driver_traces.specs.Settled.{acts_below, all_below, are_apart, are_current, holds_same, is_actor_below, is_held_still}
 use Rattle.driver_traces.specs.Settled.{is_none_stale, is_page_once, is_put_below, is_settled, is_still, is_undisturbed, puts_below}
 use Rattle.driver_traces.proofs.LawfulLaws.{is_below}
-
-untrue : (b : Bool) → not b ≡ true → b ≡ false
-untrue true h = absurd (false≢true h)
-untrue false h = refl
 
 last_or : (test : ℕ → Bool) (n k : ℕ) → test n ≡ true → (k < n → test k ≡ true) → k < suc n → (k < n) ⊎ (n ≤ k) → test k ≡ true
 last_or test n k last lower low (inl less) = lower less
@@ -124,7 +120,7 @@ still : (past : List Entry) (n : ℕ) (before : Content) → is_still past n bef
 still past n before h =
     let k = both_true (is_held_still (content past n) before) (not (is_sealing past n)) h in record {
       held = still_held (content past n) before k.0;
-      settled = untrue (is_sealing past n) k.1;
+      settled = not-true (is_sealing past n) k.1;
     }
 
 current : (past : List Entry) (enclave : ℕ) (xs : List BareTranslation) → are_current past enclave xs ≡ true
@@ -135,7 +131,7 @@ current past enclave (x ∷ xs) h =
     let k = both_true leads (are_current past enclave xs) h in
     let l = both_true (is_page (content past x.frame) (page_at enclave x.number)) (not (is_sealing past x.frame)) k.0 in
     All-cons (λ y. IsCurrent enclave y (content past y.frame) (is_sealing past y.frame)) x xs
-    (record { page = l.0; settled = untrue (is_sealing past x.frame) l.1 }) (current past enclave xs k.1)
+    (record { page = l.0; settled = not-true (is_sealing past x.frame) l.1 }) (current past enclave xs k.1)
 
 undisturbed : (past : List Entry) (p : ℕ) (t : Option Stay) → is_undisturbed past p t ≡ true → IfSome t (IsUndisturbed past p)
 undisturbed past p None h = tt

@@ -162,20 +162,14 @@ row_fails rec computed header page cpu f refusal h = by_tag (not (bytes_eq rec.t
     by_header : (c : Bool)
         → (if c then Some (why.BadHeader rec.header.enclave rec.header.address rec.header.flags) else None) ≡ Some refusal
         → fails_with (Some page) refusal ≡ Fails page (bus_why (Refused (Eld f) refusal))
-    by_header true k = subst (λ x. fails_with (Some page) x ≡ Fails page (bus_why (Refused (Eld f) x))) (some_same _ refusal k) refl
-      where
-        some_same : (a b : Refusal) → Some a ≡ Some b → a ≡ b
-        some_same a b e = cc
+    by_header true k = subst (λ x. fails_with (Some page) x ≡ Fails page (bus_why (Refused (Eld f) x))) (same_Some _ refusal k) refl
     by_header false k = cc
 
     by_tag : (b c : Bool)
         → (if b then Some (why.MacFail rec.tag computed) else if c then Some
         (why.BadHeader rec.header.enclave rec.header.address rec.header.flags)
         else None) ≡ Some refusal → fails_with (Some page) refusal ≡ Fails page (bus_why (Refused (Eld f) refusal))
-    by_tag true c k = subst (λ x. fails_with (Some page) x ≡ Fails page (bus_why (Refused (Eld f) x))) (some_same _ refusal k) refl
-      where
-        some_same : (a b : Refusal) → Some a ≡ Some b → a ≡ b
-        some_same a b e = cc
+    by_tag true c k = subst (λ x. fails_with (Some page) x ≡ Fails page (bus_why (Refused (Eld f) x))) (same_Some _ refusal k) refl
     by_tag false c k = by_header c k
 
 module _ (made : Making) (j : JobView) (past : List Entry) (d d' : Driver) (m : Parts) (t : State) (r : Agrees made j past d m) (cpu : Cpu)
@@ -193,11 +187,8 @@ module _ (made : Making) (j : JobView) (past : List Entry) (d d' : Driver) (m : 
 
   -- the page for which the frame waits is this one
   same_coming : is.reloaded.coming.page ≡ page
-  same_coming = some_same is.reloaded.coming.page page
+  same_coming = same_Some is.reloaded.coming.page page
       (sym is.reloaded.coming.loads ∙ sym (ap (λ (y : BareStart). y.loads) its.same) ∙ sym (ap load_of its.opened) ∙ opened_here)
-    where
-      some_same : (a b : Page) → Some a ≡ Some b → a ≡ b
-      some_same a b e = cc
 
   -- it is known of the entry which of the two it is
   by_entry : IsDoneEnd cpu f page is.entry ⊎ IsRefusedEnd cpu f page is.entry

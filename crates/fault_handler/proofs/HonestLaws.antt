@@ -1,5 +1,6 @@
 -- A load from an honest store ends with the page back.
 use Rattle.std.proofs.Common.{◌≡◌, ℕ, Bool, true, false, refl, sym, ◌∙◌, ap, subst, List, Option, None, Some}
+use Rattle.std.proofs.lemmas.Option.{same_Some}
 use Rattle.sgx_types.proofs.Pages.{same_pages}
 use Rattle.sgx_types.specs.declared.entries.Entry.{Entry}
 use Rattle.sgx_types.specs.declared.names.Cpu.{Cpu}
@@ -41,13 +42,10 @@ use Rattle.fault_handler.specs.declared.answers.Loaded.{Loaded}
 use Rattle.fault_handler.specs.Finishing.{CanFinish, IsBack, IsFinished}
 use Rattle.fault_handler.proofs.OwnRecords.{own_record}
 
-some_same : {X : Type 0} (a b : X) → Some a ≡ Some b → a ≡ b
-some_same a b e = cc
-
 -- a version that is told
 out_of : (o : Option Out) (version : ℕ) → version_out o ≡ Some version → (x : Out) × (o ≡ Some x) × (x.version ≡ version)
 out_of None version h = cc
-out_of (Some x) version h = (x, refl, some_same x.version version h)
+out_of (Some x) version h = (x, refl, same_Some x.version version h)
 
 -- the header that flat memory has of a page that was added so
 header_seen : (o : Option FlatEnclave) (x : Option FlatPage) (g : Page) (enclave : FlatEnclave) (kind : Kind) (perm : Perm)
@@ -55,8 +53,8 @@ header_seen : (o : Option FlatEnclave) (x : Option FlatPage) (g : Page) (enclave
 header_seen None x g enclave kind perm made kinded = cc
 header_seen (Some y) None g enclave kind perm made kinded = cc
 header_seen (Some y) (Some x) g enclave kind perm made kinded =
-    let same : y ≡ enclave = some_same y enclave made in
-    let kinds : (x.kind, x.perm) ≡ (kind, perm) = some_same (x.kind, x.perm) (kind, perm) kinded in
+    let same : y ≡ enclave = same_Some y enclave made in
+    let kinds : (x.kind, x.perm) ≡ (kind, perm) = same_Some (x.kind, x.perm) (kind, perm) kinded in
     λ i. Some (header_of (same i).base g ((kinds i).0) ((kinds i).1))
 
 -- the page and the slot of the open start of a load
@@ -64,7 +62,7 @@ start_of : (x : Start) (g : Page) (slot : SlotAt) → load_slot (Some x) g ≡ S
 start_of x g slot h = by_loads x.loads refl h
   where
     by_page : (page : Page) (b : Bool) → same_page page g ≡ b → slot_if b x.slot ≡ Some slot → (Some page ≡ Some g) × (x.slot ≡ slot)
-    by_page page true is k = (ap Some (same_pages page g is), some_same x.slot slot k)
+    by_page page true is k = (ap Some (same_pages page g is), same_Some x.slot slot k)
     by_page page false is k = cc
 
     by_loads : (l : Option Page) → x.loads ≡ l → slot_if (loads_page l g) x.slot ≡ Some slot → (l ≡ Some g) × (x.slot ≡ slot)
@@ -93,7 +91,7 @@ module _ (made : Making) (j : JobView) (past : List Entry) (calls : List Call) (
   put = last_sealed made.key past calls store page out.0 out.1
 
   kept : can.kept ≡ put.rec
-  kept = some_same can.kept put.rec (sym given ∙ gifts page can.frame.0 can.slot at ∙ put.put)
+  kept = same_Some can.kept put.rec (sym given ∙ gifts page can.frame.0 can.slot at ∙ put.put)
 
   its : IsBareOf (open_start past can.frame.0) coming.start
   its = started_as s past r.follows.shape.columns can.frame.0 coming.start coming.opened
@@ -107,7 +105,7 @@ module _ (made : Making) (j : JobView) (past : List Entry) (calls : List Call) (
       (sym (ap (λ o. load_slot o page) opened) ∙ load_at past can.frame.0 page can.slot r.sound at)
 
   its_page : coming.page ≡ page
-  its_page = some_same coming.page page (sym coming.loads ∙ sym (ap (λ (y : BareStart). y.loads) its.same) ∙ start.0)
+  its_page = same_Some coming.page page (sym coming.loads ∙ sym (ap (λ (y : BareStart). y.loads) its.same) ∙ start.0)
 
   version : coming.start.version ≡ out.0.version
   version =
@@ -125,7 +123,7 @@ module _ (made : Making) (j : JobView) (past : List Entry) (calls : List Call) (
 
   headed : put.rec.header ≡ coming.header
   headed =
-      some_same put.rec.header (header_of coming.enclave.base page coming.kind coming.perm)
+      same_Some put.rec.header (header_of coming.enclave.base page coming.kind coming.perm)
       (sym put.sealed.header ∙ header_seen ((flat past).enclaves page.enclave) ((flat past).pages page) page coming.enclave coming.kind
       coming.perm made_flat added_flat)
       ∙ ap (λ g. header_of coming.enclave.base g coming.kind coming.perm) (sym its_page) ∙ sym coming.headed

@@ -2,6 +2,7 @@
 use Rattle.std.proofs.Common.{◌≡◌, ℕ, suc, zero, ◌+◌, ◌<◌, ◌≤◌, not, Bool, true, false, cond, refl, sym, ap, subst}
 use Rattle.std.proofs.Common.{◌∙◌, List, Option, Some, None, is_some, nat_le, nat_lt, arith}
 use Rattle.std.proofs.lemmas.Bool.{and_parts, leb-true}
+use Rattle.std.proofs.lemmas.Option.{same_Some}
 use Rattle.sgx_types.specs.declared.entries.Action.TheVariants.{EldStart}
 use Rattle.sgx_types.specs.declared.entries.Actor.{Actor}
 use Rattle.sgx_types.specs.declared.entries.Entry.{Entry}
@@ -35,12 +36,9 @@ found_below : (held : ℕ → Content) (from count f : ℕ) → free_from held f
 found_below held from zero f h = cc
 found_below held from (suc count) f h = by_test (is_free (held from)) h (found_below held (from + 1) count f)
   where
-    some_same : (a b : ℕ) → Some a ≡ Some b → a ≡ b
-    some_same a b k = cc
-
     by_test : (b : Bool) → cond b (Some from) (free_from held (from + 1) count) ≡ Some f
         → (free_from held (from + 1) count ≡ Some f → f < from + 1 + count) → f < from + suc count
-    by_test true k more = let same = some_same from f k in omega (arith, same)
+    by_test true k more = let same = same_Some from f k in omega (arith, same)
     by_test false k more = let next = more k in omega (arith, next)
 
 not_past : (frames f : ℕ) → f < frames → nat_le frames f ≡ false

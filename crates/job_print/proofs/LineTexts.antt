@@ -1,5 +1,5 @@
 -- The lines of a text that says some things, and what reading one of them gives.
-use Rattle.std.proofs.Common.{◌≡◌, ℕ, ◌<◌, ◌≤◌, ◌||◌, Bool, true, false, eqb, ltb, not, List, [], ◌∷◌, ◌++◌}
+use Rattle.std.proofs.Common.{◌≡◌, ℕ, ◌<◌, ◌≤◌, ◌||◌, Bool, true, false, eqb, ltb, List, [], ◌∷◌, ◌++◌}
 use Rattle.std.proofs.Common.{None, Ok, length, map, flat_map, All, refl, ap, ◌∙◌, arith, inl, inr, cond}
 use Rattle.std.specs.List.{AllByRecursion, join_with_byte, list_all, slice_split}
 use Rattle.std.specs.Str.{IsAscii, is_utf8}

@@ -1,6 +1,6 @@
 -- What blocks, tracks, write-out and reload leave of a guarded state is guarded.
-use Rattle.std.proofs.Common.{◌≡◌, ℕ, zero, suc, ◌+◌, ◌<◌, ◌≤◌, ◌==◌, ◌||◌, ◌⊎◌, inl, inr, not, Bool}
-use Rattle.std.proofs.Common.{true, false, cond, ltb, leb, refl, sym, ap, ◌∙◌, arith, below_more, Option, Some, None, IfSome}
+use Rattle.std.proofs.Common.{◌≡◌, ℕ, ◌+◌, ◌<◌, ◌≤◌, ◌==◌, ◌||◌, ◌⊎◌, inl, inr, not, Bool}
+use Rattle.std.proofs.Common.{true, false, cond, ltb, leb, refl, sym, ap, ◌∙◌, arith, Option, Some, None, IfSome}
 use Rattle.std.proofs.Common.{IsSomeAnd, List, is_some}
 use Rattle.std.specs.List.{All}
 use Rattle.std.proofs.lemmas.Bool.{cond_both, false≢true, eqb-true, eq-eqb, ltb-true, ltb-false, leb-false, cases_lt}
@@ -10,7 +10,6 @@ use Rattle.sgx_types.specs.declared.names.Kind.{Kind}
 use Rattle.sgx_types.specs.declared.names.Page.{Page}
 use Rattle.sgx_types.specs.declared.names.Perm.{Perm}
 use Rattle.sgx_types.specs.declared.names.SlotAt.{SlotAt}
-use Rattle.sgx_types.specs.Counts.{count_below}
 use Rattle.sgx_types.specs.Epochs.{epoch_of}
 use Rattle.sgx_types.specs.Frames.{Content, Free, IsVa, SecsOf, Holds, IsLoading, enclave_in, is_free}
 use Rattle.sgx_types.specs.Processors.{Seat}

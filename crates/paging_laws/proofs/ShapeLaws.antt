@@ -1,5 +1,5 @@
 -- A machine whose columns are those of its entries has their shape, and what one more entry needs.
-use Rattle.std.proofs.Common.{◌≡◌, ℕ, zero, suc, ◌+◌, ◌==◌, ◌&&◌, not, Bool, true, false, cond, ltb, leb, refl, sym, ap}
+use Rattle.std.proofs.Common.{◌≡◌, ℕ, ◌+◌, ◌==◌, ◌&&◌, not, Bool, true, false, ltb, leb, refl, sym, ap}
 use Rattle.std.proofs.Common.{subst, arith, ◌∙◌, Option, Some, None, IfSome, List, ◌∷◌, map}
 use Rattle.std.specs.List.{All}
 use Rattle.std.specs.Option.{IsSomeAnd}

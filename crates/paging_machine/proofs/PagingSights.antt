@@ -19,7 +19,7 @@ use Rattle.sgx_types.specs.Counts.{count_below}
 use Rattle.sgx_types.specs.Epochs.{epoch_of}
 use Rattle.sgx_types.specs.Frames.{Content, Free, IsVa, SecsOf, Holds, IsLoading, enclave_in}
 use Rattle.sgx_types.specs.Table.{DrainSight, SlotSight, first_of_row, track_row, ewbstart_row, eldstart_row, is_loading}
-use Rattle.sgx_types.proofs.CountLaws.{count_below-agrees}
+use Rattle.sgx_types.proofs.CountLaws.{count_below-agrees, count_below-zero}
 use Rattle.epcm_entry.specs.declared.entry_view.EntryView.{EntryView}
 use Rattle.epcm_entry.specs.declared.entry_view.EntryView.TheVariants as views
 use Rattle.epcm_entry.specs.Epc.{entry_at}
@@ -55,15 +55,10 @@ unfolding count_below
 count_first test zero = refl
 count_first test (suc n) = omega (arith, count_first test n)
 
-count_none : (test : ℕ → Bool) → ((p : ℕ) → test p ≡ false) → (n : ℕ) → count_below test n ≡ 0
-unfolding count_below
-count_none test h zero = refl
-count_none test h (suc n) = rw (h n) (omega (arith, count_none test h n))
-
 -- the items of a list that pass, counted by their places
 pub count_places : {X : Type 0} (test : X → Bool) (d : X) → test d ≡ false → (xs : List X) (n : ℕ) → length xs ≤ n
     → count_by test xs ≡ count_below (λ p. test (get_or xs p d)) n
-count_places test d fails [] n few = sym (count_none (λ p. test (get_or [] p d)) (λ p. fails) n)
+count_places test d fails [] n few = sym (count_below-zero (λ p. test (get_or [] p d)) n (λ p low. fails))
 count_places test d fails (x ∷ xs) zero few = absurd (omega arith)
 count_places {X} test d fails (x ∷ xs) (suc n) few =
     let rest : count_by test xs ≡ count_below (λ p. test (get_or xs p d)) n = count_places test d fails xs n (omega (arith, few)) in

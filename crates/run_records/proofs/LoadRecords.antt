@@ -4,6 +4,7 @@ use Rattle.std.proofs.Common.{◌∙◌, ap, subst, List, ◌∷◌, Option, Som
 use Rattle.std.specs.Option.{IsSomeAnd}
 use Rattle.std.proofs.lemmas.Bool.{eqb-true}
 use Rattle.std.specs.Str.{bytes_eq}
+use Rattle.std.proofs.lemmas.Option.{same_Some}
 use Rattle.sgx_types.specs.declared.entries.Action.TheVariants.{Eld}
 use Rattle.sgx_types.specs.declared.entries.Actor.TheVariants as actors
 use Rattle.sgx_types.specs.declared.entries.Answer.TheVariants.{Moved}
@@ -246,15 +247,12 @@ row_unfit : (rec : Sealed) (computed : List ℕ) (header : Option Header) (refus
     → first_of_row (eld_row rec computed header) ≡ Some refusal → UnfitBy computed refusal rec
 row_unfit rec computed header refusal = by_tag (not (bytes_eq rec.tag computed)) (not (is_header header rec.header))
   where
-    some_same : (a b : Refusal) → Some a ≡ Some b → a ≡ b
-    some_same a b e = cc
-
     by_tag : (b c : Bool)
         → (if b then Some (why.MacFail rec.tag computed) else if c then Some
         (why.BadHeader rec.header.enclave rec.header.address rec.header.flags)
         else None) ≡ Some refusal → UnfitBy computed refusal rec
-    by_tag true c k = subst (λ x. UnfitBy computed x rec) (some_same _ refusal k) (refl, refl)
-    by_tag false true k = subst (λ x. UnfitBy computed x rec) (some_same _ refusal k) refl
+    by_tag true c k = subst (λ x. UnfitBy computed x rec) (same_Some _ refusal k) (refl, refl)
+    by_tag false true k = subst (λ x. UnfitBy computed x rec) (same_Some _ refusal k) refl
     by_tag false false k = cc
 
 -- .. by the version that the start found

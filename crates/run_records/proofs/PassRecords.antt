@@ -2,6 +2,7 @@
 use Rattle.std.proofs.Common.{◌≡◌, ℕ, zero, suc, ◌≤◌, inl, inr, Bool, true, false, if◌then◌else◌, is_some, refl, sym}
 use Rattle.std.proofs.Common.{◌∙◌, ap, subst, List, ◌∷◌, Option, Some, None, length, min, slice_get, sum, arith}
 use Rattle.std.specs.Option.{IsSomeAnd}
+use Rattle.std.proofs.lemmas.Option.{same_Some}
 use Rattle.sgx_types.specs.declared.entries.Actor.TheVariants as actors
 use Rattle.sgx_types.specs.declared.entries.Entry.{Entry}
 use Rattle.sgx_types.specs.declared.entries.Event.{Event}
@@ -309,16 +310,13 @@ out_told made j past (Some calls) told' d d' m m' t taken phase faults faults' e
     p : IsPutOut (state_of m) (Some calls) told' e (state_of m')
     p = put_out taken phase (state_of m) (state_of m') d d' (Some calls) told' faults faults' e says
 
-    some_same : (a b : List Call) → Some a ≡ Some b → a ≡ b
-    some_same a b h = cc
-
     by_told : (o : Option (List Call)) → o ≡ Some (Put p.page p.rec p.failed ∷ calls) → Tells o (λ longer. Comes e calls longer d d')
         → AreTold j past e (Some calls) o d d'
     by_told None call comes = absurd comes
     by_told (Some longer) call comes = record {
       comes = comes;
       tells = put_tells j.key past (gift past (before e.event longer)) (state_of m) (state_of m') e p.frame p.page p.rec p.failed calls
-          longer p.out (some_same longer (Put p.page p.rec p.failed ∷ calls) call)
+          longer p.out (same_Some longer (Put p.page p.rec p.failed ∷ calls) call)
           (put_sealed made j past (Some calls) d m m' t e p.frame p.rec k keys p.out);
     }
 

@@ -2,6 +2,7 @@
 use Rattle.std.proofs.Common.{◌≡◌, ℕ, zero, suc, ◌+◌, ◌<◌, ◌&&◌, ◌==◌, not, Bool, true, false, if◌then◌else◌}
 use Rattle.std.proofs.Common.{List, Option, Some, None, length, nat_le, slice_get, refl, sym, ap, subst, ◌∙◌, arith, le-leb}
 use Rattle.std.proofs.lemmas.Option.{slice_get_within}
+use Rattle.std.proofs.Math.Bool.{and-false}
 use Rattle.sgx_types.specs.declared.entries.Action.{Action}
 use Rattle.sgx_types.specs.declared.entries.Entry.{Entry}
 use Rattle.sgx_types.specs.declared.names.Page.{Page}
@@ -77,10 +78,6 @@ pub one_unfinished : (j : JobView) (past : List Entry) (p count : ℕ) → p < c
 one_unfinished j past p zero low h = absurd (omega (arith, low))
 one_unfinished j past p (suc count) low h = by_place (p == count) refl (λ less. one_unfinished j past p count less h)
   where
-    none : (b : Bool) → (b && false) ≡ false
-    none true = refl
-    none false = refl
-
     by_place : (b : Bool) → (p == count) ≡ b → (p < count → are_finished j past count ≡ false)
         → (is_finished (cpu_due j past count) && are_finished j past count) ≡ false
     by_place true is rest =
@@ -89,7 +86,7 @@ one_unfinished j past p (suc count) low h = by_place (p == count) refl (λ less.
     by_place false is rest =
         let less : p < count = grind (arith, is, low) in
         ap (λ b. is_finished (cpu_due j past count) && b) (rest less)
-        ∙ none (is_finished (cpu_due j past count))
+        ∙ and-false (is_finished (cpu_due j past count))
 
 -- one more that is finished
 pub more_finished : (j : JobView) (past : List Entry) (p : ℕ) → is_finished (cpu_due j past p) ≡ true → are_finished j past p ≡ true
@@ -104,11 +101,7 @@ pub not_built : (j : JobView) (past : List Entry) → is_built j past ≡ false 
 not_built j past h = ap (λ b. b && are_finished j past (length j.scripts)) h
 
 pub not_done : (j : JobView) (past : List Entry) → are_finished j past (length j.scripts) ≡ false → all_finished j past ≡ false
-not_done j past h = ap (λ b. is_built j past && b) h ∙ none (is_built j past)
-  where
-    none : (b : Bool) → (b && false) ≡ false
-    none true = refl
-    none false = refl
+not_done j past h = ap (λ b. is_built j past && b) h ∙ and-false (is_built j past)
 
 pub all_done : (j : JobView) (past : List Entry) → is_built j past ≡ true → are_finished j past (length j.scripts) ≡ true
     → all_finished j past ≡ true

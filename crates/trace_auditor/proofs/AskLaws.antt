@@ -3,6 +3,7 @@ use Rattle.std.proofs.Common.{◌≡◌, ℕ, ◌<◌, Bool, true, false, refl, 
 use Rattle.std.proofs.Common.{Option, Some, None, Ok, Err, IfOk, length}
 use Rattle.std.specs.Prelude.{Result, slice_get}
 use Rattle.std.proofs.lemmas.Bool.{false≢true}
+use Rattle.std.proofs.lemmas.Option.{none-some, same_Some}
 use Rattle.sgx_types.specs.declared.entries.Action.{Action}
 use Rattle.sgx_types.specs.declared.entries.Action.TheVariants.{Epa, Create, Add, Extend, Init, Enter, Resume, Exit, Aex, Fill, Load, Store}
 use Rattle.sgx_types.specs.declared.entries.Action.TheVariants.{Xadd, Set, Plus, Pf, OutLoad, OutStore, Block, Track, EwbStart, Ewb}
@@ -55,24 +56,9 @@ use Rattle.trace_auditor.specs.declared.auditing.Auditing.{Auditing}
 use Rattle.trace_auditor.specs.Asking.{is_commit, is_cpu, page_loaded, page_moved}
 use Rattle.trace_auditor.specs.Audits.{CanAsk, IsAnswered, IsAsked, IsTaken}
 
-action-inj : {x y : Action} → Some x ≡ Some y → x ≡ y
-action-inj e = cc
-
-none-some : {x : Action} → None ≡ Some x → ⊥
-none-some e = cc
-
-start-inj : {x y : BareStart} → Some x ≡ Some y → x ≡ y
-start-inj e = cc
-
-no-start : {x : BareStart} → None ≡ Some x → ⊥
-no-start e = cc
-
-no-page : {g : Page} → None ≡ Some g → ⊥
-no-page e = cc
-
 -- two names of one instruction
 same-action : (event : Event) (a b : Action) → action_of event ≡ Some a → action_of event ≡ Some b → a ≡ b
-same-action event a b one other = action-inj (sym one ∙ other)
+same-action event a b one other = same_Some _ _ (sym one ∙ other)
 
 -- ---- whose instructions are whose
 
@@ -159,8 +145,8 @@ can-apply cpus actors.Reclaimer action row own low = absurd (false≢true (own c
 -- ---- entries of no instruction
 
 pub note_of : (event : Event) → action_of event ≡ None → IsNote event
-note_of (Did action answer) none = absurd (none-some (sym none))
-note_of (Refused action reason) none = absurd (none-some (sym none))
+note_of (Did action answer) none = absurd (none-some _ (sym none))
+note_of (Refused action reason) none = absurd (none-some _ (sym none))
 note_of (Age page look) none = tt
 note_of (Kick cpu) none = tt
 note_of (Bus page why) none = tt
@@ -169,7 +155,7 @@ note_of (Bus page why) none = tt
 
 commits-enter-none : (event : Event) (action : Action) → action_of event ≡ Some action → is_commit action ≡ true → EntersApart event
 commits-enter-none (Did (Enter enclave tcs tf sf) answer) action own h =
-    absurd (false≢true (ap is_commit (action-inj own) ∙ h))
+    absurd (false≢true (ap is_commit (same_Some _ _ own) ∙ h))
 commits-enter-none event action own h = tt
 
 notes-enter-none : (event : Event) → IsNote event → EntersApart event
@@ -210,7 +196,7 @@ module _ (a : Auditing) (e : Entry) (can : CanAsk a e) where
     taken = record {
       stands = own_records (machine_of j) (state_of a.machine) (e ∷ past) (made_by j.key past) stands;
       cpus = refl;
-      step = λ action own plain. absurd (none-some (sym (no_note e.event note) ∙ own));
+      step = λ action own plain. absurd (none-some _ (sym (no_note e.event note) ∙ own));
       enters = notes-enter-none e.event note;
     };
     records = λ more. records_stay j.key past e (records_of a.records) (no_action e.event (no_note e.event note)) can.records;
@@ -301,10 +287,7 @@ module _ (a : Auditing) (e : Entry) (can : CanAsk a e) where
     }
       where
         same : left.page ≡ page
-        same = some-page (sym page_told ∙ sym moved)
-          where
-            some-page : {x y : Page} → Some x ≡ Some y → x ≡ y
-            some-page h = cc
+        same = same_Some _ _ (sym page_told ∙ sym moved)
 
   module _ (f : Frame) (own : action_of e.event ≡ Some (Eld f)) where
     -- the open start of the frame, by the machine and by the entries
@@ -319,21 +302,21 @@ module _ (a : Auditing) (e : Entry) (can : CanAsk a e) where
       where
         by_start : (o : Option starts.Start) (x : Start) (g : Page) → start_of o ≡ Some (without_place x) → x.loads ≡ Some g
             → page_loaded o ≡ None → ⊥
-        by_start None x g at loads h = no-start at
-        by_start (Some o) x g at loads h = no-page (sym h ∙ ap (λ (y : BareStart). y.loads) (start-inj at) ∙ loads)
+        by_start None x g at loads h = none-some _ at
+        by_start (Some o) x g at loads h = none-some _ (sym h ∙ ap (λ (y : BareStart). y.loads) (same_Some _ _ at) ∙ loads)
 
         by_event : (event : Event) → action_of event ≡ Some (Eld f)
             → RefusalRule (machine_of j) past (record { actor = e.actor; event = event }) → ⊥
         by_event (Did action answer) same h =
-            let back : IsBack past f.0 answer = rw (action-inj same) at h.1 in
+            let back : IsBack past f.0 answer = rw (same_Some _ _ same) at h.1 in
             by_start start back.ends.start back.page (opened start is ∙ ap bare_start back.ends.opened) back.ends.loads none
         by_event (Refused action reason) same h =
             let back : IsNotBack past f.0 reason = subst (λ x. RefusalRule (machine_of j) past
-            (record { actor = e.actor; event = Refused x reason })) (action-inj same) h in
+            (record { actor = e.actor; event = Refused x reason })) (same_Some _ _ same) h in
             by_start start back.ends.start back.page (opened start is ∙ ap bare_start back.ends.opened) back.ends.loads none
-        by_event (Age page look) same h = none-some same
-        by_event (Kick cpu) same h = none-some same
-        by_event (Bus page why) same h = none-some same
+        by_event (Age page look) same h = none-some _ same
+        by_event (Kick cpu) same h = none-some _ same
+        by_event (Bus page why) same h = none-some _ same
 
     module _ (start : Option starts.Start) (is : start_of start ≡ (state_of a.machine).start f.0) (page : Page)
         (loads : page_loaded start ≡ Some page) where

@@ -3,6 +3,7 @@ use Rattle.std.proofs.Common.{◌≡◌, ℕ, ◌+◌, ◌^◌, ◌<◌, ◌≤�
 use Rattle.std.proofs.Common.{refl, sym, ap, ◌∙◌, arith, lit≤}
 use Rattle.std.specs.List.{join_with_byte, slice_split}
 use Rattle.std.proofs.lemmas.List.{length-append, take_all}
+use Rattle.std.proofs.lemmas.Option.{same_Some}
 use Rattle.sgx_types.specs.declared.entries.Entry.{Entry}
 use Rattle.sgx_types.specs.declared.entries.Event.{Event}
 use Rattle.sgx_types.specs.declared.entries.Event.TheVariants as events
@@ -240,10 +241,7 @@ line_read e line readable same = ap (λ (l : List ℕ). entry_of (words_of l)) s
 -- two readable entries with one spelling are one entry
 pub same_entry : (e f : Entry) → IsReadable e → IsReadable f → spelling e ≡ spelling f → e ≡ f
 same_entry e f own other same =
-    some-inj (sym (line_read e (spelling e) own refl) ∙ line_read f (spelling e) other same)
-  where
-    some-inj : {x y : Entry} → Some x ≡ Some y → x ≡ y
-    some-inj s = cc
+    same_Some e f (sym (line_read e (spelling e) own refl) ∙ line_read f (spelling e) other same)
 
 -- a readable entry's line has no line feed
 pub spelling_apart : (e : Entry) → IsReadable e → IsApart 10 (spelling e)

@@ -1,5 +1,6 @@
 -- What each answer of a reader says of what it was fed.
 use Rattle.std.proofs.Common.{◌≡◌, ℕ, ◌++◌, List, Option, Some, None, Ok, Err, length, refl, sym, ap, ◌∙◌, subst}
+use Rattle.std.proofs.lemmas.Option.{same_Some}
 use Rattle.trace_reader.specs.declared.refusals.TraceRefusal.TheVariants.{Fault, Memory}
 use Rattle.trace_reader.specs.Faults.{IsBegun, IsFirstFault, Progress, Reading, Faulted, whole_lines}
 use Rattle.trace_reader.specs.Kept.{progress_at}
@@ -21,11 +22,8 @@ pub feeds_again : (before : Progress) (fault : Option ℕ) (fed piece : List ℕ
     → fault ≡ Some line → Feeds before piece (Err (Fault line)) before
 feeds_again before None fed piece line is some = absurd cc
 feeds_again before (Some other) fed piece line is some =
-    let own : Faulted line ≡ before = ap (λ (n : ℕ). Faulted n) (sym (some-inj some)) ∙ is in
+    let own : Faulted line ≡ before = ap (λ (n : ℕ). Faulted n) (sym (same_Some _ _ some)) ∙ is in
     subst (λ p. Feeds p piece (Err (Fault line)) p) own (refl, refl)
-  where
-    some-inj : {m n : ℕ} → Some m ≡ Some n → m ≡ n
-    some-inj e = cc
 
 pub feeds_memory : (before : Progress) (fault : Option ℕ) (fed piece grown : List ℕ) → progress_at fault fed ≡ before → fault ≡ None
     → grown ≡ fed → Feeds before piece (Err Memory) (progress_at fault grown)

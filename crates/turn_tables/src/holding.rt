@@ -15,7 +15,6 @@ ghost use Rattle.turn_tables.specs.TcsTurns.{tcs_at};
 use crate::asking::op_at;
 use crate::cpu_turns::{CpuTurn, Interruption};
 use crate::operations::access_page;
-use crate::replies::is_reply;
 use crate::turns::Turns;
 use active_list::active::Active;
 use cached_translations::processor::Mode;
@@ -23,6 +22,7 @@ use job_grammar::jobs::{Job, Op};
 use paging_machine::machine::Machine;
 use sgx_types::entries::{Action, Actor, Cause, Entry, Event};
 use sgx_types::names::{Cpu, Page};
+use turn_rules::replies::is_reply;
 use turn_rules::steps::BuildStep;
 
 /// The pages that a processor begins to hold by an entry, at most three.

@@ -1,8 +1,7 @@
 -- What was printed again is not the line, which is then no readable entry's.
-use Rattle.std.proofs.Common.{◌≡◌, true, false, List, ℕ, ◌++◌, Some, sym, ap, ◌∙◌}
+use Rattle.std.proofs.Common.{◌≡◌, true, false, List, ℕ, ◌++◌, sym, ap, ◌∙◌}
 use Rattle.std.proofs.lemmas.Slice.Eq.{bytes_eq-Decides}
 use Rattle.std.proofs.lemmas.Option.{same_Some}
-use Rattle.sgx_types.specs.declared.entries.Entry.{Entry}
 use Rattle.trace_text.specs.TraceText.{spelling}
 use Rattle.trace_lines.proofs.LineReads.{line_read}
 use Rattle.trace_lines.proofs.lines.read_line.Goals as goal
