@@ -42,16 +42,13 @@ before_track first past n m t is same = by_track (last_track past n) (last_track
 abbrev pub is_newer : ℕ → Option ℕ → Option Stay → Bool
 is_newer n k o = is_in n o && not (is_in_before n k o)
 
-nothing_and_nothing : one_if false + one_if false ≡ one_if false
-nothing_and_nothing = refl
-
 both : (n : ℕ) (k : Option ℕ) (o : Option Stay) → one_if (is_in_before n k o) + one_if (is_newer n k o) ≡ one_if (is_in n o)
-both n k None = nothing_and_nothing
+both n k None = refl
 both n k (Some t) = one_of_those (t.seat.enclave == n) (is_before k t.entered)
 
 -- all that are inside are older or newer
 all_inside : (past : List Entry) (n : ℕ) → older_at past n + newer_at past n ≡ count_below (λ p. is_in n (stay past p)) 16
-all_inside past n = count_below-splits _ _ _ (λ p. is_in n (stay past p)) (λ p. both n (last_track past n) (stay past p)) 16
+all_inside past n = count_below-splits _ _ (λ p. is_in n (stay past p)) (λ p. both n (last_track past n) (stay past p)) 16
 
 -- ---- one processor's stay changes
 

@@ -122,15 +122,15 @@ fn push_done_reply(action: &Action, answer: &Answer, onto: &mut Vec<u8>) -> Resu
     ensures { OnOk result (
         onto.new.items ≡ onto.old.items ++ line_text (done_reply action.now answer.now)) }
 {
-    match (*action, *answer) {
+    match (action, answer) {
         (Action::Enter { .. }, Answer::Cssa(count)) => push_line(
             Name("cssa"),
-            &[Decimal(count.into())],
+            &[Decimal(u64::from(*count))],
             onto,
         ),
         (Action::Resume { .. }, Answer::Value(acc)) => push_line(
             Name("acc"),
-            &[Decimal(acc)],
+            &[Decimal(*acc)],
             onto,
         ),
         (Action::Exit, _) => push_line(Name("exit"), &[], onto),
@@ -147,10 +147,10 @@ fn push_done_reply(action: &Action, answer: &Answer, onto: &mut Vec<u8>) -> Resu
             | Action::Plus { .. }
             | Action::OutLoad { .. },
             Answer::Value(value),
-        ) => push_line(Decimal(value), &[], onto),
+        ) => push_line(Decimal(*value), &[], onto),
         (Action::Pf { .. }, Answer::Pf(fault)) => push_line(
             Name("pf"),
-            &[Name(fault_name(fault))],
+            &[Name(fault_name(*fault))],
             onto,
         ),
         (Action::OutStore { .. }, _) => push_line(Name("dropped"), &[], onto),
