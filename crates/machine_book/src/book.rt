@@ -69,7 +69,7 @@ impl<B: Backing> MachineBook<B> {
         ensures words { self.new.words ≡ self.old.words }
     {
         let turn = self.book.build_turn(alloc)?;
-        self.book.holds();
+        prove!(self.book.entries().len() < 1 << 63);
         Ok(turn)
     }
 
@@ -133,13 +133,6 @@ impl<B: Backing> MachineBook<B> {
         ensures { result ≡ self.now.book.noted }
     {
         self.book.noted()
-    }
-
-    /// A law of every book: its entries are those of a run under its job. It does nothing.
-    pub fn holds(&self)
-        ensures { Holds self.now.book }
-    {
-        self.book.holds();
     }
 
     /// The entries so far, oldest first.

@@ -149,7 +149,7 @@ ended_starts j c c' before cpu e low loads by end noted sealing =
     let cpus : c'.turns.cpus ≡ set c.turns.cpus cpu.0 turn = noted.cpus
     ∙ end.kicks (with_own e.actor e.event before c.turns.cpus) ∙ ap (λ a. with_own a e.event before c.turns.cpus) by in
     let counts = starts_set c.turns.cpus cpu.0 turn low in
-    let was : one_if (has_open_load (turn_at c.turns.cpus cpu.0)) ≡ 1 = ap one loads in
+    let was : one_if (has_open_load (turn_at c.turns.cpus cpu.0)) ≡ 1 = ap one_if loads in
     let now : one_if (has_open_load turn) ≡ 0 = ap one_if (end.stops (turn_at c.turns.cpus cpu.0).last) in
     let count : count_by has_open_load c'.turns.cpus ≡ count_by has_open_load (set c.turns.cpus cpu.0 turn) =
     ap (count_by has_open_load) cpus in

@@ -394,7 +394,7 @@ end_facts s d' m' told spare cpu page loaded k mine going loads does rights cpus
   opened = opened;
   place =
       let counts = starts_set s.turns.cpus cpu.0 first_turn low in
-      let was : one_if (has_open_load (turn_at s.turns.cpus cpu.0)) ≡ 1 = ap one opened in
+      let was : one_if (has_open_load (turn_at s.turns.cpus cpu.0)) ≡ 1 = ap one_if opened in
       let room = k.room in omega (arith, counts, was, room);
   entry = right.entry;
   ended = right.end;

@@ -119,11 +119,6 @@ impl<B: Backing> Book<B> {
         self.noted = true;
     }
 
-    /// A law of every book: its entries are those of a run under its job. It does nothing.
-    pub fn holds(&self)
-        ensures { Holds self.now }
-    {}
-
     /// Whether memory was refused to a worker.
     pub fn noted(&self) -> bool
         ensures { result ≡ self.now.noted }
