@@ -9,12 +9,13 @@ use sgx_types::record::Record;
 use std::alloc::Global;
 use std::sync::atomic::{AtomicU64, Ordering};
 
-/// Passes each call on. It counts them, and those that came while nobody was between the calls of the gate.
+/// Passes each call on. It counts them, those for a record, and those that came while nobody was between the calls of the gate.
 #[derive(Drop)]
 pub struct SeenStore<'a> {
     pub store: PlannedStore,
     pub inside: &'a AtomicU64,
     pub calls: &'a AtomicU64,
+    pub gets: &'a AtomicU64,
     pub alone: &'a AtomicU64,
 }
 
@@ -56,6 +57,7 @@ impl<'a> Backing for SeenStore<'a> {
 
     fn get(&mut self, alloc: Global, page: Page) -> Result<Option<Record>, StoreFault> {
         self.see();
+        self.gets.fetch_add(1, Ordering::SeqCst);
         self.store.get(alloc, page)
     }
 }

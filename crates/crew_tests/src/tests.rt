@@ -82,6 +82,7 @@ fn seen_book<'a>(
     seat: HardwareSeat,
     inside: &'a AtomicU64,
     calls: &'a AtomicU64,
+    gets: &'a AtomicU64,
     alone: &'a AtomicU64,
 ) -> Result<MachineBook<SeenStore<'a>>, Memory>
     requires enclaves { enclaves seat.words ≡ length job.enclaves }
@@ -92,6 +93,7 @@ fn seen_book<'a>(
         store: PlannedStore::new(),
         inside,
         calls,
+        gets,
         alone,
     };
     MachineBook::start(alloc, job, store, seat)
@@ -163,16 +165,20 @@ fn two_processors_meet_at_the_gate(rt: HostRuntime) -> Result<(), Fail> {
     let job = read_job(alloc, &adds(alloc)?)?;
     let gate = Meeting::new();
     let calls = AtomicU64::new(0);
+    let gets = AtomicU64::new(0);
     let alone = AtomicU64::new(0);
     let (words, seat, pass) = Words::new(alloc, &job)?;
-    let book = seen_book(alloc, job, seat, &gate.inside, &calls, &alone)?;
+    let book = seen_book(alloc, job, seat, &gate.inside, &calls, &gets, &alone)?;
     let (_, tally) = run_crew(&rt, alloc, book, &words, pass, &gate)?;
     assert_eq!(rt; gate.late.load(Ordering::SeqCst), 0);
     assert_eq!(rt; gate.came[0].load(Ordering::SeqCst), 1);
     assert_eq!(rt; gate.came[1].load(Ordering::SeqCst), 1);
     assert_eq!(rt; gate.inside.load(Ordering::SeqCst), 0);
     assert!(rt; tally.reclaimer > 100);
-    assert!(rt; calls.load(Ordering::SeqCst) > 100);
+    // 34 of 48 pages leave 14 frames while they are added, each by a room and a put, and those that are entered are got back. How many
+    // more move, the threads decide.
+    assert!(rt; calls.load(Ordering::SeqCst) > 67);
+    assert!(rt; gets.load(Ordering::SeqCst) > 0);
     assert_eq!(rt; alone.load(Ordering::SeqCst), 0);
     Ok(())
 }
