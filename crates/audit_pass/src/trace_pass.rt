@@ -1,6 +1,6 @@
 //! How far the reclaimer is along a trace.
 
-ghost use Rattle.std.specs.Prelude.{ℕ, ◌≡◌, [], List, IfOk, None, slice_get};
+ghost use Rattle.std.specs.Prelude.{ℕ, ◌≡◌, [], List, IfOk, None};
 ghost use Rattle.sgx_types.specs.declared.entries.Entry.{Entry};
 ghost use Rattle.sgx_types.specs.Making.{Making};
 ghost use Rattle.job_grammar.specs.Jobs.{JobView};

@@ -1,8 +1,7 @@
 //! A store that keeps records in memory, and lies by a plan.
 
-ghost use Rattle.std.specs.Prelude.{◌≡◌, ◌≤◌, ℕ, true, [], Option, Some, is_some, OnOk, OnErr, IsErr, IsErrOf, length};
+ghost use Rattle.std.specs.Prelude.{◌≡◌, ◌≤◌, ℕ, true, [], Option, Some, is_some, OnOk, OnErr, IsErrOf, length};
 ghost use Rattle.std.specs.Prelude.{reverse, count_by};
-ghost use Rattle.io_edges.specs.Faults.{HasCause};
 
 use crate::backing::{Backing, StoreFault};
 use crate::calls::StoreCall;
@@ -87,7 +86,6 @@ impl PlannedStore {
 }
 
 impl Backing for PlannedStore {
-    ghost use Rattle.backing_store.specs.Calls.{Put, with_call, told_room, told_got};
     ghost use Rattle.backing_store.specs.Store.{spare_of, count_failed, with_plans, after_room, after_put, after_get};
     ghost use Rattle.backing_store.specs.Told.{told_of, room_answer, put_answer, get_answer_of, WhereMade};
 

@@ -1,9 +1,9 @@
 //! How many places each enclave has in a table of pages.
 
-ghost use Rattle.std.specs.Prelude.{◌≡◌, ◌≤◌, ◌^◌, length, map, IfOk};
+ghost use Rattle.std.specs.Prelude.{◌≡◌, ◌≤◌, ◌^◌, map, IfOk};
 ghost use Rattle.std.specs.List.{All};
 ghost use Rattle.job_grammar.specs.Jobs.{enclave_view};
-ghost use Rattle.driver_tables.specs.Counts.{line_end, IsShort, last_end, enclave_places, IsLow};
+ghost use Rattle.driver_tables.specs.Counts.{IsShort, last_end, enclave_places, IsLow};
 
 use job_grammar::jobs::{EnclaveJob, PageLine};
 use sgx_types::names::Memory;

@@ -2,7 +2,7 @@
 
 ghost use Rattle.std.specs.Prelude.{◌≡◌, ◌≤◌, ◌<◌, ◌==◌, true, List, ℕ, length, reverse, IfOk, IfSome};
 ghost use Rattle.std.specs.List.{list_any};
-ghost use Rattle.active_list.specs.Holds.{holder_of, most_of};
+ghost use Rattle.active_list.specs.Holds.{holder_of};
 ghost use Rattle.backing_store.specs.Store.{spare_of};
 ghost use Rattle.driver_tests.specs.Stays.{CanHold, IsLoading, IsPlacedIn, IsWithout, slot_sealed};
 ghost use Rattle.paging_machine.specs.Parts.{state_of};

@@ -13,7 +13,7 @@ ghost use Rattle.driver_traces.specs.PairTrace.{pair_job, pair_trace};
 ghost use Rattle.driver_traces.specs.SpentTrace.{spent_job, spent_trace};
 ghost use Rattle.driver_traces.specs.Faults.{breaks_first, first_of};
 ghost use Rattle.driver_traces.specs.Words.{add_reg, add_tcs, aex, back, block, bus, cpu, enter, epa, exit, extend, fill, init, load, out};
-ghost use Rattle.driver_traces.specs.Words.{refused, resume, set, start_back, track, try_refused, xadd};
+ghost use Rattle.driver_traces.specs.Words.{resume, set, start_back, track, try_refused, xadd};
 
 pub fn the_builder_takes_its_steps_in_order()
     ensures frame { breaks_first rules.Script kick_job (first_of 28 kick_trace) (add_reg Builder 6 4095 7) ≡ true }

@@ -1,9 +1,9 @@
 //! EEXTEND: 256 bytes of a page are measured.
 
-ghost use Rattle.std.specs.Prelude.{◌≡◌, ◌<◌, ◌==◌, None, IfSome, OnOk, OnErr, length, false};
+ghost use Rattle.std.specs.Prelude.{◌≡◌, ◌<◌, ◌==◌, None, IfSome, OnOk, OnErr, false};
 ghost use Rattle.sgx_types.specs.Frames.{enclave_in};
 ghost use Rattle.sgx_types.specs.Table.{refusal_in, first_of_row, extend_row};
-ghost use Rattle.epcm_entry.specs.Sights.{sight_in, held};
+ghost use Rattle.epcm_entry.specs.Sights.{sight_in};
 ghost use Rattle.measure_log.specs.Blocks.{chunk_of};
 ghost use Rattle.enclave_build.specs.Build.{Appends, chunk_block};
 

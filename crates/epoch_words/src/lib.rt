@@ -4,6 +4,4 @@
 
 mod rule;
 pub mod seen;
-#[cfg(test)]
-mod tests;
 pub mod words;

@@ -1,6 +1,6 @@
 //! The first half of a fault step: a page's record is asked for, and its load starts.
 
-ghost use Rattle.std.specs.Prelude.{List, ◌≡◌, ◌<◌, ◌≤◌, Some, length, option_map, IfOk, OnErr};
+ghost use Rattle.std.specs.Prelude.{List, ◌≡◌, ◌<◌, ◌≤◌, Some, length, IfOk, OnErr};
 ghost use Rattle.active_list.specs.Places.{IsPlaced};
 ghost use Rattle.active_list.specs.States.{state_of as page_state};
 ghost use Rattle.sgx_types.specs.Making.{Making};

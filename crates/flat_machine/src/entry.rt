@@ -1,12 +1,12 @@
 //! Entries and exits of flat memory.
 
-ghost use Rattle.std.specs.Prelude.{◌≡◌, ◌<◌, ◌+◌, ◌-◌, ◌==◌, ◌^◌, ◌%◌, ◌/◌, Bool, true, is_some, Some};
+ghost use Rattle.std.specs.Prelude.{◌≡◌, ◌<◌, ◌+◌, ◌-◌, ◌==◌, ◌^◌, ◌%◌, ◌/◌, true, is_some, Some};
 ghost use Rattle.sgx_types.specs.declared.entries.Answer.TheVariants as answers;
-ghost use Rattle.sgx_types.specs.Frames.{page_at, is_page};
-ghost use Rattle.sgx_types.specs.Table.{first_of_row, when, entry_row, ssa_row, exit_row, aex_row, is_tcs, is_reg, perm_in, allows_update};
-ghost use Rattle.sgx_types.specs.Flat.{enclave_sight, flat_frame, flat_enter_sight, flat_enter_row, flat_resume_row, fields_in, words_of};
-ghost use Rattle.sgx_types.specs.Flat.{with_words, with_cssa, entered, left, saved, resumed, resumed_word, saved_word, is_inside_by};
-ghost use Rattle.flat_machine.specs.Parts.{memory_of, fields_of, content_in, seat};
+ghost use Rattle.sgx_types.specs.Frames.{page_at};
+ghost use Rattle.sgx_types.specs.Table.{first_of_row, when, entry_row, ssa_row, exit_row, aex_row};
+ghost use Rattle.sgx_types.specs.Flat.{flat_frame, flat_enter_sight, flat_enter_row, flat_resume_row, fields_in};
+ghost use Rattle.sgx_types.specs.Flat.{with_words, with_cssa, entered, left, saved, resumed, resumed_word};
+ghost use Rattle.flat_machine.specs.Parts.{memory_of, fields_of, seat};
 ghost use Rattle.flat_machine.specs.Step.{replied, taken};
 
 use crate::flat::{Flat, Mode, Processor};

@@ -1,6 +1,6 @@
 //! Many rounds of each seat of a gate, beside one another.
 
-ghost use Rattle.std.specs.Prelude.{◌≡◌, ℕ, ◌+◌, ◌*◌, ◌<◌, ◌≤◌, None, [], length, IfOk, OnOk, All};
+ghost use Rattle.std.specs.Prelude.{◌≡◌, ℕ, ◌+◌, ◌*◌, ◌<◌, ◌≤◌, [], length, IfOk, OnOk, All};
 ghost use Rattle.std.specs.Prelude.{slice_index_or};
 ghost use Rattle.std.specs.Thread.{IsSync};
 ghost use Rattle.frame_gate.specs.declared.limits.TheConstants.{MOST_FRAMES, MOST_PAIRS, MOST_ENTRIES};

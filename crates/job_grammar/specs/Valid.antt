@@ -12,7 +12,7 @@ use Rattle.job_grammar.specs.declared.jobs.Op.{Op}
 use Rattle.job_grammar.specs.declared.jobs.Op.TheVariants.{Enter, Resume, Exit, Timer, Load, Store, Xadd, Set, Plus, OutLoad, OutStore}
 use Rattle.job_grammar.specs.Jobs.{EnclaveView, JobView, covers, enclave_at, is_added_page, is_tcs_page, is_save_page, lines_at, job_pages}
 use Rattle.job_grammar.specs.Jobs.{needed, script_names}
-use Rattle.text_words.specs.Reading.{IsDigest}
+use Rattle.sgx_types.specs.Digests.{IsDigest}
 
 -- ---- options
 

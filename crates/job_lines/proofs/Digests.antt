@@ -8,7 +8,8 @@ use Rattle.std.proofs.lemmas.List.Elements.{All-nil, All-cons}
 use Rattle.std.proofs.lemmas.Option.{same_Some}
 use Rattle.hex.specs.declared.error.FromHexError.{FromHexError}
 use Rattle.hex.specs.Hex.{decode_pairs, decode_sized, digit_or_error, hex_digit_value, pair_value, value_at, ◌>>=◌}
-use Rattle.text_words.specs.Reading.{IsDigest, digest_of}
+use Rattle.sgx_types.specs.Digests.{IsDigest}
+use Rattle.text_words.specs.Reading.{digest_of}
 
 ok-same : {X : Type 0} (x y : X) → ◌≡◌ {A = Result X FromHexError} (Ok x) (Ok y) → x ≡ y
 ok-same x y e = cc

@@ -1,6 +1,6 @@
 -- What the words of a line can spell.
 use Rattle.std.specs.Prelude.{◌≡◌, ℕ, ◌^◌, ◌<◌, ◌≤◌, true}
-use Rattle.text_words.specs.Reading.{IsDigest}
+use Rattle.sgx_types.specs.Digests.{IsDigest}
 use Rattle.job_lines.specs.declared.statements.Plan.{Plan}
 use Rattle.job_lines.specs.declared.statements.Plan.TheVariants as plans
 use Rattle.job_lines.specs.declared.statements.Operation.{Operation}

@@ -1,7 +1,7 @@
 //! The words of a line, and each in its place.
 
 ghost use Rattle.std.specs.Prelude.{◌≡◌, ◌≤◌, true, map, IfOk, take};
-ghost use Rattle.text_words.specs.Reading.{IsDigest};
+ghost use Rattle.sgx_types.specs.Digests.{IsDigest};
 ghost use Rattle.job_lines.specs.Words.{without_return, words_of, is_skipped, keyword_of, plan_word_of, call_word_of, as_number, as_letter};
 ghost use Rattle.job_lines.specs.Words.{as_perm, as_hash, as_plain};
 

@@ -2,7 +2,7 @@
 use Rattle.std.proofs.Common.{◌≡◌, ℕ, ◌<◌, ◌≤◌, List, [], ◌∷◌, ◌++◌, map, replicate, refl, ap, arith}
 use Rattle.std.specs.Global.{Vec}
 use Rattle.std.proofs.lemmas.List.Elements.{All-cons, All-nil, All-replicate}
-use Rattle.text_words.specs.Reading.{IsDigest}
+use Rattle.sgx_types.specs.Digests.{IsDigest}
 use Rattle.io_edges.specs.declared.plans.PlanLine.{PlanLine}
 use Rattle.job_grammar.specs.declared.jobs.EnclaveJob.{EnclaveJob}
 use Rattle.job_grammar.specs.declared.jobs.Marks.{Marks}

@@ -7,7 +7,7 @@ use Rattle.std.proofs.lemmas.List.{append-nil, length-append}
 use Rattle.std.proofs.lemmas.List.Elements.{All-push}
 use Rattle.sgx_types.specs.Table.{is_lawful}
 use Rattle.sgx_types.specs.declared.names.Perm.{Perm}
-use Rattle.text_words.specs.Reading.{IsDigest}
+use Rattle.sgx_types.specs.Digests.{IsDigest}
 use Rattle.job_grammar.specs.declared.jobs.PageLine.{PageLine}
 use Rattle.job_grammar.specs.declared.jobs.PageLine.TheVariants as pages
 use Rattle.job_grammar.specs.Jobs.{EnclaveView, JobView, enclave_pages, first_page, is_save_page, page_count}

@@ -13,7 +13,8 @@ use Rattle.hex.specs.Hex.{lower_digits}
 use Rattle.hex.proofs.HexLemmas.{length-encode_with}
 use Rattle.sgx_types.specs.declared.names.Perm.{Perm}
 use Rattle.text_words.specs.Words.{Words, digest_word, enclave_word, hexadecimal, line_text, perm_word}
-use Rattle.text_words.specs.Reading.{IsDigest, IsLetter}
+use Rattle.sgx_types.specs.Digests.{IsDigest}
+use Rattle.text_words.specs.Reading.{IsLetter}
 use Rattle.job_grammar.specs.declared.jobs.PageLine.{PageLine}
 use Rattle.job_grammar.specs.declared.jobs.PageLine.TheVariants as pages
 use Rattle.job_grammar.specs.declared.jobs.Op.{Op}

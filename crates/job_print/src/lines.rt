@@ -1,7 +1,6 @@
 //! Writing one line of a job.
 
 ghost use Rattle.std.specs.Prelude.{◌≡◌, ◌++◌, ◌∷◌, OnOk, codes};
-ghost use Rattle.std.specs.Fmt.{decimal};
 ghost use Rattle.text_words.specs.Words.{line_text, perm_word};
 ghost use Rattle.job_print.specs.JobText.{op_words, plan_words, statement_text};
 

@@ -5,7 +5,7 @@ use Rattle.std.proofs.Common.{◌∙◌, arith, inl, inr}
 use Rattle.std.specs.List.{slice_get}
 use Rattle.std.proofs.lemmas.Bool.{cases_Bool, cases_lt, and_parts}
 use Rattle.std.proofs.lemmas.List.Elements.{All-nil, All-cons, All-head, All-replicate, All-tail, All-weaker}
-use Rattle.text_words.specs.Reading.{IsDigest}
+use Rattle.sgx_types.specs.Digests.{IsDigest}
 use Rattle.job_grammar.specs.declared.jobs.PageLine.{PageLine}
 use Rattle.job_grammar.specs.declared.jobs.PageLine.TheVariants as pages
 use Rattle.job_grammar.specs.Jobs.{EnclaveView, JobView, default_marks, is_save_page, lines_at, lines_in, needed}

@@ -3,7 +3,7 @@ use Rattle.std.specs.Prelude.{◌≡◌, ℕ, ◌+◌, ◌-◌, ◌^◌, ◌<◌
 use Rattle.std.specs.Prelude.{IfSome, length, count_by, sum_by}
 use Rattle.std.specs.List.{All}
 use Rattle.sgx_types.specs.Table.{is_lawful}
-use Rattle.text_words.specs.Reading.{IsDigest}
+use Rattle.sgx_types.specs.Digests.{IsDigest}
 use Rattle.io_edges.specs.declared.plans.PlanLine.{PlanLine}
 use Rattle.job_grammar.specs.declared.jobs.Op.{Op}
 use Rattle.job_grammar.specs.declared.jobs.PageLine.{PageLine}

@@ -1,6 +1,6 @@
 //! Laws of the steps. Each is the contract of a function without arguments, and so holds for every run.
 
-ghost use Rattle.std.specs.Prelude.{ℕ, ◌≡◌, ◌≤◌, false, List};
+ghost use Rattle.std.specs.Prelude.{◌≡◌, ◌≤◌, false, List};
 ghost use Rattle.sgx_types.specs.declared.entries.Action.{Action};
 ghost use Rattle.sgx_types.specs.declared.entries.Actor.{Actor};
 ghost use Rattle.sgx_types.specs.declared.entries.Entry.{Entry};

@@ -1,7 +1,6 @@
 //! The machine and its readers.
 
 ghost use Rattle.std.specs.Prelude.{◌≡◌, ◌<◌, ◌≤◌, ◌^◌, ◌%◌, ◌/◌, count_by, length, is_some, nat_le, true};
-ghost use Rattle.std.specs.Prelude.{IsTrue};
 ghost use Rattle.std.specs.Option.{option_map};
 ghost use Rattle.sgx_types.specs.Frames.{least_free, page_at};
 ghost use Rattle.sgx_types.specs.Table.{allows, is_lawful_access, is_loading, is_ready};

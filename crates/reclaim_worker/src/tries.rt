@@ -1,19 +1,14 @@
 //! What a pass does with the pages that it took: it blocks them, and writes each out.
 
-ghost use Rattle.std.specs.Prelude.{◌≡◌, ◌∷◌, ◌≤◌, ◌<◌, true, false, List, length, IfSome, IfNone, nat_le};
+ghost use Rattle.std.specs.Prelude.{◌≡◌, ◌∷◌, ◌≤◌, ◌<◌, false, length, IfSome, IfNone};
 ghost use Rattle.sgx_types.specs.declared.entries.Actor.TheVariants as actors;
 ghost use Rattle.sgx_types.specs.declared.entries.Action.TheVariants as actions;
 ghost use Rattle.sgx_types.specs.declared.entries.Entry.{Entry};
-ghost use Rattle.sgx_types.specs.Rules.{LoadsAwayRule};
 ghost use Rattle.version_array.specs.Keeper.{AllOut};
 ghost use Rattle.paging_machine.specs.Parts.{cpu_at, state_of};
-ghost use Rattle.paging_laws.specs.Shape.{FitsApart, ShapeWithRules};
-ghost use Rattle.sgx_types.specs.Making.{Making};
-ghost use Rattle.paging_laws.specs.Steps.{CanApply, IsStep, MayNeedMemory};
 ghost use Rattle.driver_steps.specs.Carried.{Carries};
 ghost use Rattle.reclaim_worker.specs.Tried.{IsTried, is_kept_by};
 ghost use Rattle.driver_rules.specs.Reclaims.{is_refused};
-ghost use Rattle.reclaim_worker.specs.Answers.{bits_from};
 
 use cached_translations::processor::Mode;
 use driver_steps::steps::{is_refused, step};

@@ -4,12 +4,11 @@ ghost use Rattle.std.specs.Prelude.{ℕ, ◌≡◌, ◌≤◌, true, List, [], �
 ghost use Rattle.sgx_types.specs.declared.entries.Actor.{Actor};
 ghost use Rattle.sgx_types.specs.declared.entries.Entry.{Entry};
 ghost use Rattle.sgx_types.specs.declared.entries.Event.{Event};
-ghost use Rattle.sgx_types.specs.Rules.{Along, FlatRule, KeepsRules};
+ghost use Rattle.sgx_types.specs.Rules.{Along, FlatRule};
 ghost use Rattle.sgx_types.specs.Fresh.{Out, last_out};
 ghost use Rattle.sgx_types.specs.declared.names.Page.{Page};
 ghost use Rattle.sgx_types.specs.Enclaves.{EnclavesAreFlat};
 ghost use Rattle.io_edges.specs.declared.plans.PlanLine.{PlanLine};
-ghost use Rattle.measure_log.specs.Rule.{MeasureRule};
 ghost use Rattle.job_grammar.specs.Jobs.{JobView};
 ghost use Rattle.turn_rules.specs.Machines.{machine_of};
 ghost use Rattle.driver_laws.specs.Driven.{IsDriven};

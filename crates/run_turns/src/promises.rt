@@ -1,12 +1,9 @@
 //! What a course that keeps all that it has to promises of its run. A law is the contract of a function without arguments.
 
-ghost use Rattle.std.specs.Prelude.{ℕ, Bool, List, Option, IfSome};
+ghost use Rattle.std.specs.Prelude.{ℕ, Bool, List, Option};
 ghost use Rattle.backing_store.specs.Calls.{Call};
 ghost use Rattle.io_edges.specs.declared.plans.PlanLine.{PlanLine};
-ghost use Rattle.run_history.specs.Given.{UnforgedRun};
-ghost use Rattle.run_history.specs.Stored.{PutsAreFlat};
 ghost use Rattle.run_turns.specs.declared.course.Course.{Course};
-ghost use Rattle.run_turns.specs.Courses.{past_of};
 ghost use Rattle.run_turns.specs.Kept.{IsKept, view_of};
 ghost use Rattle.run_turns.specs.Views.{Holds};
 

@@ -29,7 +29,7 @@ count_below-le test (suc n) = by_last (test n) (count_below-le test n)
     by_last true h = omega (arith, h)
     by_last false h = omega (arith, h)
 
--- a number that another one passes in place of: one more passes
+-- where one number passes that did not before, and each other one as before, one more passes
 pub count_below-more : (less more : ℕ → Bool) (key : ℕ) → less key ≡ false → more key ≡ true
     → ((k : ℕ) → (key == k) ≡ false → less k ≡ more k) → (n : ℕ) → key < n → count_below more n ≡ count_below less n + 1
 unfolding count_below

@@ -1,5 +1,6 @@
 pub mod Refusal
 pub mod Layouts
+pub mod Digests
 pub mod Sealed
 pub mod Frames
 pub mod Processors

@@ -1,6 +1,6 @@
 -- Reading a word, in any spelling of its number.
-use Rattle.std.specs.Prelude.{ℕ, ◌≡◌, ◌-◌, ◌^◌, ◌<◌, ◌≤◌, ◌&&◌, Bool, if◌then◌else◌, List, []}
-use Rattle.std.specs.Prelude.{◌∷◌, Option, Some, None, All, option_and_then, length, take, drop, nat_lt, nat_le, codes, bytes_eq}
+use Rattle.std.specs.Prelude.{ℕ, ◌-◌, ◌^◌, ◌≤◌, ◌&&◌, Bool, if◌then◌else◌, List, [], ◌∷◌}
+use Rattle.std.specs.Prelude.{Option, Some, None, option_and_then, length, take, drop, nat_lt, nat_le, codes, bytes_eq}
 use Rattle.std.specs.List.{list_all}
 use Rattle.std.specs.Result.{result_ok}
 use Rattle.std.specs.Char.{digit_value}
@@ -44,11 +44,6 @@ IsLetter enclave = (1 ≤ enclave) × (enclave ≤ 8)
 unfoldable pub letter_of : List ℕ → Option ℕ
 letter_of (c ∷ []) = if nat_le 65 c && nat_le c 72 then Some (c - 64) else None
 letter_of _ = None
-
--- 32 bytes
-pub record IsDigest (digest : List ℕ) : Type 0 where
-  pub sized : length digest ≡ 32
-  pub bytes : All (λ b. b < 256) digest
 
 -- the 32 bytes of 64 hexadecimal digits, in either case
 unfoldable pub digest_of : List ℕ → Option (List ℕ)

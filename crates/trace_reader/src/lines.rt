@@ -1,6 +1,6 @@
 //! The lines of a trace, taken one after another.
 
-ghost use Rattle.std.specs.Prelude.{◌≡◌, ◌++◌, [], ◌∷◌, false, length, take, IfOk, MatchBool, MatchOption, OnErr};
+ghost use Rattle.std.specs.Prelude.{◌≡◌, ◌++◌, [], ◌∷◌, false, length, take, IfOk, MatchBool, MatchOption};
 ghost use Rattle.trace_reader.specs.Lines.{CannotFollow, HasNoFeed, IsKept, IsRefused, IsTaken, is_last_stage, joined, last_line, taken};
 ghost use Rattle.trace_reader.specs.Faults.{IsFirstFault, text_of};
 

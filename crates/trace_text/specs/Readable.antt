@@ -16,7 +16,7 @@ use Rattle.sgx_types.specs.declared.refusals.Refusal.{Refusal}
 use Rattle.sgx_types.specs.declared.refusals.Refusal.TheVariants as why
 use Rattle.sgx_types.specs.declared.names.Page.{Page}
 use Rattle.sgx_types.specs.declared.names.SlotAt.{SlotAt}
-use Rattle.text_words.specs.Reading.{IsDigest}
+use Rattle.sgx_types.specs.Digests.{IsDigest}
 
 -- ---- each number fits its field's type
 

@@ -5,7 +5,8 @@ use Rattle.std.proofs.lemmas.List.Elements.{All-from_get_or}
 use Rattle.hex.specs.Hex.{decode_sized}
 use Rattle.hex.specs.declared.error.FromHexError.{FromHexError}
 use Rattle.hex.proofs.HexLemmas.{decode_of-ok, decode_sized-ok, decode_sized-twice}
-use Rattle.text_words.specs.Reading.{IsDigest, digest_of}
+use Rattle.sgx_types.specs.Digests.{IsDigest}
+use Rattle.text_words.specs.Reading.{digest_of}
 
 ok-from_some : (r : Result (List ℕ) FromHexError) (digest : List ℕ) → result_ok r ≡ Some digest → r ≡ Ok digest
 ok-from_some (Ok bytes) digest same = cc

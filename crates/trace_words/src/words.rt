@@ -1,7 +1,8 @@
 //! Words that are read, in any spelling of their numbers.
 
 ghost use Rattle.std.specs.Prelude.{◌≡◌, IfSome};
-ghost use Rattle.text_words.specs.Reading.{IsDigest, digest_of};
+ghost use Rattle.sgx_types.specs.Digests.{IsDigest};
+ghost use Rattle.text_words.specs.Reading.{digest_of};
 ghost use Rattle.trace_text.specs.Readable.{FitsActor, FitsExpect};
 ghost use Rattle.trace_words.specs.Reading.{actor_of, byte_of, cpu_of, enclave_of, expect_of, frame_of, short_of};
 

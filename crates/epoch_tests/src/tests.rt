@@ -3,8 +3,8 @@
 ghost use Rattle.std.specs.Prelude.{◌≡◌, ◌≤◌};
 ghost use Rattle.epoch_words.specs.Known.{enclaves};
 
-use crate::seen::Seen;
-use crate::words::{HardwareSeat, Pass, Words};
+use epoch_words::seen::Seen;
+use epoch_words::words::{HardwareSeat, Pass, Words};
 use job_grammar::jobs::Job;
 use job_text::reader::read_job;
 use sgx_types::names::{LAST_EPOCH, PROCESSORS};

@@ -1,5 +1,5 @@
 use Rattle.std.proofs.Common.{◌≡◌}
-use Rattle.epoch_words.proofs.tests.watch.Given as goal
+use Rattle.epoch_tests.proofs.tests.watch.Given as goal
 
 abbrev pub invariant-loop : goal.invariant-loop
 invariant-loop l = l.pass.words ≡ l.words
