@@ -1,6 +1,6 @@
 //! How a worker waits that had nothing to do.
 
-ghost use Rattle.std.specs.Prelude.{◌≡◌};
+ghost use Rattle.std.specs.Prelude.{◌≡◌, ◌≤◌};
 
 use epoch_words::words::{Pass, Words};
 use std::sync::Wait;
@@ -11,17 +11,14 @@ use std::time::Duration;
 // A worker that waits looks so often at most.
 const LOOKS: u32 = 64;
 
-// It waits for 2 to the power of this many turns at most.
-const MOST: u32 = 6;
+// Who had nothing to do so many times one after another sleeps between two turns, so that it takes neither a processor nor the lock from
+// those who work.
+const AWAKE: u32 = 7;
 
-// Who had nothing to do so many times one after another sleeps between its looks, so that it takes neither a processor nor the line of the
-// count from those who work.
-const AWAKE: u32 = 8;
-
-// It looks so often at most, and sleeps so long, in microseconds, between two looks.
-const NAPS: u32 = 8;
-
+// So long it sleeps, in microseconds, and each time twice as long, so many times.
 const NAP: u64 = 50;
+
+const LONGER: u32 = 4;
 
 // Who waits for processors to leave an enclave looks at its word so often at most.
 const WORD_LOOKS: u32 = 1000;
@@ -31,6 +28,8 @@ const WORD_LOOKS: u32 = 1000;
 #[derive(Drop)]
 pub(crate) struct Made {
     turns: AtomicU64,
+    /// How many workers ended.
+    ended: AtomicU64,
     given_up: AtomicBool,
 }
 
@@ -38,6 +37,7 @@ impl Made {
     pub(crate) fn new() -> Made {
         Made {
             turns: AtomicU64::new(0),
+            ended: AtomicU64::new(0),
             given_up: AtomicBool::new(false),
         }
     }
@@ -56,28 +56,40 @@ impl Made {
         self.turns.fetch_add(1, Ordering::SeqCst);
     }
 
-    /// Waits until others made some turns, the more the more turns were in vain one after another, and a short while at most.
+    /// A worker ended, so those who sleep are to see what is left to them.
+    pub(crate) fn end(&self) {
+        self.ended.fetch_add(1, Ordering::SeqCst);
+        self.ended.wake_all();
+    }
+
+    /// Waits after so many turns in vain one after another: the longer the more there were, and a short while at most.
     pub(crate) fn wait<R: Wait>(&self, rt: &R, vain: u32) {
-        let first = self.turns.load(Ordering::SeqCst);
-        let wanted = 1u64 << vain.min(MOST);
-        let looks = if vain > AWAKE { NAPS } else { LOOKS };
-        for _ in 0..looks {
-            let turns = self.turns.load(Ordering::SeqCst);
-            if turns.wrapping_sub(first) >= wanted {
-                return;
-            }
-            if vain > AWAKE {
-                self.nap(rt, turns);
-            } else {
-                thread::yield_now();
-            }
+        if vain > AWAKE {
+            self.nap(rt, vain - AWAKE);
+        } else {
+            self.look(vain);
         }
     }
 
-    // Sleeps a short while, where the count is still this one.
-    fn nap<R: Wait>(&self, rt: &R, turns: u64) {
-        self.turns
-            .park_timeout(rt, (turns % (1 << 32)) as u32, Duration::from_micros(NAP));
+    // Looks until others made some turns.
+    fn look(&self, vain: u32)
+        requires { vain ≤ 7 }
+    {
+        let first = self.turns.load(Ordering::SeqCst);
+        let wanted = 1u64 << vain;
+        for _ in 0..LOOKS {
+            if self.turns.load(Ordering::SeqCst).wrapping_sub(first) >= wanted {
+                return;
+            }
+            thread::yield_now();
+        }
+    }
+
+    // Sleeps until the time is over or a worker ends.
+    fn nap<R: Wait>(&self, rt: &R, times: u32) {
+        let ended = self.ended.load(Ordering::SeqCst);
+        let nap = Duration::from_micros(NAP << times.min(LONGER));
+        self.ended.park_timeout(rt, (ended % (1 << 32)) as u32, nap);
     }
 }
 

@@ -44,7 +44,10 @@ pub(crate) fn work<R: Wait, B: Backing, G: Gate, N: Run>(
     let mut vain: u32 = 0;
     for _ in rt.forever() {
         match gated_turn(rt, alloc, shared, words, gate, who) {
-            Next::Ends => return,
+            Next::Ends => {
+                made.end();
+                return;
+            }
             Next::Waits(_) if made.is_given_up() => return,
             Next::Waits(why) => {
                 vain = vain.saturating_add(1);
@@ -105,15 +108,16 @@ fn whole_turn<R: Wait, B: Backing, N: Run>(
     requires words { words.now ≡ N.words }
 {
     // The lock is free again behind this line.
-    let turn = shared.lock(rt).turn(alloc, words, who)?;
+    let turn = shared.lock(rt).turn(alloc, words, who);
     match turn {
-        Turn::Seal(work) => Ok(sealed_turn(rt, shared, work)),
-        Turn::Unseal(work) => match who {
+        Ok(Turn::Seal(work)) => Ok(sealed_turn(rt, shared, work)),
+        Ok(Turn::Unseal(work)) => match who {
             Actor::Cpu(cpu) => Ok(opened_turn(rt, shared, cpu, work)),
             // Nobody else loads.
             Actor::Builder | Actor::Reclaimer => Ok(Next::Goes),
         },
-        turn => Ok(after(turn)),
+        Ok(turn) => Ok(after(turn)),
+        Err(memory) => Err(memory),
     }
 }
 
