@@ -14,7 +14,11 @@ abbrev pub words_room : List Word → ℕ
 words_room [] = 0
 words_room (word ∷ others) = 1 + word_room word + words_room others
 
--- a text has no room for n bytes more
+-- a text has room for n bytes more
+abbrev pub HasRoom : ℕ → Vec ℕ → Type 0
+HasRoom n text = vec_len text + n ≤ vec_capacity text
+
+-- .. or has not
 abbrev pub LacksRoom : ℕ → Vec ℕ → Type 0
 LacksRoom n text = vec_capacity text < vec_len text + n
 

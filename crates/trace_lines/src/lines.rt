@@ -9,6 +9,7 @@ use crate::entries::entry_in;
 use sgx_types::entries::Entry;
 use sgx_types::names::Memory;
 use std::alloc::Global;
+use trace_text::room::SPELLING_ROOM;
 use trace_text::trace::print_spelling;
 
 /// The entry that a line tells, without its line feed: exactly where the line is the text of a readable entry. What is
@@ -23,7 +24,8 @@ pub fn read_line(alloc: Global, line: &[u8], space: &mut Vec<u8>) -> Result<Opti
         return Ok(None);
     };
     space.clear();
-    print_spelling(&entry, space)?;
+    space.reserve(SPELLING_ROOM)?;
+    print_spelling(&entry, space);
     if space.as_slice() == line {
         Ok(Some(entry))
     } else {

@@ -43,7 +43,7 @@ fn give_lines<K: Sink>(sink: &mut K, entries: &[Entry], piece: &mut Vec<u8>) -> 
     ensures broke { OnErr result (GivesPart (K.given sink.old) (K.given sink.new) (trace_of (reverse entries.now))) }
     ensures cause { HasCause (K.faults sink.old) (K.faults sink.new) (IsErr result) }
 {
-    print_first_line(piece).unwrap();
+    print_first_line(piece);
     for entry in entries {
         make_room(sink, piece)?;
         hold_entry(entry, piece);
@@ -58,14 +58,14 @@ fn hold_entry(entry: &Entry, piece: &mut Vec<u8>)
     ensures text { piece.new.items ≡ piece.old.items ++ entry_text entry.now }
     ensures capacity { vec_capacity piece.old ≤ vec_capacity piece.new }
 {
-    print_entry(entry, piece).unwrap();
+    print_entry(entry, piece);
 }
 
 fn hold_last_line(entries: usize, piece: &mut Vec<u8>)
     requires { vec_len piece.old + LONGEST_LINE ≤ vec_capacity piece.old }
     ensures { piece.new.items ≡ piece.old.items ++ last_line entries }
 {
-    print_last_line(entries, piece).unwrap();
+    print_last_line(entries, piece);
 }
 
 // Gives what is held, where another line might not fit behind it.

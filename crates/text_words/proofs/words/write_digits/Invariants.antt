@@ -1,5 +1,5 @@
 use Rattle.text_words.proofs.Digits.{AreLastDigits}
-use Rattle.text_words.proofs.words.push_digits.Given as goal
+use Rattle.text_words.proofs.words.write_digits.Given as goal
 
 abbrev pub invariant-loop-start : goal.invariant-loop-start
 invariant-loop-start l = AreLastDigits l.number l.base l.rest l.start l.digits
