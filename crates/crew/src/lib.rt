@@ -3,6 +3,7 @@
 
 mod locked;
 pub mod run;
+mod taking;
 pub mod tally;
 mod waiting;
 mod workers;

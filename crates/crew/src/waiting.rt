@@ -62,6 +62,18 @@ impl Made {
         self.ended.wake_all();
     }
 
+    /// How many turns made something.
+    pub(crate) fn turns(&self) -> u64 {
+        self.turns.load(Ordering::SeqCst)
+    }
+
+    /// Sleeps a short while, where others went on since there were so many.
+    pub(crate) fn leave<R: Wait>(&self, rt: &R, before: u64) {
+        if self.turns() != before {
+            self.nap(rt, 0);
+        }
+    }
+
     /// Waits after so many turns in vain one after another: the longer the more there were, and a short while at most.
     pub(crate) fn wait<R: Wait>(&self, rt: &R, vain: u32) {
         if vain > AWAKE {
@@ -75,10 +87,10 @@ impl Made {
     fn look(&self, vain: u32)
         requires { vain ≤ 7 }
     {
-        let first = self.turns.load(Ordering::SeqCst);
+        let first = self.turns();
         let wanted = 1u64 << vain;
         for _ in 0..LOOKS {
-            if self.turns.load(Ordering::SeqCst).wrapping_sub(first) >= wanted {
+            if self.turns().wrapping_sub(first) >= wanted {
                 return;
             }
             thread::yield_now();

@@ -4,6 +4,7 @@ ghost use Rattle.std.specs.Prelude.{◌≡◌, IfSome};
 ghost use Rattle.crew.specs.Actors.{IsOf};
 
 use crate::locked::{Locked, Run};
+use crate::taking::take;
 use crate::waiting::{Made, watch};
 use backing_store::backing::Backing;
 use driver_rules::waits::Why;
@@ -43,7 +44,7 @@ pub(crate) fn work<R: Wait, B: Backing, G: Gate, N: Run>(
 {
     let mut vain: u32 = 0;
     for _ in rt.forever() {
-        match gated_turn(rt, alloc, shared, words, gate, who) {
+        match gated_turn(rt, alloc, shared, made, words, gate, who) {
             Next::Ends => {
                 made.end();
                 return;
@@ -77,6 +78,7 @@ fn gated_turn<R: Wait, B: Backing, G: Gate, N: Run>(
     rt: &R,
     alloc: Global,
     shared: &Mutex<Locked<B, N>>,
+    made: &Made,
     words: &Words,
     gate: &G,
     who: Actor,
@@ -85,7 +87,7 @@ fn gated_turn<R: Wait, B: Backing, G: Gate, N: Run>(
     requires words { words.now ≡ N.words }
 {
     gate.before_turn(who);
-    let next = whole_turn(rt, alloc, shared, words, who);
+    let next = whole_turn(rt, alloc, shared, made, words, who);
     gate.after_turn(who);
     match next {
         Ok(next) => next,
@@ -101,6 +103,7 @@ fn whole_turn<R: Wait, B: Backing, N: Run>(
     rt: &R,
     alloc: Global,
     shared: &Mutex<Locked<B, N>>,
+    made: &Made,
     words: &Words,
     who: Actor,
 ) -> Result<Next, Memory>
@@ -108,7 +111,7 @@ fn whole_turn<R: Wait, B: Backing, N: Run>(
     requires words { words.now ≡ N.words }
 {
     // The lock is free again behind this line.
-    let turn = shared.lock(rt).turn(alloc, words, who);
+    let turn = take(rt, shared, made).turn(alloc, words, who);
     match turn {
         Ok(Turn::Seal(work)) => Ok(sealed_turn(rt, shared, work)),
         Ok(Turn::Unseal(work)) => match who {

@@ -1,6 +1,6 @@
 //! The words of a line, and each in its place.
 
-ghost use Rattle.std.specs.Prelude.{◌≡◌, ◌≤◌, true, map, IfOk, take};
+ghost use Rattle.std.specs.Prelude.{◌≡◌, ◌==◌, ◌||◌, ◌≤◌, true, map, IfOk, take};
 ghost use Rattle.sgx_types.specs.Digests.{IsDigest};
 ghost use Rattle.job_lines.specs.Words.{without_return, words_of, is_skipped, keyword_of, plan_word_of, call_word_of, as_number, as_letter};
 ghost use Rattle.job_lines.specs.Words.{as_perm, as_hash, as_plain};
@@ -21,13 +21,20 @@ pub fn without_return(line: &[u8]) -> &[u8]
     if *last == b'\r' { front } else { line }
 }
 
+// Whether a byte stands between two words. Most bytes of a line do not, and are above both that do.
+fn is_blank(byte: u8) -> bool
+    ensures { result ≡ ((byte == 32) || (byte == 9)) }
+{
+    byte <= b' ' && (byte == b' ' || byte == b'\t')
+}
+
 /// Puts the words of a line in place of those that stand, as many as tell what it says: no line of a job has more than six.
 pub fn read_words<'a>(line: &'a [u8], words: &mut Vec<&'a [u8]>) -> Result<(), AllocError>
     ensures { IfOk result (λ _. map (λ word. word.now) words.new.items ≡ take 7 (words_of line.now)) }
 {
     words.clear();
     for word in line
-        .split(|byte| *byte == b' ' || *byte == b'\t')
+        .split(|byte| is_blank(*byte))
         .filter(|word| !word.is_empty())
         .take(7)
     {

@@ -229,6 +229,7 @@ fn write_load(off: u64, onto: &mut Vec<u8>)
     write_spaced(Hexadecimal(off), onto);
 }
 
+#[inline(always)]
 fn write_update(name: &'static str, off: u64, value: u64, onto: &mut Vec<u8>)
     requires { HasRoom (length name.now + 300) onto.old }
     ensures text { onto.new.items ≡ with_words onto.old.items (name.now ∷ hexadecimal off ∷ decimal value ∷ []) }

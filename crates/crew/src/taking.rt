@@ -1,0 +1,45 @@
+//! How a worker takes the lock.
+
+use crate::locked::{Locked, Run};
+use crate::waiting::Made;
+use backing_store::backing::Backing;
+use std::hint::spin_loop;
+use std::sync::{Mutex, MutexGuard, Wait};
+
+// A worker that finds the lock taken tries so often, with so many pauses between two tries, before it looks at what the others make.
+const TRIES: u32 = 4;
+
+const PAUSES: u32 = 16;
+
+// So often it looks, before it lets itself be woken.
+const LOOKS: u32 = 32;
+
+/// Takes the lock. To whoever makes turn after turn it is left for a while: each time that it goes from hand to hand costs more than a turn,
+/// and so does it to wake who sleeps at it.
+pub(crate) fn take<'b, R: Wait, B: Backing, N: Run>(
+    rt: &R,
+    shared: &'b Mutex<Locked<B, N>>,
+    made: &Made,
+) -> MutexGuard<'b, Locked<B, N>> {
+    for _ in 0..LOOKS {
+        let before = made.turns();
+        if let Some(guard) = tried(shared) {
+            return guard;
+        }
+        made.leave(rt, before);
+    }
+    shared.lock(rt)
+}
+
+// The lock, where it is free at one of some moments.
+fn tried<B: Backing, N: Run>(shared: &Mutex<Locked<B, N>>) -> Option<MutexGuard<'_, Locked<B, N>>> {
+    for _ in 0..TRIES {
+        if let Some(guard) = shared.try_lock() {
+            return Some(guard);
+        }
+        for _ in 0..PAUSES {
+            spin_loop();
+        }
+    }
+    None
+}
