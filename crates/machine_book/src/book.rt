@@ -82,10 +82,10 @@ impl<B: Backing> MachineBook<B> {
         ensures words { self.new.words ≡ self.old.words }
     {
         let before = self.book.entries().len();
-        let turn = self.book.turn(alloc, cpu);
+        let turn = self.book.turn(alloc, cpu)?;
         self.notes
             .note_all(words, behind(self.book.entries(), before));
-        turn
+        Ok(turn)
     }
 
     /// A turn of the reclaimer. After Memory nothing has changed.

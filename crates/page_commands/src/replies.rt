@@ -3,6 +3,7 @@
 ghost use Rattle.std.specs.Prelude.{◌≡◌, [], ◌++◌, reverse, flat_map, OnOk, IfOk};
 ghost use Rattle.sgx_types.specs.Processors.{is_by};
 ghost use Rattle.turn_rules.specs.Script.{interrupted_after, numbers_from};
+ghost use Rattle.text_words.specs.Room.{HasRoom};
 ghost use Rattle.text_words.specs.Words.{line_text};
 ghost use Rattle.page_commands.specs.Ending.{ending_lines};
 ghost use Rattle.page_commands.specs.OutText.{cpu_lines, done_reply, enclave_lines, init_line, out_of, refused_reply, reply_words};
@@ -13,9 +14,12 @@ use sgx_types::names::Memory;
 use sgx_types::refusals::Refusal;
 use std::alloc::Global;
 use text_words::words::Word::{Decimal, Enclave, Name};
-use text_words::words::push_line;
+use text_words::words::{push_line, write_line};
 use trace_text::names::{fault_name, refusal_name};
 use turn_rules::replies::is_reply;
+
+// The line of a reply has so many bytes at most.
+const REPLY_ROOM: usize = 128;
 
 /// How an enclave's EINIT ended.
 #[derive(Clone, Copy)]
@@ -118,72 +122,83 @@ fn ending_after(event: &Event, enclave: usize, before: Option<Ending>) -> Option
     }
 }
 
-fn push_done_reply(action: &Action, answer: &Answer, onto: &mut Vec<u8>) -> Result<(), Memory>
-    ensures { OnOk result (
-        onto.new.items ≡ onto.old.items ++ line_text (done_reply action.now answer.now)) }
+fn write_done_reply(action: &Action, answer: &Answer, onto: &mut Vec<u8>)
+    requires { HasRoom REPLY_ROOM onto.old }
+    ensures { onto.new.items ≡ onto.old.items ++ line_text (done_reply action.now answer.now) }
 {
     match (action, answer) {
-        (Action::Enter { .. }, Answer::Cssa(count)) => push_line(
+        (Action::Enter { .. }, Answer::Cssa(count)) => write_line(
             Name("cssa"),
             &[Decimal(u64::from(*count))],
             onto,
         ),
-        (Action::Resume { .. }, Answer::Value(acc)) => push_line(
+        (Action::Resume { .. }, Answer::Value(acc)) => write_line(
             Name("acc"),
             &[Decimal(*acc)],
             onto,
         ),
-        (Action::Exit, _) => push_line(Name("exit"), &[], onto),
+        (Action::Exit, _) => write_line(Name("exit"), &[], onto),
         (
             Action::Aex {
                 cause: Cause::Timer,
             },
             _,
-        ) => push_line(Name("timer"), &[], onto),
-        (Action::Store { .. } | Action::Set { .. }, _) => push_line(Name("ok"), &[], onto),
+        ) => write_line(Name("timer"), &[], onto),
+        (Action::Store { .. } | Action::Set { .. }, _) => write_line(Name("ok"), &[], onto),
         (
             Action::Load { .. }
             | Action::Xadd { .. }
             | Action::Plus { .. }
             | Action::OutLoad { .. },
             Answer::Value(value),
-        ) => push_line(Decimal(*value), &[], onto),
-        (Action::Pf { .. }, Answer::Pf(fault)) => push_line(
+        ) => write_line(Decimal(*value), &[], onto),
+        (Action::Pf { .. }, Answer::Pf(fault)) => write_line(
             Name("pf"),
             &[Name(fault_name(*fault))],
             onto,
         ),
-        (Action::OutStore { .. }, _) => push_line(Name("dropped"), &[], onto),
-        _ => push_empty_line(onto),
+        (Action::OutStore { .. }, _) => write_line(Name("dropped"), &[], onto),
+        _ => write_empty_line(onto),
     }
 }
 
-fn push_refused_reply(refusal: &Refusal, onto: &mut Vec<u8>) -> Result<(), Memory>
-    ensures { OnOk result (
-        onto.new.items ≡ onto.old.items ++ line_text (refused_reply refusal.now)) }
+fn write_refused_reply(refusal: &Refusal, onto: &mut Vec<u8>)
+    requires { HasRoom REPLY_ROOM onto.old }
+    ensures { onto.new.items ≡ onto.old.items ++ line_text (refused_reply refusal.now) }
 {
     match refusal {
-        Refusal::WrongMode => push_line(Name("mode"), &[], onto),
-        _ => push_line(Name("gp"), &[Name(refusal_name(refusal))], onto),
+        Refusal::WrongMode => write_line(Name("mode"), &[], onto),
+        _ => write_line(Name("gp"), &[Name(refusal_name(refusal))], onto),
     }
 }
 
-fn push_empty_line(onto: &mut Vec<u8>) -> Result<(), Memory>
-    ensures { OnOk result (onto.new.items ≡ onto.old.items ++ line_text []) }
+fn write_empty_line(onto: &mut Vec<u8>)
+    requires { HasRoom REPLY_ROOM onto.old }
+    ensures { onto.new.items ≡ onto.old.items ++ line_text [] }
 {
-    onto.push(b'\n')?;
-    Ok(())
+    onto.push_reserved(b'\n');
 }
 
-fn push_reply(event: &Event, onto: &mut Vec<u8>) -> Result<(), Memory>
-    ensures { OnOk result (onto.new.items ≡ onto.old.items ++ line_text (reply_words event.now)) }
+fn write_reply(event: &Event, onto: &mut Vec<u8>)
+    requires { HasRoom REPLY_ROOM onto.old }
+    ensures { onto.new.items ≡ onto.old.items ++ line_text (reply_words event.now) }
 {
     match event {
-        Event::Did { action, answer } => push_done_reply(action, answer, onto),
-        Event::Refused { why, .. } => push_refused_reply(why, onto),
-        Event::Bus { .. } => push_line(Name("bus"), &[], onto),
-        _ => push_empty_line(onto),
+        Event::Did { action, answer } => write_done_reply(action, answer, onto),
+        Event::Refused { why, .. } => write_refused_reply(why, onto),
+        Event::Bus { .. } => write_line(Name("bus"), &[], onto),
+        _ => write_empty_line(onto),
     }
+}
+
+// Writes the line of a reply.
+fn push_reply(event: &Event, onto: &mut Vec<u8>) -> Result<(), Memory>
+    ensures { OnOk result (
+        onto.new.items ≡ onto.old.items ++ line_text (reply_words event.now)) }
+{
+    onto.reserve(REPLY_ROOM)?;
+    write_reply(event, onto);
+    Ok(())
 }
 
 // Whether a processor is interrupted after an event of its own: it left, and no operation asked for that.

@@ -164,6 +164,7 @@ pub fn write_words(words: &[Word], onto: &mut Vec<u8>)
 }
 
 /// Writes a line of words, the first of which is given by itself, into room for it.
+#[inline(always)]
 #[tactic(auto, using(crate::proofs::LineLaws::line_text_cons))]
 pub fn write_line(first: Word, others: &[Word], onto: &mut Vec<u8>)
     requires { HasRoom (words_room (first ∷ others.now)) onto.old }
