@@ -1,5 +1,5 @@
 -- What the words of a line can spell.
-use Rattle.std.specs.Prelude.{◌≡◌, ℕ, ◌^◌, ◌<◌, ◌≤◌, true}
+use Rattle.std.specs.Prelude.{◌≡◌, ◌^◌, ◌<◌, ◌≤◌, true}
 use Rattle.sgx_types.specs.Digests.{IsDigest}
 use Rattle.job_lines.specs.declared.statements.Plan.{Plan}
 use Rattle.job_lines.specs.declared.statements.Plan.TheVariants as plans

@@ -211,15 +211,17 @@ fn write_entering(
     );
 }
 
+// Nearly all lines are accesses and the fills before them, so the words of these are written one by one, with no list of them.
 fn write_fill(number: u32, frame: Frame, onto: &mut Vec<u8>)
     requires { HasRoom ACTION_ROOM onto.old }
     ensures text { onto.new.items ≡ with_words onto.old.items (action_words (Action.Fill number frame)) }
     ensures room { UsesRoom ACTION_ROOM onto.old onto.new }
 {
-    write_words(&[Name("fill"), Decimal(number.into()), frame.into()], onto);
+    write_spaced(Name("fill"), onto);
+    write_spaced(Decimal(number.into()), onto);
+    write_spaced(frame.into(), onto);
 }
 
-// Nearly all lines are accesses, so the words of these are written one by one, with no list of them.
 fn write_load(off: u64, onto: &mut Vec<u8>)
     requires { HasRoom ACTION_ROOM onto.old }
     ensures text { onto.new.items ≡ with_words onto.old.items (action_words (Action.Load off)) }
