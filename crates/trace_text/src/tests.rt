@@ -5,6 +5,7 @@ mod paging;
 mod rows;
 mod running;
 
+use crate::room::LONGEST_LINE;
 use crate::tests::building::{OTHER_PAGES, TEXT, WHOLE};
 use crate::tests::paging::{PAGING, REFUSED};
 use crate::tests::rows::Row;
@@ -18,7 +19,8 @@ use std::test::Fail;
 fn are_printed(rt: &impl Abort, rows: &[Row], text: &mut Vec<u8>) -> Result<(), Fail> {
     for row in rows {
         text.clear();
-        print_entry(&row.entry(), text)?;
+        text.reserve(LONGEST_LINE)?;
+        print_entry(&row.entry(), text);
         assert_eq!(rt; text.pop(), Some(b'\n'));
         assert_eq!(rt; str::from_utf8(text)?, row.line());
     }
