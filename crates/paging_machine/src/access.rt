@@ -15,6 +15,7 @@ use sgx_types::names::{Cpu, Frame};
 
 impl Machine {
     /// A processor takes the translation of a page, with the permissions of the page.
+    #[inline(never)]
     pub(crate) fn fill(&mut self, cpu: Cpu, number: u32, frame: Frame) -> Entry
         requires { cpu.0 < length self.old.cpus }
         ensures step { IsStep (state_of self.old) (actors.Cpu cpu) (actions.Fill number frame) result (state_of self.new) }
@@ -30,6 +31,7 @@ impl Machine {
     }
 
     /// A processor reads a word of its enclave through a translation that it holds.
+    #[inline(never)]
     pub(crate) fn load(&self, cpu: Cpu, off: u64) -> Entry
         requires { cpu.0 < length self.now.cpus }
         ensures { IsStep (state_of self.now) (actors.Cpu cpu) (actions.Load off) result (state_of self.now) }
@@ -44,6 +46,7 @@ impl Machine {
     }
 
     /// A processor writes a word of its enclave through a translation that it holds.
+    #[inline(never)]
     pub(crate) fn store(&mut self, cpu: Cpu, off: u64, value: u64) -> Entry
         requires { cpu.0 < length self.old.cpus }
         ensures step { IsStep (state_of self.old) (actors.Cpu cpu) (actions.Store off value) result (state_of self.new) }
@@ -59,6 +62,7 @@ impl Machine {
     }
 
     /// A processor adds to a word of its enclave, mod 2^64, and answers the word as it was.
+    #[inline(never)]
     pub(crate) fn xadd(&mut self, cpu: Cpu, off: u64, value: u64) -> Entry
         requires { cpu.0 < length self.old.cpus }
         ensures step { IsStep (state_of self.old) (actors.Cpu cpu) (actions.Xadd off value) result (state_of self.new) }

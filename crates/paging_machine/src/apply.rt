@@ -43,7 +43,7 @@ impl Machine {
         Ok(entry)
     }
 
-    /// The instruction by its row.
+    /// The instruction by its row. The rows stand out of line: a call then sets up the locals of one row, and not of each.
     fn row(&mut self, alloc: Global, actor: Actor, action: Action) -> Result<Entry, Memory>
         requires { CanApply (length self.old.cpus) actor action }
         ensures step { IfOk result (λ e. IsStep (state_of self.old) actor action e (state_of self.new)) }

@@ -24,6 +24,7 @@ use std::alloc::Global;
 
 impl Machine {
     /// A free frame becomes a version array page (Intel SDM volume 3D, EPA).
+    #[inline(never)]
     pub(crate) fn epa(&mut self, alloc: Global, actor: Actor, frame: Frame) -> Result<Entry, Memory>
         ensures step { IfOk result (λ e. IsStep (state_of self.old) actor (actions.Epa frame) e (state_of self.new)) }
         ensures refused { OnErr result (self.new ≡ self.old) }
@@ -75,6 +76,7 @@ impl Machine {
     }
 
     /// A free frame becomes the SECS of a new enclave, whose measurement begins (ECREATE).
+    #[inline(never)]
     pub(crate) fn create(
         &mut self,
         alloc: Global,
@@ -113,6 +115,7 @@ impl Machine {
     }
 
     /// A free frame becomes a page of an enclave that is not initialised (EADD).
+    #[inline(never)]
     pub(crate) fn add(
         &mut self,
         actor: Actor,
@@ -154,6 +157,7 @@ impl Machine {
     }
 
     /// An enclave is initialised, and answers its measurement (EINIT).
+    #[inline(never)]
     pub(crate) fn init(&mut self, actor: Actor, enclave: u16, expect: Option<[u8; 32]>) -> Entry
         ensures step { IsStep (state_of self.old) actor (actions.Init enclave expect) result (state_of self.new) }
         ensures cpus { length self.new.cpus ≡ length self.old.cpus }

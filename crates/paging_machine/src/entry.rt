@@ -22,6 +22,7 @@ use sgx_types::refusals::Refusal;
 
 impl Machine {
     /// A processor enters an enclave by a free TCS page, with a new state (EENTER).
+    #[inline(never)]
     pub(crate) fn enter(
         &mut self,
         cpu: Cpu,
@@ -55,6 +56,7 @@ impl Machine {
     }
 
     /// A processor enters an enclave by a free TCS page, with the state that was saved last (ERESUME).
+    #[inline(never)]
     pub(crate) fn resume(
         &mut self,
         cpu: Cpu,
@@ -96,6 +98,7 @@ impl Machine {
     }
 
     /// A processor leaves its enclave, and drops its translations (EEXIT).
+    #[inline(never)]
     pub(crate) fn exit(&mut self, cpu: Cpu) -> Entry
         requires { cpu.0 < length self.old.cpus }
         ensures step { IsStep (state_of self.old) (actors.Cpu cpu) actions.Exit result (state_of self.new) }
@@ -115,6 +118,7 @@ impl Machine {
     }
 
     /// A processor leaves its enclave asynchronously: its accumulator is saved, and it drops its translations.
+    #[inline(never)]
     pub(crate) fn aex(&mut self, cpu: Cpu, cause: Cause) -> Entry
         requires { cpu.0 < length self.old.cpus }
         ensures step { IsStep (state_of self.old) (actors.Cpu cpu) (actions.Aex cause) result (state_of self.new) }

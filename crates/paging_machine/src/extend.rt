@@ -16,6 +16,7 @@ use sgx_types::names::{Frame, Kind, Page};
 
 impl Machine {
     /// A chunk of 256 bytes of a page is added to the measurement of its enclave, which is not initialised (EEXTEND).
+    #[inline(never)]
     pub(crate) fn extend(&mut self, actor: Actor, frame: Frame, chunk: u8) -> Entry
         ensures step { IsStep (state_of self.old) actor (actions.Extend frame chunk) result (state_of self.new) }
         ensures cpus { length self.new.cpus ≡ length self.old.cpus }

@@ -19,6 +19,7 @@ use sgx_types::names::{Frame, Page, SlotAt};
 // track tells the processors that entered before it from those that enter later, and the start waits for the former.
 impl Machine {
     /// The page in a frame is blocked at its enclave's epoch (EBLOCK).
+    #[inline(never)]
     pub(crate) fn block(&mut self, actor: Actor, frame: Frame) -> Entry
         ensures step { IsStep (state_of self.old) actor (actions.Block frame) result (state_of self.new) }
         ensures cpus { length self.new.cpus ≡ length self.old.cpus }
@@ -31,6 +32,7 @@ impl Machine {
     }
 
     /// An enclave's next epoch begins (ETRACK).
+    #[inline(never)]
     pub(crate) fn track(&mut self, actor: Actor, enclave: u16) -> Entry
         ensures step { IsStep (state_of self.old) actor (actions.Track enclave) result (state_of self.new) }
         ensures cpus { length self.new.cpus ≡ length self.old.cpus }
@@ -43,6 +45,7 @@ impl Machine {
     }
 
     /// The blocked page in a frame starts to go out, under the next version (EWB).
+    #[inline(never)]
     pub(crate) fn ewb_start(&mut self, actor: Actor, frame: Frame, slot: SlotAt) -> Entry
         ensures step { IsStep (state_of self.old) actor (actions.EwbStart frame slot) result (state_of self.new) }
         ensures cpus { length self.new.cpus ≡ length self.old.cpus }
@@ -69,6 +72,7 @@ impl Machine {
     }
 
     /// A free frame starts to load the page whose version is in a slot (ELDU).
+    #[inline(never)]
     pub(crate) fn eld_start(
         &mut self,
         actor: Actor,

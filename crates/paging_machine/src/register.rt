@@ -18,6 +18,7 @@ use sgx_types::refusals::Refusal;
 // memory from outside.
 impl Machine {
     /// The accumulator of a processor inside becomes a number.
+    #[inline(never)]
     pub(crate) fn set(&mut self, cpu: Cpu, value: u64) -> Entry
         requires { cpu.0 < length self.old.cpus }
         ensures step { IsStep (state_of self.old) (actors.Cpu cpu) (actions.Set value) result (state_of self.new) }
@@ -34,6 +35,7 @@ impl Machine {
     }
 
     /// A number is added to the accumulator of a processor inside, mod 2^64, and the sum is the answer.
+    #[inline(never)]
     pub(crate) fn plus(&mut self, cpu: Cpu, value: u64) -> Entry
         requires { cpu.0 < length self.old.cpus }
         ensures step { IsStep (state_of self.old) (actors.Cpu cpu) (actions.Plus value) result (state_of self.new) }
@@ -51,6 +53,7 @@ impl Machine {
     }
 
     /// An access of a processor inside cannot succeed, wherever its page is: the answer says why.
+    #[inline(never)]
     pub(crate) fn pf(&self, cpu: Cpu, op: AccessOp, off: u64) -> Entry
         requires { cpu.0 < length self.now.cpus }
         ensures { IsStep (state_of self.now) (actors.Cpu cpu) (actions.Pf op off) result (state_of self.now) }
@@ -71,6 +74,7 @@ impl Machine {
     }
 
     /// A processor outside reads an address of an enclave, and gets all ones.
+    #[inline(never)]
     pub(crate) fn outload(&self, cpu: Cpu, enclave: u16, off: u64) -> Entry
         requires { cpu.0 < length self.now.cpus }
         ensures { IsStep (state_of self.now) (actors.Cpu cpu) (actions.OutLoad enclave off) result (state_of self.now) }
@@ -84,6 +88,7 @@ impl Machine {
     }
 
     /// A processor outside writes to an address of an enclave, and nothing happens.
+    #[inline(never)]
     pub(crate) fn outstore(&self, cpu: Cpu, enclave: u16, off: u64, value: u64) -> Entry
         requires { cpu.0 < length self.now.cpus }
         ensures { IsStep (state_of self.now) (actors.Cpu cpu) (actions.OutStore enclave off value) result (state_of self.now) }
