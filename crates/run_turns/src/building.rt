@@ -1,18 +1,14 @@
 //! Instructions that move no page out or back, and the turns of the builder.
 
-ghost use Rattle.std.specs.Prelude.{◌≡◌, IfOk, OnErr, false, length};
+ghost use Rattle.std.specs.Prelude.{◌≡◌, IfOk, OnErr, false};
 ghost use Rattle.driver_rules.specs.Stops.{started};
-ghost use Rattle.driver_steps.specs.Carried.{Carries};
-ghost use Rattle.paging_laws.specs.Steps.{CanApply, IsStep};
-ghost use Rattle.paging_machine.specs.Parts.{state_of};
 ghost use Rattle.run_turns.specs.declared.turn.Turn.TheVariants as turns;
 ghost use Rattle.run_turns.specs.Courses.{Grows, IsSame, past_of};
 ghost use Rattle.run_turns.specs.Turns.{CanInstruct, CanTurn, IsBuilderTurn};
 
 use crate::course::Course;
 use crate::turn::Turn;
-use paging_machine::machine::Machine;
-use sgx_types::entries::{Action, Actor, Entry};
+use sgx_types::entries::{Action, Actor};
 use sgx_types::names::Memory;
 use std::alloc::Global;
 use table_notes::notes::note_tables;
@@ -59,25 +55,9 @@ impl Course {
     {
         self.entries.reserve(ROOM)?;
         let before = mode_of(&self.machine, actor);
-        let entry = apply(alloc, &mut self.machine, actor, action)?;
+        let entry = self.machine.apply(alloc, actor, &action)?;
         note_tables(&self.turns, &mut self.driver, before, &entry);
-        self.take_in(before, entry);
+        self.take_in(before, &entry);
         Ok(Turn::Did { entries: 1 })
     }
-}
-
-// One instruction, and what its entry carries on.
-fn apply(
-    alloc: Global,
-    machine: &mut Machine,
-    actor: Actor,
-    action: Action,
-) -> Result<Entry, Memory>
-    requires { CanApply (length machine.old.cpus) actor action }
-    ensures step { IfOk result (λ e. IsStep (state_of machine.old) actor action e (state_of machine.new)) }
-    ensures carries { IfOk result (λ e. Carries (state_of machine.old) e (state_of machine.new)) }
-    ensures cpus { length machine.new.cpus ≡ length machine.old.cpus }
-    ensures memory { OnErr result (machine.new ≡ machine.old) }
-{
-    machine.apply(alloc, actor, &action)
 }

@@ -47,14 +47,26 @@ impl Course {
         let driver = Driver::new(alloc, &job)?;
         let turns = Turns::new(alloc, &job)?;
         let pass = Pass::new(alloc)?;
+        let entries = no_entries(alloc, &job)?;
         Ok(Course {
             job,
             machine,
             driver,
             turns,
             pass,
-            entries: Vec::new(alloc),
+            entries,
             room: None,
         })
     }
+}
+
+// No entries, with room for one of each operation: nearly every operation makes one, and what grows is copied.
+fn no_entries(alloc: Global, job: &Job) -> Result<Vec<Entry>, Memory>
+    ensures { IfOk result (λ entries. entries.items ≡ []) }
+{
+    let mut operations: usize = 0;
+    for script in job.scripts() {
+        operations = operations.saturating_add(script.len());
+    }
+    Ok(Vec::with_capacity(alloc, operations)?)
 }

@@ -107,11 +107,11 @@ impl Course {
             FaultAnswer::Bus(why) => {
                 let entry = bus(cpu, page, why);
                 self.machine.note(&entry);
-                self.take_in(before, entry);
+                self.take_in(before, &entry);
                 Ok(Turn::Did { entries: 1 })
             }
             FaultAnswer::Started { entry, work } => {
-                self.take_in(before, entry);
+                self.take_in(before, &entry);
                 Ok(Turn::Unseal(work))
             }
         }
@@ -144,15 +144,15 @@ impl Course {
         let before = self.machine.mode(cpu);
         match finish(&mut self.driver, &mut self.machine, cpu, page, work) {
             Loaded::Here(entry) => {
-                self.take_in(before, entry);
+                self.take_in(before, &entry);
                 Turn::Did { entries: 1 }
             }
             Loaded::Bus { entry, why } => {
-                self.take_in(before, entry);
+                self.take_in(before, &entry);
                 let between = self.machine.mode(cpu);
                 let told = bus(cpu, page, why);
                 self.machine.note(&told);
-                self.take_in(between, told);
+                self.take_in(between, &told);
                 Turn::Did { entries: 2 }
             }
         }

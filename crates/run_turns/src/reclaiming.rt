@@ -161,7 +161,7 @@ impl Course {
         ensures sealing { is_sealing self.new.pass.phase ≡ is_sealing self.old.pass.phase }
         ensures room { self.new.room ≡ self.old.room }
     {
-        self.take_in(Mode::Outside, entry);
+        self.take_in(Mode::Outside, &entry);
     }
 
     // The work of the started write-out, in the room that there is for it.
@@ -216,7 +216,7 @@ impl Course {
             event: Event::Kick { cpu: Cpu(number) },
         };
         self.machine.note(&entry);
-        self.record_entry(Mode::Outside, entry);
+        self.record_entry(Mode::Outside, &entry);
     }
 
     /// Ends the started write-out. Where there is none, nothing changes.

@@ -14,13 +14,13 @@ use sgx_types::entries::Entry;
 impl Course {
     /// Takes an entry in, before which its processor stood so: the holds and the tables of what is due follow it, it is kept, and it is
     /// decided whether the reclaimer works.
-    pub(crate) fn take_in(&mut self, before: Mode, entry: Entry)
-        requires { CanTake self.old before entry }
-        ensures book { (take : CanTake self.old before entry) → IsRecorded self.old entry take.can.longer self.new }
-        ensures stands { CanTake self.old before entry → IsTaken self.old entry self.new }
-        ensures kept { self.new.entries.items ≡ self.old.entries.items ++ entry ∷ [] }
+    pub(crate) fn take_in(&mut self, before: Mode, entry: &Entry)
+        requires { CanTake self.old before entry.now }
+        ensures book { (take : CanTake self.old before entry.now) → IsRecorded self.old entry.now take.can.longer self.new }
+        ensures stands { CanTake self.old before entry.now → IsTaken self.old entry.now self.new }
+        ensures kept { self.new.entries.items ≡ self.old.entries.items ++ entry.now ∷ [] }
         ensures room { vec_capacity self.new.entries ≡ vec_capacity self.old.entries }
-        ensures noted { IsNoted self.old.job self.old.turns before entry self.new.turns }
+        ensures noted { IsNoted self.old.job self.old.turns before entry.now self.new.turns }
         ensures driver { self.new.driver ≡ with_own self.old.driver self.new.driver.active.own }
         ensures taken { self.new.pass.taken ≡ self.old.pass.taken }
         ensures places { still_out self.new.pass.taken.items self.new.pass.phase ≡ still_out self.old.pass.taken.items self.old.pass.phase }
@@ -38,18 +38,18 @@ impl Course {
     }
 
     /// .. within a pass, where nothing is decided.
-    pub(crate) fn record_entry(&mut self, before: Mode, entry: Entry)
-        requires { CanRecord self.old before entry }
-        ensures book { (can : CanRecord self.old before entry) → IsRecorded self.old entry can.longer self.new }
-        ensures kept { self.new.entries.items ≡ self.old.entries.items ++ entry ∷ [] }
+    pub(crate) fn record_entry(&mut self, before: Mode, entry: &Entry)
+        requires { CanRecord self.old before entry.now }
+        ensures book { (can : CanRecord self.old before entry.now) → IsRecorded self.old entry.now can.longer self.new }
+        ensures kept { self.new.entries.items ≡ self.old.entries.items ++ entry.now ∷ [] }
         ensures room { vec_capacity self.new.entries ≡ vec_capacity self.old.entries }
-        ensures noted { IsNoted self.old.job self.old.turns before entry self.new.turns }
+        ensures noted { IsNoted self.old.job self.old.turns before entry.now self.new.turns }
         ensures driver { self.new.driver ≡ with_own self.old.driver self.new.driver.active.own }
         ensures others { self.new ≡ record self.old { driver = self.new.driver; turns = self.new.turns; entries = self.new.entries } }
     {
         self.turns
-            .hold(&self.job, &mut self.driver.active, before, &entry);
-        self.turns.note(&self.job, before, &entry);
-        self.entries.push_reserved(entry);
+            .hold(&self.job, &mut self.driver.active, before, entry);
+        self.turns.note(&self.job, before, entry);
+        self.entries.push_reserved(*entry);
     }
 }

@@ -1,5 +1,7 @@
 use Rattle.std.proofs.Common.{◌≡◌, false, reverse, ◌≤◌, ◌∷◌, sym, subst, ap, refl, arith}
+use Rattle.driver_steps.specs.Carried.{Carries}
 use Rattle.driver_tables.specs.declared.driver.Driver.{Driver}
+use Rattle.paging_machine.specs.Parts.{state_of}
 use Rattle.table_notes.specs.Arrays.{KeepsArrays}
 use Rattle.run_turns.specs.declared.course.Course.{Course}
 use Rattle.run_turns.specs.Courses.{past_of}
@@ -15,34 +17,40 @@ apply-requires c = (lawful c.args.self.now c.args.actor c.args.action c.requires
 
 pub note_tables-requires : goal.note_tables-requires
 note_tables-requires c =
-    notable c.args.self.now c.apply.new.machine c.args.actor c.args.action c.in_ok-entry.entry c.mode_of-before.result c.requires
+    notable c.args.self.now c.apply.new.self c.args.actor c.args.action c.in_ok-entry.entry c.mode_of-before.result c.requires
     c.in_ok-entry.ensures.step c.mode_of-before.ensures
 
 pub take_in-requires : goal.take_in-requires
 take_in-requires c =
     let s = c.args.self.now in
+    let told = c.in_ok-entry.ensures in
+    let carries : Carries (state_of s.machine) c.in_ok-entry.entry (state_of c.apply.new.self) =
+    record { shape = told.shape; fits = told.fits; history = told.history; making = c.apply.ensures.making } in
     let k = c.requires in
-    let x : Course = record s { machine = c.apply.new.machine; driver = c.note_tables.new.driver; entries = c.reserve.new.self } in
+    let x : Course = record s { machine = c.apply.new.self; driver = c.note_tables.new.driver; entries = c.reserve.new.self } in
     let room = c.in_ok-reserve.ensures.ok in
     take_at s x c.mode_of-before.result c.in_ok-entry.entry k.told k.told
-    (entered s x c.apply.new.machine c.args.actor c.args.action c.in_ok-entry.entry c.mode_of-before.result k c.in_ok-entry.ensures.step
-    c.in_ok-entry.ensures.carries c.apply.ensures.cpus c.mode_of-before.ensures c.note_tables.ensures refl refl refl refl
+    (entered s x c.apply.new.self c.args.actor c.args.action c.in_ok-entry.entry c.mode_of-before.result k c.in_ok-entry.ensures.step
+    carries c.apply.ensures.cpus c.mode_of-before.ensures c.note_tables.ensures refl refl refl refl
     c.reserve.ensures.items (omega (arith, room)))
 
 pub returns-clause-more : goal.returns-clause-more
 returns-clause-more c = λ can.
     (let s = c.args.self.now in
     let e = c.in_ok-entry.entry in
-    let noted = noted_by s c.note_tables.new.driver c.apply.new.machine c.args.actor c.args.action e c.mode_of-before.result can
+    let told = c.in_ok-entry.ensures in
+    let carries : Carries (state_of s.machine) e (state_of c.apply.new.self) =
+    record { shape = told.shape; fits = told.fits; history = told.history; making = c.apply.ensures.making } in
+    let noted = noted_by s c.note_tables.new.driver c.apply.new.self c.args.actor c.args.action e c.mode_of-before.result can
     c.in_ok-entry.ensures.step c.mode_of-before.ensures c.note_tables.ensures in
-    let both = acts s.machine c.apply.new.machine c.args.actor c.args.action e c.in_ok-entry.ensures.step in
+    let both = acts s.machine c.apply.new.self c.args.actor c.args.action e c.in_ok-entry.ensures.step in
     let quiet = plain_event e.event c.args.action both.1 (lawful s c.args.actor c.args.action can).plain in
     let room = c.in_ok-reserve.ensures.ok in
-    let x : Course = record s { machine = c.apply.new.machine; driver = c.note_tables.new.driver; entries = c.reserve.new.self } in
+    let x : Course = record s { machine = c.apply.new.self; driver = c.note_tables.new.driver; entries = c.reserve.new.self } in
     grown_by_one s x c.mode_of-before.result e can.told can.told c.take_in.new.self c.args.actor can.spare
     (record {
-      enters = entered s x c.apply.new.machine c.args.actor c.args.action e c.mode_of-before.result can c.in_ok-entry.ensures.step
-          c.in_ok-entry.ensures.carries c.apply.ensures.cpus c.mode_of-before.ensures c.note_tables.ensures refl refl refl refl
+      enters = entered s x c.apply.new.self c.args.actor c.args.action e c.mode_of-before.result can c.in_ok-entry.ensures.step
+          carries c.apply.ensures.cpus c.mode_of-before.ensures c.note_tables.ensures refl refl refl refl
           c.reserve.ensures.items (omega (arith, room));
       book = c.take_in.ensures.book;
       stands = c.take_in.ensures.stands;
@@ -57,7 +65,7 @@ returns-clause-more c = λ can.
 pub returns-clause-quiet : goal.returns-clause-quiet
 returns-clause-quiet c = λ can.
     (let e = c.in_ok-entry.entry in
-    let both = acts c.args.self.now.machine c.apply.new.machine c.args.actor c.args.action e c.in_ok-entry.ensures.step in
+    let both = acts c.args.self.now.machine c.apply.new.self c.args.actor c.args.action e c.in_ok-entry.ensures.step in
     let none = plain_is_none e.event c.args.action both.1 (lawful c.args.self.now c.args.actor c.args.action can).plain in
     subst (λ h. started h c.args.actor ≡ false)
     (sym (newest c.reserve.new.self.items c.take_in.new.self.entries.items e c.take_in.ensures.kept))

@@ -21,6 +21,6 @@ returns-clause-keeps c told spare none =
       turns = c.in_ok-turns.ensures;
       taken = c.in_ok-pass.ensures.taken;
       phase = c.in_ok-pass.ensures.phase;
-      entries = c.new-5.ensures.items;
+      entries = c.in_ok-entries.ensures;
     })
     none

@@ -14,7 +14,7 @@ pub hold-requires : goal.hold-requires
 hold-requires c =
     let s = c.args.self.now in
     let r = c.requires in
-    (can_hold (machine_of s.job) s.job (past_of s) r.told r.longer r.d s.driver r.m s.machine s.turns c.args.entry c.args.before r.book
+    (can_hold (machine_of s.job) s.job (past_of s) r.told r.longer r.d s.driver r.m s.machine s.turns c.args.entry.now c.args.before r.book
     r.made r.stood r.tcs).can
 
 pub note-requires-clause-few : goal.note-requires-clause-few
@@ -27,12 +27,12 @@ note-requires-clause-few c =
 pub returns-clause-book : goal.returns-clause-book
 returns-clause-book c = λ can.
     (let s = c.args.self.now in
-    let hold = can_hold (machine_of s.job) s.job (past_of s) can.told can.longer can.d s.driver can.m s.machine s.turns c.args.entry
+    let hold = can_hold (machine_of s.job) s.job (past_of s) can.told can.longer can.d s.driver can.m s.machine s.turns c.args.entry.now
     c.args.before can.book can.made can.stood can.tcs in
-    let note = can_note (machine_of s.job) s.job (past_of s) can.told can.longer can.d s.driver can.m s.machine s.turns c.args.entry
+    let note = can_note (machine_of s.job) s.job (past_of s) can.told can.longer can.d s.driver can.m s.machine s.turns c.args.entry.now
     c.args.before can.book can.made can.stood in
-    subst (λ (list : ActiveList). KeepsBook (machine_of s.job) s.job (c.args.entry ∷ past_of s) can.longer
+    subst (λ (list : ActiveList). KeepsBook (machine_of s.job) s.job (c.args.entry.now ∷ past_of s) can.longer
     (record s.driver { active = list }) s.machine c.note.new.self) (sym c.hold.ensures.others)
     (book_more (machine_of s.job) s.job (past_of s) can.told can.longer can.d s.driver can.m s.machine s.turns c.note.new.self
-    c.args.entry c.hold.new.active.own can.tcs can.book can.made (c.note.ensures.right (past_of s) can.book.turns note)
-    (subst (λ past. KeepsHolds s.job c.hold.new.active.own (c.args.entry ∷ past)) hold.same (c.hold.ensures.holds hold.can))))
+    c.args.entry.now c.hold.new.active.own can.tcs can.book can.made (c.note.ensures.right (past_of s) can.book.turns note)
+    (subst (λ past. KeepsHolds s.job c.hold.new.active.own (c.args.entry.now ∷ past)) hold.same (c.hold.ensures.holds hold.can))))

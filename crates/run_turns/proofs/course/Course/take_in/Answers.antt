@@ -17,8 +17,8 @@ returns-clause-stands c = λ take.
     let new = c.record_entry.new.self in
     let book = c.record_entry.ensures.book take.can in
     let same : s.pass ≡ new.pass = sym (ap (λ (x : Course). x.pass) c.record_entry.ensures.others) in
-    c.note.ensures.stands s.job.start_epoch s.job (past_of s) c.args.entry book.agrees.shows.marks
+    c.note.ensures.stands s.job.start_epoch s.job (past_of s) c.args.entry.now book.agrees.shows.marks
     (c.free_count-free.ensures
-    ∙ free_told (machine_of s.job) s.job (c.args.entry ∷ past_of s) new.machine book.agrees.follows book.agrees.frames)
-    (subst (λ (p : passes.Pass). StandsFor s.job.start_epoch (c.args.entry ∷ past_of s) p.taken.items p.phase
-    (pass_after s.job (past_of s) c.args.entry.actor c.args.entry.event (pass s.job (past_of s)))) same take.stands))
+    ∙ free_told (machine_of s.job) s.job (c.args.entry.now ∷ past_of s) new.machine book.agrees.follows book.agrees.frames)
+    (subst (λ (p : passes.Pass). StandsFor s.job.start_epoch (c.args.entry.now ∷ past_of s) p.taken.items p.phase
+    (pass_after s.job (past_of s) c.args.entry.now.actor c.args.entry.now.event (pass s.job (past_of s)))) same take.stands))
