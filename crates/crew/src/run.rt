@@ -21,11 +21,7 @@ use std::thread;
 use std::thread::Threads;
 use turn_gate::gate::Gate;
 
-/// Lets the builder, each processor and the reclaimer work on a book, each in a thread of its own, until nothing is left to anyone or the
-/// run is stopped. Nothing is supposed of the order in which they take the lock. What a worker knew of the book is not known behind the
-/// lock, so rounds of turns on one thread close the run; they call no gate. Where a thread can't be made, a worker that has to wait stops,
-/// and those rounds do what is left. While a processor keeps a page back, the reclaimer's worker looks at the word of that enclave, with
-/// the lock free; the words and the pass are those of the book's seat. A run whose store fails for ever may not return.
+/// Lets the builder, each processor and the reclaimer work on a book (`run_workers`), and counts the entries that each made.
 pub fn run_crew<R: Threads + Wait + Sync, B: Backing + Send, G: Gate + Sync>(
     rt: &R,
     alloc: Global,
@@ -41,14 +37,37 @@ pub fn run_crew<R: Threads + Wait + Sync, B: Backing + Send, G: Gate + Sync>(
     ensures ended { IfOk result (λ made. IsEnded made.0.book.job made.0.book.past) }
     ensures tally { IfOk result (λ made. IsTally (reverse made.0.book.past) (length made.0.book.job.scripts) made.1) }
 {
+    let book = run_workers(rt, alloc, book, words, pass, gate)?;
+    let cpus = book.job().scripts().len();
+    let tally = count(alloc, book.entries(), cpus)?;
+    Ok((book, tally))
+}
+
+/// Lets the builder, each processor and the reclaimer work on a book, each in a thread of its own, until nothing is left to anyone or the
+/// run is stopped. Nothing is supposed of the order in which they take the lock. What a worker knew of the book is not known behind the
+/// lock, so rounds of turns on one thread close the run; they call no gate. Where a thread can't be made, a worker that has to wait stops,
+/// and those rounds do what is left. While a processor keeps a page back, the reclaimer's worker looks at the word of that enclave, with
+/// the lock free; the words and the pass are those of the book's seat. A run whose store fails for ever may not return.
+pub fn run_workers<R: Threads + Wait + Sync, B: Backing + Send, G: Gate + Sync>(
+    rt: &R,
+    alloc: Global,
+    book: MachineBook<B>,
+    words: &Words,
+    pass: Pass,
+    gate: &G,
+) -> Result<MachineBook<B>, Memory>
+    requires words { book.words ≡ words.now }
+    requires pass { pass.words ≡ words.now }
+    ensures job { IfOk result (λ made. made.book.job ≡ book.book.job) }
+    ensures words { IfOk result (λ made. made.words ≡ book.words) }
+    ensures ended { IfOk result (λ made. IsEnded made.book.job made.book.past) }
+{
     let mut book = run_named::<Brand, R, B, G>(rt, alloc, book, words, pass, gate);
     if book.noted() {
         return Err(Memory);
     }
     run(rt, alloc, &mut book, words)?;
-    let cpus = book.job().scripts().len();
-    let tally = count(alloc, book.entries(), cpus)?;
-    Ok((book, tally))
+    Ok(book)
 }
 
 // The same under a name, which fixes the job and the words.

@@ -5,7 +5,7 @@ ghost use Rattle.std.specs.Prelude.{◌≡◌, [], IfOk, IfSome, reverse};
 
 use crate::ends::{End, end_of};
 use backing_store::backing::Backing;
-use crew::run::{MachineBook, Parts, run_crew};
+use crew::run::{MachineBook, Parts, run_workers};
 use epoch_words::words::Words;
 use job_grammar::jobs::Job;
 use sgx_types::entries::Entry;
@@ -42,7 +42,7 @@ pub fn run_job<R: Threads + Wait + Sync, B: Backing + Send, G: Gate + Sync>(
 {
     let (words, seat, pass) = Words::new(alloc, &job)?;
     let book = MachineBook::start(alloc, job, store, seat)?;
-    let (book, _) = run_crew(rt, alloc, book, &words, pass, gate)?;
+    let book = run_workers(rt, alloc, book, &words, pass, gate)?;
     let Parts {
         job,
         entries,

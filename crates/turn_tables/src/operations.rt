@@ -21,6 +21,7 @@ const NO_FRAME: Frame = Frame(0);
 
 impl Turns {
     /// The next step of an operation.
+    #[inline(always)]
     pub(crate) fn op_due(&self, driver: &Driver, machine: &Machine, cpu: Cpu, op: Op) -> TurnDue
         requires { CanAsk driver.now machine.now self.now cpu.0 }
         ensures { result ≡ op_by (looks_at driver.now machine.now self.now cpu.0) op }

@@ -1,4 +1,4 @@
-use Rattle.crew.proofs.run.run_crew.Given as goal
+use Rattle.crew.proofs.run.run_workers.Given as goal
 
 abbrev pub ghosts-run_named : goal.ghosts-run_named
 ghosts-run_named g a = record { job = a.book.book.job; words = a.book.words }
