@@ -1,7 +1,7 @@
 //! The output of entries that no run makes.
 
 use job_text::reader::read_job;
-use page_commands::replies::print_out;
+use run_replies::replies::print_out;
 use sgx_types::entries::{Action, Actor, Answer, Entry, Event};
 use sgx_types::names::{Cpu, Frame};
 use sgx_types::refusals::Refusal;

@@ -1,4 +1,2 @@
-pub mod EntryLaws
-pub mod NumberLaws
 pub mod CommandLaws
 pub mod AuditLaws

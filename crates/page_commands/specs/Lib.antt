@@ -1,5 +1,3 @@
-pub mod OutText
-pub mod Ending
 pub mod Runs
 pub mod Traces
 pub mod Commands

@@ -16,7 +16,7 @@ use Rattle.run_jobs.specs.declared.ends.End.{End}
 use Rattle.run_jobs.specs.Runs.{WholeRun}
 use Rattle.page_commands.specs.declared.jobs.Unread.{Unread}
 use Rattle.page_commands.specs.declared.jobs.Unread.TheVariants.{Bad}
-use Rattle.page_commands.specs.OutText.{out_of}
+use Rattle.run_replies.specs.OutText.{out_of}
 use Rattle.page_commands.specs.declared.status.Status.{Status}
 use Rattle.page_commands.specs.declared.status.Status.TheVariants as statuses
 use Rattle.trace_text.specs.TraceText.{trace_of}

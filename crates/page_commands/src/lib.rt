@@ -10,7 +10,6 @@ mod gates;
 mod jobs;
 mod least;
 mod making;
-pub mod replies;
 mod running;
 pub mod status;
 mod traces;

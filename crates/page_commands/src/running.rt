@@ -10,7 +10,6 @@ ghost use Rattle.run_jobs.specs.declared.ends.End.{End};
 
 use crate::ended::{Ended, unrun};
 use crate::jobs::{read, tell};
-use crate::replies::print_out;
 use crate::status::Status;
 use backing_store::backing::Backing;
 use io_edges::giving::give_all;
@@ -18,6 +17,7 @@ use io_edges::sinks::Sink;
 use io_edges::sources::Source;
 use job_grammar::jobs::Job;
 use run_jobs::run::{Run, run_job};
+use run_replies::replies::print_out;
 use sgx_types::entries::Entry;
 use sgx_types::names::Memory;
 use std::alloc::Global;

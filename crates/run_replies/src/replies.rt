@@ -1,12 +1,13 @@
 //! The text of the output.
 
-ghost use Rattle.std.specs.Prelude.{◌≡◌, [], ◌++◌, reverse, flat_map, OnOk, IfOk};
+ghost use Rattle.std.specs.Prelude.{ℕ, ◌≡◌, ◌<◌, true, List, [], ◌∷◌, ◌++◌, length, reverse, flat_map, OnOk, IfOk};
+ghost use Rattle.sgx_types.specs.declared.entries.Entry.{Entry};
 ghost use Rattle.sgx_types.specs.Processors.{is_by};
 ghost use Rattle.turn_rules.specs.Script.{interrupted_after, numbers_from};
 ghost use Rattle.text_words.specs.Room.{HasRoom};
-ghost use Rattle.text_words.specs.Words.{line_text};
-ghost use Rattle.page_commands.specs.Ending.{ending_lines};
-ghost use Rattle.page_commands.specs.OutText.{cpu_lines, done_reply, enclave_lines, init_line, out_of, refused_reply, reply_words};
+ghost use Rattle.text_words.specs.Words.{Words, line_text};
+ghost use Rattle.run_replies.specs.Gathered.{AreEndings, AreReplies, IsReplies, ended_by, ending_lines, line_at, lines_of};
+ghost use Rattle.run_replies.specs.OutText.{done_reply, init_line, out_of, refused_reply, reply_words};
 
 use job_grammar::jobs::Job;
 use sgx_types::entries::{Action, Actor, Answer, Cause, Entry, Event};
@@ -28,54 +29,84 @@ enum Ending {
     WrongMeasurement,
 }
 
-/// The output of a run, whose entries are given oldest first.
+/// The lines of a processor, and whether it is interrupted behind them.
+#[derive(Drop)]
+struct Replies {
+    lines: Vec<u8>,
+    is_interrupted: bool,
+}
+
+/// The output of a run, whose entries are given oldest first, in one walk over them.
 #[tactic(auto, unfolding(crate::specs::OutText::out_of))]
 pub fn print_out(alloc: Global, job: &Job, entries: &[Entry]) -> Result<Vec<u8>, Memory>
     ensures { IfOk result (λ text. text.items ≡ out_of job.now (reverse entries.now)) }
 {
+    let enclaves = job.enclaves().len();
+    let mut endings = vec![in alloc; None; enclaves + 1]?;
+    let mut replies = first_lines(alloc, job.scripts().len())?;
+    for entry in entries {
+        note_ending(entry, &mut endings);
+        note_reply(entry, &mut replies)?;
+    }
     let mut text = Vec::new(alloc);
-    push_enclaves(job.enclaves().len(), entries, &mut text)?;
-    push_cpus(job.scripts().len(), entries, &mut text)?;
+    push_enclaves(enclaves, &endings, &mut text)?;
+    push_cpus(&replies, &mut text)?;
     Ok(text)
 }
 
-#[tactic(auto, using(crate::proofs::NumberLaws::enclaves_more))]
-fn push_enclaves(count: usize, entries: &[Entry], onto: &mut Vec<u8>) -> Result<(), Memory>
-    ensures { OnOk result (
-        onto.new.items ≡ onto.old.items
-        ++ flat_map line_text
-        (flat_map (enclave_lines (reverse entries.now)) (numbers_from 1 count))) }
+/// The lines of so many processors before their first replies.
+fn first_lines(alloc: Global, count: usize) -> Result<Vec<Replies>, Memory>
+    ensures replies { IfOk result (λ all. AreReplies [] all.items) }
+    ensures len { IfOk result (λ all. length all.items ≡ count) }
 {
-    for index in 0..count {
-        push_enclave(index + 1, entries, onto)?;
+    let mut all = Vec::new(alloc);
+    for cpu in 0..count {
+        all.push(Replies::new(alloc, cpu)?)?;
+    }
+    Ok(all)
+}
+
+/// Takes in how an entry ended the EINIT of an enclave, by the enclave's number.
+fn note_ending(entry: &Entry, endings: &mut Vec<Option<Ending>>)
+    ensures ended { (past : List Entry) → AreEndings past endings.old.items → AreEndings (entry.now ∷ past) endings.new.items }
+    ensures len { length endings.new.items ≡ length endings.old.items }
+{
+    if let Some((enclave, ending)) = ending_in(&entry.event) {
+        if usize::from(enclave) < endings.len() {
+            endings[usize::from(enclave)] = Some(ending);
+        }
+    }
+}
+
+/// Takes in a reply of a processor.
+fn note_reply(entry: &Entry, all: &mut Vec<Replies>) -> Result<(), Memory>
+    ensures replies { OnOk result ((past : List Entry) → AreReplies past all.old.items → AreReplies (entry.now ∷ past) all.new.items) }
+    ensures len { length all.new.items ≡ length all.old.items }
+{
+    if let Actor::Cpu(cpu) = entry.actor {
+        if usize::from(cpu.0) < all.len() {
+            return all[usize::from(cpu.0)].note(&entry.event);
+        }
     }
     Ok(())
 }
 
-#[tactic(auto, using(crate::proofs::NumberLaws::cpus_more))]
-fn push_cpus(count: usize, entries: &[Entry], onto: &mut Vec<u8>) -> Result<(), Memory>
+#[tactic(auto, using(crate::proofs::NumberLaws::enclaves_more))]
+fn push_enclaves(count: usize, endings: &[Option<Ending>], onto: &mut Vec<u8>) -> Result<(), Memory>
+    requires { count < length endings.now }
     ensures { OnOk result (
-        onto.new.items ≡ onto.old.items
-        ++ flat_map line_text
-        (flat_map (cpu_lines (reverse entries.now)) (numbers_from 0 count))) }
+        onto.new.items ≡ onto.old.items ++ flat_map line_text (flat_map (line_at endings.now) (numbers_from 1 count))) }
 {
-    for cpu in 0..count {
-        push_cpu(cpu, entries, onto)?;
+    for index in 0..count {
+        push_ending(index + 1, endings[index + 1], onto)?;
     }
     Ok(())
 }
 
 /// Writes the line of an enclave, where its EINIT has ended.
-#[tactic(auto, using(crate::proofs::EntryLaws::enclave_lines_more))]
-fn push_enclave(enclave: usize, entries: &[Entry], onto: &mut Vec<u8>) -> Result<(), Memory>
-    ensures { OnOk result (
-        onto.new.items ≡ onto.old.items
-        ++ flat_map line_text (enclave_lines (reverse entries.now) enclave)) }
+fn push_ending(enclave: usize, ending: Option<Ending>, onto: &mut Vec<u8>) -> Result<(), Memory>
+    ensures { OnOk result (onto.new.items ≡ onto.old.items ++ flat_map line_text (ending_lines enclave ending)) }
 {
-    let mut ending = None;
-    for entry in entries {
-        ending = ending_after(&entry.event, enclave, ending);
-    }
     match ending {
         None => Ok(()),
         Some(Ending::Initialised) => push_line(Enclave(enclave as u64), &[Name("init")], onto),
@@ -87,38 +118,29 @@ fn push_enclave(enclave: usize, entries: &[Entry], onto: &mut Vec<u8>) -> Result
     }
 }
 
-/// How the enclave's EINIT has ended after an event, and before it.
-fn ending_after(event: &Event, enclave: usize, before: Option<Ending>) -> Option<Ending>
-    ensures { ending_lines enclave result ≡ init_line event.now enclave (ending_lines enclave before) }
+fn push_cpus(all: &[Replies], onto: &mut Vec<u8>) -> Result<(), Memory>
+    ensures { OnOk result (onto.new.items ≡ onto.old.items ++ flat_map lines_of all.now) }
+{
+    for own in all {
+        onto.extend_from_slice(&own.lines)?;
+    }
+    Ok(())
+}
+
+/// How an event ended an EINIT, and whose.
+fn ending_in(event: &Event) -> Option<(u16, Ending)>
+    ensures { (enclave : ℕ) (before : List Words) → ended_by result enclave before ≡ init_line event.now enclave before }
 {
     match *event {
         Event::Did {
-            action: Action::Init {
-                enclave: number,
-                ..
-            },
+            action: Action::Init { enclave, .. },
             ..
-        } => {
-            if usize::from(number) == enclave {
-                Some(Ending::Initialised)
-            } else {
-                before
-            }
-        }
+        } => Some((enclave, Ending::Initialised)),
         Event::Refused {
-            action: Action::Init {
-                enclave: number,
-                ..
-            },
+            action: Action::Init { enclave, .. },
             why: Refusal::BadMeasure { .. },
-        } => {
-            if usize::from(number) == enclave {
-                Some(Ending::WrongMeasurement)
-            } else {
-                before
-            }
-        }
-        _ => before,
+        } => Some((enclave, Ending::WrongMeasurement)),
+        _ => None,
     }
 }
 
@@ -218,31 +240,28 @@ fn interrupted_after(event: &Event, before: bool) -> bool
     }
 }
 
-fn is_by(cpu: usize, actor: &Actor) -> bool
-    ensures { result ≡ is_by cpu actor.now }
-{
-    match *actor {
-        Actor::Cpu(number) => usize::from(number.0) == cpu,
-        _ => false,
+impl Replies {
+    // The first line of a processor.
+    fn new(alloc: Global, cpu: usize) -> Result<Replies, Memory>
+        ensures { IfOk result (IsReplies [] cpu) }
+    {
+        let mut lines = Vec::new(alloc);
+        push_line(Name("cpu"), &[Decimal(cpu as u64)], &mut lines)?;
+        Ok(Replies {
+            lines,
+            is_interrupted: false,
+        })
     }
-}
 
-/// Writes the line of a processor, and its replies.
-#[tactic(auto, using(crate::proofs::EntryLaws::replies_laws))]
-fn push_cpu(cpu: usize, entries: &[Entry], onto: &mut Vec<u8>) -> Result<(), Memory>
-    ensures { OnOk result (
-        onto.new.items ≡ onto.old.items
-        ++ flat_map line_text (cpu_lines (reverse entries.now) cpu)) }
-{
-    push_line(Name("cpu"), &[Decimal(cpu as u64)], onto)?;
-    let mut interrupted = false;
-    for entry in entries {
-        if is_by(cpu, &entry.actor) {
-            if is_reply(interrupted, &entry.event) {
-                push_reply(&entry.event, onto)?;
-            }
-            interrupted = interrupted_after(&entry.event, interrupted);
+    // What an entry of its own adds.
+    fn note(&mut self, event: &Event) -> Result<(), Memory>
+        ensures { OnOk result ((past : List Entry) (p : ℕ) (e : Entry) → e.event ≡ event.now → is_by p e.actor ≡ true → IsReplies past p self.old
+            → IsReplies (e ∷ past) p self.new) }
+    {
+        if is_reply(self.is_interrupted, event) {
+            push_reply(event, &mut self.lines)?;
         }
+        self.is_interrupted = interrupted_after(event, self.is_interrupted);
+        Ok(())
     }
-    Ok(())
 }

@@ -1,0 +1,2 @@
+pub mod OutText
+pub mod Gathered
