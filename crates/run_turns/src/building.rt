@@ -25,13 +25,13 @@ impl Course {
         ensures turn { IfOk result (λ turn. (can : CanTurn self.old) → IsBuilderTurn self.old turn self.new can.told can.spare) }
         ensures memory { OnErr result (IsSame self.old self.new) }
     {
-        match self
+        let due = self
             .turns
-            .builder_due(&self.job, &self.driver, &self.machine)
-        {
+            .builder_due(&self.job, &self.driver, &self.machine);
+        match &due {
             TurnDue::Stopped => Ok(Turn::Stopped),
             TurnDue::Finished => Ok(Turn::Finished),
-            TurnDue::Waits(why) => Ok(Turn::Again(why)),
+            TurnDue::Waits(why) => Ok(Turn::Again(*why)),
             TurnDue::Makes(action) => self.instruct(alloc, Actor::Builder, action),
             TurnDue::Ends(_) => unreachable!(),
             TurnDue::Reports { .. } => unreachable!(),
@@ -44,18 +44,18 @@ impl Course {
         &mut self,
         alloc: Global,
         actor: Actor,
-        action: Action,
+        action: &Action,
     ) -> Result<Turn, Memory>
-        requires { CanInstruct self.old actor action }
+        requires { CanInstruct self.old actor action.now }
         ensures turn { IfOk result (λ turn. turn ≡ turns.Did 1) }
-        ensures more { IfOk result (λ turn. (can : CanInstruct self.old actor action)
+        ensures more { IfOk result (λ turn. (can : CanInstruct self.old actor action.now)
             → Grows self.old actor 1 self.new can.told can.spare) }
-        ensures quiet { IfOk result (λ turn. CanInstruct self.old actor action → started (past_of self.new) actor ≡ false) }
+        ensures quiet { IfOk result (λ turn. CanInstruct self.old actor action.now → started (past_of self.new) actor ≡ false) }
         ensures memory { OnErr result (IsSame self.old self.new) }
     {
         self.entries.reserve(ROOM)?;
         let before = mode_of(&self.machine, actor);
-        let entry = self.machine.apply(alloc, actor, &action)?;
+        let entry = self.machine.apply(alloc, actor, action)?;
         note_tables(&self.turns, &mut self.driver, before, &entry);
         self.take_in(before, &entry);
         Ok(Turn::Did { entries: 1 })

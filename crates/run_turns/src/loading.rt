@@ -41,17 +41,17 @@ impl Course {
         ensures calm { IfOk result (λ turn. past_of self.new ≡ past_of self.old → S.told store.new ≡ S.told store.old) }
         ensures tells { is_some (S.told store.new) ≡ is_some (S.told store.old) }
     {
-        match self
+        let due = self
             .turns
-            .cpu_due(&self.job, &self.driver, &self.machine, cpu)
-        {
+            .cpu_due(&self.job, &self.driver, &self.machine, cpu);
+        match &due {
             TurnDue::Stopped => Ok(Turn::Stopped),
             TurnDue::Finished => Ok(Turn::Finished),
-            TurnDue::Waits(why) => Ok(Turn::Again(why)),
+            TurnDue::Waits(why) => Ok(Turn::Again(*why)),
             TurnDue::Ends(_) => self.open_again(alloc, store, cpu),
             TurnDue::Makes(action) => self.instruct(alloc, Actor::Cpu(cpu), action),
             TurnDue::Reports { .. } => unreachable!(),
-            TurnDue::Needs(page) => self.fetch(alloc, store, cpu, page),
+            TurnDue::Needs(page) => self.fetch(alloc, store, cpu, *page),
         }
     }
 

@@ -15,7 +15,7 @@ instruct-requires c =
       told = c.requires.told;
       spare = c.requires.spare;
       keeps = c.requires.keeps;
-      due = sym (c.builder_due.ensures (machine_of s.job) (past_of s) k.agrees k.orderly k.turns)
+      due = sym (c.builder_due-due.ensures (machine_of s.job) (past_of s) k.agrees k.orderly k.turns)
           ∙ ap (due_in s.job (past_of s)) c.in-Makes.is;
     }
 
@@ -24,27 +24,27 @@ unreachable-requires c =
     let s = c.args.self.now in
     let k = c.requires.keeps.book in
     ends_nothing s.job (past_of s) c.in-Ends.field-0
-    (sym (ap (due_in s.job (past_of s)) c.in-Ends.is) ∙ c.builder_due.ensures (machine_of s.job) (past_of s) k.agrees k.orderly k.turns)
+    (sym (ap (due_in s.job (past_of s)) c.in-Ends.is) ∙ c.builder_due-due.ensures (machine_of s.job) (past_of s) k.agrees k.orderly k.turns)
 
 pub unreachable-requires-in-Reports : goal.unreachable-requires-in-Reports
 unreachable-requires-in-Reports c =
     let s = c.args.self.now in
     let k = c.requires.keeps.book in
     reports_nothing s.job (past_of s) c.in-Reports.page c.in-Reports.why
-    (sym (ap (due_in s.job (past_of s)) c.in-Reports.is) ∙ c.builder_due.ensures (machine_of s.job) (past_of s) k.agrees k.orderly k.turns)
+    (sym (ap (due_in s.job (past_of s)) c.in-Reports.is) ∙ c.builder_due-due.ensures (machine_of s.job) (past_of s) k.agrees k.orderly k.turns)
 
 pub unreachable-requires-in-Needs : goal.unreachable-requires-in-Needs
 unreachable-requires-in-Needs c =
     let s = c.args.self.now in
     let k = c.requires.keeps.book in
     needs_nothing s.job (past_of s) c.in-Needs.field-0
-    (sym (ap (due_in s.job (past_of s)) c.in-Needs.is) ∙ c.builder_due.ensures (machine_of s.job) (past_of s) k.agrees k.orderly k.turns)
+    (sym (ap (due_in s.job (past_of s)) c.in-Needs.is) ∙ c.builder_due-due.ensures (machine_of s.job) (past_of s) k.agrees k.orderly k.turns)
 
 pub returns-in-Stopped-clause-turn : goal.returns-in-Stopped-clause-turn
 returns-in-Stopped-clause-turn c = λ can.
     (let s = c.args.self.now in
     let k = can.keeps.book in (
-      sym (c.builder_due.ensures (machine_of s.job) (past_of s) k.agrees k.orderly k.turns) ∙ ap (due_in s.job (past_of s)) c.in-Stopped.is,
+      sym (c.builder_due-due.ensures (machine_of s.job) (past_of s) k.agrees k.orderly k.turns) ∙ ap (due_in s.job (past_of s)) c.in-Stopped.is,
       same_self s,
     ))
 
@@ -52,7 +52,7 @@ pub returns-in-Finished-clause-turn : goal.returns-in-Finished-clause-turn
 returns-in-Finished-clause-turn c = λ can.
     (let s = c.args.self.now in
     let k = can.keeps.book in (
-      sym (c.builder_due.ensures (machine_of s.job) (past_of s) k.agrees k.orderly k.turns)
+      sym (c.builder_due-due.ensures (machine_of s.job) (past_of s) k.agrees k.orderly k.turns)
           ∙ ap (due_in s.job (past_of s)) c.in-Finished.is,
       same_self s,
     ))
@@ -63,7 +63,7 @@ returns-in-Waits-clause-turn c = λ can.
     let k = can.keeps.book in (
       subst (λ due. IsWaitBy due c.in-Waits.why)
           (sym (ap (due_in s.job (past_of s)) c.in-Waits.is)
-          ∙ c.builder_due.ensures (machine_of s.job) (past_of s) k.agrees k.orderly k.turns)
+          ∙ c.builder_due-due.ensures (machine_of s.job) (past_of s) k.agrees k.orderly k.turns)
           refl,
       same_self s,
     ))
@@ -72,5 +72,5 @@ pub returns-in-Makes-clause-turn : goal.returns-in-Makes-clause-turn
 returns-in-Makes-clause-turn c =
     let s = c.args.self.now in
     builder_made s c.instruct.new.self c.in-Makes.action c.instruct.result
-    (λ can. sym (c.builder_due.ensures (machine_of s.job) (past_of s) can.keeps.book.agrees can.keeps.book.orderly can.keeps.book.turns)
+    (λ can. sym (c.builder_due-due.ensures (machine_of s.job) (past_of s) can.keeps.book.agrees can.keeps.book.orderly can.keeps.book.turns)
     ∙ ap (due_in s.job (past_of s)) c.in-Makes.is) c.instruct.ensures.turn c.instruct.ensures.more

@@ -13,11 +13,11 @@ use Rattle.run_turns.proofs.RecordLaws.{newest, plain_is_none}
 use Rattle.run_turns.proofs.course.Course.instruct.Goals as goal
 
 pub apply-requires : goal.apply-requires
-apply-requires c = (lawful c.args.self.now c.args.actor c.args.action c.requires).can
+apply-requires c = (lawful c.args.self.now c.args.actor c.args.action.now c.requires).can
 
 pub note_tables-requires : goal.note_tables-requires
 note_tables-requires c =
-    notable c.args.self.now c.apply.new.self c.args.actor c.args.action c.in_ok-entry.entry c.mode_of-before.result c.requires
+    notable c.args.self.now c.apply.new.self c.args.actor c.args.action.now c.in_ok-entry.entry c.mode_of-before.result c.requires
     c.in_ok-entry.ensures.step c.mode_of-before.ensures
 
 pub take_in-requires : goal.take_in-requires
@@ -30,7 +30,7 @@ take_in-requires c =
     let x : Course = record s { machine = c.apply.new.self; driver = c.note_tables.new.driver; entries = c.reserve.new.self } in
     let room = c.in_ok-reserve.ensures.ok in
     take_at s x c.mode_of-before.result c.in_ok-entry.entry k.told k.told
-    (entered s x c.apply.new.self c.args.actor c.args.action c.in_ok-entry.entry c.mode_of-before.result k c.in_ok-entry.ensures.step
+    (entered s x c.apply.new.self c.args.actor c.args.action.now c.in_ok-entry.entry c.mode_of-before.result k c.in_ok-entry.ensures.step
     carries c.apply.ensures.cpus c.mode_of-before.ensures c.note_tables.ensures refl refl refl refl
     c.reserve.ensures.items (omega (arith, room)))
 
@@ -41,15 +41,15 @@ returns-clause-more c = λ can.
     let told = c.in_ok-entry.ensures in
     let carries : Carries (state_of s.machine) e (state_of c.apply.new.self) =
     record { shape = told.shape; fits = told.fits; history = told.history; making = c.apply.ensures.making } in
-    let noted = noted_by s c.note_tables.new.driver c.apply.new.self c.args.actor c.args.action e c.mode_of-before.result can
+    let noted = noted_by s c.note_tables.new.driver c.apply.new.self c.args.actor c.args.action.now e c.mode_of-before.result can
     c.in_ok-entry.ensures.step c.mode_of-before.ensures c.note_tables.ensures in
-    let both = acts s.machine c.apply.new.self c.args.actor c.args.action e c.in_ok-entry.ensures.step in
-    let quiet = plain_event e.event c.args.action both.1 (lawful s c.args.actor c.args.action can).plain in
+    let both = acts s.machine c.apply.new.self c.args.actor c.args.action.now e c.in_ok-entry.ensures.step in
+    let quiet = plain_event e.event c.args.action.now both.1 (lawful s c.args.actor c.args.action.now can).plain in
     let room = c.in_ok-reserve.ensures.ok in
     let x : Course = record s { machine = c.apply.new.self; driver = c.note_tables.new.driver; entries = c.reserve.new.self } in
     grown_by_one s x c.mode_of-before.result e can.told can.told c.take_in.new.self c.args.actor can.spare
     (record {
-      enters = entered s x c.apply.new.self c.args.actor c.args.action e c.mode_of-before.result can c.in_ok-entry.ensures.step
+      enters = entered s x c.apply.new.self c.args.actor c.args.action.now e c.mode_of-before.result can c.in_ok-entry.ensures.step
           carries c.apply.ensures.cpus c.mode_of-before.ensures c.note_tables.ensures refl refl refl refl
           c.reserve.ensures.items (omega (arith, room));
       book = c.take_in.ensures.book;
@@ -65,8 +65,8 @@ returns-clause-more c = λ can.
 pub returns-clause-quiet : goal.returns-clause-quiet
 returns-clause-quiet c = λ can.
     (let e = c.in_ok-entry.entry in
-    let both = acts c.args.self.now.machine c.apply.new.self c.args.actor c.args.action e c.in_ok-entry.ensures.step in
-    let none = plain_is_none e.event c.args.action both.1 (lawful c.args.self.now c.args.actor c.args.action can).plain in
+    let both = acts c.args.self.now.machine c.apply.new.self c.args.actor c.args.action.now e c.in_ok-entry.ensures.step in
+    let none = plain_is_none e.event c.args.action.now both.1 (lawful c.args.self.now c.args.actor c.args.action.now can).plain in
     subst (λ h. started h c.args.actor ≡ false)
     (sym (newest c.reserve.new.self.items c.take_in.new.self.entries.items e c.take_in.ensures.kept))
-    (none_started_of c.args.self.now (reverse c.reserve.new.self.items) e c.args.actor c.args.action can.due both.0 none))
+    (none_started_of c.args.self.now (reverse c.reserve.new.self.items) e c.args.actor c.args.action.now can.due both.0 none))

@@ -14,7 +14,7 @@ open_again-requires-clause-loads g c =
     let s = c.args.self.now in
     let k = c.requires.keeps.book in
     ends_loads s.job (past_of s) c.args.cpu c.in-Ends.field-0 c.requires.cpu
-    (sym (c.cpu_due.ensures (machine_of s.job) (past_of s) k.agrees k.orderly k.turns) ∙ ap (due_in s.job (past_of s)) c.in-Ends.is)
+    (sym (c.cpu_due-due.ensures (machine_of s.job) (past_of s) k.agrees k.orderly k.turns) ∙ ap (due_in s.job (past_of s)) c.in-Ends.is)
 
 pub instruct-requires : goal.instruct-requires
 instruct-requires g c =
@@ -26,7 +26,7 @@ instruct-requires g c =
       keeps = c.requires.keeps;
       due = (
         c.requires.cpu,
-        sym (c.cpu_due.ensures (machine_of s.job) (past_of s) k.agrees k.orderly k.turns)
+        sym (c.cpu_due-due.ensures (machine_of s.job) (past_of s) k.agrees k.orderly k.turns)
             ∙ ap (due_in s.job (past_of s)) c.in-Makes.is,
       );
     }
@@ -36,19 +36,19 @@ unreachable-requires g c =
     let s = c.args.self.now in
     let k = c.requires.keeps.book in
     none_reports s.job (past_of s) c.args.cpu.0 c.in-Reports.page c.in-Reports.why c.requires.keeps.none
-    (sym (c.cpu_due.ensures (machine_of s.job) (past_of s) k.agrees k.orderly k.turns) ∙ ap (due_in s.job (past_of s)) c.in-Reports.is)
+    (sym (c.cpu_due-due.ensures (machine_of s.job) (past_of s) k.agrees k.orderly k.turns) ∙ ap (due_in s.job (past_of s)) c.in-Reports.is)
 
 pub fetch-requires-clause-due : goal.fetch-requires-clause-due
 fetch-requires-clause-due g c =
     let s = c.args.self.now in
     let k = c.requires.keeps.book in
-    sym (c.cpu_due.ensures (machine_of s.job) (past_of s) k.agrees k.orderly k.turns) ∙ ap (due_in s.job (past_of s)) c.in-Needs.is
+    sym (c.cpu_due-due.ensures (machine_of s.job) (past_of s) k.agrees k.orderly k.turns) ∙ ap (due_in s.job (past_of s)) c.in-Needs.is
 
 pub returns-in-Stopped-clause-turn : goal.returns-in-Stopped-clause-turn
 returns-in-Stopped-clause-turn g c =
     let s = c.args.self.now in
     let k = c.requires.keeps.book in (
-      sym (c.cpu_due.ensures (machine_of s.job) (past_of s) k.agrees k.orderly k.turns) ∙ ap (due_in s.job (past_of s)) c.in-Stopped.is,
+      sym (c.cpu_due-due.ensures (machine_of s.job) (past_of s) k.agrees k.orderly k.turns) ∙ ap (due_in s.job (past_of s)) c.in-Stopped.is,
       same_self s,
     )
 
@@ -56,7 +56,7 @@ pub returns-in-Finished-clause-turn : goal.returns-in-Finished-clause-turn
 returns-in-Finished-clause-turn g c =
     let s = c.args.self.now in
     let k = c.requires.keeps.book in (
-      sym (c.cpu_due.ensures (machine_of s.job) (past_of s) k.agrees k.orderly k.turns) ∙ ap (due_in s.job (past_of s)) c.in-Finished.is,
+      sym (c.cpu_due-due.ensures (machine_of s.job) (past_of s) k.agrees k.orderly k.turns) ∙ ap (due_in s.job (past_of s)) c.in-Finished.is,
       same_self s,
     )
 
@@ -66,7 +66,7 @@ returns-in-Waits-clause-turn g c =
     let k = c.requires.keeps.book in (
       subst (λ due. IsWaitBy due c.in-Waits.why)
           (sym (ap (due_in s.job (past_of s)) c.in-Waits.is)
-          ∙ c.cpu_due.ensures (machine_of s.job) (past_of s) k.agrees k.orderly k.turns) refl,
+          ∙ c.cpu_due-due.ensures (machine_of s.job) (past_of s) k.agrees k.orderly k.turns) refl,
       same_self s,
     )
 
@@ -81,7 +81,7 @@ returns-in-Makes-clause-turn g c =
       keeps = c.requires.keeps;
       due = (
         c.requires.cpu,
-        sym (c.cpu_due.ensures (machine_of s.job) (past_of s) k.agrees k.orderly k.turns)
+        sym (c.cpu_due-due.ensures (machine_of s.job) (past_of s) k.agrees k.orderly k.turns)
             ∙ ap (due_in s.job (past_of s)) c.in-Makes.is,
       );
     }) c.instruct.ensures.turn c.instruct.ensures.more c.instruct.ensures.quiet
@@ -97,7 +97,7 @@ returns-in-Makes-clause-keeps g c =
       keeps = c.requires.keeps;
       due = (
         c.requires.cpu,
-        sym (c.cpu_due.ensures (machine_of s.job) (past_of s) k.agrees k.orderly k.turns)
+        sym (c.cpu_due-due.ensures (machine_of s.job) (past_of s) k.agrees k.orderly k.turns)
             ∙ ap (due_in s.job (past_of s)) c.in-Makes.is,
       );
     }) c.instruct.ensures.more c.instruct.ensures.memory
