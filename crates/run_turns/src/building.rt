@@ -39,7 +39,8 @@ impl Course {
         }
     }
 
-    /// An instruction that is due to the builder or to a processor.
+    /// An instruction that is due to the builder or to a processor. It stands in line, so that what it makes is handed on once less.
+    #[inline(always)]
     pub(crate) fn instruct(
         &mut self,
         alloc: Global,
