@@ -95,8 +95,9 @@ fn refuse(
     if !is_unfit(&own, why) {
         return Ok(Back::Broken(Rule::Refusal));
     }
-    let other = UnsealWork::new(alloc, of_other_page(alloc, &own)?)?;
-    let opened = unseal(machine.unseal_input(frame, other));
+    let mut other = UnsealWork::new(alloc, of_other_page(alloc, &own)?)?;
+    machine.unseal_input(frame, &mut other);
+    let opened = unseal(other);
     machine.eld_commit(actor, frame, opened);
     Ok(Back::Away(work))
 }

@@ -45,9 +45,10 @@ pub fn ask_out(
     if !machine.is_leaving(frame) {
         return Ok(Out::Broken(Rule::Refusal));
     }
-    let room = SealWork::new(alloc)?;
+    let mut room = SealWork::new(alloc)?;
     let mut plain = vec![in alloc; 0; 4096]?;
-    let work = seal(machine.seal_input(frame, room));
+    machine.seal_input(frame, &mut room);
+    let work = seal(room);
     plain.copy_from_slice(&work.plain);
     let key = work.key;
     let version = work.version;

@@ -63,7 +63,7 @@ fn goes_on(
     }
     match book.turn(alloc, cpu)? {
         Turn::Unseal(work) => {
-            let _ = book.commit_opened(cpu, unseal(opened(work, how)));
+            let _ = book.commit_opened(cpu, unseal(opened(Box::into_inner(work), how)));
             Ok(true)
         }
         Turn::Finished | Turn::Stopped => Ok(false),
@@ -85,7 +85,7 @@ fn reclaim(alloc: Global, book: &mut Book<PlannedStore>, how: Work) -> Result<()
 
 fn seal_out(book: &mut Book<PlannedStore>, turn: Turn, how: Work) {
     if let Turn::Seal(work) = turn {
-        let _ = book.commit_sealed(seal(sealed(work, how)));
+        let _ = book.commit_sealed(seal(sealed(Box::into_inner(work), how)));
     }
 }
 

@@ -113,9 +113,9 @@ fn whole_turn<R: Wait, B: Backing, N: Run>(
     // The lock is free again behind this line.
     let turn = take(rt, shared, made).turn(alloc, words, who);
     match turn {
-        Ok(Turn::Seal(work)) => Ok(sealed_turn(rt, shared, work)),
+        Ok(Turn::Seal(work)) => Ok(sealed_turn(rt, shared, Box::into_inner(work))),
         Ok(Turn::Unseal(work)) => match who {
-            Actor::Cpu(cpu) => Ok(opened_turn(rt, shared, cpu, work)),
+            Actor::Cpu(cpu) => Ok(opened_turn(rt, shared, cpu, Box::into_inner(work))),
             // Nobody else loads.
             Actor::Builder | Actor::Reclaimer => Ok(Next::Goes),
         },

@@ -151,7 +151,8 @@ impl Tables {
         if !has_place(store.calls()) {
             return Ok(None);
         }
-        let work = pass.work(machine, SealWork::new(alloc)?);
+        let mut work = SealWork::new(alloc)?;
+        pass.fill_in(machine, &mut work);
         Ok(Some(stored_of(pass, &mut self.driver, machine, store, seal(work))))
     }
 

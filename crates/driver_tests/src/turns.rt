@@ -92,7 +92,14 @@ pub fn finish_of(
     ensures others { KeepsOthers slot driver.old.slots driver.new.slots }
 {
     match again(alloc, driver, machine, cpu)? {
-        Some(work) => Ok(Some(ended(driver, machine, cpu, page, slot, unseal(work)))),
+        Some(work) => Ok(Some(ended(
+            driver,
+            machine,
+            cpu,
+            page,
+            slot,
+            unseal(Box::into_inner(work)),
+        ))),
         None => Ok(None),
     }
 }

@@ -16,6 +16,7 @@ use Rattle.paging_laws.specs.Steps.{IsDone, IsStep, refused_by}
 use Rattle.sgx_types.specs.Sealed.{Sealed}
 use Rattle.sgx_types.specs.Starts.{BareStart}
 use Rattle.std.specs.Option.{IsSomeAnd}
+use Rattle.std.specs.Global.{Box}
 use Rattle.seal_record.specs.declared.unseal.UnsealWork.{UnsealWork}
 use Rattle.paging_machine.specs.Parts.{Parts, state_of}
 use Rattle.driver_rules.specs.Reclaims.{is_refused}
@@ -58,7 +59,7 @@ module _ (cpu : Cpu) (page : Page) (slot : SlotAt) (frame : Frame) (rec : Sealed
     (step : IsStep (state_of m) (actors.Cpu cpu) (EldStart frame page slot) entry (state_of m'))
     (carries : Carries (state_of m) entry (state_of m'))
   where
-    pub says_refused : (work : UnsealWork) → is_refused entry.event ≡ true
+    pub says_refused : (work : Box UnsealWork) → is_refused entry.event ≡ true
         → IsStarted cpu page slot frame rec d m (answers.Started entry work) d m'
     says_refused work refused = record {
       entry = entry;
@@ -70,9 +71,9 @@ module _ (cpu : Cpu) (page : Page) (slot : SlotAt) (frame : Frame) (rec : Sealed
       work_is = λ done. absurd (false≢true (sym done ∙ refused));
     }
 
-    pub says_started : (work : UnsealWork) (d' : Driver) → is_refused entry.event ≡ false → d' ≡ with_load d cpu page slot frame rec
-        → work.rec ≡ rec → work.key ≡ (state_of m').key
-        → IsSomeAnd ((state_of m').start frame.0) (λ start. work.version ≡ start.version)
+    pub says_started : (work : Box UnsealWork) (d' : Driver) → is_refused entry.event ≡ false → d' ≡ with_load d cpu page slot frame rec
+        → work.value.rec ≡ rec → work.value.key ≡ (state_of m').key
+        → IsSomeAnd ((state_of m').start frame.0) (λ start. work.value.version ≡ start.version)
         → IsStarted cpu page slot frame rec d m (answers.Started entry work) d' m'
     says_started work d' done tables brought key version = record {
       entry = entry;
@@ -84,7 +85,7 @@ module _ (cpu : Cpu) (page : Page) (slot : SlotAt) (frame : Frame) (rec : Sealed
       work_is = λ k. opened ((state_of m').start frame.0) refl version;
     }
       where
-        opened : (x : Option BareStart) → (state_of m').start frame.0 ≡ x → IsSomeAnd x (λ start. work.version ≡ start.version)
-            → IsToOpen (state_of m') frame.0 rec work
+        opened : (x : Option BareStart) → (state_of m').start frame.0 ≡ x → IsSomeAnd x (λ start. work.value.version ≡ start.version)
+            → IsToOpen (state_of m') frame.0 rec work.value
         opened None is v = absurd v
         opened (Some start) is v = record { brought = brought; key = key; start = start; opened = is; version = v }

@@ -5,6 +5,7 @@ use Rattle.sgx_types.specs.declared.names.Frame.{Frame}
 use Rattle.sgx_types.specs.declared.names.Page.{Page}
 use Rattle.sgx_types.specs.declared.names.SlotAt.{SlotAt}
 use Rattle.sgx_types.specs.Table.{is_loading}
+use Rattle.std.specs.Global.{Box}
 use Rattle.seal_record.specs.declared.unseal.UnsealWork.{UnsealWork}
 use Rattle.paging_machine.specs.Parts.{Parts, state_of}
 use Rattle.active_list.specs.Keeping.{Kept, kept_at}
@@ -29,10 +30,10 @@ pub record IsWorkOf (d : Driver) (m : Parts) (kept : Kept) (work : UnsealWork) :
   pub loading : page_state d.states kept.page ≡ Loading frame slot
   pub opens : IsToOpen (state_of m) frame.0 kept.sealed work
 
-abbrev pub IsWorkFor : Driver → Parts → Option Kept → Option UnsealWork → Type 0
+abbrev pub IsWorkFor : Driver → Parts → Option Kept → Option (Box UnsealWork) → Type 0
 IsWorkFor d m None None = Unit {0}
-IsWorkFor d m (Some kept) (Some work) = IsWorkOf d m kept work
+IsWorkFor d m (Some kept) (Some work) = IsWorkOf d m kept work.value
 IsWorkFor d m _ _ = ⊥
 
-abbrev pub IsAgain : Cpu → Driver → Parts → Option UnsealWork → Type 0
+abbrev pub IsAgain : Cpu → Driver → Parts → Option (Box UnsealWork) → Type 0
 IsAgain cpu d m work = IsWorkFor d m (kept_at d.kept cpu.0) work

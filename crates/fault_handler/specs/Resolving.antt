@@ -12,6 +12,7 @@ use Rattle.sgx_types.specs.Frames.{least_free}
 use Rattle.sgx_types.specs.Sealed.{Sealed}
 use Rattle.sgx_types.specs.Starts.{BareStart}
 use Rattle.turn_rules.specs.Script.{frame_at}
+use Rattle.std.specs.Global.{Box}
 use Rattle.seal_record.specs.declared.unseal.UnsealWork.{UnsealWork}
 use Rattle.paging_laws.specs.State.{State}
 use Rattle.paging_laws.specs.Steps.{IsStep}
@@ -53,12 +54,12 @@ pub record IsStarted (cpu : Cpu) (page : Page) (slot : SlotAt) (frame : Frame) (
     (answer : FaultAnswer)
     (d' : Driver) (m' : Parts) : Type 0 where
   pub entry : Entry
-  pub work : UnsealWork
+  pub work : Box UnsealWork
   pub says : answer ≡ answers.Started entry work
   pub step : IsStep (state_of m) (actors.Cpu cpu) (actions.EldStart frame page slot) entry (state_of m')
   pub carries : Carries (state_of m) entry (state_of m')
   pub driver : d' ≡ (if is_refused entry.event then d else with_load d cpu page slot frame rec)
-  pub work_is : is_refused entry.event ≡ false → IsToOpen (state_of m') frame.0 rec work
+  pub work_is : is_refused entry.event ≡ false → IsToOpen (state_of m') frame.0 rec work.value
 
 -- by what the store gave
 abbrev pub IsGot : Cpu → Page → SlotAt → Frame → Result (Option Sealed) StoreFault → Driver → Parts → FaultAnswer → Driver → Parts → Type 0

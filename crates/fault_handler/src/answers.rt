@@ -17,7 +17,7 @@ pub enum FaultAnswer {
     Bus(BusWhy),
 
     /// The page's load has started by this entry. What is left is to open the record that the store gave.
-    Started { entry: Entry, work: UnsealWork },
+    Started { entry: Entry, work: Box<UnsealWork> },
 }
 
 /// What comes of the end of a load.

@@ -6,3 +6,4 @@ pub mod finishing;
 pub mod laws;
 pub mod repeating;
 pub mod resolving;
+mod rooms;

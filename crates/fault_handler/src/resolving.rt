@@ -15,6 +15,7 @@ ghost use Rattle.paging_machine.specs.Parts.{state_of};
 ghost use Rattle.sgx_types.specs.Frames.{least_free};
 
 use crate::answers::FaultAnswer;
+use crate::rooms::room;
 use active_list::page_states::PageState;
 use backing_store::backing::{Backing, StoreFault};
 use driver_rules::waits::Why;
@@ -27,7 +28,7 @@ use sgx_types::names::{Cpu, Frame, Memory, Page, SlotAt};
 use sgx_types::record::Record;
 use std::alloc::Global;
 
-/// The fault step of a processor for a page. Memory is taken before the store is asked, once at most, for the page's record: a
+/// The fault step of a processor for a page. Memory is taken before the store is asked for the page's record, and that once at most: a
 /// refusal leaves tables, machine and store as they were. The record that the store gave is copied into the room of that
 /// processor, where it stays until the load's end.
 ///
@@ -115,16 +116,16 @@ fn fetch<B: Backing>(
     let Some(frame) = machine.first_free() else {
         return Ok(FaultAnswer::Again(Why::NoFrame));
     };
-    let space = vec![in alloc; 0; 4096]?;
+    let room = room(alloc)?;
     match store.get(alloc, page) {
-        Ok(Some(rec)) => Ok(start(alloc, driver, machine, cpu, page, slot, frame, rec, space)),
+        Ok(Some(rec)) => Ok(start(alloc, driver, machine, cpu, page, slot, frame, rec, room)),
         Ok(None) => Ok(FaultAnswer::Bus(BusWhy::NoRecord)),
         Err(StoreFault::Failed) => Ok(FaultAnswer::Bus(BusWhy::GetFailed)),
         Err(StoreFault::Memory) => Err(Memory),
     }
 }
 
-// Starts a page's load, and keeps the record that is to be opened.
+// Starts a page's load in this room for its work, and keeps the record that is to be opened.
 fn start(
     alloc: Global,
     driver: &mut Driver,
@@ -134,22 +135,16 @@ fn start(
     slot: SlotAt,
     frame: Frame,
     rec: Record,
-    space: Vec<u8>,
+    mut work: Box<UnsealWork>,
 ) -> FaultAnswer
     requires room { cpu.0 < length driver.old.kept }
     requires placed { IsPlaced driver.old.states.counts page }
-    requires space { length space.items ≡ 4096 }
     ensures does { IsStarted cpu page slot frame rec driver.old machine.old result driver.new machine.new }
     ensures cpus { length machine.new.cpus ≡ length machine.old.cpus }
 {
     let action = Action::EldStart { frame, page, slot };
     let entry = step(alloc, machine, Actor::Cpu(cpu), action);
-    let work = UnsealWork {
-        key: [0; 32],
-        version: 0,
-        rec,
-        space,
-    };
+    work.rec = rec;
     if is_refused(&entry) {
         return FaultAnswer::Started { entry, work };
     }
@@ -157,6 +152,6 @@ fn start(
         .states
         .set_state(page, PageState::Loading(frame, slot));
     driver.kept.keep(cpu, page, &work.rec);
-    let work = machine.unseal_input(frame, work);
+    machine.unseal_input(frame, &mut work);
     FaultAnswer::Started { entry, work }
 }

@@ -38,21 +38,21 @@ impl Machine {
     {
         // There are 16 processors at most, before the instruction and after it.
         prove!(self.cpus.len() <= 16);
-        let entry = self.row(alloc, actor, *action)?;
+        let entry = self.row(alloc, actor, action)?;
         prove!(self.cpus.len() <= 16);
         Ok(entry)
     }
 
     /// The instruction by its row. The rows stand out of line: a call then sets up the locals of one row, and not of each.
-    fn row(&mut self, alloc: Global, actor: Actor, action: Action) -> Result<Entry, Memory>
-        requires { CanApply (length self.old.cpus) actor action }
-        ensures step { IfOk result (λ e. IsStep (state_of self.old) actor action e (state_of self.new)) }
-        ensures memory { OnErr result (MayNeedMemory action) }
+    fn row(&mut self, alloc: Global, actor: Actor, action: &Action) -> Result<Entry, Memory>
+        requires { CanApply (length self.old.cpus) actor action.now }
+        ensures step { IfOk result (λ e. IsStep (state_of self.old) actor action.now e (state_of self.new)) }
+        ensures memory { OnErr result (MayNeedMemory action.now) }
         ensures refused { OnErr result (self.new ≡ self.old) }
         ensures cpus { length self.new.cpus ≡ length self.old.cpus }
     {
         let entry = match (actor, action) {
-            (_, Action::Epa { frame }) => self.epa(alloc, actor, frame)?,
+            (_, Action::Epa { frame }) => self.epa(alloc, actor, *frame)?,
             (
                 _,
                 Action::Create {
@@ -61,7 +61,7 @@ impl Machine {
                     base,
                     size,
                 },
-            ) => { self.create(alloc, actor, enclave, frame, base, size)? }
+            ) => { self.create(alloc, actor, *enclave, *frame, *base, *size)? }
             (
                 _,
                 Action::Add {
@@ -72,13 +72,27 @@ impl Machine {
                     perm,
                     init,
                 },
-            ) => { self.add(actor, Page { enclave, number }, frame, kind, perm, init) }
-            (_, Action::Extend { frame, chunk }) => self.extend(actor, frame, chunk),
-            (_, Action::Init { enclave, expect }) => self.init(actor, enclave, expect),
-            (_, Action::Block { frame }) => self.block(actor, frame),
-            (_, Action::Track { enclave }) => self.track(actor, enclave),
-            (_, Action::EwbStart { frame, slot }) => self.ewb_start(actor, frame, slot),
-            (_, Action::EldStart { frame, page, slot }) => self.eld_start(actor, frame, page, slot),
+            ) => {
+                self.add(
+                    actor,
+                    Page {
+                        enclave: *enclave,
+                        number: *number,
+                    },
+                    *frame,
+                    *kind,
+                    *perm,
+                    *init,
+                )
+            }
+            (_, Action::Extend { frame, chunk }) => self.extend(actor, *frame, *chunk),
+            (_, Action::Init { enclave, expect }) => self.init(actor, *enclave, *expect),
+            (_, Action::Block { frame }) => self.block(actor, *frame),
+            (_, Action::Track { enclave }) => self.track(actor, *enclave),
+            (_, Action::EwbStart { frame, slot }) => self.ewb_start(actor, *frame, *slot),
+            (_, Action::EldStart { frame, page, slot }) => self.eld_start(
+                actor, *frame, *page, *slot,
+            ),
             (
                 Actor::Cpu(cpu),
                 Action::Enter {
@@ -87,7 +101,7 @@ impl Machine {
                     tcs_frame,
                     ssa_frame,
                 },
-            ) => { self.enter(cpu, enclave, tcs, tcs_frame, ssa_frame) }
+            ) => { self.enter(cpu, *enclave, *tcs, *tcs_frame, *ssa_frame) }
             (
                 Actor::Cpu(cpu),
                 Action::Resume {
@@ -96,17 +110,19 @@ impl Machine {
                     tcs_frame,
                     ssa_frame,
                 },
-            ) => { self.resume(cpu, enclave, tcs, tcs_frame, ssa_frame) }
+            ) => { self.resume(cpu, *enclave, *tcs, *tcs_frame, *ssa_frame) }
             (Actor::Cpu(cpu), Action::Exit) => self.exit(cpu),
-            (Actor::Cpu(cpu), Action::Aex { cause }) => self.aex(cpu, cause),
-            (Actor::Cpu(cpu), Action::Fill { number, frame }) => self.fill(cpu, number, frame),
-            (Actor::Cpu(cpu), Action::Load { off }) => self.load(cpu, off),
-            (Actor::Cpu(cpu), Action::Store { off, value }) => self.store(cpu, off, value),
-            (Actor::Cpu(cpu), Action::Xadd { off, value }) => self.xadd(cpu, off, value),
-            (Actor::Cpu(cpu), Action::Set { value }) => self.set(cpu, value),
-            (Actor::Cpu(cpu), Action::Plus { value }) => self.plus(cpu, value),
-            (Actor::Cpu(cpu), Action::Pf { op, off }) => self.pf(cpu, op, off),
-            (Actor::Cpu(cpu), Action::OutLoad { enclave, off }) => self.outload(cpu, enclave, off),
+            (Actor::Cpu(cpu), Action::Aex { cause }) => self.aex(cpu, *cause),
+            (Actor::Cpu(cpu), Action::Fill { number, frame }) => self.fill(cpu, *number, *frame),
+            (Actor::Cpu(cpu), Action::Load { off }) => self.load(cpu, *off),
+            (Actor::Cpu(cpu), Action::Store { off, value }) => self.store(cpu, *off, *value),
+            (Actor::Cpu(cpu), Action::Xadd { off, value }) => self.xadd(cpu, *off, *value),
+            (Actor::Cpu(cpu), Action::Set { value }) => self.set(cpu, *value),
+            (Actor::Cpu(cpu), Action::Plus { value }) => self.plus(cpu, *value),
+            (Actor::Cpu(cpu), Action::Pf { op, off }) => self.pf(cpu, *op, *off),
+            (Actor::Cpu(cpu), Action::OutLoad { enclave, off }) => self.outload(
+                cpu, *enclave, *off,
+            ),
             (
                 Actor::Cpu(cpu),
                 Action::OutStore {
@@ -114,7 +130,7 @@ impl Machine {
                     off,
                     value,
                 },
-            ) => { self.outstore(cpu, enclave, off, value) }
+            ) => { self.outstore(cpu, *enclave, *off, *value) }
             _ => unreachable!(),
         };
         Ok(entry)

@@ -31,44 +31,30 @@ use sgx_types::record::{Header, Record};
 impl Machine {
     /// Fills in what the started EWB of a frame seals: the machine's key, the version that was drawn, and the header and
     /// the bytes of the page.
-    pub fn seal_input(&self, frame: Frame, work: SealWork) -> SealWork
+    pub fn seal_input(&self, frame: Frame, work: &mut SealWork)
         requires { (state_of self.now).is_sealing frame.0 ≡ true }
-        ensures { SealsPage (state_of self.now) frame.0 result.key result.version result.header result.plain.items }
+        ensures { SealsPage (state_of self.now) frame.0 work.new.key work.new.version work.new.header work.new.plain.items }
     {
         let key = self.key;
         let start = self.start(frame);
         let header = self.header(frame);
-        let SealWork {
-            mut plain,
-            space,
-            ..
-        } = work;
-        plain.copy_from_slice(self.epc.bytes(frame));
-        SealWork {
-            key,
-            version: start.version,
-            header,
-            plain,
-            space,
-        }
+        work.key = key;
+        work.version = start.version;
+        work.header = header;
+        work.plain.copy_from_slice(self.epc.bytes(frame));
     }
 
     /// Fills in under what the started ELDU of a frame opens its record: the machine's key, and the version that was found.
-    pub fn unseal_input(&self, frame: Frame, work: UnsealWork) -> UnsealWork
+    pub fn unseal_input(&self, frame: Frame, work: &mut UnsealWork)
         requires { is_loading ((state_of self.now).content frame.0) ≡ true }
-        ensures key { result.key ≡ (state_of self.now).key }
-        ensures version { IsSomeAnd ((state_of self.now).start frame.0) (λ start. result.version ≡ start.version) }
-        ensures rec { result.rec ≡ work.rec }
+        ensures key { work.new.key ≡ (state_of self.now).key }
+        ensures version { IsSomeAnd ((state_of self.now).start frame.0) (λ start. work.new.version ≡ start.version) }
+        ensures rec { work.new.rec ≡ work.old.rec }
     {
         let key = self.key;
         let start = self.start(frame);
-        let UnsealWork { rec, space, .. } = work;
-        UnsealWork {
-            key,
-            version: start.version,
-            rec,
-            space,
-        }
+        work.key = key;
+        work.version = start.version;
     }
 
     /// The commit of EWB (Intel SDM volume 3D): the page is out of its frame, its version stands in the slot of the start,
@@ -196,14 +182,15 @@ impl Machine {
         let key = self.key;
         let header = self.header(frame);
         let SealedWork { plain, rec, .. } = work;
-        let anew = SealWork {
+        let mut anew = SealWork {
             key,
             version: 0,
             header,
             plain,
             space: rec.cipher,
         };
-        seal(self.seal_input(frame, anew))
+        self.seal_input(frame, &mut anew);
+        seal(anew)
     }
 
     // Whether a work is that of the started EWB of a frame.
@@ -240,12 +227,13 @@ impl Machine {
             return work;
         }
         let UnsealedWork { rec, plain, .. } = work;
-        let anew = UnsealWork {
+        let mut anew = UnsealWork {
             key,
             version: start.version,
             rec,
             space: plain,
         };
-        unseal(self.unseal_input(frame, anew))
+        self.unseal_input(frame, &mut anew);
+        unseal(anew)
     }
 }

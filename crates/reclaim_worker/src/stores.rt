@@ -34,17 +34,17 @@ impl Pass {
         Some(one.frame)
     }
 
-    /// What is to be sealed of the page that has started to go out, in the room of another work: its bytes and its header, under the
-    /// machine's key and the version that its start drew. It can be asked for again.
-    pub fn work(&self, machine: &Machine, room: SealWork) -> SealWork
+    /// Fills in what is to be sealed of the page that has started to go out: its bytes and its header, under the machine's key and the
+    /// version that its start drew. It can be asked for again.
+    pub fn fill_in(&self, machine: &Machine, work: &mut SealWork)
         requires { IsOpen self.now.taken.items self.now.phase (state_of machine.now) }
         ensures { IsToSeal self.now.taken.items self.now.phase
-            (state_of machine.now) result.key result.version result.header result.plain.items }
+            (state_of machine.now) work.new.key work.new.version work.new.header work.new.plain.items }
     {
         let Some(frame) = self.sealing() else {
             unreachable!();
         };
-        machine.seal_input(frame, room)
+        machine.seal_input(frame, work);
     }
 
     /// Ends the write-out that the last step started: the page is out, its record is put, and the page is lost where the put

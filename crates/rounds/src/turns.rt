@@ -36,7 +36,7 @@ pub(crate) fn reclaim<B: Backing>(
 {
     match book.reclaim_turn(alloc, words)? {
         Turn::Seal(work) => {
-            let _ = book.commit_sealed(seal(work));
+            let _ = book.commit_sealed(seal(Box::into_inner(work)));
             Ok(false)
         }
         Turn::Finished | Turn::Stopped => Ok(true),
@@ -59,7 +59,7 @@ pub(crate) fn run_cpu<B: Backing>(
 {
     match book.turn(alloc, words, cpu)? {
         Turn::Unseal(work) => {
-            let _ = book.commit_opened(cpu, unseal(work));
+            let _ = book.commit_opened(cpu, unseal(Box::into_inner(work)));
             Ok(false)
         }
         Turn::Finished | Turn::Stopped => Ok(true),

@@ -7,6 +7,7 @@ use Rattle.sgx_types.specs.declared.entries.Entry.{Entry}
 use Rattle.sgx_types.specs.Making.{Making}
 use Rattle.version_array.specs.Keeper.{Keeper}
 use Rattle.reclaim_worker.specs.Answers.{IsTurn, by_reclaimer}
+use Rattle.std.specs.Global.{Box}
 use Rattle.seal_record.specs.declared.seal.SealWork.{SealWork}
 use Rattle.job_grammar.specs.Jobs.{JobView}
 use Rattle.backing_store.specs.Calls.{Call}
@@ -53,7 +54,7 @@ did_by old turn e result new told spare (inl is) h = subst (λ t. IsFollowed old
 did_by old turn e result new told spare (inr is) h = subst (λ t. IsFollowed old t result new told spare) (sym is) h
 
 -- the room for the work of a page is no part of what a course keeps
-room_grows : (old mid : Course) (by : Actor) (n : ℕ) (told : Option (List Call)) (spare : ℕ) (room : Option SealWork)
+room_grows : (old mid : Course) (by : Actor) (n : ℕ) (told : Option (List Call)) (spare : ℕ) (room : Option (Box SealWork))
     → Grows old by n mid told spare → Grows old by n (record mid { room = room }) told spare
 room_grows old mid by n told spare room g = record {
   entries = g.entries;

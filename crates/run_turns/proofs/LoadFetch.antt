@@ -11,6 +11,7 @@ use Rattle.sgx_types.specs.Making.{Making}
 use Rattle.cached_translations.specs.declared.processor.Mode.{Mode}
 use Rattle.job_grammar.specs.Jobs.{JobView}
 use Rattle.turn_rules.specs.Machines.{machine_of}
+use Rattle.std.specs.Global.{Box}
 use Rattle.seal_record.specs.declared.unseal.UnsealWork.{UnsealWork}
 use Rattle.backing_store.specs.Calls.{Call}
 use Rattle.active_list.specs.Places.{IsPlaced}
@@ -157,14 +158,14 @@ module _ {s : Course} {entries : Vec Entry} {d' : Driver} {m' : Parts} {told tol
   -- ---- the start of a load
 
   -- it was made
-  pub start_made : (e : Entry) (work : UnsealWork) → Fetched s entries d' m' told told' spare cpu page before (answers.Started e work)
+  pub start_made : (e : Entry) (work : Box UnsealWork) → Fetched s entries d' m' told told' spare cpu page before (answers.Started e work)
       → IsMade (machine_of s.job) s.job (past_of s) told s.driver s.machine e told' d' m'
   start_made e work f =
       fetch_made s d' m' told told' spare cpu page (answers.Started e work) f.keeps f.mine f.due f.placed f.does
       (right_of s entries d' m' told told' spare cpu page before (answers.Started e work) f) f.cpus (λ reason same. cc)
 
   -- it can be taken in
-  abbrev pub start_can : (e : Entry) (work : UnsealWork) → Fetched s entries d' m' told told' spare cpu page before (answers.Started e work)
+  abbrev pub start_can : (e : Entry) (work : Box UnsealWork) → Fetched s entries d' m' told told' spare cpu page before (answers.Started e work)
       → CanTake (mid s entries d' m') before e
   start_can e work f =
       can_take (mid s entries d' m') (past_of s) told told' spare s.driver s.machine before e
@@ -175,7 +176,7 @@ module _ {s : Course} {entries : Vec Entry} {d' : Driver} {m' : Parts} {told tol
       (ap is_reclaimer (right_of s entries d' m' told told' spare cpu page before (answers.Started e work) f).due.1)
 
   -- the course has grown by it
-  pub start_grows : (e : Entry) (work : UnsealWork) (new : Course)
+  pub start_grows : (e : Entry) (work : Box UnsealWork) (new : Course)
       → Fetched s entries d' m' told told' spare cpu page before (answers.Started e work) → Takes (mid s entries d' m') new before e
       → Grows s (actors.Cpu cpu) 1 new told' spare
   start_grows e work new f takes =
@@ -188,7 +189,7 @@ module _ {s : Course} {entries : Vec Entry} {d' : Driver} {m' : Parts} {told tol
       (course_stands s entries d' m' told spare f.items f.keeps) took away.1 f.keeps.none f.room)
 
   -- what is left is to open the record
-  pub start_opens : (e : Entry) (work : UnsealWork) (new : Course)
+  pub start_opens : (e : Entry) (work : Box UnsealWork) (new : Course)
       → Fetched s entries d' m' told told' spare cpu page before (answers.Started e work) → Takes (mid s entries d' m') new before e
       → OpensFor new cpu work
   start_opens e work new f takes =
@@ -237,7 +238,7 @@ module _ {s : Course} {entries : Vec Entry} {d' : Driver} {m' : Parts} {told tol
   -- ---- what the turn owes
 
   -- of a load's start
-  pub start_turns : (e : Entry) (work : UnsealWork) (new : Course) (spare' : ℕ)
+  pub start_turns : (e : Entry) (work : Box UnsealWork) (new : Course) (spare' : ℕ)
       → Fetched s entries d' m' told told' spare cpu page before (answers.Started e work) → Takes (mid s entries d' m') new before e
       → spare' ≡ spare → OpensFor new cpu work × Grows s (actors.Cpu cpu) 1 new told' spare'
   start_turns e work new spare' f takes same = (

@@ -16,6 +16,7 @@ use Rattle.sgx_types.specs.Sealed.{Sealed}
 use Rattle.job_grammar.specs.Jobs.{JobView}
 use Rattle.turn_rules.specs.Machines.{machine_of}
 use Rattle.turn_rules.specs.Script.{action_of, frame_at}
+use Rattle.std.specs.Global.{Box}
 use Rattle.seal_record.specs.declared.unseal.UnsealWork.{UnsealWork}
 use Rattle.backing_store.specs.Calls.{Call}
 use Rattle.backing_store.specs.declared.backing.StoreFault.{StoreFault}
@@ -79,12 +80,12 @@ use Rattle.paging_laws.specs.Steps.{IsStep}
 -- ---- what a fault step leaves
 
 -- a load has begun
-pub record IsBegun (cpu : Cpu) (page : Page) (d d' : Driver) (m' : Parts) (e : Entry) (work : UnsealWork) : Type 0 where
+pub record IsBegun (cpu : Cpu) (page : Page) (d d' : Driver) (m' : Parts) (e : Entry) (work : Box UnsealWork) : Type 0 where
   pub frame : Frame
   pub slot : SlotAt
   pub rec : Sealed
   pub driver : is_refused e.event ≡ false → d' ≡ with_load d cpu page slot frame rec
-  pub opens : is_refused e.event ≡ false → IsToOpen (state_of m') frame.0 rec work
+  pub opens : is_refused e.event ≡ false → IsToOpen (state_of m') frame.0 rec work.value
   pub back : is_bus e.event ≡ false
 
 -- tables and machine are as before
@@ -226,7 +227,7 @@ fault_made j past told told' d d' m m' t taken phase cpu page answer k stands go
     by_answer (answers.Again why) r left next flat store bytes = tt
 
 -- the work of a load that has begun is that of the kept record, whoever holds which pages
-pub begun_opens : (j : JobView) (past : List Entry) (cpu : Cpu) (page : Page) (d d' : Driver) (m' : Parts) (e : Entry) (work : UnsealWork)
+pub begun_opens : (j : JobView) (past : List Entry) (cpu : Cpu) (page : Page) (d d' : Driver) (m' : Parts) (e : Entry) (work : Box UnsealWork)
     (own : List (List Page)) → ShowsTables j d past → IsPlaced d.states.counts page → cpu.0 < length d.kept → is_refused e.event ≡ false
     → IsBegun cpu page d d' m' e work → IsAgain cpu (with_own d' own) m' (Some work)
 begun_opens j past cpu page d d' m' e work own shows placed room done is =

@@ -10,6 +10,7 @@ use Rattle.sgx_types.specs.declared.names.SlotAt.{SlotAt}
 use Rattle.sgx_types.specs.Making.{Making}
 use Rattle.sgx_types.specs.Starts.{Start, open_start, BareStart, bare_start}
 use Rattle.io_edges.specs.declared.plans.PlanLine.{PlanLine}
+use Rattle.std.specs.Global.{Box}
 use Rattle.seal_record.specs.declared.unseal.UnsealWork.{UnsealWork}
 use Rattle.active_list.specs.Keeping.{Kept, kept_at, page_kept, record_kept}
 use Rattle.backing_store.specs.Calls.{Call}
@@ -42,22 +43,22 @@ bare_version (Some x) version h = h
 
 -- ---- works
 
-module _ (c : Course) (told : Option (List Call)) (spare : ℕ) (cpu : Cpu) (work : UnsealWork) (k : KeepsCourse c told spare) where
+module _ (c : Course) (told : Option (List Call)) (spare : ℕ) (cpu : Cpu) (work : Box UnsealWork) (k : KeepsCourse c told spare) where
   into : (a b : ℕ) (x y : SlotAt) → Loading a x ≡ Loading b y → a ≡ b
   into a b x y h = cc
 
   given : (o : Option (List Call)) (n : ℕ) (page : Page) (kept : Kept) → IfSome o (λ calls. TellsStore c.job.key (past_of c) calls c.driver)
-      → last_of (past_of c) cpu.0 ≡ Loads n page → kept_at c.driver.kept cpu.0 ≡ Some kept → work.rec ≡ kept.sealed
-      → IfSome o (λ calls. gift (past_of c) calls n ≡ Some work.rec)
+      → last_of (past_of c) cpu.0 ≡ Loads n page → kept_at c.driver.kept cpu.0 ≡ Some kept → work.value.rec ≡ kept.sealed
+      → IfSome o (λ calls. gift (past_of c) calls n ≡ Some work.value.rec)
   given None n page kept tells last at brought = tt
   given (Some calls) n page kept tells last at brought =
       sym (tells.gifts cpu.0 n page last) ∙ ap record_kept at ∙ ap Some (sym brought)
 
-  pub opens_seen : (plans : List PlanLine) (noted : Bool) → OpensFor c cpu work → OpensLoad (view_of c told plans noted) cpu work
+  pub opens_seen : (plans : List PlanLine) (noted : Bool) → OpensFor c cpu work → OpensLoad (view_of c told plans noted) cpu work.value
   opens_seen plans noted opens = by_kept (kept_at c.driver.kept cpu.0) refl opens
     where
       by_kept : (o : Option Kept) → kept_at c.driver.kept cpu.0 ≡ o → IsWorkFor c.driver c.machine o (Some work)
-          → OpensLoad (view_of c told plans noted) cpu work
+          → OpensLoad (view_of c told plans noted) cpu work.value
       by_kept None at w = absurd w
       by_kept (Some kept) at w =
           let r = k.book.agrees in
@@ -72,8 +73,8 @@ module _ (c : Course) (told : Option (List Call)) (spare : ℕ) (cpu : Cpu) (wor
             frame = loads.0;
             page = kept.page;
             loads = loads.1;
-            version = bare_version (open_start past loads.0) work.version
-                (subst (λ o. IsSomeAnd o (λ (start : BareStart). work.version ≡ start.version))
+            version = bare_version (open_start past loads.0) work.value.version
+                (subst (λ o. IsSomeAnd o (λ (start : BareStart). work.value.version ≡ start.version))
                 (sym w.opens.opened ∙ start_is r.follows.shape.columns w.frame.0 ∙ ap (λ n. bare_start (open_start past n)) same)
                 w.opens.version);
             given = given told loads.0 kept.page kept k.book.store loads.1 at w.opens.brought;

@@ -182,12 +182,12 @@ module _ (c c' : Course) (told told' : Option (List Call)) (plans plans' : List 
     grown_seen c c' actors.Reclaimer n told told' told' plans plans' spare' false g,
   )
   reclaim_seen (turns.Seal work) spare before calm again (seals, inl g) = (
-    seals_seen c' told' spare' work plans' false k seals,
+    seals_seen c' told' spare' work.value plans' false k seals,
     inl (grown_seen c c' actors.Reclaimer 1 told told' told' plans plans' spare' false g),
   )
   reclaim_seen (turns.Seal work) spare before calm again (seals, inr s) = (
-    seals_seen c' told' spare' work plans' false k seals,
-    inr (rest_seen s.job s.entries (again (ap is_sealing (sym s.phase) ∙ open_work work seals))),
+    seals_seen c' told' spare' work.value plans' false k seals,
+    inr (rest_seen s.job s.entries (again (ap is_sealing (sym s.phase) ∙ open_work work.value seals))),
   )
   reclaim_seen (turns.Again why) spare before calm again (due, s) =
       ((due_of c, due_now c told spare plans before, due), rest_seen s.job s.entries (calm tt))

@@ -91,7 +91,7 @@ HasKicks old _ new told spare = ⊥
 
 -- one entry more, and the work of the started write-out
 abbrev pub HasSealed : Course → Turn → Course → Option (List Call) → ℕ → Type 0
-HasSealed old (turns.Seal work) new told spare = SealsFor new work × Grows old actors.Reclaimer 1 new told spare
+HasSealed old (turns.Seal work) new told spare = SealsFor new work.value × Grows old actors.Reclaimer 1 new told spare
 HasSealed old _ new told spare = ⊥
 
 -- what is answered behind it
@@ -106,7 +106,7 @@ IsFollowed old passed.NoSlot result new told spare = ⊥
 -- ---- the work of the started write-out
 
 abbrev pub IsSealOf : Course → Turn → Type 0
-IsSealOf c (turns.Seal work) = SealsFor c work
+IsSealOf c (turns.Seal work) = SealsFor c work.value
 IsSealOf c _ = ⊥
 
 -- a turn that ended no write-out

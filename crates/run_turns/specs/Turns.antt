@@ -9,6 +9,7 @@ use Rattle.sgx_types.specs.declared.entries.Entry.{Entry}
 use Rattle.sgx_types.specs.declared.entries.Event.{Event}
 use Rattle.sgx_types.specs.declared.entries.Event.TheVariants.{Bus, Did, Refused}
 use Rattle.sgx_types.specs.declared.names.Cpu.{Cpu}
+use Rattle.std.specs.Global.{Box}
 use Rattle.seal_record.specs.declared.seal.SealWork.{SealWork}
 use Rattle.seal_record.specs.declared.unseal.UnsealWork.{UnsealWork}
 use Rattle.backing_store.specs.Calls.{Call}
@@ -65,7 +66,7 @@ IsBuilderTurn old turns.Stopped new told spare = (builder_due old.job (past_of o
 IsBuilderTurn old _ new told spare = ⊥
 
 -- the work of a processor's started load: its kept record, under the machine's key and the version that its start found
-abbrev pub OpensFor : Course → Cpu → UnsealWork → Type 0
+abbrev pub OpensFor : Course → Cpu → Box UnsealWork → Type 0
 OpensFor c cpu work = IsAgain cpu c.driver c.machine (Some work)
 
 -- a turn of a processor. By an entry it starts nothing; or a load has started in it, or was open before
@@ -137,7 +138,7 @@ MakesMany due n = ⊥
 abbrev pub IsReclaimerTurn : Course → Turn → Course → Option (List Call) → ℕ → Type 0
 IsReclaimerTurn old (turns.Did n) new told spare =
     MakesMany (due_of old) n × (started (past_of new) actors.Reclaimer ≡ false) × Grows old actors.Reclaimer n new told spare
-IsReclaimerTurn old (turns.Seal work) new told spare = SealsFor new work × (Grows old actors.Reclaimer 1 new told spare ⊎ IsSame old new)
+IsReclaimerTurn old (turns.Seal work) new told spare = SealsFor new work.value × (Grows old actors.Reclaimer 1 new told spare ⊎ IsSame old new)
 IsReclaimerTurn old (turns.Again why) new told spare = IsWaitBy (due_of old) why × IsAtRest old new
 IsReclaimerTurn old turns.Finished new told spare = (due_of old ≡ Finished) × IsSame old new
 IsReclaimerTurn old turns.Stopped new told spare = (is_spent (past_of old) ≡ true) × IsSame old new

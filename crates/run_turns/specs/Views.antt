@@ -102,7 +102,7 @@ pub record OpensLoad (b : BookView) (cpu : Cpu) (work : UnsealWork) : Type 0 whe
 -- a turn of a processor. By an entry it starts nothing; or a load has started in it, or was open before
 abbrev pub IsRun : BookView → Cpu → Turn → BookView → Type 0
 IsRun old cpu (turns.Did n) new = (n ≡ 1) × (started new.past (actors.Cpu cpu) ≡ false) × HasGrown old (actors.Cpu cpu) 1 new
-IsRun old cpu (turns.Unseal work) new = OpensLoad new cpu work × (HasGrown old (actors.Cpu cpu) 1 new ⊎ (new ≡ old))
+IsRun old cpu (turns.Unseal work) new = OpensLoad new cpu work.value × (HasGrown old (actors.Cpu cpu) 1 new ⊎ (new ≡ old))
 IsRun old cpu (turns.Again why) new = IsWaitBy (cpu_due old.job old.past cpu.0) why × (new ≡ old)
 IsRun old cpu turns.Finished new = (cpu_due old.job old.past cpu.0 ≡ Finished) × (new ≡ old)
 IsRun old cpu turns.Stopped new = (is_stopped old ≡ true) × (new ≡ old)
@@ -138,7 +138,7 @@ IsDueNow b due = (due ≡ reclaimer_due b.job b.past false)
 abbrev pub IsReclaim : BookView → Turn → BookView → Type 0
 IsReclaim old (turns.Did n) new =
     ((due : Due) × IsDueNow old due × MakesMany due n) × (started new.past actors.Reclaimer ≡ false) × HasGrown old actors.Reclaimer n new
-IsReclaim old (turns.Seal work) new = SealsPageOut new work × (HasGrown old actors.Reclaimer 1 new ⊎ (new ≡ old))
+IsReclaim old (turns.Seal work) new = SealsPageOut new work.value × (HasGrown old actors.Reclaimer 1 new ⊎ (new ≡ old))
 IsReclaim old (turns.Again why) new = ((due : Due) × IsDueNow old due × IsWaitBy due why) × (new ≡ old)
 IsReclaim old turns.Finished new = IsDueNow old Finished × (new ≡ old)
 IsReclaim old turns.Stopped new = (is_stopped old ≡ true) × (new ≡ old)

@@ -25,7 +25,7 @@ pub struct Course {
     /// Oldest first.
     pub entries: Vec<Entry>,
     /// Room for the work of the next page that goes out.
-    pub room: Option<SealWork>,
+    pub room: Option<Box<SealWork>>,
 }
 
 impl Course {

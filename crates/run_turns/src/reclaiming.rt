@@ -39,7 +39,7 @@ impl Course {
             return Ok(Turn::Stopped);
         }
         if is_sealing(self.pass.phase) {
-            let room = SealWork::new(alloc)?;
+            let room = Box::new(alloc, SealWork::new(alloc)?)?;
             return Ok(self.sealing_with(room));
         }
         if self.all_finished() {
@@ -49,12 +49,13 @@ impl Course {
     }
 
     // The work of the started write-out, in this room.
-    fn sealing_with(&self, room: SealWork) -> Turn
+    fn sealing_with(&self, mut room: Box<SealWork>) -> Turn
         requires can { CanTurn self.now }
         requires sealing { is_sealing self.now.pass.phase ≡ true }
         ensures { IsSealOf self.now result }
     {
-        Turn::Seal(self.pass.work(&self.machine, room))
+        self.pass.fill_in(&self.machine, &mut room);
+        Turn::Seal(room)
     }
 
     // Whether nothing is left to the builder and to any processor.
@@ -105,7 +106,7 @@ impl Course {
     {
         self.entries.reserve(ROOM)?;
         if self.room.is_none() {
-            self.room = Some(SealWork::new(alloc)?);
+            self.room = Some(Box::new(alloc, SealWork::new(alloc)?)?);
         }
         Ok(())
     }

@@ -41,7 +41,10 @@ fn a_started_load_is_answered_again_and_ends_once(rt: HostRuntime) -> Result<(),
     };
     assert_eq!(rt; world.entries().len(), before);
     assert_eq!(rt; again.version, first.version);
-    assert_eq!(rt; made(world.end_load(unseal(again))), Some(1));
+    assert_eq!(rt;
+        made(world.end_load(unseal(Box::into_inner(again)))),
+        Some(1)
+    );
     assert_eq!(rt; made(world.end_load(unseal(first))), Some(0));
     assert_eq!(rt; world.entries().len(), before + 1);
     Ok(())

@@ -76,7 +76,7 @@ impl World {
     pub fn start_write_out(&mut self, rt: &impl Abort, alloc: Global) -> Result<SealWork, Fail> {
         for _ in 0..1000 {
             if let Turn::Seal(work) = self.reclaim(alloc)? {
-                return Ok(work);
+                return Ok(Box::into_inner(work));
             }
         }
         panic!(rt; "no write-out has started");
@@ -86,11 +86,11 @@ impl World {
     pub fn start_load(&mut self, rt: &impl Abort, alloc: Global) -> Result<UnsealWork, Fail> {
         for _ in 0..10_000 {
             if let Turn::Seal(work) = self.reclaim(alloc)? {
-                let _ = self.end_write_out(seal(work));
+                let _ = self.end_write_out(seal(Box::into_inner(work)));
             }
             let _ = self.build(alloc)?;
             if let Turn::Unseal(work) = self.run(alloc)? {
-                return Ok(work);
+                return Ok(Box::into_inner(work));
             }
         }
         panic!(rt; "no load has started");

@@ -78,7 +78,10 @@ fn a_started_write_out_is_answered_again_and_ends_once(rt: HostRuntime) -> Resul
     };
     assert_eq!(rt; world.entries().len(), before);
     assert_eq!(rt; again.version, first.version);
-    assert_eq!(rt; made(world.end_write_out(seal(again))), Some(1));
+    assert_eq!(rt;
+        made(world.end_write_out(seal(Box::into_inner(again)))),
+        Some(1)
+    );
     assert_eq!(rt; made(world.end_write_out(seal(first))), Some(0));
     assert_eq!(rt; world.entries().len(), before + 1);
     Ok(())

@@ -166,7 +166,8 @@ impl World {
         answer: Answer,
     ) -> Result<(), Memory> {
         assert!(rt; self.machine.is_leaving(frame), "row {at}");
-        let mut input = self.machine.seal_input(frame, SealWork::new(alloc)?);
+        let mut input = SealWork::new(alloc)?;
+        self.machine.seal_input(frame, &mut input);
         if is_other {
             input.plain[0] ^= 1;
         }
@@ -194,9 +195,8 @@ impl World {
     ) -> Result<(), Memory> {
         assert!(rt; self.machine.is_coming(frame), "row {at}");
         let rec = self.record.take().expect(rt, "no record was kept");
-        let work = self
-            .machine
-            .unseal_input(frame, UnsealWork::new(alloc, rec)?);
+        let mut work = UnsealWork::new(alloc, rec)?;
+        self.machine.unseal_input(frame, &mut work);
         let actor = FIRST;
         let entry = self.machine.eld_commit(actor, frame, unseal(work));
         let event = event(Action::Eld { frame }, want);
