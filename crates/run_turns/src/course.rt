@@ -4,6 +4,7 @@ ghost use Rattle.std.specs.Prelude.{◌≡◌, ℕ, [], List, Option, IfOk, IfSo
 ghost use Rattle.backing_store.specs.Calls.{Call};
 ghost use Rattle.run_turns.specs.Courses.{KeepsCourse};
 
+use crate::building::ROOM;
 use driver_tables::driver::Driver;
 use job_grammar::jobs::Job;
 use paging_machine::machine::Machine;
@@ -27,6 +28,9 @@ pub struct Course {
     /// Room for the work of the next page that goes out.
     pub room: Option<Box<SealWork>>,
 }
+
+// A page is added, and measured in 16 pieces.
+const BUILD_OF_PAGE: usize = 17;
 
 impl Course {
     /// A course before its first entry.
@@ -60,13 +64,16 @@ impl Course {
     }
 }
 
-// No entries, with room for one of each operation: nearly every operation makes one, and what grows is copied.
+// No entries, with room for those of most jobs: one of each operation, the build's, and the translations of each processor. What grows
+// has to be moved while the lock is held.
 fn no_entries(alloc: Global, job: &Job) -> Result<Vec<Entry>, Memory>
     ensures { IfOk result (λ entries. entries.items ≡ []) }
 {
-    let mut operations: usize = 0;
+    let mut room = ROOM;
     for script in job.scripts() {
-        operations = operations.saturating_add(script.len());
+        room = room.saturating_add(script.len());
     }
-    Ok(Vec::with_capacity(alloc, operations)?)
+    let a_page = job.scripts().len().saturating_add(BUILD_OF_PAGE);
+    room = room.saturating_add(a_page.saturating_mul(job.pages() as usize));
+    Ok(Vec::with_capacity(alloc, room)?)
 }
