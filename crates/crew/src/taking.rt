@@ -11,24 +11,30 @@ const TRIES: u32 = 4;
 
 const PAUSES: u32 = 16;
 
-// So often it looks, before it lets itself be woken.
+// So often it looks, before it sleeps even where the others make nothing: whoever holds the lock was put aside, or takes long.
 const LOOKS: u32 = 32;
 
-/// Takes the lock. To whoever makes turn after turn it is left for a while: each time that it goes from hand to hand costs more than a turn,
-/// and so does it to wake who sleeps at it.
+/// Takes the lock. To whoever makes turn after turn it is left for a while: each time that it goes from hand to hand costs more than a turn.
+/// Nobody sleeps at the lock itself, for then whoever frees it has to wake the sleeper, who finds it taken again.
 pub(crate) fn take<'b, R: Wait, B: Backing, N: Run>(
     rt: &R,
     shared: &'b Mutex<Locked<B, N>>,
     made: &Made,
 ) -> MutexGuard<'b, Locked<B, N>> {
-    for _ in 0..LOOKS {
+    let mut looks: u32 = 0;
+    let mut naps: u32 = 0;
+    for _ in rt.forever() {
         let before = made.turns();
         if let Some(guard) = tried(shared) {
             return guard;
         }
-        made.leave(rt, before);
+        looks = looks.saturating_add(1);
+        if looks > LOOKS || made.turns() != before {
+            made.leave(rt, naps);
+            naps = naps.saturating_add(1);
+        }
     }
-    shared.lock(rt)
+    unreachable!()
 }
 
 // The lock, where it is free at one of some moments.

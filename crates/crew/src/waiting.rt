@@ -67,11 +67,9 @@ impl Made {
         self.turns.load(Ordering::SeqCst)
     }
 
-    /// Sleeps a short while, where others went on since there were so many.
-    pub(crate) fn leave<R: Wait>(&self, rt: &R, before: u64) {
-        if self.turns() != before {
-            self.nap(rt, 0);
-        }
+    /// Leaves the lock to the others for a while, the longer the more often it was left before.
+    pub(crate) fn leave<R: Wait>(&self, rt: &R, times: u32) {
+        self.nap(rt, times);
     }
 
     /// Waits after so many turns in vain one after another: the longer the more there were, and a short while at most.

@@ -113,9 +113,9 @@ fn whole_turn<R: Wait, B: Backing, N: Run>(
     // The lock is free again behind this line.
     let turn = take(rt, shared, made).turn(alloc, words, who);
     match turn {
-        Ok(Turn::Seal(work)) => Ok(sealed_turn(rt, shared, Box::into_inner(work))),
+        Ok(Turn::Seal(work)) => Ok(sealed_turn(rt, shared, made, Box::into_inner(work))),
         Ok(Turn::Unseal(work)) => match who {
-            Actor::Cpu(cpu) => Ok(opened_turn(rt, shared, cpu, Box::into_inner(work))),
+            Actor::Cpu(cpu) => Ok(opened_turn(rt, shared, made, cpu, Box::into_inner(work))),
             // Nobody else loads.
             Actor::Builder | Actor::Reclaimer => Ok(Next::Goes),
         },
@@ -128,23 +128,25 @@ fn whole_turn<R: Wait, B: Backing, N: Run>(
 fn sealed_turn<R: Wait, B: Backing, N: Run>(
     rt: &R,
     shared: &Mutex<Locked<B, N>>,
+    made: &Made,
     work: SealWork,
 ) -> Next {
     let sealed = seal(work);
-    after(shared.lock(rt).commit_sealed(sealed))
+    after(take(rt, shared, made).commit_sealed(sealed))
 }
 
 // The work of a processor's started load, with the lock free, and its end.
 fn opened_turn<R: Wait, B: Backing, N: Run>(
     rt: &R,
     shared: &Mutex<Locked<B, N>>,
+    made: &Made,
     cpu: Cpu,
     work: UnsealWork,
 ) -> Next
     requires { IsOf N.job (Actor.Cpu cpu) }
 {
     let opened = unseal(work);
-    after(shared.lock(rt).commit_opened(cpu, opened))
+    after(take(rt, shared, made).commit_opened(cpu, opened))
 }
 
 // What a worker does behind an answer.
