@@ -25,10 +25,12 @@ use Rattle.driver_laws.specs.Sound.{is_absent}
 use Rattle.driver_tables.specs.declared.driver.Driver.{Driver}
 use Rattle.driver_tables.specs.Tables.{place_in}
 use Rattle.driver_steps.specs.Agrees.{Agrees}
-use Rattle.turn_tables.specs.declared.dues.TurnDue.{TurnDue}
-use Rattle.turn_tables.specs.declared.dues.TurnDue.TheVariants as dues
+use Rattle.turn_tables.specs.declared.dues.BuilderDue.{BuilderDue}
+use Rattle.turn_tables.specs.declared.dues.BuilderDue.TheVariants as builders
+use Rattle.turn_tables.specs.declared.dues.CpuDue.{CpuDue}
+use Rattle.turn_tables.specs.declared.dues.CpuDue.TheVariants as dues
 use Rattle.turn_tables.specs.declared.turns.Turns.{Turns}
-use Rattle.turn_tables.specs.Due.{due_in}
+use Rattle.turn_tables.specs.Due.{building_in, due_in}
 use Rattle.turn_tables.specs.Shown.{ShowsTurns}
 use Rattle.turn_tables.specs.TcsTurns.{has_place}
 use Rattle.turn_tables.proofs.LookLaws.{places_same}
@@ -84,15 +86,21 @@ module _ (made : Making) (j : JobView) (past : List Entry) (d : Driver) (m : Par
           ∙ ap (λ at. is_next (fetches j.epc past g at) event) (a.shows.states g (placed_is g h))
       by_test false h = waits_absent g event (place past g) (unplaced_is g h)
 
-  pub next_is : (due : TurnDue) (event : Event)
+  pub next_is : (due : CpuDue) (event : Event)
       → next_by (slot_seen d t) (least_free (state_of m).frames (state_of m).content) due event ≡ is_next (due_in j past due) event
   next_is dues.Stopped event = refl
   next_is dues.Finished event = refl
   next_is (dues.Waits why) event = refl
   next_is (dues.Ends f) event = refl
-  next_is (dues.Makes action) event = refl
+  next_is (dues.Makes step) event = refl
   next_is (dues.Reports page why) event = refl
   next_is (dues.Needs page) event = fetch_is page event
+
+pub built_is : (due : BuilderDue) (event : Event) → built_by due event ≡ is_next (building_in due) event
+built_is builders.Stopped event = refl
+built_is builders.Finished event = refl
+built_is (builders.Waits why) event = refl
+built_is (builders.Makes action) event = refl
 
 -- ---- the rule Script
 

@@ -12,9 +12,12 @@ use Rattle.active_list.specs.declared.page_states.PageState.TheVariants as state
 use Rattle.active_list.specs.States.{state_of as page_state}
 use Rattle.driver_rules.specs.Decided.{is_action, is_fetch, is_stop}
 use Rattle.driver_tables.specs.declared.driver.Driver.{Driver}
-use Rattle.turn_tables.specs.declared.dues.TurnDue.{TurnDue}
-use Rattle.turn_tables.specs.declared.dues.TurnDue.TheVariants.{Ends, Finished, Makes, Needs, Reports, Stopped, Waits}
+use Rattle.turn_tables.specs.declared.dues.BuilderDue.{BuilderDue}
+use Rattle.turn_tables.specs.declared.dues.BuilderDue.TheVariants as builders
+use Rattle.turn_tables.specs.declared.dues.CpuDue.{CpuDue}
+use Rattle.turn_tables.specs.declared.dues.CpuDue.TheVariants.{Ends, Finished, Makes, Needs, Reports, Stopped, Waits}
 use Rattle.turn_tables.specs.declared.turns.Turns.{Turns}
+use Rattle.turn_tables.specs.Due.{made_by}
 use Rattle.turn_tables.specs.TcsTurns.{has_place}
 
 abbrev pub slot_if : Bool → PageState → Option SlotAt
@@ -39,11 +42,16 @@ fetch_by g None free event = false
 fetch_by g (Some slot) free event = is_fetch g slot free event
 
 -- by the slots of the pages that are outside, and the least free frame
-abbrev pub next_by : (Page → Option SlotAt) → Option ℕ → TurnDue → Event → Bool
+abbrev pub next_by : (Page → Option SlotAt) → Option ℕ → CpuDue → Event → Bool
 next_by slots free Stopped event = false
 next_by slots free Finished event = false
 next_by slots free (Waits why) event = false
 next_by slots free (Ends f) event = is_action (action_of event) (Eld f)
-next_by slots free (Makes action) event = is_action (action_of event) action
+next_by slots free (Makes step) event = is_action (action_of event) (made_by step)
 next_by slots free (Reports page why) event = is_stop page why event
 next_by slots free (Needs page) event = fetch_by page (slots page) free event
+
+-- .. by what is due to the builder
+abbrev pub built_by : BuilderDue → Event → Bool
+built_by (builders.Makes action) event = is_action (action_of event) action
+built_by _ event = false

@@ -6,7 +6,7 @@ ghost use Rattle.sgx_types.specs.Frames.{least_free};
 ghost use Rattle.turn_rules.specs.Script.{action_of};
 ghost use Rattle.paging_machine.specs.Parts.{state_of};
 ghost use Rattle.driver_rules.specs.Decided.{is_action, is_fetch, is_stop};
-ghost use Rattle.audit_dues.specs.Next.{ends_fetch, next_by, slot_seen};
+ghost use Rattle.audit_dues.specs.Next.{built_by, ends_fetch, next_by, slot_seen};
 
 use crate::same::same_action;
 use active_list::page_states::PageState;
@@ -14,15 +14,25 @@ use driver_tables::driver::Driver;
 use paging_machine::machine::Machine;
 use sgx_types::entries::{Action, BusWhy, Event};
 use sgx_types::names::{Frame, Page, SlotAt};
-use turn_tables::dues::TurnDue;
+use turn_tables::dues::{BuilderDue, CpuDue};
 use turn_tables::turns::Turns;
 
-/// Whether an event is what is due to its actor.
+/// Whether an event is what is due to the builder.
+pub(crate) fn is_build_step(due: BuilderDue, event: &Event) -> bool
+    ensures { result ≡ built_by due event.now }
+{
+    match due {
+        BuilderDue::Stopped | BuilderDue::Finished | BuilderDue::Waits(_) => false,
+        BuilderDue::Makes(action) => is_action(event, &action),
+    }
+}
+
+/// Whether an event is what is due to a processor.
 pub(crate) fn is_next(
     turns: &Turns,
     driver: &Driver,
     machine: &Machine,
-    due: TurnDue,
+    due: CpuDue,
     event: &Event,
 ) -> bool
     requires { map length turns.now.tcs ≡ driver.now.states.counts }
@@ -30,11 +40,11 @@ pub(crate) fn is_next(
         (least_free (state_of machine.now).frames (state_of machine.now).content) due event.now }
 {
     match due {
-        TurnDue::Stopped | TurnDue::Finished | TurnDue::Waits(_) => false,
-        TurnDue::Ends(frame) => is_action(event, &Action::Eld { frame }),
-        TurnDue::Makes(action) => is_action(event, &action),
-        TurnDue::Reports { page, why } => is_stop(page, why, event),
-        TurnDue::Needs(page) => match slot(turns, driver, page) {
+        CpuDue::Stopped | CpuDue::Finished | CpuDue::Waits(_) => false,
+        CpuDue::Ends(frame) => is_action(event, &Action::Eld { frame }),
+        CpuDue::Makes(step) => is_action(event, &step.action()),
+        CpuDue::Reports { page, why } => is_stop(page, why, event),
+        CpuDue::Needs(page) => match slot(turns, driver, page) {
             Some(slot) => is_fetch(page, slot, machine.first_free(), event),
             None => false,
         },

@@ -9,7 +9,7 @@ ghost use Rattle.driver_steps.specs.Agrees.{Agrees};
 ghost use Rattle.turn_tables.specs.Due.{IsOrderly, IsReady};
 ghost use Rattle.turn_tables.specs.Shown.{ShowsTurns};
 
-use crate::next::is_next;
+use crate::next::{is_build_step, is_next};
 use driver_tables::driver::Driver;
 use job_grammar::jobs::Job;
 use paging_machine::machine::Machine;
@@ -35,7 +35,7 @@ pub fn keeps_script(
     match entry.actor {
         Actor::Builder => {
             let due = turns.builder_due(job, driver, machine);
-            is_next(turns, driver, machine, due, &entry.event)
+            is_build_step(due, &entry.event)
         }
         Actor::Cpu(cpu) => {
             if usize::from(cpu.0) >= job.scripts().len() {

@@ -15,7 +15,7 @@ const PAUSES: u32 = 16;
 const LOOKS: u32 = 32;
 
 /// Takes the lock. To whoever makes turn after turn it is left for a while: each time that it goes from hand to hand costs more than a turn.
-/// Nobody sleeps at the lock itself, for then whoever frees it has to wake the sleeper, who finds it taken again.
+/// Nobody sleeps here at the lock itself, for then whoever frees it has to wake the sleeper, who finds it taken again.
 pub(crate) fn take<'b, R: Wait, B: Backing, N: Run>(
     rt: &R,
     shared: &'b Mutex<Locked<B, N>>,
@@ -30,7 +30,7 @@ pub(crate) fn take<'b, R: Wait, B: Backing, N: Run>(
         }
         looks = looks.saturating_add(1);
         if looks > LOOKS || made.turns() != before {
-            made.leave(rt, naps);
+            made.nap(rt, naps);
             naps = naps.saturating_add(1);
         }
     }

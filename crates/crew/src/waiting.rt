@@ -67,11 +67,6 @@ impl Made {
         self.turns.load(Ordering::SeqCst)
     }
 
-    /// Leaves the lock to the others for a while, the longer the more often it was left before.
-    pub(crate) fn leave<R: Wait>(&self, rt: &R, times: u32) {
-        self.nap(rt, times);
-    }
-
     /// Waits after so many turns in vain one after another: the longer the more there were, and a short while at most.
     pub(crate) fn wait<R: Wait>(&self, rt: &R, vain: u32) {
         if vain > AWAKE {
@@ -95,8 +90,8 @@ impl Made {
         }
     }
 
-    // Sleeps until the time is over or a worker ends.
-    fn nap<R: Wait>(&self, rt: &R, times: u32) {
+    /// Sleeps until the time is over or a worker ends, the longer the more often it slept before.
+    pub(crate) fn nap<R: Wait>(&self, rt: &R, times: u32) {
         let ended = self.ended.load(Ordering::SeqCst);
         let nap = Duration::from_micros(NAP << times.min(LONGER));
         self.ended.park_timeout(rt, (ended % (1 << 32)) as u32, nap);

@@ -150,6 +150,7 @@ fn opened_turn<R: Wait, B: Backing, N: Run>(
 }
 
 // What a worker does behind an answer.
+#[inline(always)]
 fn after(turn: Turn) -> Next {
     match turn {
         Turn::Finished | Turn::Stopped => Next::Ends,

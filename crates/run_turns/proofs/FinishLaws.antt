@@ -17,10 +17,12 @@ use Rattle.driver_rules.specs.Reclaims.{all_finished, are_finished, is_finished}
 use Rattle.driver_rules.specs.Stops.{is_spent}
 use Rattle.driver_rules.specs.Turns.{builder_due, cpu_due, fetches, is_built, step_turn}
 use Rattle.turn_tables.proofs.EndLaws.{past_all}
-use Rattle.turn_tables.specs.Due.{due_in}
-use Rattle.turn_tables.specs.declared.dues.TurnDue.{TurnDue}
-use Rattle.turn_tables.specs.declared.dues.TurnDue.TheVariants as dues
-use Rattle.run_turns.specs.Passing.{is_left}
+use Rattle.turn_tables.specs.Due.{building_in, due_in}
+use Rattle.turn_tables.specs.declared.dues.BuilderDue.{BuilderDue}
+use Rattle.turn_tables.specs.declared.dues.BuilderDue.TheVariants as builders
+use Rattle.turn_tables.specs.declared.dues.CpuDue.{CpuDue}
+use Rattle.turn_tables.specs.declared.dues.CpuDue.TheVariants as dues
+use Rattle.run_turns.specs.Passing.{is_building, is_left}
 
 -- ---- the builder
 
@@ -51,22 +53,28 @@ not_fetched frames past g (Loading f slot) = refl
 not_fetched frames past g (Away slot) = refl
 
 -- an answer of the tables is that nothing is left where the rules say so
-pub end_is : (j : JobView) (past : List Entry) (due : TurnDue) → is_finished (due_in j past due) ≡ not (is_left due)
+pub end_is : (j : JobView) (past : List Entry) (due : CpuDue) → is_finished (due_in j past due) ≡ not (is_left due)
 end_is j past dues.Stopped = refl
 end_is j past dues.Finished = refl
 end_is j past (dues.Waits reason) = refl
 end_is j past (dues.Ends f) = refl
-end_is j past (dues.Makes action) = refl
+end_is j past (dues.Makes step) = refl
 end_is j past (dues.Reports page reason) = refl
 end_is j past (dues.Needs page) = not_fetched j.epc past page (place past page)
 
+build_end_is : (due : BuilderDue) → is_finished (building_in due) ≡ not (is_building due)
+build_end_is builders.Stopped = refl
+build_end_is builders.Finished = refl
+build_end_is (builders.Waits reason) = refl
+build_end_is (builders.Makes action) = refl
+
 -- so it is for the builder
-pub built_is : (j : JobView) (past : List Entry) (due : TurnDue) (b : Bool) → is_spent past ≡ false → due_in j past due ≡ builder_due j past
-    → is_left due ≡ b → is_built j past ≡ not b
-built_is j past due b going told left = sym (builder_is j past going) ∙ ap is_finished (sym told) ∙ end_is j past due ∙ ap not left
+pub built_is : (j : JobView) (past : List Entry) (due : BuilderDue) (b : Bool) → is_spent past ≡ false → building_in due ≡ builder_due j past
+    → is_building due ≡ b → is_built j past ≡ not b
+built_is j past due b going told left = sym (builder_is j past going) ∙ ap is_finished (sym told) ∙ build_end_is due ∙ ap not left
 
 -- .. and for a processor
-pub cpu_is : (j : JobView) (past : List Entry) (p : ℕ) (due : TurnDue) (b : Bool) → due_in j past due ≡ cpu_due j past p → is_left due ≡ b
+pub cpu_is : (j : JobView) (past : List Entry) (p : ℕ) (due : CpuDue) (b : Bool) → due_in j past due ≡ cpu_due j past p → is_left due ≡ b
     → is_finished (cpu_due j past p) ≡ not b
 cpu_is j past p due b told left = ap is_finished (sym told) ∙ end_is j past due ∙ ap not left
 

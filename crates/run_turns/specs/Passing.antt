@@ -13,8 +13,10 @@ use Rattle.reclaim_worker.specs.Standing.{StandsFor, is_sealing}
 use Rattle.reclaim_worker.specs.Stored.{still_out}
 use Rattle.reclaim_worker.specs.declared.turns.PassTurn.{PassTurn}
 use Rattle.reclaim_worker.specs.declared.turns.PassTurn.TheVariants as passed
-use Rattle.turn_tables.specs.declared.dues.TurnDue.{TurnDue}
-use Rattle.turn_tables.specs.declared.dues.TurnDue.TheVariants as dues
+use Rattle.turn_tables.specs.declared.dues.BuilderDue.{BuilderDue}
+use Rattle.turn_tables.specs.declared.dues.BuilderDue.TheVariants as builders
+use Rattle.turn_tables.specs.declared.dues.CpuDue.{CpuDue}
+use Rattle.turn_tables.specs.declared.dues.CpuDue.TheVariants as dues
 use Rattle.turn_tables.specs.Ending.{EndsAreTold, NoneFails}
 use Rattle.turn_tables.specs.Noting.{with_kick}
 use Rattle.table_notes.specs.Arrays.{KeepsArrays}
@@ -124,7 +126,12 @@ IsWaiting _ = ⊥
 
 -- ---- what is left
 
--- by an answer of the tables something is left
-abbrev pub is_left : TurnDue → Bool
+-- by an answer of the tables something is left to the builder
+abbrev pub is_building : BuilderDue → Bool
+is_building builders.Finished = false
+is_building due = true
+
+-- .. and to a processor
+abbrev pub is_left : CpuDue → Bool
 is_left dues.Finished = false
 is_left due = true

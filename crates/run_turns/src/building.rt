@@ -12,7 +12,7 @@ use sgx_types::entries::{Action, Actor};
 use sgx_types::names::Memory;
 use std::alloc::Global;
 use table_notes::notes::note_tables;
-use turn_tables::dues::TurnDue;
+use turn_tables::dues::BuilderDue;
 use turn_tables::holding::mode_of;
 
 // A turn makes an entry for each processor at most, and each open start has room for two.
@@ -29,13 +29,10 @@ impl Course {
             .turns
             .builder_due(&self.job, &self.driver, &self.machine);
         match &due {
-            TurnDue::Stopped => Ok(Turn::Stopped),
-            TurnDue::Finished => Ok(Turn::Finished),
-            TurnDue::Waits(why) => Ok(Turn::Again(*why)),
-            TurnDue::Makes(action) => self.instruct(alloc, Actor::Builder, action),
-            TurnDue::Ends(_) => unreachable!(),
-            TurnDue::Reports { .. } => unreachable!(),
-            TurnDue::Needs(_) => unreachable!(),
+            BuilderDue::Stopped => Ok(Turn::Stopped),
+            BuilderDue::Finished => Ok(Turn::Finished),
+            BuilderDue::Waits(why) => Ok(Turn::Again(*why)),
+            BuilderDue::Makes(action) => self.instruct(alloc, Actor::Builder, action),
         }
     }
 

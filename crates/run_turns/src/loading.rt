@@ -22,7 +22,7 @@ use seal_record::unseal::UnsealedWork;
 use sgx_types::entries::{Actor, BusWhy, Entry, Event};
 use sgx_types::names::{Cpu, Memory, Page};
 use std::alloc::Global;
-use turn_tables::dues::TurnDue;
+use turn_tables::dues::CpuDue;
 
 impl Course {
     /// A turn of a processor.
@@ -44,14 +44,14 @@ impl Course {
         let due = self
             .turns
             .cpu_due(&self.job, &self.driver, &self.machine, cpu);
-        match &due {
-            TurnDue::Stopped => Ok(Turn::Stopped),
-            TurnDue::Finished => Ok(Turn::Finished),
-            TurnDue::Waits(why) => Ok(Turn::Again(*why)),
-            TurnDue::Ends(_) => self.open_again(alloc, store, cpu),
-            TurnDue::Makes(action) => self.instruct(alloc, Actor::Cpu(cpu), action),
-            TurnDue::Reports { .. } => unreachable!(),
-            TurnDue::Needs(page) => self.fetch(alloc, store, cpu, *page),
+        match due {
+            CpuDue::Stopped => Ok(Turn::Stopped),
+            CpuDue::Finished => Ok(Turn::Finished),
+            CpuDue::Waits(why) => Ok(Turn::Again(why)),
+            CpuDue::Ends(_) => self.open_again(alloc, store, cpu),
+            CpuDue::Makes(step) => self.instruct(alloc, Actor::Cpu(cpu), &step.action()),
+            CpuDue::Reports { .. } => unreachable!(),
+            CpuDue::Needs(page) => self.fetch(alloc, store, cpu, page),
         }
     }
 

@@ -7,7 +7,7 @@ ghost use Rattle.driver_rules.specs.Stops.{is_spent};
 ghost use Rattle.reclaim_worker.specs.Standing.{is_sealing};
 ghost use Rattle.run_turns.specs.Courses.{Grows, IsSame, KeepsCourse, past_of};
 ghost use Rattle.run_turns.specs.Kicking.{CanKick, CanKickOne, HasKicked};
-ghost use Rattle.run_turns.specs.Passing.{CanFollow, CanTakeOwn, EndsNone, IsFollowed, IsSealOf, IsWaiting, is_left};
+ghost use Rattle.run_turns.specs.Passing.{CanFollow, CanTakeOwn, EndsNone, IsFollowed, IsSealOf, IsWaiting, is_building, is_left};
 ghost use Rattle.run_turns.specs.Turns.{CanTurn, EndsOut, IsReclaimerTurn, IsSealed};
 ghost use Rattle.sgx_types.specs.declared.entries.Actor.TheVariants as actors;
 
@@ -21,7 +21,7 @@ use seal_record::seal::{SealWork, SealedWork};
 use sgx_types::entries::{Actor, Entry, Event};
 use sgx_types::names::{Cpu, Memory};
 use std::alloc::Global;
-use turn_tables::dues::TurnDue;
+use turn_tables::dues::{BuilderDue, CpuDue};
 
 impl Course {
     /// A turn of the reclaimer.
@@ -67,7 +67,7 @@ impl Course {
         let due = self
             .turns
             .builder_due(&self.job, &self.driver, &self.machine);
-        if is_left(due) {
+        if is_building(due) {
             return false;
         }
         for number in 0..self.driver.cpus {
@@ -256,11 +256,18 @@ impl Course {
     }
 }
 
-// Whether something is left.
-fn is_left(due: TurnDue) -> bool
+// Whether something is left to the builder.
+fn is_building(due: BuilderDue) -> bool
+    ensures { result ≡ is_building due }
+{
+    !matches!(due, BuilderDue::Finished)
+}
+
+// Whether something is left to a processor.
+fn is_left(due: CpuDue) -> bool
     ensures { result ≡ is_left due }
 {
-    !matches!(due, TurnDue::Finished)
+    !matches!(due, CpuDue::Finished)
 }
 
 // Whether a write-out has started.

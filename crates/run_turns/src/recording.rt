@@ -14,6 +14,7 @@ use sgx_types::entries::Entry;
 impl Course {
     /// Takes an entry in, before which its processor stood so: the holds and the tables of what is due follow it, it is kept, and it is
     /// decided whether the reclaimer works.
+    #[inline(always)]
     pub(crate) fn take_in(&mut self, before: Mode, entry: &Entry)
         requires { CanTake self.old before entry.now }
         ensures book { (take : CanTake self.old before entry.now) → IsRecorded self.old entry.now take.can.longer self.new }
@@ -38,6 +39,7 @@ impl Course {
     }
 
     /// .. within a pass, where nothing is decided.
+    #[inline(always)]
     pub(crate) fn record_entry(&mut self, before: Mode, entry: &Entry)
         requires { CanRecord self.old before entry.now }
         ensures book { (can : CanRecord self.old before entry.now) → IsRecorded self.old entry.now can.longer self.new }

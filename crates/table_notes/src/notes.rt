@@ -17,6 +17,7 @@ use turn_tables::turns::Turns;
 /// is how the entry's processor stood before it. A version array page that was made gives its slots, a page that was added is here and
 /// listed as the last, and the pages that a processor uses are young: that of a translation or of an access, and the TCS page and the state
 /// save page of an entry or a resumption. A refused instruction changes nothing. Constant time.
+#[inline(always)]
 pub fn note_tables(turns: &Turns, driver: &mut Driver, before: Mode, entry: &Entry)
     requires { CanNoteTables turns.now driver.old before entry.now }
     ensures { (can : CanNoteTables turns.now driver.old before entry.now)

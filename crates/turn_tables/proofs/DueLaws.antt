@@ -6,7 +6,6 @@ use Rattle.std.proofs.lemmas.Bool.{eqb-false, eqb-true, le-leb, leb-true}
 use Rattle.std.proofs.lemmas.List.{append-nil}
 use Rattle.sgx_types.specs.declared.entries.AccessOp.{AccessOp}
 use Rattle.sgx_types.specs.declared.entries.AccessOp.TheVariants as accesses
-use Rattle.sgx_types.specs.declared.entries.Action.{Action}
 use Rattle.sgx_types.specs.declared.entries.Action.TheVariants as actions
 use Rattle.sgx_types.specs.declared.entries.Entry.{Entry}
 use Rattle.sgx_types.specs.declared.names.Frame.{Frame}
@@ -28,17 +27,17 @@ use Rattle.job_grammar.specs.Valid.{IsValid, IsValidOp}
 use Rattle.turn_rules.specs.declared.steps.BuildStep.{BuildStep}
 use Rattle.turn_rules.specs.declared.steps.BuildStep.TheVariants as builds
 use Rattle.turn_rules.specs.Cursor.{left}
-use Rattle.turn_rules.specs.Script.{build_of, built, enter_with, frame_at, is_turned_away, replied, resume_with, saved, script_of, step_due}
+use Rattle.turn_rules.specs.Script.{build_of, built, enter_with, frame_at, is_turned_away, resume_with, saved, script_of, step_due}
 use Rattle.turn_rules.specs.Script.{with_frame as frame_step}
 use Rattle.paging_laws.specs.Columns.{seat_of_stay}
 use Rattle.paging_machine.specs.Parts.{Parts, seat_of_mode, state_of}
 use Rattle.driver_rules.specs.declared.waits.Why.TheVariants as waits
 use Rattle.driver_rules.specs.Dues.{Due, Makes, Stopped, makes_or}
-use Rattle.driver_rules.specs.Needs.{Interruption, access_page, interruption, last_save, listed, needs_after, needs_to_resume, next_op}
+use Rattle.driver_rules.specs.Needs.{access_page, interruption, last_save, listed, needs_after, needs_to_resume, next_op}
 use Rattle.driver_rules.specs.Needs.{next_save, save_to_enter, save_to_resume}
 use Rattle.driver_rules.specs.Places.{frame_here, place}
 use Rattle.driver_rules.specs.Stops.{is_spent}
-use Rattle.driver_rules.specs.Turns.{Last, accesses_by, accesses_inside, builder_due, cpu_due, due_after, early_turn, enters, fills}
+use Rattle.driver_rules.specs.Turns.{accesses_by, accesses_inside, builder_due, cpu_due, due_after, early_turn, enters, fills}
 use Rattle.driver_rules.specs.Turns.{first_away, inside_turn, is_kicked, is_last, last_of, op_turn, outside_turn, resumes, save_frame}
 use Rattle.driver_rules.specs.Turns.{stay_turn, step_turn, turn_due, with_pages}
 use Rattle.driver_tables.specs.declared.driver.Driver.{Driver}
@@ -47,15 +46,17 @@ use Rattle.turn_tables.specs.declared.cpu_turns.CpuTurn.{CpuTurn}
 use Rattle.turn_tables.specs.declared.cpu_turns.Interruption as kept
 use Rattle.turn_tables.specs.declared.cpu_turns.Last as lasts
 use Rattle.turn_tables.specs.declared.cpu_turns.Last.TheVariants as ways
-use Rattle.turn_tables.specs.declared.dues.TurnDue.{TurnDue}
-use Rattle.turn_tables.specs.declared.dues.TurnDue.TheVariants as dues
+use Rattle.turn_tables.specs.declared.dues.CpuDue.{CpuDue}
+use Rattle.turn_tables.specs.declared.dues.CpuDue.TheVariants as dues
+use Rattle.turn_tables.specs.declared.steps.CpuStep.{CpuStep}
+use Rattle.turn_tables.specs.declared.steps.CpuStep.TheVariants as steps
 use Rattle.turn_tables.specs.declared.turns.Turns.{Turns}
 use Rattle.turn_tables.specs.Asked.{Looks, access_by, access_in, access_page as access_told, after_by, after_last, builder_by, built_by}
 use Rattle.turn_tables.specs.Asked.{cpu_by, early_by, enters_by, fill_by, inside_by, is_last_by, last_save_of, looks_at, next_save_of}
 use Rattle.turn_tables.specs.Asked.{next_step, op_at, op_by, outside_by, page_of, resumes_by, standing_seen, step_by, turn_by, turned_away}
 use Rattle.turn_tables.specs.Asked.{with_access, with_frame}
 use Rattle.turn_tables.specs.CpuTurns.{interruption_told, last_told, turn_at}
-use Rattle.turn_tables.specs.Due.{IsOrderly, IsWithin, due_in}
+use Rattle.turn_tables.specs.Due.{IsOrderly, IsWithin, building_in, due_in, made_by}
 use Rattle.turn_tables.specs.Shown.{ShowsCpu, ShowsTurns, last_actor}
 use Rattle.turn_tables.specs.TcsTurns.{tcs_by}
 use Rattle.turn_tables.proofs.FrameLaws.{access_due, frames_due, number_of}
@@ -155,7 +156,7 @@ module _ (j : JobView) (past : List Entry) (p : ℕ) (look : Looks) (v : IsValid
   enter_is : (e t : ℕ) → due_in j past (enters_by look.frame (page_at e t) (next_save_of e (look.tcs (page_at e t)))) ≡ enters j past e t
   enter_is e t =
       ap (λ save. due_in j past (enters_by look.frame (page_at e t) save)) (enter_save_is e t)
-      ∙ frames_due j past look.frame seen.frames (page_at e t) (save_to_enter j past e t) [] (λ tf sf. dues.Makes (actions.Enter e t tf sf))
+      ∙ frames_due j past look.frame seen.frames (page_at e t) (save_to_enter j past e t) [] (λ tf sf. dues.Makes (steps.Enter e t tf sf))
       (λ tf sf. makes_or (waits.Busy (page_at e t)) (enter_with e t tf sf)) (λ tf sf. refl)
       ∙ ap (λ gs. with_pages j past (first_away past (page_at e t ∷ gs)) (makes_or (waits.Busy (page_at e t))
       (enter_with e t (frame_here (place past (page_at e t))) (save_frame past (page_at e t) (save_to_enter j past e t)))))
@@ -167,9 +168,9 @@ module _ (j : JobView) (past : List Entry) (p : ℕ) (look : Looks) (v : IsValid
   resume_is e t access =
       ap (λ save. due_in j past (resumes_by look.frame (page_at e t) save access)) (resume_save_is e t)
       ∙ frames_due j past look.frame seen.frames (page_at e t) (save_to_resume j past e t) (listed access)
-      (λ tf sf. with_access look.frame access (dues.Makes (actions.Resume e t tf sf)))
+      (λ tf sf. with_access look.frame access (dues.Makes (steps.Resume e t tf sf)))
       (λ tf sf. makes_or (waits.Busy (page_at e t)) (resume_with e t tf sf))
-      (λ tf sf. access_due j past look.frame seen.frames access (dues.Makes (actions.Resume e t tf sf)))
+      (λ tf sf. access_due j past look.frame seen.frames access (dues.Makes (steps.Resume e t tf sf)))
 
   -- ---- accesses
 
@@ -177,56 +178,56 @@ module _ (j : JobView) (past : List Entry) (p : ℕ) (look : Looks) (v : IsValid
   fill_is n None = refl
   fill_is n (Some f) = refl
 
-  access_in_is : (e : ℕ) (op : AccessOp) (off : ℕ) (access : Action) → off < 2 ^ 24
-      → due_in j past (access_in look e op off access) ≡ accesses_inside past p e op off access
+  access_in_is : (e : ℕ) (op : AccessOp) (off : ℕ) (access : CpuStep) → off < 2 ^ 24
+      → due_in j past (access_in look e op off access) ≡ accesses_inside past p e op off (made_by access)
   access_in_is e op off access low =
       ap (λ n. due_in j past
       (if look.is_lawful (page_at e n) op then (if look.holds n then dues.Makes access else fill_by n (look.frame (page_at e n)))
-      else dues.Makes (actions.Pf op off))) (number_is off low)
+      else dues.Makes (steps.Pf op off))) (number_is off low)
       ∙ by_lawful (look.is_lawful (at_offset e off) op)
       (look.holds (off / 4096)) (seen.lawful (at_offset e off) op) (seen.holds (off / 4096))
     where
       by_lawful : (a b : Bool) → a ≡ is_lawful_access (added past (at_offset e off)) op
           → b ≡ holds_number (translations past p) (off / 4096)
           → due_in j past (if a then (if b then dues.Makes access else fill_by (off / 4096) (look.frame (at_offset e off)))
-          else dues.Makes (actions.Pf op off))
-          ≡ accesses_inside past p e op off access
+          else dues.Makes (steps.Pf op off))
+          ≡ accesses_inside past p e op off (made_by access)
       by_lawful false b h k = rw (← h) refl
       by_lawful true true h k = rw (← h, ← k) refl
       by_lawful true false h k =
           rw (← h, ← k) (fill_is (off / 4096) (look.frame (at_offset e off)) ∙ ap (fills (off / 4096)) (seen.frames (at_offset e off)))
 
-  access_by_is : (mode : Mode) (s : Option Stay) → seat_of_mode mode ≡ seat_of_stay s → (op : AccessOp) (off : ℕ) (access : Action)
-      → off < 2 ^ 24 → due_in j past (access_by look mode op off access) ≡ accesses_by past p s op off access
+  access_by_is : (mode : Mode) (s : Option Stay) → seat_of_mode mode ≡ seat_of_stay s → (op : AccessOp) (off : ℕ) (access : CpuStep)
+      → off < 2 ^ 24 → due_in j past (access_by look mode op off access) ≡ accesses_by past p s op off (made_by access)
   access_by_is Outside None h op off access low = refl
   access_by_is Outside (Some s) h op off access low = cc
   access_by_is (Inside e t tf sf epoch) None h op off access low = cc
   access_by_is (Inside e t tf sf epoch) (Some s) h op off access low =
-      access_in_is e op off access low ∙ ap (λ k. accesses_inside past p k op off access) (enclave_same e t tf sf epoch s h)
+      access_in_is e op off access low ∙ ap (λ k. accesses_inside past p k op off (made_by access)) (enclave_same e t tf sf epoch s h)
 
   -- ---- operations
 
-  either : (b c : Bool) (x y : TurnDue) (u w : Due) → b ≡ c → due_in j past x ≡ u → due_in j past y ≡ w
+  either : (b c : Bool) (x y : CpuDue) (u w : Due) → b ≡ c → due_in j past x ≡ u → due_in j past y ≡ w
       → due_in j past (if b then x else y) ≡ (if c then u else w)
   either true c x y u w same h k = h ∙ ap (λ b. if b then u else w) same
   either false c x y u w same h k = k ∙ ap (λ b. if b then u else w) same
 
   pub op_is : (op : Op) → IsValidOp j op → due_in j past (op_by look op) ≡ op_turn j past p op
   op_is (ops.Enter e t) ok =
-      either (turned_away look e) (is_turned_away past p e) (dues.Makes (actions.Enter e t (frame_at 0) (frame_at 0)))
+      either (turned_away look e) (is_turned_away past p e) (dues.Makes (steps.Enter e t (frame_at 0) (frame_at 0)))
       (enters_by look.frame (page_at e t) (next_save_of e (look.tcs (page_at e t)))) (Makes (actions.Enter e t (frame_at 0) (frame_at 0)))
       (enters j past e t) (turned_is e (few_numbers j e t v ok)) refl (enter_is e t)
   op_is (ops.Resume e t) ok =
-      either (turned_away look e) (is_turned_away past p e) (dues.Makes (actions.Resume e t (frame_at 0) (frame_at 0)))
+      either (turned_away look e) (is_turned_away past p e) (dues.Makes (steps.Resume e t (frame_at 0) (frame_at 0)))
       (resumes_by look.frame (page_at e t) (last_save_of e (look.tcs (page_at e t))) None)
       (Makes (actions.Resume e t (frame_at 0) (frame_at 0)))
       (resumes j past e t (needs_to_resume j past e t)) (turned_is e (few_numbers j e t v ok)) refl
       (resume_is e t None ∙ ap (resumes j past e t) (append-nil (needs_to_resume j past e t)))
   op_is ops.Exit ok = refl
   op_is ops.Timer ok = refl
-  op_is (ops.Load off) ok = access_by_is look.mode (stay past p) seen.seat accesses.Load off (actions.Load off) ok.1
-  op_is (ops.Store off value) ok = access_by_is look.mode (stay past p) seen.seat accesses.Store off (actions.Store off value) ok.0.1
-  op_is (ops.Xadd off value) ok = access_by_is look.mode (stay past p) seen.seat accesses.Xadd off (actions.Xadd off value) ok.0.1
+  op_is (ops.Load off) ok = access_by_is look.mode (stay past p) seen.seat accesses.Load off (steps.Load off) ok.1
+  op_is (ops.Store off value) ok = access_by_is look.mode (stay past p) seen.seat accesses.Store off (steps.Store off value) ok.0.1
+  op_is (ops.Xadd off value) ok = access_by_is look.mode (stay past p) seen.seat accesses.Xadd off (steps.Xadd off value) ok.0.1
   op_is (ops.Set value) ok = refl
   op_is (ops.Plus value) ok = refl
   op_is (ops.OutLoad enclave off) ok = refl
@@ -278,7 +279,7 @@ module _ (j : JobView) (past : List Entry) (p : ℕ) (look : Looks) (v : IsValid
       inside_is x.is_kicked op ok ∙ ap (λ k. inside_turn j past p k op) shown.kicked
       ∙ ap (inside_turn j past p (is_kicked past p)) (sym next)
 
-  after_last_is : (l : lasts.Last) (b : Bool) (turn : TurnDue) (d : Due) → due_in j past turn ≡ d
+  after_last_is : (l : lasts.Last) (b : Bool) (turn : CpuDue) (d : Due) → due_in j past turn ≡ d
       → due_in j past (after_last l b turn) ≡ due_after (last_told l) b d
   after_last_is (ways.Loads f page) b turn d h = refl
   after_last_is (ways.Fails page why) true turn d h = refl
@@ -356,40 +357,39 @@ cpu_is made j past d m t p low a o s = by_spent t.is_spent (is_spent past) s.spe
 
 -- ---- the builder
 
-with_is : (j : JobView) (past : List Entry) (step : BuildStep) (f : Option Frame)
-    → due_in j past (with_frame step f) ≡ makes_or waits.NoFrame (frame_step step (number_of f))
-with_is j past step None = refl
-with_is j past step (Some f) = refl
+with_is : (step : BuildStep) (f : Option Frame) → building_in (with_frame step f) ≡ makes_or waits.NoFrame (frame_step step (number_of f))
+with_is step None = refl
+with_is step (Some f) = refl
 
 step_due_is : (j : JobView) (past : List Entry) (free : Option Frame) (stands : Page → Option Frame) (step : BuildStep)
     → number_of free ≡ least_free j.epc (content past) → ((g : Page) → number_of (stands g) ≡ frame_of past g)
-    → due_in j past (step_by free stands step) ≡ makes_or waits.NoFrame (step_due j.epc past step)
+    → building_in (step_by free stands step) ≡ makes_or waits.NoFrame (step_due j.epc past step)
 step_due_is j past free stands builds.Va f h =
-    with_is j past builds.Va free ∙ ap (λ o. makes_or waits.NoFrame (frame_step builds.Va o)) f
+    with_is builds.Va free ∙ ap (λ o. makes_or waits.NoFrame (frame_step builds.Va o)) f
 step_due_is j past free stands (builds.Create enclave base size) f h =
-    with_is j past (builds.Create enclave base size) free
+    with_is (builds.Create enclave base size) free
     ∙ ap (λ o. makes_or waits.NoFrame (frame_step (builds.Create enclave base size) o)) f
 step_due_is j past free stands (builds.Add enclave number kind perm init) f h =
-    with_is j past (builds.Add enclave number kind perm init) free
+    with_is (builds.Add enclave number kind perm init) free
     ∙ ap (λ o. makes_or waits.NoFrame (frame_step (builds.Add enclave number kind perm init) o)) f
 step_due_is j past free stands (builds.Extend enclave number chunk) f h =
-    with_is j past (builds.Extend enclave number chunk) (stands (page_at enclave number))
+    with_is (builds.Extend enclave number chunk) (stands (page_at enclave number))
     ∙ ap (λ o. makes_or waits.NoFrame (frame_step (builds.Extend enclave number chunk) o)) (h (page_at enclave number))
 step_due_is j past free stands (builds.Init enclave expect) f h = refl
 
 pub builder_is : (made : Making) (j : JobView) (past : List Entry) (d : Driver) (m : Parts) (t : Turns) (free : Option Frame)
     → number_of free ≡ least_free (state_of m).frames (state_of m).content
     → Agrees made j past d m → IsOrderly j past → ShowsTurns j past t
-    → due_in j past (builder_by t.is_spent free (standing_seen d t) (next_step j t)) ≡ builder_due j past
+    → building_in (builder_by t.is_spent free (standing_seen d t) (next_step j t)) ≡ builder_due j past
 builder_is made j past d m t free first a o s = by_spent t.is_spent (is_spent past) s.spent
   where
-    turn_is : (step : Option BuildStep) → due_in j past (builder_by false free (standing_seen d t) step) ≡ step_turn j past step
+    turn_is : (step : Option BuildStep) → building_in (builder_by false free (standing_seen d t) step) ≡ step_turn j past step
     turn_is None = refl
     turn_is (Some step) =
         step_due_is j past free (standing_seen d t) step (free_is made j past d m t a s free first) (standing_is made j past d m t a s o)
 
     by_spent : (b c : Bool) → b ≡ c
-        → due_in j past (builder_by b free (standing_seen d t) (next_step j t))
+        → building_in (builder_by b free (standing_seen d t) (next_step j t))
         ≡ (if c then Stopped else step_turn j past (slice_get (build_of j) (built past)))
     by_spent true c same = ap (λ c. if c then Stopped else step_turn j past (slice_get (build_of j) (built past))) same
     by_spent false c same =

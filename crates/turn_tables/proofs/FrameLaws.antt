@@ -1,5 +1,5 @@
 -- The answers that ask for pages, by where the pages are.
-use Rattle.std.proofs.Common.{◌≡◌, ℕ, true, false, if◌then◌else◌, List, [], ◌∷◌, ◌++◌, Option, Some, None, refl}
+use Rattle.std.proofs.Common.{◌≡◌, ℕ, true, false, List, [], ◌∷◌, ◌++◌, Option, Some, None, refl}
 use Rattle.std.proofs.Common.{sym, ap, ◌∙◌}
 use Rattle.std.specs.Option.{option_map}
 use Rattle.sgx_types.specs.declared.entries.Entry.{Entry}
@@ -10,7 +10,7 @@ use Rattle.driver_rules.specs.Dues.{Due}
 use Rattle.driver_rules.specs.Needs.{listed}
 use Rattle.driver_rules.specs.Places.{Absent, Away, Here, Leaving, Loading, Place, frame_here, is_here, place}
 use Rattle.driver_rules.specs.Turns.{first_away, save_frame, with_pages}
-use Rattle.turn_tables.specs.declared.dues.TurnDue.{TurnDue}
+use Rattle.turn_tables.specs.declared.dues.CpuDue.{CpuDue}
 use Rattle.turn_tables.specs.Asked.{if_here, with_access, with_frames, with_tcs}
 use Rattle.turn_tables.specs.Due.{due_in}
 
@@ -42,7 +42,7 @@ first_here past g gs h = rw h refl
 module _ (j : JobView) (past : List Entry) (frame : Page → Option Frame)
     (frames : (g : Page) → number_of (frame g) ≡ frame_here (place past g)) where
   -- a page that is needed first
-  need : (g : Page) (gs : List Page) (due : Due) (to : Frame → TurnDue)
+  need : (g : Page) (gs : List Page) (due : Due) (to : Frame → CpuDue)
       → ((f : Frame) → Some f.0 ≡ frame_here (place past g) → due_in j past (to f) ≡ with_pages j past (first_away past gs) due)
       → due_in j past (if_here g to (frame g)) ≡ with_pages j past (first_away past (g ∷ gs)) due
   need g gs due to goes = by_frame (frame g) (frames g)
@@ -53,13 +53,13 @@ module _ (j : JobView) (past : List Entry) (frame : Page → Option Frame)
       by_frame (Some f) h =
           goes f h ∙ sym (ap (λ o. with_pages j past o due) (first_here past g gs (here_some (place past g) f.0 h)))
 
-  pub access_due : (access : Option Page) (due : TurnDue)
+  pub access_due : (access : Option Page) (due : CpuDue)
       → due_in j past (with_access frame access due) ≡ with_pages j past (first_away past (listed access)) (due_in j past due)
   access_due None due = refl
   access_due (Some g) due = need g [] (due_in j past due) (λ f. due) (λ f h. refl)
 
   -- a TCS page and a state save page, and then others
-  pub frames_due : (tcs : Page) (save : Option Page) (rest : List Page) (to : Frame → Frame → TurnDue)
+  pub frames_due : (tcs : Page) (save : Option Page) (rest : List Page) (to : Frame → Frame → CpuDue)
       (make : Option ℕ → Option ℕ → Due)
       → ((tf sf : Frame) → due_in j past (to tf sf) ≡ with_pages j past (first_away past rest) (make (Some tf.0) (Some sf.0)))
       → due_in j past (with_frames frame tcs save to)

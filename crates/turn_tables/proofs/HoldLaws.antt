@@ -1,5 +1,5 @@
 -- The holds behind an entry are those of the entries with it, and each can be held.
-use Rattle.std.proofs.Common.{◌≡◌, ◌≢◌, ℕ, zero, suc, ◌+◌, ◌-◌, ◌/◌, ◌==◌, ◌<◌, ◌≤◌, ◌||◌, Bool}
+use Rattle.std.proofs.Common.{◌≡◌, ℕ, zero, suc, ◌+◌, ◌==◌, ◌<◌, ◌≤◌, ◌||◌, Bool}
 use Rattle.std.proofs.Common.{true, false, if◌then◌else◌, List, [], ◌∷◌, ◌++◌, ⊎_elim, Option, Some, None, IfSome}
 use Rattle.std.proofs.Common.{is_some, drop, length, slice_get, set, refl, sym, ap, subst, ◌∙◌, arith}
 use Rattle.std.proofs.lemmas.Bool.{cases_lt, eq-eqb, eqb-false, eqb-true, false≢true, or_right}
@@ -34,7 +34,7 @@ use Rattle.paging_laws.specs.Columns.{seat_of_stay}
 use Rattle.paging_machine.specs.Parts.{seat_of_mode}
 use Rattle.driver_rules.specs.Holds.{access_of_stay, builder_holds, front_to, holds, holds_by, is_among, page_extended, page_in}
 use Rattle.driver_rules.specs.Holds.{page_of_stay, up_to}
-use Rattle.driver_rules.specs.Needs.{Interruption, access_page, interruption, listed, needs, needs_by, next_op, save_to_enter}
+use Rattle.driver_rules.specs.Needs.{access_page, interruption, listed, needs, needs_by, next_op, save_to_enter}
 use Rattle.driver_rules.specs.Needs.{save_to_resume}
 use Rattle.driver_rules.specs.Places.{frame_here, place}
 use Rattle.driver_rules.specs.Turns.{save_frame}

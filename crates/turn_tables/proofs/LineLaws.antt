@@ -1,5 +1,5 @@
 -- What a valid job says of its TCS pages and of its operations.
-use Rattle.std.proofs.Common.{◌≡◌, ℕ, zero, suc, ◌+◌, ◌/◌, ◌^◌, ◌<◌, ◌≤◌, ◌&&◌, Bool, true, false}
+use Rattle.std.proofs.Common.{◌≡◌, ℕ, zero, suc, ◌+◌, ◌/◌, ◌^◌, ◌≤◌, ◌&&◌, Bool, true, false}
 use Rattle.std.proofs.Common.{if◌then◌else◌, List, [], ◌∷◌, Option, Some, None, length, nat_le, slice_get, unwrap_or, refl}
 use Rattle.std.proofs.Common.{subst, arith}
 use Rattle.std.specs.List.{All, find}

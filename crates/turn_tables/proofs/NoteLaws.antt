@@ -1,5 +1,5 @@
 -- The tables that show some entries show one more.
-use Rattle.std.proofs.Common.{◌≡◌, ℕ, ◌+◌, ◌-◌, ◌==◌, ◌<◌, ◌≤◌, ◌&&◌, ◌||◌, Bool, true, false}
+use Rattle.std.proofs.Common.{◌≡◌, ℕ, ◌+◌, ◌-◌, ◌==◌, ◌<◌, ◌≤◌, ◌||◌, Bool, true, false}
 use Rattle.std.proofs.Common.{if◌then◌else◌, List, ◌∷◌, Option, Some, None, is_some, length, map, drop, get_or, set, refl, sym}
 use Rattle.std.proofs.Common.{ap, subst, ◌∙◌, arith}
 use Rattle.std.specs.Option.{option_map}
@@ -34,7 +34,7 @@ use Rattle.paging_laws.specs.Columns.{seat_of_stay}
 use Rattle.paging_machine.specs.Parts.{seat_of_mode}
 use Rattle.driver_rules.specs.Needs.{Interruption, interrupted_by, interrupted_in, interruption, interruption_after}
 use Rattle.driver_rules.specs.Stops.{spends}
-use Rattle.driver_rules.specs.Turns.{Fails, Last, Loads, Other, WasEnded, fails_with, is_kicked, kicked_after, last_by, last_of, load_of}
+use Rattle.driver_rules.specs.Turns.{fails_with, is_kicked, kicked_after, last_by, last_of, load_of}
 use Rattle.driver_laws.specs.Loads.{EndsOwn, LoadsAreTheirs}
 use Rattle.driver_laws.proofs.EndLaws.{their_rule}
 use Rattle.driver_laws.proofs.SoundLaws.{entry_of}

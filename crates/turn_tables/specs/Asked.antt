@@ -4,7 +4,6 @@ use Rattle.std.specs.Prelude.{true, false, if◌then◌else◌, Option, None, So
 use Rattle.std.specs.Option.{option_map}
 use Rattle.sgx_types.specs.declared.entries.AccessOp.{AccessOp}
 use Rattle.sgx_types.specs.declared.entries.AccessOp.TheVariants as accesses
-use Rattle.sgx_types.specs.declared.entries.Action.{Action}
 use Rattle.sgx_types.specs.declared.entries.Action.TheVariants as actions
 use Rattle.sgx_types.specs.declared.entries.Actor.{Actor}
 use Rattle.sgx_types.specs.declared.entries.Cause.TheVariants as causes
@@ -34,8 +33,12 @@ use Rattle.turn_tables.specs.declared.cpu_turns.CpuTurn.{CpuTurn}
 use Rattle.turn_tables.specs.declared.cpu_turns.Interruption.{Interruption}
 use Rattle.turn_tables.specs.declared.cpu_turns.Last.{Last}
 use Rattle.turn_tables.specs.declared.cpu_turns.Last.TheVariants as ways
-use Rattle.turn_tables.specs.declared.dues.TurnDue.{TurnDue}
-use Rattle.turn_tables.specs.declared.dues.TurnDue.TheVariants.{Stopped, Finished, Waits, Ends, Makes, Reports, Needs}
+use Rattle.turn_tables.specs.declared.dues.BuilderDue.{BuilderDue}
+use Rattle.turn_tables.specs.declared.dues.BuilderDue.TheVariants as builders
+use Rattle.turn_tables.specs.declared.dues.CpuDue.{CpuDue}
+use Rattle.turn_tables.specs.declared.dues.CpuDue.TheVariants.{Stopped, Finished, Waits, Ends, Makes, Reports, Needs}
+use Rattle.turn_tables.specs.declared.steps.CpuStep.{CpuStep}
+use Rattle.turn_tables.specs.declared.steps.CpuStep.TheVariants as steps
 use Rattle.turn_tables.specs.declared.tcs_turns.TcsTurn.{TcsTurn}
 use Rattle.turn_tables.specs.declared.turns.Turns.{Turns}
 use Rattle.turn_tables.specs.TcsTurns.{has_place, tcs_at}
@@ -74,24 +77,24 @@ last_save_of enclave (Some x) = if x.saved == 0 then None else Some (page_at enc
 abbrev pub next_step : JobView → Turns → Option BuildStep
 next_step j t = slice_get (left j t.cursor) 0
 
-abbrev pub with_frame : BuildStep → Option Frame → TurnDue
-with_frame step None = Waits waits.NoFrame
-with_frame step (Some f) = Makes (step_action step f.0)
+abbrev pub with_frame : BuildStep → Option Frame → BuilderDue
+with_frame step None = builders.Waits waits.NoFrame
+with_frame step (Some f) = builders.Makes (step_action step f.0)
 
 -- a step that makes a page takes the free frame, and one that measures that of its page
-abbrev pub step_by : Option Frame → (Page → Option Frame) → BuildStep → TurnDue
-step_by free standing (builds.Init enclave expect) = Makes (actions.Init enclave expect)
+abbrev pub step_by : Option Frame → (Page → Option Frame) → BuildStep → BuilderDue
+step_by free standing (builds.Init enclave expect) = builders.Makes (actions.Init enclave expect)
 step_by free standing (builds.Extend enclave number chunk) =
     with_frame (builds.Extend enclave number chunk) (standing (page_at enclave number))
 step_by free standing step = with_frame step free
 
-abbrev pub builder_by : Bool → Option Frame → (Page → Option Frame) → Option BuildStep → TurnDue
-builder_by true free standing step = Stopped
-builder_by false free standing None = Finished
+abbrev pub builder_by : Bool → Option Frame → (Page → Option Frame) → Option BuildStep → BuilderDue
+builder_by true free standing step = builders.Stopped
+builder_by false free standing None = builders.Finished
 builder_by false free standing (Some step) = step_by free standing step
 
 -- by the least free frame
-pub record IsBuilderDue (j : JobView) (d : Driver) (m : Parts) (t : Turns) (due : TurnDue) : Type 0 where
+pub record IsBuilderDue (j : JobView) (d : Driver) (m : Parts) (t : Turns) (due : BuilderDue) : Type 0 where
   pub free : Option Frame
   pub least : option_map (λ f. f.0) free ≡ least_free (state_of m).frames (state_of m).content
   pub answer : due ≡ builder_by t.is_spent free (standing_seen d t) (next_step j t)
@@ -99,29 +102,29 @@ pub record IsBuilderDue (j : JobView) (d : Driver) (m : Parts) (t : Turns) (due 
 -- ---- entries and resumptions
 
 -- with the frame of a page that is needed
-abbrev pub if_here : Page → (Frame → TurnDue) → Option Frame → TurnDue
+abbrev pub if_here : Page → (Frame → CpuDue) → Option Frame → CpuDue
 if_here page to None = Needs page
 if_here page to (Some f) = to f
 
-abbrev pub with_tcs : (Page → Option Frame) → Option Page → (Frame → Frame → TurnDue) → Frame → TurnDue
+abbrev pub with_tcs : (Page → Option Frame) → Option Page → (Frame → Frame → CpuDue) → Frame → CpuDue
 with_tcs frame None to tf = to tf tf
 with_tcs frame (Some save) to tf = if_here save (to tf) (frame save)
 
 -- with the frames of a TCS page and of a state save page, that of the first alone where there is none
-abbrev pub with_frames : (Page → Option Frame) → Page → Option Page → (Frame → Frame → TurnDue) → TurnDue
+abbrev pub with_frames : (Page → Option Frame) → Page → Option Page → (Frame → Frame → CpuDue) → CpuDue
 with_frames frame tcs save to = if_here tcs (with_tcs frame save to) (frame tcs)
 
-abbrev pub enters_by : (Page → Option Frame) → Page → Option Page → TurnDue
-enters_by frame tcs save = with_frames frame tcs save (λ tf sf. Makes (actions.Enter tcs.enclave tcs.number tf sf))
+abbrev pub enters_by : (Page → Option Frame) → Page → Option Page → CpuDue
+enters_by frame tcs save = with_frames frame tcs save (λ tf sf. Makes (steps.Enter tcs.enclave tcs.number tf sf))
 
 -- the page of the access has to be here too
-abbrev pub with_access : (Page → Option Frame) → Option Page → TurnDue → TurnDue
+abbrev pub with_access : (Page → Option Frame) → Option Page → CpuDue → CpuDue
 with_access frame None due = due
 with_access frame (Some g) due = if_here g (λ f. due) (frame g)
 
-abbrev pub resumes_by : (Page → Option Frame) → Page → Option Page → Option Page → TurnDue
+abbrev pub resumes_by : (Page → Option Frame) → Page → Option Page → Option Page → CpuDue
 resumes_by frame tcs save access =
-    with_frames frame tcs save (λ tf sf. with_access frame access (Makes (actions.Resume tcs.enclave tcs.number tf sf)))
+    with_frames frame tcs save (λ tf sf. with_access frame access (Makes (steps.Resume tcs.enclave tcs.number tf sf)))
 
 -- ---- a processor
 
@@ -154,37 +157,37 @@ turned_away look enclave = is_inside look.mode || not (look.is_init enclave)
 abbrev pub page_of : ℕ → ℕ → Page
 page_of enclave off = page_at enclave (off / 4096 % 2 ^ 32)
 
-abbrev pub fill_by : ℕ → Option Frame → TurnDue
-fill_by number None = Makes (actions.Aex causes.Fault)
-fill_by number (Some f) = Makes (actions.Fill number f)
+abbrev pub fill_by : ℕ → Option Frame → CpuDue
+fill_by number None = Makes (steps.Aex causes.Fault)
+fill_by number (Some f) = Makes (steps.Fill number f)
 
-abbrev pub access_in : Looks → ℕ → AccessOp → ℕ → Action → TurnDue
+abbrev pub access_in : Looks → ℕ → AccessOp → ℕ → CpuStep → CpuDue
 access_in look enclave op off access =
     if look.is_lawful (page_of enclave off) op then
     (if look.holds (off / 4096 % 2 ^ 32) then Makes access else fill_by (off / 4096 % 2 ^ 32) (look.frame (page_of enclave off)))
-    else Makes (actions.Pf op off)
+    else Makes (steps.Pf op off)
 
-abbrev pub access_by : Looks → Mode → AccessOp → ℕ → Action → TurnDue
+abbrev pub access_by : Looks → Mode → AccessOp → ℕ → CpuStep → CpuDue
 access_by look Outside op off access = Makes access
 access_by look (Inside enclave tcs tf sf epoch) op off access = access_in look enclave op off access
 
 -- an operation
-abbrev pub op_by : Looks → Op → TurnDue
+abbrev pub op_by : Looks → Op → CpuDue
 op_by look (ops.Enter enclave tcs) =
-    if turned_away look enclave then Makes (actions.Enter enclave tcs (frame_at 0) (frame_at 0))
+    if turned_away look enclave then Makes (steps.Enter enclave tcs (frame_at 0) (frame_at 0))
     else enters_by look.frame (page_at enclave tcs) (next_save_of enclave (look.tcs (page_at enclave tcs)))
 op_by look (ops.Resume enclave tcs) =
-    if turned_away look enclave then Makes (actions.Resume enclave tcs (frame_at 0) (frame_at 0))
+    if turned_away look enclave then Makes (steps.Resume enclave tcs (frame_at 0) (frame_at 0))
     else resumes_by look.frame (page_at enclave tcs) (last_save_of enclave (look.tcs (page_at enclave tcs))) None
-op_by look ops.Exit = Makes actions.Exit
-op_by look ops.Timer = Makes (actions.Aex causes.Timer)
-op_by look (ops.Load off) = access_by look look.mode accesses.Load off (actions.Load off)
-op_by look (ops.Store off value) = access_by look look.mode accesses.Store off (actions.Store off value)
-op_by look (ops.Xadd off value) = access_by look look.mode accesses.Xadd off (actions.Xadd off value)
-op_by look (ops.Set value) = Makes (actions.Set value)
-op_by look (ops.Plus value) = Makes (actions.Plus value)
-op_by look (ops.OutLoad enclave off) = Makes (actions.OutLoad enclave off)
-op_by look (ops.OutStore enclave off value) = Makes (actions.OutStore enclave off value)
+op_by look ops.Exit = Makes steps.Exit
+op_by look ops.Timer = Makes (steps.Aex causes.Timer)
+op_by look (ops.Load off) = access_by look look.mode accesses.Load off (steps.Load off)
+op_by look (ops.Store off value) = access_by look look.mode accesses.Store off (steps.Store off value)
+op_by look (ops.Xadd off value) = access_by look look.mode accesses.Xadd off (steps.Xadd off value)
+op_by look (ops.Set value) = Makes (steps.Set value)
+op_by look (ops.Plus value) = Makes (steps.Plus value)
+op_by look (ops.OutLoad enclave off) = Makes (steps.OutLoad enclave off)
+op_by look (ops.OutStore enclave off value) = Makes (steps.OutStore enclave off value)
 
 -- the page of an access
 abbrev pub access_page : ℕ → Op → Option Page
@@ -198,42 +201,42 @@ abbrev pub page_behind : Interruption → Op → Option Page
 page_behind i op = if i.for_page then access_page i.enclave op else None
 
 -- the resumption behind an interruption
-abbrev pub after_by : (Page → Option Frame) → (Page → Option TcsTurn) → Interruption → Op → TurnDue
+abbrev pub after_by : (Page → Option Frame) → (Page → Option TcsTurn) → Interruption → Op → CpuDue
 after_by frame turns i op =
     resumes_by frame (page_at i.enclave i.tcs) (last_save_of i.enclave (turns (page_at i.enclave i.tcs))) (page_behind i op)
 
-abbrev pub outside_by : Looks → Option Interruption → Option Op → TurnDue
+abbrev pub outside_by : Looks → Option Interruption → Option Op → CpuDue
 outside_by look i None = Finished
 outside_by look (Some i) (Some op) = after_by look.frame look.tcs i op
 outside_by look None (Some op) = op_by look op
 
-abbrev pub inside_by : Looks → Bool → Option Op → TurnDue
-inside_by look true op = Makes (actions.Aex causes.Kick)
-inside_by look false None = Makes (actions.Aex causes.End)
+abbrev pub inside_by : Looks → Bool → Option Op → CpuDue
+inside_by look true op = Makes (steps.Aex causes.Kick)
+inside_by look false None = Makes (steps.Aex causes.End)
 inside_by look false (Some op) = op_by look op
 
-abbrev pub built_by : Looks → CpuTurn → Option Op → Mode → TurnDue
+abbrev pub built_by : Looks → CpuTurn → Option Op → Mode → CpuDue
 built_by look x op Outside = outside_by look x.interruption op
 built_by look x op (Inside enclave tcs tf sf epoch) = inside_by look x.is_kicked op
 
 -- before the build is done
-abbrev pub early_by : Mode → Option Op → TurnDue
+abbrev pub early_by : Mode → Option Op → CpuDue
 early_by Outside None = Finished
 early_by mode op = Waits waits.Building
 
 -- by the step of the builder that is next
-abbrev pub turn_by : Looks → CpuTurn → Option Op → Option BuildStep → TurnDue
+abbrev pub turn_by : Looks → CpuTurn → Option Op → Option BuildStep → CpuDue
 turn_by look x op None = built_by look x op look.mode
 turn_by look x op (Some step) = early_by look.mode op
 
-abbrev pub after_last : Last → Bool → TurnDue → TurnDue
+abbrev pub after_last : Last → Bool → CpuDue → CpuDue
 after_last (ways.Loads f page) is_direct turn = Ends f
 after_last (ways.Fails page why) true turn = Reports page why
 after_last (ways.Fails page why) false turn = Finished
 after_last ways.WasEnded is_direct turn = Finished
 after_last ways.Other is_direct turn = turn
 
-abbrev pub cpu_by : Bool → Looks → CpuTurn → Bool → Option Op → Option BuildStep → TurnDue
+abbrev pub cpu_by : Bool → Looks → CpuTurn → Bool → Option Op → Option BuildStep → CpuDue
 cpu_by true look x is_direct op step = Stopped
 cpu_by false look x is_direct op step = after_last x.last is_direct (turn_by look x op step)
 

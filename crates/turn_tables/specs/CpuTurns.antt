@@ -1,5 +1,5 @@
 -- What stands of a processor, in the words of the rules.
-use Rattle.std.specs.Prelude.{ℕ, false, List, Option, None, Some, slice_index_or}
+use Rattle.std.specs.Prelude.{ℕ, ◌+◌, false, List, Option, None, Some, slice_index_or}
 use Rattle.driver_rules.specs.Needs.{Interruption}
 use Rattle.driver_rules.specs.Turns.{Fails, Last, Loads, Other, WasEnded}
 use Rattle.turn_tables.specs.declared.cpu_turns.CpuTurn.{CpuTurn}
@@ -13,6 +13,10 @@ first_turn = record { replied = 0; is_kicked = false; interruption = None; last 
 
 abbrev pub turn_at : List CpuTurn → ℕ → CpuTurn
 turn_at turns p = slice_index_or turns p first_turn
+
+-- one reply more
+abbrev pub replying : CpuTurn → CpuTurn
+replying x = record x { replied = x.replied + 1; last = ways.Other }
 
 -- an interruption as the rules see it
 abbrev pub interruption_told : Option kept.Interruption → Option Interruption

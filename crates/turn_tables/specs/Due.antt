@@ -1,5 +1,6 @@
 -- What the answers say, and when the actors can be asked.
 use Rattle.std.specs.Prelude.{ℕ, ◌≡◌, ◌+◌, ◌≤◌, if◌then◌else◌, List, Option, None, Some}
+use Rattle.sgx_types.specs.declared.entries.Action.{Action}
 use Rattle.sgx_types.specs.declared.entries.Action.TheVariants as actions
 use Rattle.sgx_types.specs.declared.entries.Entry.{Entry}
 use Rattle.sgx_types.specs.declared.names.Page.{Page}
@@ -16,18 +17,45 @@ use Rattle.driver_rules.specs.Places.{Here, Leaving, Place, place}
 use Rattle.driver_rules.specs.Turns.{fetches}
 use Rattle.driver_tables.specs.declared.driver.Driver.{Driver}
 use Rattle.driver_steps.specs.Agrees.{Agrees}
-use Rattle.turn_tables.specs.declared.dues.TurnDue.{TurnDue}
-use Rattle.turn_tables.specs.declared.dues.TurnDue.TheVariants as dues
+use Rattle.turn_tables.specs.declared.dues.BuilderDue.{BuilderDue}
+use Rattle.turn_tables.specs.declared.dues.BuilderDue.TheVariants as builders
+use Rattle.turn_tables.specs.declared.dues.CpuDue.{CpuDue}
+use Rattle.turn_tables.specs.declared.dues.CpuDue.TheVariants as dues
+use Rattle.turn_tables.specs.declared.steps.CpuStep.{CpuStep}
+use Rattle.turn_tables.specs.declared.steps.CpuStep.TheVariants as steps
 use Rattle.turn_tables.specs.declared.turns.Turns.{Turns}
 use Rattle.turn_tables.specs.Shown.{ShowsTurns}
 
--- an answer as the rules have it. What comes of a page that is needed is said by where it is
-abbrev pub due_in : JobView → List Entry → TurnDue → Due
+-- what is due to the builder, as the rules have it
+abbrev pub building_in : BuilderDue → Due
+building_in builders.Stopped = Stopped
+building_in builders.Finished = Finished
+building_in (builders.Waits why) = Waits why
+building_in (builders.Makes action) = Makes action
+
+-- the instruction that a processor makes by its step
+abbrev pub made_by : CpuStep → Action
+made_by (steps.Enter enclave tcs tf sf) = actions.Enter enclave tcs tf sf
+made_by (steps.Resume enclave tcs tf sf) = actions.Resume enclave tcs tf sf
+made_by steps.Exit = actions.Exit
+made_by (steps.Aex cause) = actions.Aex cause
+made_by (steps.Fill number f) = actions.Fill number f
+made_by (steps.Load off) = actions.Load off
+made_by (steps.Store off value) = actions.Store off value
+made_by (steps.Xadd off value) = actions.Xadd off value
+made_by (steps.Set value) = actions.Set value
+made_by (steps.Plus value) = actions.Plus value
+made_by (steps.Pf op off) = actions.Pf op off
+made_by (steps.OutLoad enclave off) = actions.OutLoad enclave off
+made_by (steps.OutStore enclave off value) = actions.OutStore enclave off value
+
+-- what is due to a processor, as the rules have it. What comes of a page that is needed is said by where it is
+abbrev pub due_in : JobView → List Entry → CpuDue → Due
 due_in j past dues.Stopped = Stopped
 due_in j past dues.Finished = Finished
 due_in j past (dues.Waits why) = Waits why
 due_in j past (dues.Ends f) = Ends (actions.Eld f)
-due_in j past (dues.Makes action) = Makes action
+due_in j past (dues.Makes step) = Makes (made_by step)
 due_in j past (dues.Reports page why) = Reports page why
 due_in j past (dues.Needs page) = fetches j.epc past page (place past page)
 

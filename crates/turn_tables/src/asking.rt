@@ -2,7 +2,6 @@
 
 ghost use Rattle.std.specs.Prelude.{◌≡◌, ◌<◌, List, length, map};
 ghost use Rattle.sgx_types.specs.Making.{Making};
-ghost use Rattle.sgx_types.specs.declared.entries.Action.TheVariants as actions;
 ghost use Rattle.sgx_types.specs.declared.entries.Entry.{Entry};
 ghost use Rattle.driver_rules.specs.Turns.{cpu_due};
 ghost use Rattle.driver_steps.specs.Agrees.{Agrees};
@@ -11,25 +10,27 @@ ghost use Rattle.turn_tables.specs.Asked.{CanAsk, after_by, cpu_by, early_by, in
 ghost use Rattle.turn_tables.specs.Asked.{outside_by};
 ghost use Rattle.turn_tables.specs.Asked.{frame_seen, page_behind, turn_by};
 ghost use Rattle.turn_tables.specs.CpuTurns.{turn_at};
+ghost use Rattle.turn_tables.specs.declared.steps.CpuStep.TheVariants as steps;
 ghost use Rattle.turn_tables.specs.Due.{IsOrderly, IsReady, due_in};
 ghost use Rattle.turn_tables.specs.Shown.{ShowsTurns};
 ghost use Rattle.turn_tables.specs.TcsTurns.{tcs_at};
 
 use crate::cpu_turns::{CpuTurn, Interruption, Last};
-use crate::dues::TurnDue;
+use crate::dues::CpuDue;
 use crate::operations::access_page;
+use crate::steps::CpuStep;
 use crate::turns::Turns;
 use cached_translations::processor::Mode;
 use driver_rules::waits::Why;
 use driver_tables::driver::Driver;
 use job_grammar::jobs::{Job, Op};
 use paging_machine::machine::Machine;
-use sgx_types::entries::{Action, Actor, Cause};
+use sgx_types::entries::{Actor, Cause};
 use sgx_types::names::{Cpu, Page};
 
 impl Turns {
     /// What a processor does next. Constant time.
-    pub fn cpu_due(&self, job: &Job, driver: &Driver, machine: &Machine, cpu: Cpu) -> TurnDue
+    pub fn cpu_due(&self, job: &Job, driver: &Driver, machine: &Machine, cpu: Cpu) -> CpuDue
         requires cpu { cpu.0 < length job.now.scripts }
         requires ready { IsReady job.now driver.now machine.now self.now }
         ensures { (made : Making) (past : List Entry) → Agrees made job.now past driver.now machine.now → IsOrderly job.now past
@@ -39,26 +40,26 @@ impl Turns {
     }
 
     // .. by what the tables show.
-    fn cpu_due_by(&self, job: &Job, driver: &Driver, machine: &Machine, cpu: Cpu) -> TurnDue
+    fn cpu_due_by(&self, job: &Job, driver: &Driver, machine: &Machine, cpu: Cpu) -> CpuDue
         requires cursor { IsCursor job.now self.now.cursor }
         requires can { CanAsk driver.now machine.now self.now cpu.0 }
         ensures { result ≡ cpu_by self.now.is_spent (looks_at driver.now machine.now self.now cpu.0) (turn_at self.now.cpus cpu.0)
             (is_last_by cpu.0 self.now.last) (op_at job.now cpu.0 (turn_at self.now.cpus cpu.0).replied) (next_step job.now self.now) }
     {
         if self.is_spent {
-            return TurnDue::Stopped;
+            return CpuDue::Stopped;
         }
         let turn = self.cpus.get(cpu);
         match turn.last {
-            Last::Loads { frame, .. } => TurnDue::Ends(frame),
+            Last::Loads { frame, .. } => CpuDue::Ends(frame),
             Last::Fails { page, why } => {
                 if self.is_last(cpu) {
-                    TurnDue::Reports { page, why }
+                    CpuDue::Reports { page, why }
                 } else {
-                    TurnDue::Finished
+                    CpuDue::Finished
                 }
             }
-            Last::WasEnded => TurnDue::Finished,
+            Last::WasEnded => CpuDue::Finished,
             Last::Other => self.turn_due(job, driver, machine, cpu, turn),
         }
     }
@@ -81,7 +82,7 @@ impl Turns {
         machine: &Machine,
         cpu: Cpu,
         turn: CpuTurn,
-    ) -> TurnDue
+    ) -> CpuDue
         requires cursor { IsCursor job.now self.now.cursor }
         requires can { CanAsk driver.now machine.now self.now cpu.0 }
         ensures { result ≡ turn_by (looks_at driver.now machine.now self.now cpu.0) turn (op_at job.now cpu.0 turn.replied)
@@ -98,7 +99,6 @@ impl Turns {
     }
 
     // Outside: nothing more at the script's end; else first the resumption behind an exit that no operation asked for.
-    #[inline(never)]
     fn outside_turn(
         &self,
         driver: &Driver,
@@ -106,12 +106,12 @@ impl Turns {
         cpu: Cpu,
         interruption: Option<Interruption>,
         op: Option<Op>,
-    ) -> TurnDue
+    ) -> CpuDue
         requires { CanAsk driver.now machine.now self.now cpu.0 }
         ensures { result ≡ outside_by (looks_at driver.now machine.now self.now cpu.0) interruption op }
     {
         let Some(op) = op else {
-            return TurnDue::Finished;
+            return CpuDue::Finished;
         };
         match interruption {
             Some(interruption) => self.resumption(driver, interruption, op),
@@ -120,7 +120,7 @@ impl Turns {
     }
 
     // The resumption behind an interruption, with the page of the access behind a fault.
-    fn resumption(&self, driver: &Driver, interruption: Interruption, op: Op) -> TurnDue
+    fn resumption(&self, driver: &Driver, interruption: Interruption, op: Op) -> CpuDue
         requires { map length self.now.tcs ≡ driver.now.states.counts }
         ensures { result ≡ after_by (frame_seen driver.now self.now) (tcs_at self.now.tcs) interruption op }
     {
@@ -139,7 +139,7 @@ impl Turns {
         cpu: Cpu,
         is_kicked: bool,
         op: Option<Op>,
-    ) -> TurnDue
+    ) -> CpuDue
         requires { CanAsk driver.now machine.now self.now cpu.0 }
         ensures { result ≡ inside_by (looks_at driver.now machine.now self.now cpu.0) is_kicked op }
     {
@@ -164,18 +164,18 @@ fn page_behind(interruption: Interruption, op: Op) -> Option<Page>
     }
 }
 
-fn leaves(cause: Cause) -> TurnDue
-    ensures { result ≡ TurnDue.Makes (actions.Aex cause) }
+fn leaves(cause: Cause) -> CpuDue
+    ensures { result ≡ CpuDue.Makes (steps.Aex cause) }
 {
-    TurnDue::Makes(Action::Aex { cause })
+    CpuDue::Makes(CpuStep::Aex { cause })
 }
 
-fn early_turn(mode: Mode, op: Option<Op>) -> TurnDue
+fn early_turn(mode: Mode, op: Option<Op>) -> CpuDue
     ensures { result ≡ early_by mode op }
 {
     match (mode, op) {
-        (Mode::Outside, None) => TurnDue::Finished,
-        _ => TurnDue::Waits(Why::Building),
+        (Mode::Outside, None) => CpuDue::Finished,
+        _ => CpuDue::Waits(Why::Building),
     }
 }
 

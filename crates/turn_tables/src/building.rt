@@ -8,10 +8,10 @@ ghost use Rattle.driver_rules.specs.Turns.{builder_due};
 ghost use Rattle.driver_steps.specs.Agrees.{Agrees};
 ghost use Rattle.turn_rules.specs.Cursor.{IsCursor};
 ghost use Rattle.turn_tables.specs.Asked.{IsBuilderDue, next_step, standing_seen, step_by, with_frame};
-ghost use Rattle.turn_tables.specs.Due.{IsOrderly, IsReady, due_in};
+ghost use Rattle.turn_tables.specs.Due.{IsOrderly, IsReady, building_in};
 ghost use Rattle.turn_tables.specs.Shown.{ShowsTurns};
 
-use crate::dues::TurnDue;
+use crate::dues::BuilderDue;
 use crate::turns::Turns;
 use driver_rules::waits::Why;
 use driver_tables::driver::Driver;
@@ -23,27 +23,27 @@ use turn_rules::steps::BuildStep;
 
 impl Turns {
     /// What the builder does next: its next step, with the least free frame or that of the page that it measures. Constant time.
-    pub fn builder_due(&self, job: &Job, driver: &Driver, machine: &Machine) -> TurnDue
+    pub fn builder_due(&self, job: &Job, driver: &Driver, machine: &Machine) -> BuilderDue
         requires { IsReady job.now driver.now machine.now self.now }
         ensures { (made : Making) (past : List Entry) → Agrees made job.now past driver.now machine.now → IsOrderly job.now past
-            → ShowsTurns job.now past self.now → due_in job.now past result ≡ builder_due job.now past }
+            → ShowsTurns job.now past self.now → building_in result ≡ builder_due job.now past }
     {
         self.builder_due_by(job, driver, machine)
     }
 
     // .. by what the tables show.
-    fn builder_due_by(&self, job: &Job, driver: &Driver, machine: &Machine) -> TurnDue
+    fn builder_due_by(&self, job: &Job, driver: &Driver, machine: &Machine) -> BuilderDue
         requires cursor { IsCursor job.now self.now.cursor }
         requires places { map length self.now.tcs ≡ driver.now.states.counts }
         ensures { IsBuilderDue job.now driver.now machine.now self.now result }
     {
         let free = machine.first_free();
         if self.is_spent {
-            return TurnDue::Stopped;
+            return BuilderDue::Stopped;
         }
         match self.next_step(job) {
             Some(step) => self.step_due(driver, free, step),
-            None => TurnDue::Finished,
+            None => BuilderDue::Finished,
         }
     }
 
@@ -65,13 +65,13 @@ impl Turns {
     }
 
     // A step that makes a page takes the free frame, and one that measures that of its page.
-    fn step_due(&self, driver: &Driver, free: Option<Frame>, step: BuildStep) -> TurnDue
+    fn step_due(&self, driver: &Driver, free: Option<Frame>, step: BuildStep) -> BuilderDue
         requires { map length self.now.tcs ≡ driver.now.states.counts }
         ensures { result ≡ step_by free (standing_seen driver.now self.now) step }
     {
         match step {
             BuildStep::Init { enclave, expect } => {
-                TurnDue::Makes(Action::Init { enclave, expect })
+                BuilderDue::Makes(Action::Init { enclave, expect })
             }
             BuildStep::Extend {
                 enclave,
@@ -86,12 +86,12 @@ impl Turns {
 }
 
 // The instruction of a step with its frame. Without one it waits.
-fn with_frame(step: BuildStep, frame: Option<Frame>) -> TurnDue
+fn with_frame(step: BuildStep, frame: Option<Frame>) -> BuilderDue
     ensures { result ≡ with_frame step frame }
 {
     match frame {
-        Some(frame) => TurnDue::Makes(step_action(step, frame)),
-        None => TurnDue::Waits(Why::NoFrame),
+        Some(frame) => BuilderDue::Makes(step_action(step, frame)),
+        None => BuilderDue::Waits(Why::NoFrame),
     }
 }
 

@@ -1,7 +1,7 @@
 //! How its entries left each processor.
 
-ghost use Rattle.std.specs.Prelude.{◌≡◌, ◌<◌, length, replicate, slice_set, IfOk};
-ghost use Rattle.turn_tables.specs.CpuTurns.{first_turn, turn_at};
+ghost use Rattle.std.specs.Prelude.{◌≡◌, ◌<◌, ◌^◌, length, replicate, slice_set, IfOk};
+ghost use Rattle.turn_tables.specs.CpuTurns.{first_turn, replying, turn_at};
 
 use sgx_types::entries::BusWhy;
 use sgx_types::names::{Cpu, Frame, Memory, Page};
@@ -88,6 +88,17 @@ impl CpuTurns {
         ensures { result ≡ turn_at self.now cpu.0 }
     {
         self.turns[usize::from(cpu.0)]
+    }
+
+    /// One more operation of a processor has its reply, and none of its loads stands.
+    pub(crate) fn reply(&mut self, cpu: Cpu)
+        requires cpu { cpu.0 < length self.old }
+        requires few { (turn_at self.old cpu.0).replied < 2 ^ 63 }
+        ensures { self.new ≡ slice_set self.old cpu.0 (replying (turn_at self.old cpu.0)) }
+    {
+        let turn = &mut self.turns[usize::from(cpu.0)];
+        turn.replied += 1;
+        turn.last = Last::Other;
     }
 
     /// What stands of a processor from now on.

@@ -1,12 +1,29 @@
 //! What is due to an actor, as far as the tables tell it.
 
+use crate::steps::CpuStep;
 use driver_rules::waits::Why;
 use sgx_types::entries::{Action, BusWhy};
 use sgx_types::names::{Frame, Page};
 
-/// What is due to the builder or to a processor. Where a page is needed that is not here, the fault step says what comes of it.
+/// What is due to the builder.
 #[derive(Clone, Copy, Debug, PartialEq, Eq)]
-pub enum TurnDue {
+pub enum BuilderDue {
+    /// Nothing, since the run was stopped.
+    Stopped,
+
+    /// Nothing more.
+    Finished,
+
+    /// No entry yet.
+    Waits(Why),
+
+    /// This instruction.
+    Makes(Action),
+}
+
+/// What is due to a processor. Where a page is needed that is not here, the fault step says what comes of it.
+#[derive(Clone, Copy, Debug, PartialEq, Eq)]
+pub enum CpuDue {
     /// Nothing, since the run was stopped.
     Stopped,
 
@@ -20,7 +37,7 @@ pub enum TurnDue {
     Ends(Frame),
 
     /// This instruction.
-    Makes(Action),
+    Makes(CpuStep),
 
     /// An entry that tells why a page did not come back.
     Reports { page: Page, why: BusWhy },

@@ -51,6 +51,7 @@ impl Turns {
     /// nothing where the entry is another actor's. The holds of a processor end with its reply; else it begins to hold the page whose
     /// translation it takes, the page for which it left, a page that it brings back with those that it needs before it, and the TCS
     /// page and the state save page by which it resumes. The builder holds the page that it measures next.
+    #[inline(always)]
     pub fn hold(&self, job: &Job, active: &mut Active, before: Mode, entry: &Entry)
         requires { CanHold job.now active.old before self.now entry.now }
         ensures holds { (can : CanHold job.now active.old before self.now entry.now)

@@ -12,5 +12,6 @@ mod noting;
 pub mod operations;
 mod pages;
 mod replies;
+pub mod steps;
 pub mod tcs_turns;
 pub mod turns;

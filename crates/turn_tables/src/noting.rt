@@ -24,6 +24,7 @@ use turn_rules::cursor::BuildCursor;
 impl Turns {
     /// Takes an entry of any actor into the tables. `before` is how the entry's processor stood before it, and counts for nothing where
     /// the entry is another actor's.
+    #[inline(always)]
     pub fn note(&mut self, job: &Job, before: Mode, entry: &Entry)
         requires cursor { IsCursor job.now self.old.cursor }
         requires cpu { IsAmong (length self.old.cpus) entry.now.actor }
@@ -37,6 +38,29 @@ impl Turns {
 
     // What it does.
     fn note_by(&mut self, job: &Job, before: Mode, entry: &Entry)
+        requires cursor { IsCursor job.now self.old.cursor }
+        requires cpu { IsAmong (length self.old.cpus) entry.now.actor }
+        requires few { AreFew self.old }
+        ensures { IsNoted job.now self.old before entry.now self.new }
+    {
+        match (entry.actor, &entry.event) {
+            // Most entries are accesses that are done. They are replies and no more.
+            (
+                Actor::Cpu(cpu),
+                Event::Did {
+                    action: Action::Load { .. } | Action::Store { .. } | Action::Xadd { .. },
+                    ..
+                },
+            ) => {
+                self.cpus.reply(cpu);
+                self.last = Some(entry.actor);
+            }
+            _ => self.note_each(job, before, entry),
+        }
+    }
+
+    // .. to each table.
+    fn note_each(&mut self, job: &Job, before: Mode, entry: &Entry)
         requires cursor { IsCursor job.now self.old.cursor }
         requires cpu { IsAmong (length self.old.cpus) entry.now.actor }
         requires few { AreFew self.old }

@@ -2,18 +2,19 @@
 
 ghost use Rattle.std.specs.Prelude.{◌≡◌, ◌||◌, false, not, length, map, slice_index_or};
 ghost use Rattle.cached_translations.specs.Modes.{is_inside};
-ghost use Rattle.sgx_types.specs.declared.entries.Action.TheVariants as actions;
+ghost use Rattle.turn_tables.specs.declared.steps.CpuStep.TheVariants as steps;
 ghost use Rattle.turn_tables.specs.Asked.{CanAsk, access_by, access_in, access_page, enters_by, fill_by, frame_seen, last_save_of};
 ghost use Rattle.turn_tables.specs.Asked.{looks_at, next_save_of, op_by, page_of, resumes_by, with_access};
 ghost use Rattle.turn_tables.specs.TcsTurns.{tcs_at};
 
-use crate::dues::TurnDue;
+use crate::dues::CpuDue;
+use crate::steps::CpuStep;
 use crate::turns::Turns;
 use cached_translations::processor::Mode;
 use driver_tables::driver::Driver;
 use job_grammar::jobs::Op;
 use paging_machine::machine::Machine;
-use sgx_types::entries::{AccessOp, Action, Cause};
+use sgx_types::entries::{AccessOp, Cause};
 use sgx_types::names::{Cpu, Frame, Page};
 
 // Who is turned away names this frame, and is refused whatever it holds.
@@ -22,15 +23,15 @@ const NO_FRAME: Frame = Frame(0);
 impl Turns {
     /// The next step of an operation.
     #[inline(always)]
-    pub(crate) fn op_due(&self, driver: &Driver, machine: &Machine, cpu: Cpu, op: Op) -> TurnDue
+    pub(crate) fn op_due(&self, driver: &Driver, machine: &Machine, cpu: Cpu, op: Op) -> CpuDue
         requires { CanAsk driver.now machine.now self.now cpu.0 }
         ensures { result ≡ op_by (looks_at driver.now machine.now self.now cpu.0) op }
     {
         match op {
             Op::Enter { enclave, tcs } => self.enter_due(driver, machine, cpu, enclave, tcs),
             Op::Resume { enclave, tcs } => self.resume_due(driver, machine, cpu, enclave, tcs),
-            Op::Exit => TurnDue::Makes(Action::Exit),
-            Op::Timer => TurnDue::Makes(Action::Aex {
+            Op::Exit => CpuDue::Makes(CpuStep::Exit),
+            Op::Timer => CpuDue::Makes(CpuStep::Aex {
                 cause: Cause::Timer,
             }),
             Op::Load { off } => {
@@ -40,25 +41,25 @@ impl Turns {
                     cpu,
                     AccessOp::Load,
                     off,
-                    Action::Load { off },
+                    CpuStep::Load { off },
                 )
             }
             Op::Store { off, value } => {
-                let access = Action::Store { off, value };
+                let access = CpuStep::Store { off, value };
                 self.access(driver, machine, cpu, AccessOp::Store, off, access)
             }
             Op::Xadd { off, value } => {
-                let access = Action::Xadd { off, value };
+                let access = CpuStep::Xadd { off, value };
                 self.access(driver, machine, cpu, AccessOp::Xadd, off, access)
             }
-            Op::Set { value } => TurnDue::Makes(Action::Set { value }),
-            Op::Plus { value } => TurnDue::Makes(Action::Plus { value }),
-            Op::OutLoad { enclave, off } => TurnDue::Makes(Action::OutLoad { enclave, off }),
+            Op::Set { value } => CpuDue::Makes(CpuStep::Set { value }),
+            Op::Plus { value } => CpuDue::Makes(CpuStep::Plus { value }),
+            Op::OutLoad { enclave, off } => CpuDue::Makes(CpuStep::OutLoad { enclave, off }),
             Op::OutStore {
                 enclave,
                 off,
                 value,
-            } => TurnDue::Makes(Action::OutStore {
+            } => CpuDue::Makes(CpuStep::OutStore {
                 enclave,
                 off,
                 value,
@@ -66,8 +67,6 @@ impl Turns {
         }
     }
 
-    // Entries and resumptions stand out of line, so that an access makes no room for them.
-    #[inline(never)]
     fn enter_due(
         &self,
         driver: &Driver,
@@ -75,12 +74,12 @@ impl Turns {
         cpu: Cpu,
         enclave: u16,
         tcs: u32,
-    ) -> TurnDue
+    ) -> CpuDue
         requires { CanAsk driver.now machine.now self.now cpu.0 }
         ensures { result ≡ op_by (looks_at driver.now machine.now self.now cpu.0) (Op.Enter enclave tcs) }
     {
         if self.is_turned_away(machine.mode(cpu), enclave) {
-            return TurnDue::Makes(Action::Enter {
+            return CpuDue::Makes(CpuStep::Enter {
                 enclave,
                 tcs,
                 tcs_frame: NO_FRAME,
@@ -91,7 +90,6 @@ impl Turns {
         self.enters(driver, Page { enclave, number })
     }
 
-    #[inline(never)]
     fn resume_due(
         &self,
         driver: &Driver,
@@ -99,12 +97,12 @@ impl Turns {
         cpu: Cpu,
         enclave: u16,
         tcs: u32,
-    ) -> TurnDue
+    ) -> CpuDue
         requires { CanAsk driver.now machine.now self.now cpu.0 }
         ensures { result ≡ op_by (looks_at driver.now machine.now self.now cpu.0) (Op.Resume enclave tcs) }
     {
         if self.is_turned_away(machine.mode(cpu), enclave) {
-            return TurnDue::Makes(Action::Resume {
+            return CpuDue::Makes(CpuStep::Resume {
                 enclave,
                 tcs,
                 tcs_frame: NO_FRAME,
@@ -133,29 +131,29 @@ impl Turns {
 
     // With its pages here it enters, by their frames: those of the TCS page and of the state save page, that of the first alone where
     // all of these are in use.
-    fn enters(&self, driver: &Driver, tcs: Page) -> TurnDue
+    fn enters(&self, driver: &Driver, tcs: Page) -> CpuDue
         requires { map length self.now.tcs ≡ driver.now.states.counts }
         ensures { result ≡ enters_by (frame_seen driver.now self.now) tcs (next_save_of tcs.enclave (tcs_at self.now.tcs tcs)) }
     {
         let Some(tcs_frame) = self.frame(driver, tcs) else {
-            return TurnDue::Needs(tcs);
+            return CpuDue::Needs(tcs);
         };
         let Some(save) = self.next_save(tcs) else {
             return enter(tcs, tcs_frame, tcs_frame);
         };
         match self.frame(driver, save) {
             Some(ssa_frame) => enter(tcs, tcs_frame, ssa_frame),
-            None => TurnDue::Needs(save),
+            None => CpuDue::Needs(save),
         }
     }
 
     /// With its pages here it resumes: the TCS page, the state save page that was used last, and the page of an access.
-    pub(crate) fn resumes(&self, driver: &Driver, tcs: Page, access: Option<Page>) -> TurnDue
+    pub(crate) fn resumes(&self, driver: &Driver, tcs: Page, access: Option<Page>) -> CpuDue
         requires { map length self.now.tcs ≡ driver.now.states.counts }
         ensures { result ≡ resumes_by (frame_seen driver.now self.now) tcs (last_save_of tcs.enclave (tcs_at self.now.tcs tcs)) access }
     {
         let Some(tcs_frame) = self.frame(driver, tcs) else {
-            return TurnDue::Needs(tcs);
+            return CpuDue::Needs(tcs);
         };
         let Some(save) = self.last_save(tcs) else {
             return self.with_access(driver, access, resume(tcs, tcs_frame, tcs_frame));
@@ -164,12 +162,12 @@ impl Turns {
             Some(ssa_frame) => {
                 self.with_access(driver, access, resume(tcs, tcs_frame, ssa_frame))
             }
-            None => TurnDue::Needs(save),
+            None => CpuDue::Needs(save),
         }
     }
 
     // With the page of its access here too.
-    fn with_access(&self, driver: &Driver, access: Option<Page>, due: TurnDue) -> TurnDue
+    fn with_access(&self, driver: &Driver, access: Option<Page>, due: CpuDue) -> CpuDue
         requires { map length self.now.tcs ≡ driver.now.states.counts }
         ensures { result ≡ with_access (frame_seen driver.now self.now) access due }
     {
@@ -178,11 +176,12 @@ impl Turns {
         };
         match self.frame(driver, page) {
             Some(_) => due,
-            None => TurnDue::Needs(page),
+            None => CpuDue::Needs(page),
         }
     }
 
-    // An access outside is made, and refused.
+    // An access outside is made, and refused. It stands in line, as `access_inside`, so that what is due is not copied.
+    #[inline(always)]
     fn access(
         &self,
         driver: &Driver,
@@ -190,13 +189,13 @@ impl Turns {
         cpu: Cpu,
         op: AccessOp,
         off: u64,
-        access: Action,
-    ) -> TurnDue
+        access: CpuStep,
+    ) -> CpuDue
         requires { CanAsk driver.now machine.now self.now cpu.0 }
         ensures { let look = looks_at driver.now machine.now self.now cpu.0 in result ≡ access_by look look.mode op off access }
     {
         match machine.mode(cpu) {
-            Mode::Outside => TurnDue::Makes(access),
+            Mode::Outside => CpuDue::Makes(access),
             Mode::Inside { enclave, .. } => {
                 self.access_inside(driver, machine, cpu, enclave, op, off, access)
             }
@@ -205,6 +204,7 @@ impl Turns {
 
     // One inside that cannot succeed is told as a fault. Another one goes by a translation, which is filled first where none is held;
     // for a page that is not here the processor leaves.
+    #[inline(always)]
     fn access_inside(
         &self,
         driver: &Driver,
@@ -213,26 +213,26 @@ impl Turns {
         enclave: u16,
         op: AccessOp,
         off: u64,
-        access: Action,
-    ) -> TurnDue
+        access: CpuStep,
+    ) -> CpuDue
         requires { CanAsk driver.now machine.now self.now cpu.0 }
         ensures { result ≡ access_in (looks_at driver.now machine.now self.now cpu.0) enclave op off access }
     {
         let page = page_of(enclave, off);
         if !machine.lawful(page, op) {
-            return TurnDue::Makes(Action::Pf { op, off });
+            return CpuDue::Makes(CpuStep::Pf { op, off });
         }
         if machine.holds(cpu, page.number) {
-            return TurnDue::Makes(access);
+            return CpuDue::Makes(access);
         }
         fill(page.number, self.frame(driver, page))
     }
 }
 
-fn enter(tcs: Page, tcs_frame: Frame, ssa_frame: Frame) -> TurnDue
-    ensures { result ≡ TurnDue.Makes (actions.Enter tcs.enclave tcs.number tcs_frame ssa_frame) }
+fn enter(tcs: Page, tcs_frame: Frame, ssa_frame: Frame) -> CpuDue
+    ensures { result ≡ CpuDue.Makes (steps.Enter tcs.enclave tcs.number tcs_frame ssa_frame) }
 {
-    TurnDue::Makes(Action::Enter {
+    CpuDue::Makes(CpuStep::Enter {
         enclave: tcs.enclave,
         tcs: tcs.number,
         tcs_frame,
@@ -240,10 +240,10 @@ fn enter(tcs: Page, tcs_frame: Frame, ssa_frame: Frame) -> TurnDue
     })
 }
 
-fn resume(tcs: Page, tcs_frame: Frame, ssa_frame: Frame) -> TurnDue
-    ensures { result ≡ TurnDue.Makes (actions.Resume tcs.enclave tcs.number tcs_frame ssa_frame) }
+fn resume(tcs: Page, tcs_frame: Frame, ssa_frame: Frame) -> CpuDue
+    ensures { result ≡ CpuDue.Makes (steps.Resume tcs.enclave tcs.number tcs_frame ssa_frame) }
 {
-    TurnDue::Makes(Action::Resume {
+    CpuDue::Makes(CpuStep::Resume {
         enclave: tcs.enclave,
         tcs: tcs.number,
         tcs_frame,
@@ -252,12 +252,12 @@ fn resume(tcs: Page, tcs_frame: Frame, ssa_frame: Frame) -> TurnDue
 }
 
 // A page that is here is filled, for another one the processor leaves.
-fn fill(number: u32, frame: Option<Frame>) -> TurnDue
+fn fill(number: u32, frame: Option<Frame>) -> CpuDue
     ensures { result ≡ fill_by number frame }
 {
     match frame {
-        Some(frame) => TurnDue::Makes(Action::Fill { number, frame }),
-        None => TurnDue::Makes(Action::Aex {
+        Some(frame) => CpuDue::Makes(CpuStep::Fill { number, frame }),
+        None => CpuDue::Makes(CpuStep::Aex {
             cause: Cause::Fault,
         }),
     }

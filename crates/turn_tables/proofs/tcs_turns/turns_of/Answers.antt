@@ -1,4 +1,4 @@
-use Rattle.std.proofs.Common.{false, ◌≡◌, ◌+◌, ℕ, None, get_or, length, ◌++◌, ap, ◌∙◌, arith}
+use Rattle.std.proofs.Common.{false, ◌≡◌, None, get_or, length, ap, ◌∙◌, arith}
 use Rattle.job_grammar.specs.declared.jobs.PageLine.TheVariants as lines
 use Rattle.driver_tables.proofs.BuildLaws.{each_end}
 use Rattle.turn_tables.proofs.PlaceLaws.{taken_more}

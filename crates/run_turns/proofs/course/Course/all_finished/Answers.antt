@@ -5,16 +5,16 @@ use Rattle.run_turns.specs.Courses.{past_of}
 use Rattle.run_turns.proofs.FinishLaws.{all_done, built_is, cpu_is, more_finished, not_built, not_done, one_unfinished}
 use Rattle.run_turns.proofs.course.Course.all_finished.Goals as goal
 
-pub returns-then-is_left : goal.returns-then-is_left
-returns-then-is_left c =
+pub returns-then-is_building : goal.returns-then-is_building
+returns-then-is_building c =
     let j = c.args.self.now.job in
     let past = past_of c.args.self.now in
     let k = c.requires.can.keeps.book in
     sym (not_built j past (built_is j past c.builder_due-due.result true c.requires.going
-    (c.builder_due-due.ensures (machine_of j) past k.agrees k.orderly k.turns) (sym c.is_left.ensures ∙ c.if-is_left.true)))
+    (c.builder_due-due.ensures (machine_of j) past k.agrees k.orderly k.turns) (sym c.is_building.ensures ∙ c.if-is_building.true)))
 
-pub returns-then-is_left-2 : goal.returns-then-is_left-2
-returns-then-is_left-2 c =
+pub returns-then-is_left : goal.returns-then-is_left
+returns-then-is_left c =
     let j = c.args.self.now.job in
     let past = past_of c.args.self.now in
     let k = c.requires.can.keeps.book in
@@ -22,7 +22,7 @@ returns-then-is_left-2 c =
     sym (not_done j past (one_unfinished j past c.loop-number.number (length j.scripts) low
     (cpu_is j past c.loop-number.number c.cpu_due-due.result true
     (c.cpu_due-due.ensures (machine_of j) past k.agrees k.orderly k.turns)
-    (sym c.is_left-in-loop-number.ensures ∙ c.if-is_left-2.true))))
+    (sym c.is_left.ensures ∙ c.if-is_left.true))))
 
 pub loop-number-preserved : goal.loop-number-preserved
 loop-number-preserved c =
@@ -32,7 +32,7 @@ loop-number-preserved c =
     more_finished j past c.loop-number.number
     (cpu_is j past c.loop-number.number c.cpu_due-due.result false
     (c.cpu_due-due.ensures (machine_of j) past k.agrees k.orderly k.turns)
-    (sym c.is_left-in-loop-number.ensures ∙ c.if-is_left-2.false)) c.loop-number.invariant
+    (sym c.is_left.ensures ∙ c.if-is_left.false)) c.loop-number.invariant
 
 pub returns : goal.returns
 returns c =
@@ -43,5 +43,5 @@ returns c =
     let all = k.agrees.shows.cpus in omega (arith, c.loop-number.auto.number-end, c.loop-number-test.false, all) in
     sym (all_done j past
     (built_is j past c.builder_due-due.result false c.requires.going
-    (c.builder_due-due.ensures (machine_of j) past k.agrees k.orderly k.turns) (sym c.is_left.ensures ∙ c.if-is_left.false))
+    (c.builder_due-due.ensures (machine_of j) past k.agrees k.orderly k.turns) (sym c.is_building.ensures ∙ c.if-is_building.false))
     (subst (λ n. are_finished j past n ≡ true) whole c.loop-number.invariant))

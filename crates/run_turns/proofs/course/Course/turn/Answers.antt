@@ -1,6 +1,6 @@
 use Rattle.std.proofs.Common.{refl, sym, ap, subst, ◌∙◌}
 use Rattle.turn_rules.specs.Machines.{machine_of}
-use Rattle.turn_tables.specs.Due.{due_in}
+use Rattle.turn_tables.specs.Due.{due_in, made_by}
 use Rattle.run_turns.specs.Courses.{past_of}
 use Rattle.run_turns.specs.Turns.{IsWaitBy}
 use Rattle.run_turns.proofs.ReportLaws.{none_reports}
@@ -74,7 +74,7 @@ pub returns-in-Makes-clause-turn : goal.returns-in-Makes-clause-turn
 returns-in-Makes-clause-turn g c =
     let s = c.args.self.now in
     let k = c.requires.keeps.book in
-    made_turn s c.instruct.new.self c.args.cpu c.in-Makes.action c.instruct.result
+    made_turn s c.instruct.new.self c.args.cpu (made_by c.in-Makes.step) c.instruct.result
     (record {
       told = g.S.Backing.told c.args.store.now;
       spare = g.S.Backing.spare c.args.store.now;
@@ -90,7 +90,7 @@ pub returns-in-Makes-clause-keeps : goal.returns-in-Makes-clause-keeps
 returns-in-Makes-clause-keeps g c =
     let s = c.args.self.now in
     let k = c.requires.keeps.book in
-    made_keeps s c.instruct.new.self c.args.cpu c.in-Makes.action c.instruct.result
+    made_keeps s c.instruct.new.self c.args.cpu (made_by c.in-Makes.step) c.instruct.result
     (record {
       told = g.S.Backing.told c.args.store.now;
       spare = g.S.Backing.spare c.args.store.now;

@@ -1,5 +1,5 @@
 use Rattle.std.proofs.Common.{ap, ◌∙◌}
-use Rattle.turn_tables.specs.Due.{due_in}
+use Rattle.turn_tables.specs.Due.{building_in}
 use Rattle.turn_tables.proofs.DueLaws.{builder_is}
 use Rattle.turn_tables.proofs.LookLaws.{places_same}
 use Rattle.turn_tables.proofs.turns.Turns.builder_due.Goals as goal
@@ -13,6 +13,6 @@ builder_due_by-requires-clause-places c =
 
 pub returns : goal.returns
 returns c = λ made past a o s.
-    ap (due_in c.args.job.now past) c.builder_due_by.ensures.answer
+    ap building_in c.builder_due_by.ensures.answer
     ∙ builder_is made c.args.job.now past c.args.driver.now c.args.machine.now c.args.self.now c.builder_due_by.ensures.free
     c.builder_due_by.ensures.least a o s
