@@ -93,7 +93,7 @@ module _ (made : Making) (j : JobView) (past : List Entry) (d : Driver) (m : Par
   next_is (dues.Waits why) event = refl
   next_is (dues.Ends f) event = refl
   next_is (dues.Makes step) event = refl
-  next_is (dues.Reports page why) event = refl
+  next_is (dues.Reports why page) event = refl
   next_is (dues.Needs page) event = fetch_is page event
 
 pub built_is : (due : BuilderDue) (event : Event) → built_by due event ≡ is_next (building_in due) event

@@ -48,7 +48,7 @@ next_by slots free Finished event = false
 next_by slots free (Waits why) event = false
 next_by slots free (Ends f) event = is_action (action_of event) (Eld f)
 next_by slots free (Makes step) event = is_action (action_of event) (made_by step)
-next_by slots free (Reports page why) event = is_stop page why event
+next_by slots free (Reports why page) event = is_stop page why event
 next_by slots free (Needs page) event = fetch_by page (slots page) free event
 
 -- .. by what is due to the builder

@@ -59,7 +59,7 @@ end_is j past dues.Finished = refl
 end_is j past (dues.Waits reason) = refl
 end_is j past (dues.Ends f) = refl
 end_is j past (dues.Makes step) = refl
-end_is j past (dues.Reports page reason) = refl
+end_is j past (dues.Reports reason page) = refl
 end_is j past (dues.Needs page) = not_fetched j.epc past page (place past page)
 
 build_end_is : (due : BuilderDue) → is_finished (building_in due) ≡ not (is_building due)

@@ -231,7 +231,7 @@ turn_by look x op (Some step) = early_by look.mode op
 
 abbrev pub after_last : Last → Bool → CpuDue → CpuDue
 after_last (ways.Loads f page) is_direct turn = Ends f
-after_last (ways.Fails page why) true turn = Reports page why
+after_last (ways.Fails page why) true turn = Reports why page
 after_last (ways.Fails page why) false turn = Finished
 after_last ways.WasEnded is_direct turn = Finished
 after_last ways.Other is_direct turn = turn

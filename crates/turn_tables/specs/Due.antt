@@ -56,7 +56,7 @@ due_in j past dues.Finished = Finished
 due_in j past (dues.Waits why) = Waits why
 due_in j past (dues.Ends f) = Ends (actions.Eld f)
 due_in j past (dues.Makes step) = Makes (made_by step)
-due_in j past (dues.Reports page why) = Reports page why
+due_in j past (dues.Reports why page) = Reports page why
 due_in j past (dues.Needs page) = fetches j.epc past page (place past page)
 
 -- ---- state save pages

@@ -21,7 +21,8 @@ pub enum BuilderDue {
     Makes(Action),
 }
 
-/// What is due to a processor. Where a page is needed that is not here, the fault step says what comes of it.
+/// What is due to a processor. Where a page is needed that is not here, the fault step says what comes of it. It is handed on by each
+/// turn, so its parts stand where no other part lies across two of them.
 #[derive(Clone, Copy, Debug, PartialEq, Eq)]
 pub enum CpuDue {
     /// Nothing, since the run was stopped.
@@ -40,7 +41,7 @@ pub enum CpuDue {
     Makes(CpuStep),
 
     /// An entry that tells why a page did not come back.
-    Reports { page: Page, why: BusWhy },
+    Reports { why: BusWhy, page: Page },
 
     /// The first step for a page that it needs, and that is in no frame or on its way out.
     Needs(Page),
