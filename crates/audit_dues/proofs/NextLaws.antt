@@ -34,7 +34,7 @@ use Rattle.turn_tables.specs.Due.{building_in, due_in}
 use Rattle.turn_tables.specs.Shown.{ShowsTurns}
 use Rattle.turn_tables.specs.TcsTurns.{has_place}
 use Rattle.turn_tables.proofs.LookLaws.{places_same}
-use Rattle.audit_dues.specs.Next.{fetch_by, next_by, slot_if, slot_seen}
+use Rattle.audit_dues.specs.Next.{built_by, fetch_by, next_by, slot_if, slot_seen}
 
 module _ (made : Making) (j : JobView) (past : List Entry) (d : Driver) (m : Parts) (t : Turns) (a : Agrees made j past d m)
     (s : ShowsTurns j past t) where
