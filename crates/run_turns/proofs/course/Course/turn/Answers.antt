@@ -1,6 +1,7 @@
 use Rattle.std.proofs.Common.{refl, sym, ap, subst, ◌∙◌}
 use Rattle.turn_rules.specs.Machines.{machine_of}
-use Rattle.turn_tables.specs.Due.{due_in, made_by}
+use Rattle.driver_rules.specs.Dues.{Makes}
+use Rattle.turn_tables.specs.Due.{due_in}
 use Rattle.run_turns.specs.Courses.{past_of}
 use Rattle.run_turns.specs.Turns.{IsWaitBy}
 use Rattle.run_turns.proofs.ReportLaws.{none_reports}
@@ -27,7 +28,7 @@ instruct-requires g c =
       due = (
         c.requires.cpu,
         sym (c.cpu_due-due.ensures (machine_of s.job) (past_of s) k.agrees k.orderly k.turns)
-            ∙ ap (due_in s.job (past_of s)) c.in-Makes.is,
+            ∙ ap (due_in s.job (past_of s)) c.in-Makes.is ∙ ap Makes (sym c.action.ensures),
       );
     }
 
@@ -74,7 +75,7 @@ pub returns-in-Makes-clause-turn : goal.returns-in-Makes-clause-turn
 returns-in-Makes-clause-turn g c =
     let s = c.args.self.now in
     let k = c.requires.keeps.book in
-    made_turn s c.instruct.new.self c.args.cpu (made_by c.in-Makes.step) c.instruct.result
+    made_turn s c.instruct.new.self c.args.cpu c.action.result c.instruct.result
     (record {
       told = g.S.Backing.told c.args.store.now;
       spare = g.S.Backing.spare c.args.store.now;
@@ -82,7 +83,7 @@ returns-in-Makes-clause-turn g c =
       due = (
         c.requires.cpu,
         sym (c.cpu_due-due.ensures (machine_of s.job) (past_of s) k.agrees k.orderly k.turns)
-            ∙ ap (due_in s.job (past_of s)) c.in-Makes.is,
+            ∙ ap (due_in s.job (past_of s)) c.in-Makes.is ∙ ap Makes (sym c.action.ensures),
       );
     }) c.instruct.ensures.turn c.instruct.ensures.more c.instruct.ensures.quiet
 
@@ -90,7 +91,7 @@ pub returns-in-Makes-clause-keeps : goal.returns-in-Makes-clause-keeps
 returns-in-Makes-clause-keeps g c =
     let s = c.args.self.now in
     let k = c.requires.keeps.book in
-    made_keeps s c.instruct.new.self c.args.cpu (made_by c.in-Makes.step) c.instruct.result
+    made_keeps s c.instruct.new.self c.args.cpu c.action.result c.instruct.result
     (record {
       told = g.S.Backing.told c.args.store.now;
       spare = g.S.Backing.spare c.args.store.now;
@@ -98,6 +99,6 @@ returns-in-Makes-clause-keeps g c =
       due = (
         c.requires.cpu,
         sym (c.cpu_due-due.ensures (machine_of s.job) (past_of s) k.agrees k.orderly k.turns)
-            ∙ ap (due_in s.job (past_of s)) c.in-Makes.is,
+            ∙ ap (due_in s.job (past_of s)) c.in-Makes.is ∙ ap Makes (sym c.action.ensures),
       );
     }) c.instruct.ensures.more c.instruct.ensures.memory
