@@ -11,7 +11,7 @@ use crate::verdicts::print_verdict;
 use io_edges::giving::give_all;
 use io_edges::sinks::Sink;
 use job_grammar::jobs::Job;
-use sgx_types::entries::Entry;
+use sgx_rules::entries::Entry;
 use std::alloc::Global;
 use trace_auditor::audit::audit;
 use trace_auditor::verdict::Verdict;

@@ -2,8 +2,8 @@
 
 ghost use Rattle.std.specs.Prelude.{◌≡◌, ◌<◌, ◌≤◌, List, length};
 ghost use Rattle.sgx_types.specs.Making.{Making};
-ghost use Rattle.sgx_types.specs.Rules.{Along};
-ghost use Rattle.sgx_types.specs.declared.entries.Entry.{Entry};
+ghost use Rattle.sgx_rules.specs.Rules.{Along};
+ghost use Rattle.sgx_rules.specs.declared.entries.Entry.{Entry};
 ghost use Rattle.turn_rules.specs.Cursor.{IsCursor};
 ghost use Rattle.turn_rules.specs.Script.{script_of};
 ghost use Rattle.driver_rules.specs.Decided.{is_ended};

@@ -1,8 +1,8 @@
 //! Whether an event is what is due, where a page that is needed is fetched by its state in the driver's tables.
 
 ghost use Rattle.std.specs.Prelude.{◌≡◌, length, map, option_map};
-ghost use Rattle.sgx_types.specs.declared.entries.Event.{Event};
-ghost use Rattle.sgx_types.specs.Frames.{least_free};
+ghost use Rattle.sgx_rules.specs.declared.entries.Event.{Event};
+ghost use Rattle.sgx_rules.specs.Frames.{least_free};
 ghost use Rattle.turn_rules.specs.Script.{action_of};
 ghost use Rattle.paging_machine.specs.Parts.{state_of};
 ghost use Rattle.driver_rules.specs.Decided.{is_action, is_fetch, is_stop};
@@ -12,7 +12,7 @@ use crate::same::same_action;
 use active_list::page_states::PageState;
 use driver_tables::driver::Driver;
 use paging_machine::machine::Machine;
-use sgx_types::entries::{Action, BusWhy, Event};
+use sgx_rules::entries::{Action, BusWhy, Event};
 use sgx_types::names::{Frame, Page, SlotAt};
 use turn_tables::dues::{BuilderDue, CpuDue};
 use turn_tables::turns::Turns;

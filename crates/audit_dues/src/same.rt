@@ -3,7 +3,7 @@
 ghost use Rattle.std.specs.Prelude.{◌≡◌};
 ghost use Rattle.driver_rules.specs.Same.{same_action, same_perm};
 
-use sgx_types::entries::Action;
+use sgx_rules::entries::Action;
 use sgx_types::names::Perm;
 
 /// Whether two instructions are the same, with their operands.

@@ -2,7 +2,7 @@
 
 ghost use Rattle.std.specs.Prelude.{◌≡◌, List};
 ghost use Rattle.sgx_types.specs.Making.{Making};
-ghost use Rattle.sgx_types.specs.declared.entries.Entry.{Entry};
+ghost use Rattle.sgx_rules.specs.declared.entries.Entry.{Entry};
 ghost use Rattle.driver_rules.specs.Decided.{keeps_script};
 ghost use Rattle.driver_rules.specs.Scripts.{is_load};
 ghost use Rattle.driver_steps.specs.Agrees.{Agrees};
@@ -13,7 +13,8 @@ use crate::next::{is_build_step, is_next};
 use driver_tables::driver::Driver;
 use job_grammar::jobs::Job;
 use paging_machine::machine::Machine;
-use sgx_types::entries::{Action, Actor, Entry, Event};
+use sgx_rules::entries::{Action, Entry, Event};
+use sgx_types::names::Actor;
 use turn_tables::turns::Turns;
 
 /// Whether an entry is the one that is due to its actor, by the rule Script. The reclaimer may make every entry but loads, their ends,

@@ -1,18 +1,18 @@
 -- What the rules of a trace give.
 use Rattle.std.proofs.Common.{◌≡◌, ◌≤◌, ℕ, true, false, refl, sym, ap, subst, ◌∙◌, List, ◌∷◌, Option, Some, None}
 use Rattle.std.proofs.lemmas.Bool.{false≢true}
-use Rattle.sgx_types.specs.declared.entries.Action.TheVariants.{Eld}
-use Rattle.sgx_types.specs.declared.entries.Entry.{Entry}
-use Rattle.sgx_types.specs.declared.entries.Event.{Event}
-use Rattle.sgx_types.specs.declared.entries.Event.TheVariants.{Refused}
+use Rattle.sgx_rules.specs.declared.entries.Action.TheVariants.{Eld}
+use Rattle.sgx_rules.specs.declared.entries.Entry.{Entry}
+use Rattle.sgx_rules.specs.declared.entries.Event.{Event}
+use Rattle.sgx_rules.specs.declared.entries.Event.TheVariants.{Refused}
 use Rattle.sgx_types.specs.declared.names.Page.{Page}
 use Rattle.sgx_types.specs.declared.names.SlotAt.{SlotAt}
-use Rattle.sgx_types.specs.declared.refusals.Refusal.{Refusal}
-use Rattle.sgx_types.specs.declared.refusals.Refusal.TheVariants as why
-use Rattle.sgx_types.specs.Ends.{DoesNotFit, IsNotBack}
+use Rattle.sgx_rules.specs.declared.refusals.Refusal.{Refusal}
+use Rattle.sgx_rules.specs.declared.refusals.Refusal.TheVariants as why
+use Rattle.sgx_rules.specs.Ends.{DoesNotFit, IsNotBack}
 use Rattle.sgx_types.specs.Making.{Making}
-use Rattle.sgx_types.specs.Rules.{KeepsRules, RefusalRule}
-use Rattle.sgx_types.specs.Starts.{LoadsAreApart, Start, is_load_of, open_start}
+use Rattle.sgx_rules.specs.Rules.{KeepsRules, RefusalRule}
+use Rattle.sgx_rules.specs.Starts.{LoadsAreApart, Start, is_load_of, open_start}
 use Rattle.job_grammar.specs.Jobs.{JobView}
 use Rattle.turn_rules.specs.Machines.{machine_of}
 use Rattle.paging_machine.specs.Parts.{Parts}

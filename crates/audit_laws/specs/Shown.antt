@@ -1,6 +1,6 @@
 -- What an auditor keeps of a trace whose entries kept each rule so far.
 use Rattle.std.specs.Prelude.{◌≡◌, List, length}
-use Rattle.sgx_types.specs.declared.entries.Entry.{Entry}
+use Rattle.sgx_rules.specs.declared.entries.Entry.{Entry}
 use Rattle.seal_record.specs.Sealing.{made_by}
 use Rattle.job_grammar.specs.Jobs.{JobView}
 use Rattle.turn_rules.specs.Machines.{machine_of}

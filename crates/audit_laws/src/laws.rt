@@ -2,9 +2,9 @@
 
 ghost use Rattle.std.specs.Prelude.{ℕ, ◌≤◌, ◌∷◌, List};
 ghost use Rattle.sgx_types.specs.Making.{Making};
-ghost use Rattle.sgx_types.specs.Rules.{RefusalRule};
-ghost use Rattle.sgx_types.specs.Starts.{LoadsAreApart};
-ghost use Rattle.sgx_types.specs.declared.entries.Entry.{Entry};
+ghost use Rattle.sgx_rules.specs.Rules.{RefusalRule};
+ghost use Rattle.sgx_rules.specs.Starts.{LoadsAreApart};
+ghost use Rattle.sgx_rules.specs.declared.entries.Entry.{Entry};
 ghost use Rattle.job_grammar.specs.Jobs.{JobView};
 ghost use Rattle.turn_rules.specs.Machines.{machine_of};
 ghost use Rattle.paging_machine.specs.Parts.{Parts};

@@ -5,26 +5,26 @@ use Rattle.std.proofs.Common.{inl, inr, List, [], ◌∷◌, Option, Some, None}
 use Rattle.std.proofs.lemmas.Bool.{eqb-true, eq-eqb, and_from, false≢true}
 use Rattle.std.proofs.lemmas.Slice.Eq.{bytes_eq-Decides}
 use Rattle.std.proofs.lemmas.Option.{none-some, same_Some}
-use Rattle.sgx_types.specs.declared.entries.Entry.{Entry}
-use Rattle.sgx_types.specs.declared.entries.Event.{Event}
-use Rattle.sgx_types.specs.declared.entries.Event.TheVariants.{Did, Refused}
-use Rattle.sgx_types.specs.declared.entries.Actor.{Actor}
-use Rattle.sgx_types.specs.declared.entries.Action.{Action}
-use Rattle.sgx_types.specs.declared.entries.Action.TheVariants.{Eld}
-use Rattle.sgx_types.specs.declared.entries.Answer.{Answer}
+use Rattle.sgx_rules.specs.declared.entries.Entry.{Entry}
+use Rattle.sgx_rules.specs.declared.entries.Event.{Event}
+use Rattle.sgx_rules.specs.declared.entries.Event.TheVariants.{Did, Refused}
+use Rattle.sgx_types.specs.declared.names.Actor.{Actor}
+use Rattle.sgx_rules.specs.declared.entries.Action.{Action}
+use Rattle.sgx_rules.specs.declared.entries.Action.TheVariants.{Eld}
+use Rattle.sgx_rules.specs.declared.entries.Answer.{Answer}
 use Rattle.sgx_types.specs.declared.names.Frame.{Frame}
 use Rattle.sgx_types.specs.declared.names.Page.{Page}
 use Rattle.sgx_types.specs.declared.record.Header.{Header}
-use Rattle.sgx_types.specs.declared.refusals.Refusal.{Refusal}
-use Rattle.sgx_types.specs.declared.refusals.Refusal.TheVariants as why
-use Rattle.sgx_types.specs.Ends.{DoesNotFit, EndsIn, IsBack, IsNotBack}
-use Rattle.sgx_types.specs.Flat.{header_at}
-use Rattle.sgx_types.specs.Frames.{content}
+use Rattle.sgx_rules.specs.declared.refusals.Refusal.{Refusal}
+use Rattle.sgx_rules.specs.declared.refusals.Refusal.TheVariants as why
+use Rattle.sgx_rules.specs.Ends.{DoesNotFit, EndsIn, IsBack, IsNotBack}
+use Rattle.sgx_rules.specs.Flat.{header_at}
+use Rattle.sgx_rules.specs.Frames.{content}
 use Rattle.sgx_types.specs.Making.{Making}
-use Rattle.sgx_types.specs.Rules.{RefusalRule}
+use Rattle.sgx_rules.specs.Rules.{RefusalRule}
 use Rattle.sgx_types.specs.Sealed.{Sealed}
-use Rattle.sgx_types.specs.Starts.{Start, BareStart, bare_start, without_place}
-use Rattle.sgx_types.specs.Table.{first_of_row, is_loading}
+use Rattle.sgx_rules.specs.Starts.{Start, BareStart, bare_start, without_place}
+use Rattle.sgx_rules.specs.Table.{first_of_row, is_loading}
 use Rattle.sgx_types.proofs.Truths.{both_true, not_false, tested}
 use Rattle.seal_record.specs.Cipher.{tag}
 use Rattle.seal_record.specs.Records.{Made}

@@ -1,8 +1,8 @@
 -- A machine that stands in all for its entries makes the last of them keep each of the machine's rules.
 use Rattle.std.specs.Prelude.{true}
 use Rattle.std.proofs.Common.{◌≡◌, subst, List, ◌∷◌, Some}
-use Rattle.sgx_types.specs.declared.entries.Entry.{Entry}
-use Rattle.sgx_types.specs.Rules.{KeepsRules, NoPageTwice, NoneStale}
+use Rattle.sgx_rules.specs.declared.entries.Entry.{Entry}
+use Rattle.sgx_rules.specs.Rules.{KeepsRules, NoPageTwice, NoneStale}
 use Rattle.sgx_types.specs.Making.{Making}
 use Rattle.seal_record.specs.Records.{Made}
 use Rattle.job_grammar.specs.Jobs.{JobView}

@@ -1,14 +1,14 @@
 -- A refused load counts alike for whatever reason it was refused: a state that stands for one stands for another.
 use Rattle.std.proofs.Common.{◌≡◌, ℕ, List, ◌∷◌, Option, Some, None, IfSome}
-use Rattle.sgx_types.specs.declared.entries.Actor.{Actor}
-use Rattle.sgx_types.specs.declared.entries.Entry.{Entry}
-use Rattle.sgx_types.specs.declared.entries.Action.TheVariants.{Eld}
+use Rattle.sgx_types.specs.declared.names.Actor.{Actor}
+use Rattle.sgx_rules.specs.declared.entries.Entry.{Entry}
+use Rattle.sgx_rules.specs.declared.entries.Action.TheVariants.{Eld}
 use Rattle.sgx_types.specs.declared.names.Frame.{Frame}
-use Rattle.sgx_types.specs.declared.refusals.Refusal.{Refusal}
-use Rattle.sgx_types.specs.Ends.{IsNotBack}
+use Rattle.sgx_rules.specs.declared.refusals.Refusal.{Refusal}
+use Rattle.sgx_rules.specs.Ends.{IsNotBack}
 use Rattle.sgx_types.specs.Making.{Making}
-use Rattle.sgx_types.specs.Processors.{stay}
-use Rattle.sgx_types.specs.Rules.{IsUndisturbed, Stale}
+use Rattle.sgx_rules.specs.Processors.{stay}
+use Rattle.sgx_rules.specs.Rules.{IsUndisturbed, Stale}
 use Rattle.seal_record.specs.Records.{Made}
 use Rattle.paging_laws.specs.Columns.{HasColumns}
 use Rattle.paging_laws.specs.Histories.{OutsideBytes, StandsWithAllRules}

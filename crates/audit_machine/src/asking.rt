@@ -11,7 +11,7 @@ use audit_rules::rivals::first_broken;
 use audit_rules::same::same_end;
 use paging_machine::machine::Machine;
 use run_history::rules::Rule;
-use sgx_types::entries::{Action, Entry};
+use sgx_rules::entries::{Action, Entry};
 use sgx_types::names::Memory;
 use std::alloc::Global;
 

@@ -5,8 +5,8 @@ ghost use Rattle.audit_machine.specs.Asked.{IsDoneBack, TakesBack, is_unfit, oth
 ghost use Rattle.paging_laws.specs.State.{making_of};
 ghost use Rattle.paging_laws.specs.Steps.{refused_by};
 ghost use Rattle.paging_machine.specs.Parts.{state_of};
-ghost use Rattle.sgx_types.specs.declared.entries.Action.TheVariants as actions;
-ghost use Rattle.sgx_types.specs.Table.{is_loading};
+ghost use Rattle.sgx_rules.specs.declared.entries.Action.TheVariants as actions;
+ghost use Rattle.sgx_rules.specs.Table.{is_loading};
 ghost use Rattle.turn_rules.specs.Script.{action_of};
 
 use audit_rules::rivals::first_broken;
@@ -14,10 +14,10 @@ use audit_rules::same::same_end;
 use paging_machine::machine::Machine;
 use run_history::rules::Rule;
 use seal_record::unseal::{UnsealWork, UnsealedWork, unseal};
-use sgx_types::entries::{Actor, Entry, Event};
-use sgx_types::names::{Frame, Memory};
+use sgx_rules::entries::{Entry, Event};
+use sgx_rules::refusals::Refusal;
+use sgx_types::names::{Actor, Frame, Memory};
 use sgx_types::record::{Header, Record};
-use sgx_types::refusals::Refusal;
 use std::alloc::Global;
 
 /// What came of the end of a load.

@@ -4,7 +4,7 @@ ghost use Rattle.std.specs.Prelude.{◌≡◌, IfOk, OnErr, Some, length};
 ghost use Rattle.audit_machine.specs.Asked.{TakesOut};
 ghost use Rattle.paging_laws.specs.State.{making_of};
 ghost use Rattle.paging_machine.specs.Parts.{state_of};
-ghost use Rattle.sgx_types.specs.declared.entries.Action.TheVariants as actions;
+ghost use Rattle.sgx_rules.specs.declared.entries.Action.TheVariants as actions;
 ghost use Rattle.turn_rules.specs.Script.{action_of};
 
 use audit_rules::rivals::first_broken;
@@ -13,7 +13,7 @@ use paging_machine::machine::Machine;
 use run_history::rules::Rule;
 use seal_record::seal::{SealWork, seal};
 use seal_record::unseal::UnsealedWork;
-use sgx_types::entries::Entry;
+use sgx_rules::entries::Entry;
 use sgx_types::names::{Frame, Memory};
 use sgx_types::record::Record;
 use std::alloc::Global;

@@ -5,15 +5,15 @@ ghost use Rattle.audit_machine.specs.Asked.{Breaks};
 ghost use Rattle.audit_machine.specs.Outside.{rule_of_done, rule_of_refused, rule_outside};
 ghost use Rattle.paging_laws.specs.Steps.{is_of_cpus};
 ghost use Rattle.paging_machine.specs.Parts.{state_of};
-ghost use Rattle.sgx_types.specs.declared.entries.Actor.TheVariants as actors;
+ghost use Rattle.sgx_types.specs.declared.names.Actor.TheVariants as actors;
 ghost use Rattle.turn_rules.specs.Script.{action_of};
 
 use audit_rules::forms::has_form;
 use audit_rules::same::same_refusal;
 use paging_machine::machine::Machine;
 use run_history::rules::Rule;
-use sgx_types::entries::{Action, Entry, Event};
-use sgx_types::refusals::Refusal;
+use sgx_rules::entries::{Action, Entry, Event};
+use sgx_rules::refusals::Refusal;
 
 /// The rule that an entry of the reclaimer breaks first whose instruction is a processor's. No machine makes it: its row is looked at as
 /// who is inside no enclave sees it. An entry that tells otherwise than the row breaks Refusal. Else one that was done breaks Flat, since

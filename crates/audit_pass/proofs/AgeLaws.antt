@@ -3,16 +3,16 @@ use Rattle.std.proofs.Common.{◌≡◌, ℕ, zero, suc, ◌≤◌, ◌&&◌, Bo
 use Rattle.std.proofs.Common.{◌∷◌, Option, Some}
 use Rattle.std.proofs.Common.{None, drop, length}
 use Rattle.sgx_types.proofs.Pages.{same_pages}
-use Rattle.sgx_types.specs.declared.entries.Action.TheVariants as actions
-use Rattle.sgx_types.specs.declared.entries.Actor.{Actor}
-use Rattle.sgx_types.specs.declared.entries.Actor.TheVariants as actors
-use Rattle.sgx_types.specs.declared.entries.Entry.{Entry}
-use Rattle.sgx_types.specs.declared.entries.Event.{Event}
-use Rattle.sgx_types.specs.declared.entries.Event.TheVariants.{Age, Did, Kick, Refused}
-use Rattle.sgx_types.specs.declared.entries.Look.{Look}
+use Rattle.sgx_rules.specs.declared.entries.Action.TheVariants as actions
+use Rattle.sgx_types.specs.declared.names.Actor.{Actor}
+use Rattle.sgx_types.specs.declared.names.Actor.TheVariants as actors
+use Rattle.sgx_rules.specs.declared.entries.Entry.{Entry}
+use Rattle.sgx_rules.specs.declared.entries.Event.{Event}
+use Rattle.sgx_rules.specs.declared.entries.Event.TheVariants.{Age, Did, Kick, Refused}
+use Rattle.sgx_rules.specs.declared.entries.Look.{Look}
 use Rattle.sgx_types.specs.declared.names.Frame.{Frame}
 use Rattle.sgx_types.specs.declared.names.Page.{Page}
-use Rattle.sgx_types.specs.Frames.{same_page}
+use Rattle.sgx_types.specs.Pages.{same_page}
 use Rattle.job_grammar.specs.Jobs.{JobView}
 use Rattle.active_list.specs.Holds.{is_held as is_held_by}
 use Rattle.active_list.specs.Listing as listing

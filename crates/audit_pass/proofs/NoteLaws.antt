@@ -4,25 +4,25 @@ use Rattle.std.proofs.Common.{if◌then◌else◌, refl, sym, ◌∙◌, ap}
 use Rattle.std.proofs.Common.{subst, List, [], ◌∷◌, Option, Some, None, drop, length, min, slice_get, arith}
 use Rattle.std.proofs.lemmas.Bool.{eq-eqb}
 use Rattle.std.proofs.lemmas.List.{drop-drop}
-use Rattle.sgx_types.specs.declared.entries.Action.TheVariants as actions
-use Rattle.sgx_types.specs.declared.entries.Actor.{Actor}
-use Rattle.sgx_types.specs.declared.entries.Actor.TheVariants as actors
-use Rattle.sgx_types.specs.declared.entries.Answer.{Answer}
-use Rattle.sgx_types.specs.declared.entries.Entry.{Entry}
-use Rattle.sgx_types.specs.declared.entries.Event.{Event}
-use Rattle.sgx_types.specs.declared.entries.Event.TheVariants.{Age, Did, Kick, Refused}
+use Rattle.sgx_rules.specs.declared.entries.Action.TheVariants as actions
+use Rattle.sgx_types.specs.declared.names.Actor.{Actor}
+use Rattle.sgx_types.specs.declared.names.Actor.TheVariants as actors
+use Rattle.sgx_rules.specs.declared.entries.Answer.{Answer}
+use Rattle.sgx_rules.specs.declared.entries.Entry.{Entry}
+use Rattle.sgx_rules.specs.declared.entries.Event.{Event}
+use Rattle.sgx_rules.specs.declared.entries.Event.TheVariants.{Age, Did, Kick, Refused}
 use Rattle.sgx_types.specs.declared.names.Cpu.{Cpu}
 use Rattle.sgx_types.specs.declared.names.Frame.{Frame}
 use Rattle.sgx_types.specs.declared.names.SlotAt.{SlotAt}
-use Rattle.sgx_types.specs.declared.refusals.Refusal.{Refusal}
-use Rattle.sgx_types.specs.declared.refusals.Refusal.TheVariants as why
-use Rattle.sgx_types.specs.Epochs.{epoch, epoch_of, is_track}
-use Rattle.sgx_types.specs.Frames.{content, is_free}
+use Rattle.sgx_rules.specs.declared.refusals.Refusal.{Refusal}
+use Rattle.sgx_rules.specs.declared.refusals.Refusal.TheVariants as why
+use Rattle.sgx_rules.specs.Epochs.{epoch, epoch_of, is_track}
+use Rattle.sgx_rules.specs.Frames.{content, is_free}
 use Rattle.sgx_types.specs.Making.{Making}
-use Rattle.sgx_types.specs.Rules.{RefusalRule}
-use Rattle.sgx_types.specs.Sights.{drain_sight_at, sight_at, slot_sight_at}
-use Rattle.sgx_types.specs.Table.{DrainSight, FrameSight, SlotSight, ewbstart_row, first_of_row, is_busy, is_out_of_range, is_secs, is_va}
-use Rattle.sgx_types.proofs.Contents.{page_enclave}
+use Rattle.sgx_rules.specs.Rules.{RefusalRule}
+use Rattle.sgx_rules.specs.Sights.{drain_sight_at, sight_at, slot_sight_at}
+use Rattle.sgx_rules.specs.Table.{DrainSight, FrameSight, SlotSight, ewbstart_row, first_of_row, is_busy, is_out_of_range, is_secs, is_va}
+use Rattle.sgx_rules.proofs.Contents.{page_enclave}
 use Rattle.job_grammar.specs.declared.jobs.Marks.{Marks}
 use Rattle.job_grammar.specs.Jobs.{JobView}
 use Rattle.paging_machine.specs.Parts.{Parts}

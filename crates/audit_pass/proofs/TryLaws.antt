@@ -5,18 +5,18 @@ use Rattle.std.proofs.Common.{List, [], ◌∷◌, ◌++◌, Option, Some, None,
 use Rattle.std.proofs.lemmas.List.{get_or_past}
 use Rattle.std.proofs.Math.Bool.{and-true}
 use Rattle.paging_laws.proofs.ColumnLaws.{inside_is, noted_is}
-use Rattle.sgx_types.specs.ByEpochs.{IsTrackedBlock, notes}
-use Rattle.sgx_types.specs.declared.entries.Actor.{Actor}
-use Rattle.sgx_types.specs.declared.entries.Actor.TheVariants as actors
-use Rattle.sgx_types.specs.declared.entries.Entry.{Entry}
-use Rattle.sgx_types.specs.declared.entries.Event.{Event}
-use Rattle.sgx_types.specs.declared.entries.Event.TheVariants.{Kick}
+use Rattle.sgx_rules.specs.ByEpochs.{IsTrackedBlock, notes}
+use Rattle.sgx_types.specs.declared.names.Actor.{Actor}
+use Rattle.sgx_types.specs.declared.names.Actor.TheVariants as actors
+use Rattle.sgx_rules.specs.declared.entries.Entry.{Entry}
+use Rattle.sgx_rules.specs.declared.entries.Event.{Event}
+use Rattle.sgx_rules.specs.declared.entries.Event.TheVariants.{Kick}
 use Rattle.sgx_types.specs.declared.names.Page.{Page}
-use Rattle.sgx_types.specs.Epochs.{block_epoch, epoch, noted}
-use Rattle.sgx_types.specs.Frames.{content}
+use Rattle.sgx_rules.specs.Epochs.{block_epoch, epoch, noted}
+use Rattle.sgx_rules.specs.Frames.{content}
 use Rattle.sgx_types.specs.Making.{Making}
-use Rattle.sgx_types.specs.Processors.{Stay, stay}
-use Rattle.sgx_types.proofs.Contents.{page_enclave}
+use Rattle.sgx_rules.specs.Processors.{Stay, stay}
+use Rattle.sgx_rules.proofs.Contents.{page_enclave}
 use Rattle.job_grammar.specs.Jobs.{JobView}
 use Rattle.cached_translations.specs.declared.processor.Mode.{Mode}
 use Rattle.cached_translations.specs.declared.processor.Mode.TheVariants as modes

@@ -1,7 +1,7 @@
 -- What a pass along a trace stands for.
 use Rattle.std.specs.Prelude.{ℕ, ◌≡◌, ◌+◌, ◌≤◌, List, [], ◌∷◌, length}
-use Rattle.sgx_types.specs.declared.entries.Entry.{Entry}
-use Rattle.sgx_types.specs.Epochs.{epoch}
+use Rattle.sgx_rules.specs.declared.entries.Entry.{Entry}
+use Rattle.sgx_rules.specs.Epochs.{epoch}
 use Rattle.job_grammar.specs.Jobs.{JobView}
 use Rattle.driver_rules.specs.Passes.{Pass, pass}
 use Rattle.driver_rules.specs.Places.{Leaving, place}

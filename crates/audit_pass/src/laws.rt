@@ -1,9 +1,9 @@
 //! That a pass along a trace goes on. A law is the contract of a function without arguments.
 
 ghost use Rattle.std.specs.Prelude.{ℕ, ◌≡◌, ◌∷◌, ◌≤◌, List};
-ghost use Rattle.sgx_types.specs.declared.entries.Entry.{Entry};
+ghost use Rattle.sgx_rules.specs.declared.entries.Entry.{Entry};
 ghost use Rattle.sgx_types.specs.Making.{Making};
-ghost use Rattle.sgx_types.specs.Rules.{RefusalRule};
+ghost use Rattle.sgx_rules.specs.Rules.{RefusalRule};
 ghost use Rattle.job_grammar.specs.Jobs.{JobView};
 ghost use Rattle.paging_machine.specs.Parts.{Parts};
 ghost use Rattle.driver_rules.specs.Ages.{AgeRule};

@@ -9,7 +9,7 @@ ghost use Rattle.audit_pass.specs.Noted.{taken_by};
 use crate::stages::Taken;
 use driver_tables::driver::Driver;
 use driver_tables::moves::frame_in;
-use sgx_types::entries::{Event, Look};
+use sgx_rules::entries::{Event, Look};
 use sgx_types::names::Page;
 
 /// Whether a look is at the head of the list, and told what is so of it. Events of other kinds are right.

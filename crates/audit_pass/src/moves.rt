@@ -4,8 +4,8 @@ ghost use Rattle.std.specs.Prelude.{◌≡◌};
 ghost use Rattle.audit_pass.specs.Noted.{after_block, after_done, after_kick, after_look, after_page, after_refused, behind, not_tracked};
 
 use crate::stages::{Form, Stage};
-use sgx_types::entries::Action;
-use sgx_types::refusals::Refusal;
+use sgx_rules::entries::Action;
+use sgx_rules::refusals::Refusal;
 
 /// Behind a look, with so many looks left and so many pages taken.
 pub(crate) fn after_look(left: u32, taken: usize) -> Stage

@@ -1,7 +1,7 @@
 //! How far the reclaimer is along a trace.
 
 ghost use Rattle.std.specs.Prelude.{ℕ, ◌≡◌, [], List, IfOk, None};
-ghost use Rattle.sgx_types.specs.declared.entries.Entry.{Entry};
+ghost use Rattle.sgx_rules.specs.declared.entries.Entry.{Entry};
 ghost use Rattle.sgx_types.specs.Making.{Making};
 ghost use Rattle.job_grammar.specs.Jobs.{JobView};
 ghost use Rattle.paging_machine.specs.Parts.{Parts};
@@ -25,8 +25,8 @@ use driver_rules::marks::works_with;
 use driver_tables::driver::Driver;
 use job_grammar::jobs::Marks;
 use paging_machine::machine::Machine;
-use sgx_types::entries::{Action, Actor, Entry, Event, Look};
-use sgx_types::names::{Cpu, Memory};
+use sgx_rules::entries::{Action, Entry, Event, Look};
+use sgx_types::names::{Actor, Cpu, Memory};
 use std::alloc::Global;
 use std::marker::Model;
 

@@ -6,9 +6,9 @@ ghost use Rattle.std.specs.Option.{option_map};
 ghost use Rattle.audit_pass.specs.Viewed.{number_of};
 ghost use Rattle.audit_pass.specs.Told.{in_frame, in_tries, is_kick_or_try, kick_is};
 
-use sgx_types::entries::{Action, Event};
+use sgx_rules::entries::{Action, Event};
+use sgx_rules::refusals::Refusal;
 use sgx_types::names::{Cpu, Frame};
-use sgx_types::refusals::Refusal;
 
 /// Whether an event may stand within the tries of the page that leaves a frame: a try of that frame and its end, a track, a kick.
 pub(crate) fn is_in_tries(frame: Frame, event: Event) -> bool

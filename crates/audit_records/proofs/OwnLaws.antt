@@ -1,13 +1,13 @@
 -- The record that is kept of a page which a frame waits for is the one that went out last, and brings the page back.
 use Rattle.std.proofs.Common.{◌≡◌, ℕ, ◌<◌, refl, sym, ap, ◌∙◌, arith, List, Option, Some, None}
-use Rattle.sgx_types.specs.declared.entries.Entry.{Entry}
+use Rattle.sgx_rules.specs.declared.entries.Entry.{Entry}
 use Rattle.sgx_types.specs.declared.names.Page.{Page}
-use Rattle.sgx_types.specs.Flat.{flat, header_at, words_of}
-use Rattle.sgx_types.specs.Fresh.{IsLastOut, Out}
+use Rattle.sgx_rules.specs.Flat.{flat, header_at, words_of}
+use Rattle.sgx_rules.specs.Fresh.{IsLastOut, Out}
 use Rattle.sgx_types.specs.Layouts.{bytes_of}
 use Rattle.sgx_types.specs.Sealed.{Sealed}
-use Rattle.sgx_types.specs.Slots.{version_in}
-use Rattle.sgx_types.specs.Starts.{Start, open_start}
+use Rattle.sgx_rules.specs.Slots.{version_in}
+use Rattle.sgx_rules.specs.Starts.{Start, open_start}
 use Rattle.sgx_types.proofs.Pages.{same_page-refl}
 use Rattle.epcm_entry.specs.Words as words
 use Rattle.seal_record.specs.Cipher.{cipher}

@@ -1,8 +1,8 @@
 -- A rule fails at an entry, and the rules before it hold there.
 use Rattle.std.proofs.Common.{◌<◌, List, Some, arith, refl}
-use Rattle.sgx_types.specs.declared.entries.Entry.{Entry}
-use Rattle.sgx_types.specs.Fresh.{FreshRule}
-use Rattle.sgx_types.specs.Rules.{EvictRule, FlatRule, RefusalRule}
+use Rattle.sgx_rules.specs.declared.entries.Entry.{Entry}
+use Rattle.sgx_rules.specs.Fresh.{FreshRule}
+use Rattle.sgx_rules.specs.Rules.{EvictRule, FlatRule, RefusalRule}
 use Rattle.seal_record.specs.Sealing.{SealedRule}
 use Rattle.measure_log.specs.Rule.{MeasureRule}
 use Rattle.job_grammar.specs.Jobs.{JobView}

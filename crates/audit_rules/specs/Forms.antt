@@ -1,12 +1,12 @@
 -- Whether an answer has the form that its row gives, as a test. Of the ends of starts, and of the start of ELDU, the form says more, and is
 -- tested apart.
 use Rattle.std.specs.Prelude.{Bool, true, false}
-use Rattle.sgx_types.specs.declared.entries.Action.{Action}
-use Rattle.sgx_types.specs.declared.entries.Action.TheVariants.{Epa, Create, Add, Extend, Init, Enter, Resume, Exit, Aex, Fill, Load, Store}
-use Rattle.sgx_types.specs.declared.entries.Action.TheVariants.{Xadd, Set, Plus, Pf, OutLoad, OutStore, Block, Track, EwbStart, Ewb}
-use Rattle.sgx_types.specs.declared.entries.Action.TheVariants.{EldStart, Eld}
-use Rattle.sgx_types.specs.declared.entries.Answer.{Answer}
-use Rattle.sgx_types.specs.declared.entries.Answer.TheVariants as answers
+use Rattle.sgx_rules.specs.declared.entries.Action.{Action}
+use Rattle.sgx_rules.specs.declared.entries.Action.TheVariants.{Epa, Create, Add, Extend, Init, Enter, Resume, Exit, Aex, Fill, Load, Store}
+use Rattle.sgx_rules.specs.declared.entries.Action.TheVariants.{Xadd, Set, Plus, Pf, OutLoad, OutStore, Block, Track, EwbStart, Ewb}
+use Rattle.sgx_rules.specs.declared.entries.Action.TheVariants.{EldStart, Eld}
+use Rattle.sgx_rules.specs.declared.entries.Answer.{Answer}
+use Rattle.sgx_rules.specs.declared.entries.Answer.TheVariants as answers
 
 abbrev pub is_plain : Answer → Bool
 is_plain answers.Plain = true

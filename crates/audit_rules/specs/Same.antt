@@ -1,15 +1,15 @@
 -- Whether two answers, and two refusals, are the same, as tests.
 use Rattle.std.specs.Prelude.{◌==◌, ◌&&◌, Bool, true, false, if◌then◌else◌, bytes_eq}
-use Rattle.sgx_types.specs.declared.entries.Answer.{Answer}
-use Rattle.sgx_types.specs.declared.entries.Answer.TheVariants as answers
-use Rattle.sgx_types.specs.declared.entries.PfWhy.{PfWhy}
-use Rattle.sgx_types.specs.declared.entries.PfWhy.TheVariants as faults
-use Rattle.sgx_types.specs.declared.refusals.Refusal.{Refusal}
-use Rattle.sgx_types.specs.declared.refusals.Refusal.TheVariants as why
-use Rattle.sgx_types.specs.declared.entries.Event.{Event}
-use Rattle.sgx_types.specs.declared.entries.Event.TheVariants.{Did, Refused}
-use Rattle.sgx_types.specs.Frames.{same_page}
-use Rattle.sgx_types.specs.Refusal.{code_of}
+use Rattle.sgx_rules.specs.declared.entries.Answer.{Answer}
+use Rattle.sgx_rules.specs.declared.entries.Answer.TheVariants as answers
+use Rattle.sgx_rules.specs.declared.entries.PfWhy.{PfWhy}
+use Rattle.sgx_rules.specs.declared.entries.PfWhy.TheVariants as faults
+use Rattle.sgx_rules.specs.declared.refusals.Refusal.{Refusal}
+use Rattle.sgx_rules.specs.declared.refusals.Refusal.TheVariants as why
+use Rattle.sgx_rules.specs.declared.entries.Event.{Event}
+use Rattle.sgx_rules.specs.declared.entries.Event.TheVariants.{Did, Refused}
+use Rattle.sgx_types.specs.Pages.{same_page}
+use Rattle.sgx_rules.specs.Refusal.{code_of}
 
 abbrev pub same_fault : PfWhy → PfWhy → Bool
 same_fault faults.Absent faults.Absent = true

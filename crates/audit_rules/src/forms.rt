@@ -3,7 +3,7 @@
 ghost use Rattle.std.specs.Prelude.{◌≡◌};
 ghost use Rattle.audit_rules.specs.Forms.{has_form, is_cssa, is_fault, is_hash, is_plain, is_value, is_version};
 
-use sgx_types::entries::{Action, Answer};
+use sgx_rules::entries::{Action, Answer};
 
 /// Whether an answer has the form that the row of an instruction gives: of one that its row alone decides, which the ends of starts and
 /// the start of ELDU are not.

@@ -1,7 +1,7 @@
 //! Which rule an entry breaks first, where the machine made another one of the same instruction.
 
 ghost use Rattle.std.specs.Prelude.{◌≡◌, Some, List};
-ghost use Rattle.sgx_types.specs.declared.entries.Entry.{Entry};
+ghost use Rattle.sgx_rules.specs.declared.entries.Entry.{Entry};
 ghost use Rattle.job_grammar.specs.Jobs.{JobView};
 ghost use Rattle.driver_rules.specs.Scripts.{ScriptRule};
 ghost use Rattle.run_history.specs.Histories.{FailsHere};
@@ -10,8 +10,8 @@ ghost use Rattle.audit_rules.specs.Rivals.{rule_of_denied, rule_of_done, rule_of
 
 use crate::forms::has_form;
 use run_history::rules::Rule;
-use sgx_types::entries::{Action, Answer, Entry, Event};
-use sgx_types::refusals::Refusal;
+use sgx_rules::entries::{Action, Answer, Entry, Event};
+use sgx_rules::refusals::Refusal;
 
 /// The first rule that an entry breaks which its actor may make, where the machine made another entry of the same instruction there: of the
 /// rules that the entry and this one differ in, the first in the order in which rules are named.

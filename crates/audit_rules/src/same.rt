@@ -3,8 +3,8 @@
 ghost use Rattle.std.specs.Prelude.{◌≡◌};
 ghost use Rattle.audit_rules.specs.Same.{is_bare, same_answer, same_end, same_numbers, same_refusal};
 
-use sgx_types::entries::{Answer, Event};
-use sgx_types::refusals::{Refusal, code};
+use sgx_rules::entries::{Answer, Event};
+use sgx_rules::refusals::{Refusal, code};
 
 /// Whether two events of one instruction end alike: both done with one answer, or both refused for one reason, with its numbers.
 pub fn same_end(one: &Event, other: &Event) -> bool

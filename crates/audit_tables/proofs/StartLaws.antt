@@ -2,19 +2,20 @@
 use Rattle.std.proofs.Common.{Bool, List, None, Option, Some, ap, arith, false, nat_lt, refl, true, ℕ, ◌∙◌, ◌≡◌}
 use Rattle.std.proofs.lemmas.Bool.{eq-eqb, lt-ltb, ltb-false}
 use Rattle.sgx_types.proofs.Pages.{same_pages}
-use Rattle.sgx_types.proofs.Rows.{NoneHolds, none_holds}
+use Rattle.sgx_rules.proofs.Rows.{NoneHolds, none_holds}
 use Rattle.sgx_types.proofs.Truths.{neither, not_false}
-use Rattle.sgx_types.specs.declared.entries.Action.TheVariants.{EwbStart}
-use Rattle.sgx_types.specs.declared.entries.Actor.{Actor}
-use Rattle.sgx_types.specs.declared.entries.Entry.{Entry}
+use Rattle.sgx_rules.specs.declared.entries.Action.TheVariants.{EwbStart}
+use Rattle.sgx_types.specs.declared.names.Actor.{Actor}
+use Rattle.sgx_rules.specs.declared.entries.Entry.{Entry}
 use Rattle.sgx_types.specs.declared.names.Frame.{Frame}
 use Rattle.sgx_types.specs.declared.names.Page.{Page}
 use Rattle.sgx_types.specs.declared.names.SlotAt.{SlotAt}
-use Rattle.sgx_types.specs.Frames.{content, same_page}
+use Rattle.sgx_types.specs.Pages.{same_page}
+use Rattle.sgx_rules.specs.Frames.{content}
 use Rattle.sgx_types.specs.Making.{Making}
-use Rattle.sgx_types.specs.Sights.{drain_sight_at, row_at, sight_at, slot_sight_at}
-use Rattle.sgx_types.specs.Starts.{BareStart, Start, bare_start, loads_page, open_start, without_place}
-use Rattle.sgx_types.specs.Table.{ewbstart_row, first_of_row, is_va}
+use Rattle.sgx_rules.specs.Sights.{drain_sight_at, row_at, sight_at, slot_sight_at}
+use Rattle.sgx_rules.specs.Starts.{BareStart, Start, bare_start, loads_page, open_start, without_place}
+use Rattle.sgx_rules.specs.Table.{ewbstart_row, first_of_row, is_va}
 use Rattle.job_grammar.specs.Jobs.{JobView}
 use Rattle.version_array.specs.Keeper.{Keeper, is_out}
 use Rattle.paging_machine.specs.declared.starts.Start as starts

@@ -1,7 +1,7 @@
 //! Wrong traces, each told by an edit of a right one.
 
 use run_history::rules::Rule;
-use sgx_types::entries::Entry;
+use sgx_rules::entries::Entry;
 use sgx_types::names::Memory;
 use std::alloc::Global;
 use trace_auditor::verdict::Verdict;

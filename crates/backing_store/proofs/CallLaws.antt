@@ -8,7 +8,7 @@ use Rattle.sgx_types.proofs.Truths.{eqb-swap}
 use Rattle.std.specs.List.{slice_get}
 use Rattle.std.proofs.lemmas.List.{append-nil, reverse-append}
 use Rattle.sgx_types.specs.declared.names.Page.{Page}
-use Rattle.sgx_types.specs.Frames.{same_page}
+use Rattle.sgx_types.specs.Pages.{same_page}
 use Rattle.sgx_types.proofs.Pages.{same_pages}
 use Rattle.backing_store.specs.declared.calls.StoreCall.{StoreCall}
 use Rattle.backing_store.specs.declared.calls.StoreCall.TheVariants.{Room, Put, Got}

@@ -1,7 +1,7 @@
 -- What a map has after one of its keys was written.
 use Rattle.std.proofs.Common.{◌≡◌, ℕ, ◌==◌, ◌&&◌, Bool, true, false, if◌then◌else◌, Option, Some, unwrap_or, refl}
 use Rattle.sgx_types.specs.declared.names.Page.{Page}
-use Rattle.sgx_types.specs.Frames.{same_page}
+use Rattle.sgx_types.specs.Pages.{same_page}
 use Rattle.backing_store.specs.declared.page_places.PageCounts.{PageCounts}
 use Rattle.backing_store.specs.declared.page_places.PageKey.{PageKey}
 use Rattle.backing_store.specs.Places.{same_key, same_put, key_of, put_key, no_counts}

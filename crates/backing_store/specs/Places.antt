@@ -3,7 +3,7 @@
 use Rattle.std.specs.Prelude.{◌≡◌, ℕ, ◌+◌, ◌==◌, ◌&&◌, Bool, if◌then◌else◌, Option, Some, min, unwrap_or}
 use Rattle.std.specs.HashMap.{get, spare}
 use Rattle.sgx_types.specs.declared.names.Page.{Page}
-use Rattle.sgx_types.specs.Frames.{same_page}
+use Rattle.sgx_types.specs.Pages.{same_page}
 use Rattle.backing_store.specs.declared.page_places.PageCounts.{PageCounts}
 use Rattle.backing_store.specs.declared.page_places.PageKey.{PageKey}
 use Rattle.backing_store.specs.declared.page_places.PutKey.{PutKey}

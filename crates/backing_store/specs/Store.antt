@@ -4,7 +4,7 @@ use Rattle.std.specs.Prelude.{[], ◌∷◌, ◌++◌, length, slice_get, count_
 use Rattle.std.specs.List.{list_any}
 use Rattle.std.specs.Option.{option_or, option_and_then}
 use Rattle.sgx_types.specs.declared.names.Page.{Page}
-use Rattle.sgx_types.specs.Frames.{same_page}
+use Rattle.sgx_types.specs.Pages.{same_page}
 use Rattle.sgx_types.specs.Sealed.{Sealed}
 use Rattle.io_edges.specs.declared.plans.PlanLine.{PlanLine}
 use Rattle.io_edges.specs.declared.plans.PlanLine.TheVariants.{FailRoom, FailPut, FailGet, DropGet, Flip, Replay, Swap}

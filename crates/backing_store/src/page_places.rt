@@ -2,7 +2,7 @@
 
 ghost use Rattle.std.specs.Prelude.{◌≡◌, ◌+◌, ◌^◌, ◌<◌, ◌≤◌, ℕ, None, if◌then◌else◌, OnOk};
 ghost use Rattle.sgx_types.specs.declared.names.Page.{Page};
-ghost use Rattle.sgx_types.specs.Frames.{same_page};
+ghost use Rattle.sgx_types.specs.Pages.{same_page};
 ghost use Rattle.std.specs.HashMap.{spare};
 
 use sgx_types::names::Page;

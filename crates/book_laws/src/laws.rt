@@ -12,7 +12,7 @@ ghost use Rattle.job_grammar.specs.Jobs.{JobView};
 ghost use Rattle.run_history.specs.Calls.{ComesWith, before};
 ghost use Rattle.run_history.specs.Given.{gift};
 ghost use Rattle.run_history.specs.Stored.{Tells};
-ghost use Rattle.sgx_types.specs.declared.entries.Entry.{Entry};
+ghost use Rattle.sgx_rules.specs.declared.entries.Entry.{Entry};
 
 /// Entries, calls and tables that agree go on to with one entry more of any actor and any kind: where the entry comes with the last call,
 /// and the tables keep of that call what they have to.

@@ -2,9 +2,9 @@
 
 use job_text::reader::read_job;
 use run_replies::replies::print_out;
-use sgx_types::entries::{Action, Actor, Answer, Entry, Event};
-use sgx_types::names::{Cpu, Frame};
-use sgx_types::refusals::Refusal;
+use sgx_rules::entries::{Action, Answer, Entry, Event};
+use sgx_rules::refusals::Refusal;
+use sgx_types::names::{Actor, Cpu, Frame};
 use std::test::Fail;
 
 // Three enclaves and three processors.

@@ -1,7 +1,7 @@
 -- The actors of a job.
 use Rattle.std.specs.Prelude.{◌<◌, [], length}
-use Rattle.sgx_types.specs.declared.entries.Actor.{Actor}
-use Rattle.sgx_types.specs.declared.entries.Actor.TheVariants as actors
+use Rattle.sgx_types.specs.declared.names.Actor.{Actor}
+use Rattle.sgx_types.specs.declared.names.Actor.TheVariants as actors
 use Rattle.job_grammar.specs.Jobs.{JobView}
 pub use Rattle.atomic_table.specs.Seated.{TableId}
 

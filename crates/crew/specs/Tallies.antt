@@ -1,8 +1,8 @@
 -- How many entries each actor made.
 use Rattle.std.specs.Prelude.{ℕ, ◌+◌, ◌^◌, ◌≡◌, ◌==◌, ◌<◌, Bool, true, false, List, count_by, slice_index, vec_len}
-use Rattle.sgx_types.specs.declared.entries.Actor.{Actor}
-use Rattle.sgx_types.specs.declared.entries.Actor.TheVariants as actors
-use Rattle.sgx_types.specs.declared.entries.Entry.{Entry}
+use Rattle.sgx_types.specs.declared.names.Actor.{Actor}
+use Rattle.sgx_types.specs.declared.names.Actor.TheVariants as actors
+use Rattle.sgx_rules.specs.declared.entries.Entry.{Entry}
 use Rattle.crew.specs.declared.tally.Tally.{Tally}
 
 abbrev pub is_builder : Actor → Bool

@@ -8,8 +8,7 @@ use epoch_words::words::Words;
 use rounds::run::{MachineBook, Turn};
 use seal_record::seal::SealedWork;
 use seal_record::unseal::UnsealedWork;
-use sgx_types::entries::Actor;
-use sgx_types::names::{Cpu, Memory};
+use sgx_types::names::{Actor, Cpu, Memory};
 use std::alloc::Global;
 use std::marker::{Brand, PhantomData};
 

@@ -3,8 +3,8 @@
 ghost use Rattle.std.specs.Prelude.{IfOk};
 ghost use Rattle.crew.specs.Tallies.{IsFew, IsMore, IsTally};
 
-use sgx_types::entries::{Actor, Entry};
-use sgx_types::names::Memory;
+use sgx_rules::entries::Entry;
+use sgx_types::names::{Actor, Memory};
 use std::alloc::Global;
 
 /// How many entries of a trace each actor made.

@@ -2,8 +2,7 @@
 
 ghost use Rattle.std.specs.Prelude.{◌<◌};
 
-use sgx_types::entries::Actor;
-use sgx_types::names::Cpu;
+use sgx_types::names::{Actor, Cpu};
 use std::sync::atomic::{AtomicU64, Ordering};
 use turn_gate::gate::Gate;
 

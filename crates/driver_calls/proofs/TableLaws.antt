@@ -4,11 +4,11 @@ use Rattle.std.proofs.Common.{slice_set, sum}
 use Rattle.std.proofs.lemmas.Bool.{eqb-true, eqb-false}
 use Rattle.std.proofs.lemmas.List.{get_or-set_other, get_or-set_same}
 use Rattle.sgx_types.proofs.Pages.{same_pages}
-use Rattle.sgx_types.specs.declared.entries.Actor.TheVariants as actors
+use Rattle.sgx_types.specs.declared.names.Actor.TheVariants as actors
 use Rattle.sgx_types.specs.declared.names.Cpu.{Cpu}
 use Rattle.sgx_types.specs.declared.names.Page.{Page}
-use Rattle.sgx_types.specs.Frames.{same_page}
-use Rattle.sgx_types.specs.Processors.{is_by}
+use Rattle.sgx_types.specs.Pages.{same_page}
+use Rattle.sgx_rules.specs.Processors.{is_by}
 use Rattle.active_list.specs.Keeping.{Kept, kept_at, record_kept}
 use Rattle.active_list.specs.Places.{IsPlaced}
 use Rattle.active_list.specs.States.{StateTable, state_of, with_state}

@@ -7,33 +7,35 @@ use Rattle.std.proofs.lemmas.List.Folds.{list_any-append}
 use Rattle.std.proofs.lemmas.Option.{none-some, same_Some}
 use Rattle.std.proofs.Math.Bool.{or-false}
 use Rattle.sgx_types.proofs.Pages.{same_page-refl, same_pages, same_slots}
-use Rattle.sgx_types.specs.declared.entries.Action.TheVariants.{Epa, Create, Add, EwbStart, Ewb, EldStart, Eld}
-use Rattle.sgx_types.specs.declared.entries.Actor.{Actor}
-use Rattle.sgx_types.specs.declared.entries.Answer.{Answer}
-use Rattle.sgx_types.specs.declared.entries.Answer.TheVariants.{Moved}
-use Rattle.sgx_types.specs.declared.entries.Entry.{Entry}
-use Rattle.sgx_types.specs.declared.entries.Event.{Event}
-use Rattle.sgx_types.specs.declared.entries.Event.TheVariants.{Did, Refused, Age}
-use Rattle.sgx_types.specs.declared.entries.Look.{Look}
-use Rattle.sgx_types.specs.declared.entries.PageInit.{PageInit}
+use Rattle.sgx_rules.specs.declared.entries.Action.TheVariants.{Epa, Create, Add, EwbStart, Ewb, EldStart, Eld}
+use Rattle.sgx_types.specs.declared.names.Actor.{Actor}
+use Rattle.sgx_rules.specs.declared.entries.Answer.{Answer}
+use Rattle.sgx_rules.specs.declared.entries.Answer.TheVariants.{Moved}
+use Rattle.sgx_rules.specs.declared.entries.Entry.{Entry}
+use Rattle.sgx_rules.specs.declared.entries.Event.{Event}
+use Rattle.sgx_rules.specs.declared.entries.Event.TheVariants.{Did, Refused, Age}
+use Rattle.sgx_rules.specs.declared.entries.Look.{Look}
+use Rattle.sgx_types.specs.declared.lawful.PageInit.{PageInit}
 use Rattle.sgx_types.specs.declared.names.Frame.{Frame}
 use Rattle.sgx_types.specs.declared.names.Kind.{Kind}
 use Rattle.sgx_types.specs.declared.names.Perm.{Perm}
 use Rattle.sgx_types.specs.declared.names.Page.{Page}
 use Rattle.sgx_types.specs.declared.names.SlotAt.{SlotAt}
-use Rattle.sgx_types.specs.declared.refusals.Refusal.{Refusal}
-use Rattle.sgx_types.specs.Frames.{Content, Free, Holds, IsLoading, IsVa, SecsOf, added, content, page_at, reloaded, same_page, vas_made}
-use Rattle.sgx_types.specs.Slots.{names_slot, open_slot, same_slot, version_in, IsIdle}
-use Rattle.sgx_types.specs.Starts.{Start, open_start, version_told}
+use Rattle.sgx_rules.specs.declared.refusals.Refusal.{Refusal}
+use Rattle.sgx_types.specs.Pages.{page_at, same_page}
+use Rattle.sgx_rules.specs.Frames.{Content, Free, Holds, IsLoading, IsVa, SecsOf, added, content, reloaded, vas_made}
+use Rattle.sgx_types.specs.Pages.{same_slot}
+use Rattle.sgx_rules.specs.Slots.{names_slot, open_slot, version_in, IsIdle}
+use Rattle.sgx_rules.specs.Starts.{Start, open_start, version_told}
 use Rattle.version_array.specs.Keeper.{Adds, Gives, Keeper, Takes, is_added, is_out}
 use Rattle.job_grammar.specs.Jobs.{JobView, va_pages}
 use Rattle.driver_laws.specs.Agrees.{ShowsSlots, has_pages}
 use Rattle.driver_laws.specs.Kinds.{CanMove, is_quiet}
 use Rattle.driver_rules.specs.Places.{Leaving, Loading, place}
-use Rattle.sgx_types.specs.Slots.{slot_of as starts_slot}
-use Rattle.sgx_types.proofs.Busy.{idle_ended, idle_freed, idle_started}
-use Rattle.sgx_types.specs.Table.{is_loading, is_va}
-use Rattle.sgx_types.proofs.Contents.{loading_no_va, page_is_no_other}
+use Rattle.sgx_rules.specs.Slots.{slot_of as starts_slot}
+use Rattle.sgx_rules.proofs.Busy.{idle_ended, idle_freed, idle_started}
+use Rattle.sgx_rules.specs.Table.{is_loading, is_va}
+use Rattle.sgx_rules.proofs.Contents.{loading_no_va, page_is_no_other}
 use Rattle.driver_laws.specs.Sound.{IsSound, load_slot, slot_at, slot_loading, slot_of, stands_in}
 use Rattle.driver_laws.proofs.PlaceLaws.{load_slot_is}
 use Rattle.driver_laws.proofs.SlotLaws.{same_slot-refl}

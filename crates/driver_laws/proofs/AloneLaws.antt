@@ -2,14 +2,14 @@
 use Rattle.std.proofs.Common.{◌≡◌, ℕ, not, refl, sym, ◌∙◌, ap, List, Option, Some, None, is_some}
 use Rattle.std.proofs.lemmas.Bool.{eq-eqb, false≢true}
 use Rattle.std.proofs.lemmas.Option.{none-some, same_Some}
-use Rattle.sgx_types.specs.declared.entries.Entry.{Entry}
+use Rattle.sgx_rules.specs.declared.entries.Entry.{Entry}
 use Rattle.sgx_types.specs.declared.names.Page.{Page}
 use Rattle.sgx_types.specs.declared.names.SlotAt.{SlotAt}
-use Rattle.sgx_types.specs.Frames.{Free, content, is_page}
-use Rattle.sgx_types.specs.Slots.{slot_of as slot_of_start}
-use Rattle.sgx_types.specs.Starts.{Start, open_start}
+use Rattle.sgx_rules.specs.Frames.{Free, content, is_page}
+use Rattle.sgx_rules.specs.Slots.{slot_of as slot_of_start}
+use Rattle.sgx_rules.specs.Starts.{Start, open_start}
 use Rattle.sgx_types.proofs.Pages.{same_page-refl}
-use Rattle.sgx_types.specs.Table.{is_loading}
+use Rattle.sgx_rules.specs.Table.{is_loading}
 use Rattle.driver_rules.specs.Places.{Away, Leaving, Loading, Place, place}
 use Rattle.driver_laws.specs.Sound.{IsSound, is_load_start, is_write_start, load_slot, slot_at, slot_of, stands_in}
 use Rattle.driver_laws.specs.Used.{StartsAlone}

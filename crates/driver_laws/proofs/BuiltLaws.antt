@@ -6,15 +6,16 @@ use Rattle.std.proofs.lemmas.Bool.{false≢true}
 use Rattle.std.proofs.lemmas.List.Folds.{sum_by-replicate}
 use Rattle.std.proofs.lemmas.List.Sums.{count_by-le-length, sum_by-append, sum_by-cons, sum_by-take-le}
 use Rattle.std.specs.List.{count_by, flat_map, sum_by}
-use Rattle.sgx_types.specs.Frames.{added, added_by, no_perm}
+use Rattle.sgx_types.specs.Pages.{no_perm}
+use Rattle.sgx_rules.specs.Frames.{added, added_by}
 use Rattle.sgx_types.specs.Making.{Making}
-use Rattle.sgx_types.specs.declared.entries.Action.TheVariants as actions
-use Rattle.sgx_types.specs.declared.entries.Actor.{Actor}
-use Rattle.sgx_types.specs.declared.entries.Entry.{Entry}
-use Rattle.sgx_types.specs.declared.entries.Event.{Event}
-use Rattle.sgx_types.specs.declared.entries.Event.TheVariants.{Did}
-use Rattle.sgx_types.specs.declared.entries.PageInit.{PageInit}
-use Rattle.sgx_types.specs.declared.entries.PageInit.TheVariants as inits
+use Rattle.sgx_rules.specs.declared.entries.Action.TheVariants as actions
+use Rattle.sgx_types.specs.declared.names.Actor.{Actor}
+use Rattle.sgx_rules.specs.declared.entries.Entry.{Entry}
+use Rattle.sgx_rules.specs.declared.entries.Event.{Event}
+use Rattle.sgx_rules.specs.declared.entries.Event.TheVariants.{Did}
+use Rattle.sgx_types.specs.declared.lawful.PageInit.{PageInit}
+use Rattle.sgx_types.specs.declared.lawful.PageInit.TheVariants as inits
 use Rattle.sgx_types.specs.declared.names.Kind.{Kind}
 use Rattle.sgx_types.specs.declared.names.Kind.TheVariants as kinds
 use Rattle.sgx_types.specs.declared.names.Page.{Page}

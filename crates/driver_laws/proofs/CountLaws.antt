@@ -4,27 +4,28 @@ use Rattle.std.proofs.Common.{[], ◌∷◌, Some, None, is_some, arith}
 use Rattle.std.specs.List.{count_by}
 use Rattle.std.proofs.lemmas.List.Sums.{sum_by-cons}
 use Rattle.sgx_types.proofs.Pages.{same_page-swap, same_pages}
-use Rattle.sgx_types.specs.declared.entries.Action.TheVariants.{Add, EwbStart, Ewb, EldStart, Eld}
-use Rattle.sgx_types.specs.declared.entries.Actor.{Actor}
-use Rattle.sgx_types.specs.declared.entries.Answer.{Answer}
-use Rattle.sgx_types.specs.declared.entries.Answer.TheVariants.{Moved}
-use Rattle.sgx_types.specs.declared.entries.Entry.{Entry}
-use Rattle.sgx_types.specs.declared.entries.Event.{Event}
-use Rattle.sgx_types.specs.declared.entries.Event.TheVariants.{Did, Refused, Age}
-use Rattle.sgx_types.specs.declared.entries.PageInit.{PageInit}
+use Rattle.sgx_rules.specs.declared.entries.Action.TheVariants.{Add, EwbStart, Ewb, EldStart, Eld}
+use Rattle.sgx_types.specs.declared.names.Actor.{Actor}
+use Rattle.sgx_rules.specs.declared.entries.Answer.{Answer}
+use Rattle.sgx_rules.specs.declared.entries.Answer.TheVariants.{Moved}
+use Rattle.sgx_rules.specs.declared.entries.Entry.{Entry}
+use Rattle.sgx_rules.specs.declared.entries.Event.{Event}
+use Rattle.sgx_rules.specs.declared.entries.Event.TheVariants.{Did, Refused, Age}
+use Rattle.sgx_types.specs.declared.lawful.PageInit.{PageInit}
 use Rattle.sgx_types.specs.declared.names.Frame.{Frame}
 use Rattle.sgx_types.specs.declared.names.Kind.{Kind}
 use Rattle.sgx_types.specs.declared.names.Perm.{Perm}
 use Rattle.sgx_types.specs.declared.names.Page.{Page}
 use Rattle.sgx_types.specs.declared.names.SlotAt.{SlotAt}
-use Rattle.sgx_types.specs.Frames.{added, page_at, same_page}
-use Rattle.sgx_types.specs.Starts.{open_start}
+use Rattle.sgx_types.specs.Pages.{page_at, same_page}
+use Rattle.sgx_rules.specs.Frames.{added}
+use Rattle.sgx_rules.specs.Starts.{open_start}
 use Rattle.version_array.specs.Keeper.{Keeper, count_out, new_keeper}
 use Rattle.driver_rules.specs.Places.{Leaving, Loading, place, Absent}
 use Rattle.driver_laws.specs.Counted.{CountMoves, CountsSlots, has_slot, pages_added}
 use Rattle.driver_laws.specs.Kinds.{CanMove}
 use Rattle.driver_laws.specs.Sound.{IsSound, is_absent, slot_at, times}
-use Rattle.sgx_types.specs.Slots.{slot_of as starts_slot}
+use Rattle.sgx_rules.specs.Slots.{slot_of as starts_slot}
 use Rattle.driver_laws.specs.Used.{StartTells}
 use Rattle.driver_laws.proofs.SlotMoves.{SameSlots, same_add, same_age, same_eldstart, same_ewb, same_refused, slot_back, slot_back_other}
 use Rattle.driver_laws.proofs.SlotMoves.{slot_started, slot_started_other}

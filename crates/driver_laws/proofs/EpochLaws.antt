@@ -4,22 +4,22 @@ use Rattle.std.proofs.Common.{if◌then◌else◌, zero, suc, refl, sym, ◌∙�
 use Rattle.std.proofs.Common.{None, length, nat_lt, arith}
 use Rattle.std.proofs.lemmas.Bool.{eqb-true, not-false}
 use Rattle.sgx_types.specs.Making.{Making}
-use Rattle.sgx_types.specs.Rules.{RefusalRule}
-use Rattle.sgx_types.proofs.Keystone.{BlockedAt, FirstTrack, blocked_at, first_track, tracks_behind}
-use Rattle.sgx_types.specs.declared.entries.Action.TheVariants.{EwbStart}
-use Rattle.sgx_types.specs.declared.entries.Entry.{Entry}
-use Rattle.sgx_types.specs.declared.entries.Event.{Event}
-use Rattle.sgx_types.specs.declared.entries.Event.TheVariants.{Did, Refused}
+use Rattle.sgx_rules.specs.Rules.{RefusalRule}
+use Rattle.sgx_rules.proofs.Keystone.{BlockedAt, FirstTrack, blocked_at, first_track, tracks_behind}
+use Rattle.sgx_rules.specs.declared.entries.Action.TheVariants.{EwbStart}
+use Rattle.sgx_rules.specs.declared.entries.Entry.{Entry}
+use Rattle.sgx_rules.specs.declared.entries.Event.{Event}
+use Rattle.sgx_rules.specs.declared.entries.Event.TheVariants.{Did, Refused}
 use Rattle.sgx_types.specs.declared.names.Page.{Page}
-use Rattle.sgx_types.specs.declared.refusals.Refusal.{Refusal}
-use Rattle.sgx_types.specs.declared.refusals.Refusal.TheVariants as why
-use Rattle.sgx_types.specs.Epochs.{block_epoch, epoch, is_in_before, is_track, last_track, older_at}
-use Rattle.sgx_types.specs.Eviction.{earlier_or, is_drained, keeps_back, number_kept_back, track_behind}
-use Rattle.sgx_types.specs.Frames.{content, is_free}
-use Rattle.sgx_types.specs.Processors.{stay}
-use Rattle.sgx_types.specs.Sights.{drain_sight_at, sight_at, slot_sight_at}
-use Rattle.sgx_types.specs.Table.{DrainSight, FrameSight, SlotSight, ewbstart_row, first_of_row, is_busy, is_out_of_range, is_secs, is_va}
-use Rattle.sgx_types.proofs.Contents.{page_enclave}
+use Rattle.sgx_rules.specs.declared.refusals.Refusal.{Refusal}
+use Rattle.sgx_rules.specs.declared.refusals.Refusal.TheVariants as why
+use Rattle.sgx_rules.specs.Epochs.{block_epoch, epoch, is_in_before, is_track, last_track, older_at}
+use Rattle.sgx_rules.specs.Eviction.{earlier_or, is_drained, keeps_back, number_kept_back, track_behind}
+use Rattle.sgx_rules.specs.Frames.{content, is_free}
+use Rattle.sgx_rules.specs.Processors.{stay}
+use Rattle.sgx_rules.specs.Sights.{drain_sight_at, sight_at, slot_sight_at}
+use Rattle.sgx_rules.specs.Table.{DrainSight, FrameSight, SlotSight, ewbstart_row, first_of_row, is_busy, is_out_of_range, is_secs, is_va}
+use Rattle.sgx_rules.proofs.Contents.{page_enclave}
 use Rattle.sgx_types.proofs.CountLaws.{count_below-zero}
 use Rattle.driver_rules.specs.Passes.{keepers, keepers_behind, keepers_from, keepers_in, keeps_from}
 use Rattle.driver_rules.specs.Places.{frame_leaving}

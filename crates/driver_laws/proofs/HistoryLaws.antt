@@ -5,34 +5,35 @@ use Rattle.std.proofs.lemmas.Bool.{eqb-true, eq-eqb, false≢true, not-false}
 use Rattle.page_history.proofs.CopyLaws.{out_is_gone}
 use Rattle.page_history.proofs.DrawnLaws.{drawn_once}
 use Rattle.page_history.proofs.FlatLaws.{added_flat}
-use Rattle.sgx_types.proofs.Rows.{NoneHolds, none_holds}
+use Rattle.sgx_rules.proofs.Rows.{NoneHolds, none_holds}
 use Rattle.sgx_types.proofs.Truths.{neither}
 use Rattle.page_history.proofs.StartLaws.{starts_apart}
-use Rattle.sgx_types.specs.Fresh.{Out, last_out}
+use Rattle.sgx_rules.specs.Fresh.{Out, last_out}
 use Rattle.sgx_types.specs.Making.{Making}
-use Rattle.sgx_types.specs.Ends.{EndsIn}
+use Rattle.sgx_rules.specs.Ends.{EndsIn}
 use Rattle.page_history.specs.Once.{KeepsMoves}
-use Rattle.sgx_types.specs.declared.entries.Action.TheVariants as actions
-use Rattle.sgx_types.specs.declared.entries.Actor.{Actor}
-use Rattle.sgx_types.specs.declared.entries.Actor.TheVariants as actors
-use Rattle.sgx_types.specs.declared.entries.Answer.{Answer}
-use Rattle.sgx_types.specs.declared.entries.Answer.TheVariants.{Moved}
-use Rattle.sgx_types.specs.declared.entries.Entry.{Entry}
-use Rattle.sgx_types.specs.declared.entries.Event.{Event}
-use Rattle.sgx_types.specs.declared.entries.Event.TheVariants.{Did, Refused, Age, Bus}
-use Rattle.sgx_types.specs.declared.entries.PageInit.{PageInit}
+use Rattle.sgx_rules.specs.declared.entries.Action.TheVariants as actions
+use Rattle.sgx_types.specs.declared.names.Actor.{Actor}
+use Rattle.sgx_types.specs.declared.names.Actor.TheVariants as actors
+use Rattle.sgx_rules.specs.declared.entries.Answer.{Answer}
+use Rattle.sgx_rules.specs.declared.entries.Answer.TheVariants.{Moved}
+use Rattle.sgx_rules.specs.declared.entries.Entry.{Entry}
+use Rattle.sgx_rules.specs.declared.entries.Event.{Event}
+use Rattle.sgx_rules.specs.declared.entries.Event.TheVariants.{Did, Refused, Age, Bus}
+use Rattle.sgx_types.specs.declared.lawful.PageInit.{PageInit}
 use Rattle.sgx_types.specs.declared.names.Frame.{Frame}
 use Rattle.sgx_types.specs.declared.names.Kind.{Kind}
 use Rattle.sgx_types.specs.declared.names.Page.{Page}
 use Rattle.sgx_types.specs.declared.names.Perm.{Perm}
 use Rattle.sgx_types.specs.declared.names.SlotAt.{SlotAt}
-use Rattle.sgx_types.specs.Flat.{FlatPage, added_as, enclave_sight, flat}
-use Rattle.sgx_types.specs.Frames.{Content, Free, Holds, content, free_from, is_free, is_page, least_free, page_at}
-use Rattle.sgx_types.specs.Rules.{FitsRule, RefusalRule}
-use Rattle.sgx_types.specs.Sights.{drain_sight_at, row_at, sight_at, slot_sight_at}
-use Rattle.sgx_types.specs.Slots.{is_slot_busy, next_version, version_in, IsIdle}
-use Rattle.sgx_types.specs.Starts.{Start, is_load_of, open_start}
-use Rattle.sgx_types.specs.Table.{EnclaveSight, FrameSight, add_row, ewbstart_row, first_of_row}
+use Rattle.sgx_rules.specs.Flat.{FlatPage, added_as, enclave_sight, flat}
+use Rattle.sgx_types.specs.Pages.{page_at}
+use Rattle.sgx_rules.specs.Frames.{Content, Free, Holds, content, free_from, is_free, is_page, least_free}
+use Rattle.sgx_rules.specs.Rules.{FitsRule, RefusalRule}
+use Rattle.sgx_rules.specs.Sights.{drain_sight_at, row_at, sight_at, slot_sight_at}
+use Rattle.sgx_rules.specs.Slots.{is_slot_busy, next_version, version_in, IsIdle}
+use Rattle.sgx_rules.specs.Starts.{Start, is_load_of, open_start}
+use Rattle.sgx_rules.specs.Table.{EnclaveSight, FrameSight, add_row, ewbstart_row, first_of_row}
 use Rattle.job_grammar.specs.Jobs.{JobView}
 use Rattle.turn_rules.specs.Script.{frame_at}
 use Rattle.driver_rules.specs.Ages.{AgeRule, InPass, LookOf, PassOf}
@@ -43,10 +44,10 @@ use Rattle.driver_rules.specs.Places.{Absent, Away, Here, Leaving, Loading, Plac
 use Rattle.driver_rules.specs.Scripts.{IsActors, ScriptRule}
 use Rattle.driver_laws.specs.Stages.{KeepsPages}
 use Rattle.driver_laws.proofs.StageLaws.{first_pages, pages_kept}
-use Rattle.sgx_types.specs.Slots.{slot_of as slot_of_start}
-use Rattle.sgx_types.proofs.Busy.{idle_apart, not_busy_idle}
+use Rattle.sgx_rules.specs.Slots.{slot_of as slot_of_start}
+use Rattle.sgx_rules.proofs.Busy.{idle_apart, not_busy_idle}
 use Rattle.sgx_types.proofs.Pages.{same_page-refl}
-use Rattle.sgx_types.proofs.Contents.{free_is}
+use Rattle.sgx_rules.proofs.Contents.{free_is}
 use Rattle.driver_laws.specs.Sound.{IsSound, is_absent, load_slot, slot_at, slot_if, slot_loading, slot_of, stands_in, version_out}
 use Rattle.driver_laws.specs.Tracks.{KeepsTracks, is_reclaimers}
 use Rattle.driver_rules.specs.Dues.{Due, Ends, Fetches, Finished, IsFetch, IsNext, KicksAll, LooksAt, Makes, Reports, Stopped, TriesOut}

@@ -2,7 +2,7 @@
 use Rattle.std.proofs.Common.{◌≡◌, ℕ, ◌+◌, Bool, true, false, if◌then◌else◌, refl, ◌∙◌, subst, List, [], ◌∷◌}
 use Rattle.std.proofs.Common.{◌++◌, drop, Some, arith}
 use Rattle.sgx_types.specs.declared.names.Page.{Page}
-use Rattle.sgx_types.specs.Frames.{same_page}
+use Rattle.sgx_types.specs.Pages.{same_page}
 use Rattle.driver_rules.specs.Ages.{head_of}
 use Rattle.driver_rules.specs.Places.{Absent, Away, Here, Leaving, Loading, Place, is_here, leaves, to_tail}
 use Rattle.driver_laws.specs.Sound.{ListIsHere, once_here, times}

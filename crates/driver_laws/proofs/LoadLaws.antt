@@ -3,24 +3,24 @@ use Rattle.std.proofs.Common.{◌≡◌, ℕ, ◌==◌, ◌≤◌, Bool, true, f
 use Rattle.std.proofs.Common.{[], ◌∷◌, Option, Some, None, is_some, length}
 use Rattle.std.proofs.lemmas.Bool.{eqb-true, eq-eqb, false≢true}
 use Rattle.std.proofs.lemmas.Option.{none-some, same_Some}
-use Rattle.sgx_types.specs.declared.entries.Action.{Action}
-use Rattle.sgx_types.specs.declared.entries.Action.TheVariants as actions
-use Rattle.sgx_types.specs.declared.entries.Actor.{Actor}
-use Rattle.sgx_types.specs.declared.entries.Actor.TheVariants as actors
-use Rattle.sgx_types.specs.declared.entries.Answer.{Answer}
-use Rattle.sgx_types.specs.declared.entries.Answer.TheVariants.{Moved}
-use Rattle.sgx_types.specs.declared.entries.Entry.{Entry}
-use Rattle.sgx_types.specs.declared.entries.Event.{Event}
-use Rattle.sgx_types.specs.declared.entries.Event.TheVariants.{Did, Refused, Age, Kick, Bus}
+use Rattle.sgx_rules.specs.declared.entries.Action.{Action}
+use Rattle.sgx_rules.specs.declared.entries.Action.TheVariants as actions
+use Rattle.sgx_types.specs.declared.names.Actor.{Actor}
+use Rattle.sgx_types.specs.declared.names.Actor.TheVariants as actors
+use Rattle.sgx_rules.specs.declared.entries.Answer.{Answer}
+use Rattle.sgx_rules.specs.declared.entries.Answer.TheVariants.{Moved}
+use Rattle.sgx_rules.specs.declared.entries.Entry.{Entry}
+use Rattle.sgx_rules.specs.declared.entries.Event.{Event}
+use Rattle.sgx_rules.specs.declared.entries.Event.TheVariants.{Did, Refused, Age, Kick, Bus}
 use Rattle.sgx_types.specs.declared.names.Cpu.{Cpu}
 use Rattle.sgx_types.specs.declared.names.Page.{Page}
 use Rattle.sgx_types.specs.declared.names.SlotAt.{SlotAt}
-use Rattle.sgx_types.specs.declared.refusals.Refusal.{Refusal}
-use Rattle.sgx_types.specs.Frames.{content, is_page}
+use Rattle.sgx_rules.specs.declared.refusals.Refusal.{Refusal}
+use Rattle.sgx_rules.specs.Frames.{content, is_page}
 use Rattle.sgx_types.specs.Making.{Making}
-use Rattle.sgx_types.specs.Starts.{Start, open_start, opened_by, version_told}
+use Rattle.sgx_rules.specs.Starts.{Start, open_start, opened_by, version_told}
 use Rattle.sgx_types.proofs.Pages.{same_page-refl}
-use Rattle.sgx_types.proofs.Contents.{page_is_no_other}
+use Rattle.sgx_rules.proofs.Contents.{page_is_no_other}
 use Rattle.driver_rules.specs.Places.{Leaving, Loading, place}
 use Rattle.driver_rules.specs.Scripts.{is_load}
 use Rattle.driver_rules.specs.Turns.{Fails, Last, Loads, Other, WasEnded, fails_with, last_by, last_of, load_of}

@@ -3,23 +3,23 @@ use Rattle.std.proofs.Common.{◌≡◌, ℕ, ◌+◌, ◌||◌, not, Bool, true
 use Rattle.std.proofs.Common.{subst, List, [], ◌∷◌, ◌++◌, drop, map, Some, arith}
 use Rattle.std.proofs.lemmas.Bool.{false≢true, not-true}
 use Rattle.sgx_types.proofs.Pages.{same_page-refl, same_pages}
-use Rattle.sgx_types.specs.declared.entries.Action.{Action}
-use Rattle.sgx_types.specs.declared.entries.Action.TheVariants.{Add, Enter, Resume, Fill, Load, Store, Xadd, Eld}
-use Rattle.sgx_types.specs.declared.entries.Actor.{Actor}
-use Rattle.sgx_types.specs.declared.entries.Actor.TheVariants.{Cpu}
-use Rattle.sgx_types.specs.declared.entries.Answer.{Answer}
-use Rattle.sgx_types.specs.declared.entries.Answer.TheVariants.{Moved}
-use Rattle.sgx_types.specs.declared.entries.Entry.{Entry}
-use Rattle.sgx_types.specs.declared.entries.Event.{Event}
-use Rattle.sgx_types.specs.declared.entries.Event.TheVariants.{Did, Refused, Age, Kick, Bus}
-use Rattle.sgx_types.specs.declared.entries.Look.{Look}
-use Rattle.sgx_types.specs.declared.entries.Look.TheVariants as looks
-use Rattle.sgx_types.specs.declared.entries.PageInit.{PageInit}
+use Rattle.sgx_rules.specs.declared.entries.Action.{Action}
+use Rattle.sgx_rules.specs.declared.entries.Action.TheVariants.{Add, Enter, Resume, Fill, Load, Store, Xadd, Eld}
+use Rattle.sgx_types.specs.declared.names.Actor.{Actor}
+use Rattle.sgx_types.specs.declared.names.Actor.TheVariants.{Cpu}
+use Rattle.sgx_rules.specs.declared.entries.Answer.{Answer}
+use Rattle.sgx_rules.specs.declared.entries.Answer.TheVariants.{Moved}
+use Rattle.sgx_rules.specs.declared.entries.Entry.{Entry}
+use Rattle.sgx_rules.specs.declared.entries.Event.{Event}
+use Rattle.sgx_rules.specs.declared.entries.Event.TheVariants.{Did, Refused, Age, Kick, Bus}
+use Rattle.sgx_rules.specs.declared.entries.Look.{Look}
+use Rattle.sgx_rules.specs.declared.entries.Look.TheVariants as looks
+use Rattle.sgx_types.specs.declared.lawful.PageInit.{PageInit}
 use Rattle.sgx_types.specs.declared.names.Frame.{Frame}
 use Rattle.sgx_types.specs.declared.names.Kind.{Kind}
 use Rattle.sgx_types.specs.declared.names.Page.{Page}
 use Rattle.sgx_types.specs.declared.names.Perm.{Perm}
-use Rattle.sgx_types.specs.Frames.{page_at, same_page}
+use Rattle.sgx_types.specs.Pages.{page_at, same_page}
 use Rattle.driver_rules.specs.Ages.{head_of}
 use Rattle.driver_laws.specs.Agrees.{Listed, listed_by, marked, touched, turned}
 use Rattle.driver_rules.specs.Holds.{is_among}

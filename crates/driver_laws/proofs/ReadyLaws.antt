@@ -1,24 +1,24 @@
 -- What the rules say of a write-out; the slot of a page that is away is not busy; slots are used in a history.
 use Rattle.std.proofs.Common.{◌≡◌, ℕ, ◌+◌, ◌<◌, ◌≤◌, not, Bool, true, false, if◌then◌else◌, refl, sym}
 use Rattle.std.proofs.Common.{◌∙◌, ap, subst, List, [], ◌∷◌, Option, Some, None, is_some, arith}
-use Rattle.sgx_types.proofs.Rows.{none_holds}
+use Rattle.sgx_rules.proofs.Rows.{none_holds}
 use Rattle.sgx_types.proofs.Truths.{neither}
-use Rattle.sgx_types.specs.declared.entries.Action.TheVariants.{EwbStart, Ewb, EldStart}
-use Rattle.sgx_types.specs.declared.entries.Answer.{Answer}
-use Rattle.sgx_types.specs.declared.entries.Answer.TheVariants.{Moved}
-use Rattle.sgx_types.specs.declared.entries.Entry.{Entry}
-use Rattle.sgx_types.specs.declared.entries.Event.{Event}
-use Rattle.sgx_types.specs.declared.entries.Event.TheVariants.{Did}
+use Rattle.sgx_rules.specs.declared.entries.Action.TheVariants.{EwbStart, Ewb, EldStart}
+use Rattle.sgx_rules.specs.declared.entries.Answer.{Answer}
+use Rattle.sgx_rules.specs.declared.entries.Answer.TheVariants.{Moved}
+use Rattle.sgx_rules.specs.declared.entries.Entry.{Entry}
+use Rattle.sgx_rules.specs.declared.entries.Event.{Event}
+use Rattle.sgx_rules.specs.declared.entries.Event.TheVariants.{Did}
 use Rattle.sgx_types.specs.declared.names.Page.{Page}
 use Rattle.sgx_types.specs.declared.names.SlotAt.{SlotAt}
-use Rattle.sgx_types.specs.Frames.{content, is_sealing}
+use Rattle.sgx_rules.specs.Frames.{content, is_sealing}
 use Rattle.sgx_types.specs.Making.{Making}
-use Rattle.sgx_types.specs.Rules.{EvictRule, RefusalRule, RisingRule}
-use Rattle.sgx_types.specs.Table.{is_busy, is_loading}
-use Rattle.sgx_types.specs.Sights.{row_at, sight_at}
-use Rattle.sgx_types.specs.Slots.{is_draw, is_slot_busy, next_version, IsIdle}
-use Rattle.sgx_types.specs.Starts.{Start, open_start, version_told}
-use Rattle.sgx_types.proofs.Busy.{idle_by}
+use Rattle.sgx_rules.specs.Rules.{EvictRule, RefusalRule, RisingRule}
+use Rattle.sgx_rules.specs.Table.{is_busy, is_loading}
+use Rattle.sgx_rules.specs.Sights.{row_at, sight_at}
+use Rattle.sgx_rules.specs.Slots.{is_draw, is_slot_busy, next_version, IsIdle}
+use Rattle.sgx_rules.specs.Starts.{Start, open_start, version_told}
+use Rattle.sgx_rules.proofs.Busy.{idle_by}
 use Rattle.job_grammar.specs.Jobs.{JobView}
 use Rattle.driver_rules.specs.Places.{Away, place}
 use Rattle.driver_laws.specs.Driven.{IsDriven}

@@ -3,27 +3,29 @@ use Rattle.std.proofs.Common.{◌≡◌, ℕ, ◌<◌, ◌==◌, not, Bool, true
 use Rattle.std.proofs.Common.{subst, List, [], ◌∷◌, Option, Some, None, nat_le, nat_lt, arith, ◌||◌}
 use Rattle.std.proofs.lemmas.Bool.{eq-eqb, eqb-true, false≢true, leb-true, ltb-true}
 use Rattle.std.specs.List.{list_any}
-use Rattle.sgx_types.proofs.Rows.{none_refused}
+use Rattle.sgx_rules.proofs.Rows.{none_refused}
 use Rattle.sgx_types.proofs.Truths.{both_true}
-use Rattle.sgx_types.specs.Frames.{Content, Free, Holds, IsLoading, IsVa, SecsOf, added, content, held_after, is_blocked, is_sealing}
-use Rattle.sgx_types.specs.Frames.{made_before, page_at, put_by, reloaded, vas_made}
-use Rattle.sgx_types.specs.Rules.{Along, FitsRule}
-use Rattle.sgx_types.specs.Sights.{sight_at, slot_sight_at}
-use Rattle.sgx_types.specs.Slots.{is_slot_busy, same_slot, version_in}
-use Rattle.sgx_types.specs.Starts.{open_start}
-use Rattle.sgx_types.specs.Table.{DrainSight, EnclaveSight, FrameSight, eldstart_row, ewbstart_row, first_of_row, is_busy, is_made}
-use Rattle.sgx_types.specs.Table.{is_out_of_range, is_secs, is_va}
-use Rattle.sgx_types.specs.declared.entries.Action.TheVariants.{Add, Create, Eld, EldStart, Epa, Ewb}
-use Rattle.sgx_types.specs.declared.entries.Answer.TheVariants.{Moved}
-use Rattle.sgx_types.specs.declared.entries.Entry.{Entry}
-use Rattle.sgx_types.specs.declared.entries.Event.{Event}
-use Rattle.sgx_types.specs.declared.entries.Event.TheVariants.{Did, Refused}
+use Rattle.sgx_rules.specs.Frames.{Content, Free, Holds, IsLoading, IsVa, SecsOf, added, content, held_after, is_blocked, is_sealing}
+use Rattle.sgx_types.specs.Pages.{page_at}
+use Rattle.sgx_rules.specs.Frames.{made_before, put_by, reloaded, vas_made}
+use Rattle.sgx_rules.specs.Rules.{Along, FitsRule}
+use Rattle.sgx_rules.specs.Sights.{sight_at, slot_sight_at}
+use Rattle.sgx_types.specs.Pages.{same_slot}
+use Rattle.sgx_rules.specs.Slots.{is_slot_busy, version_in}
+use Rattle.sgx_rules.specs.Starts.{open_start}
+use Rattle.sgx_rules.specs.Table.{DrainSight, EnclaveSight, FrameSight, eldstart_row, ewbstart_row, first_of_row, is_busy, is_made}
+use Rattle.sgx_rules.specs.Table.{is_out_of_range, is_secs, is_va}
+use Rattle.sgx_rules.specs.declared.entries.Action.TheVariants.{Add, Create, Eld, EldStart, Epa, Ewb}
+use Rattle.sgx_rules.specs.declared.entries.Answer.TheVariants.{Moved}
+use Rattle.sgx_rules.specs.declared.entries.Entry.{Entry}
+use Rattle.sgx_rules.specs.declared.entries.Event.{Event}
+use Rattle.sgx_rules.specs.declared.entries.Event.TheVariants.{Did, Refused}
 use Rattle.sgx_types.specs.declared.names.Kind.{Kind}
 use Rattle.sgx_types.specs.declared.names.Page.{Page}
 use Rattle.sgx_types.specs.declared.names.Perm.{Perm}
 use Rattle.sgx_types.specs.declared.names.SlotAt.{SlotAt}
-use Rattle.sgx_types.proofs.Busy.{idle_free}
-use Rattle.sgx_types.proofs.Contents.{IsNoOther, page_is_no_other}
+use Rattle.sgx_rules.proofs.Busy.{idle_free}
+use Rattle.sgx_rules.proofs.Contents.{IsNoOther, page_is_no_other}
 use Rattle.version_array.specs.Keeper.{Keeper, is_added, is_ours, is_out}
 use Rattle.job_grammar.specs.Jobs.{JobView}
 use Rattle.driver_rules.specs.Places.{Away, Leaving, place}

@@ -4,16 +4,18 @@ use Rattle.std.proofs.Common.{◌∙◌, ap, subst, List, Option, Some, None, is
 use Rattle.std.proofs.lemmas.Bool.{eqb-true, eq-eqb, false≢true}
 use Rattle.std.proofs.lemmas.Option.{none-some}
 use Rattle.sgx_types.proofs.Pages.{same_page-refl, same_slots}
-use Rattle.sgx_types.specs.Fresh.{Out}
+use Rattle.sgx_rules.specs.Fresh.{Out}
 use Rattle.sgx_types.specs.declared.names.Page.{Page}
 use Rattle.sgx_types.specs.declared.names.SlotAt.{SlotAt}
-use Rattle.sgx_types.specs.Frames.{Content, Free, is_page, same_page}
-use Rattle.sgx_types.specs.Slots.{names_slot, same_slot}
-use Rattle.sgx_types.specs.Starts.{Start, is_load_of}
+use Rattle.sgx_types.specs.Pages.{same_page}
+use Rattle.sgx_rules.specs.Frames.{Content, Free, is_page}
+use Rattle.sgx_types.specs.Pages.{same_slot}
+use Rattle.sgx_rules.specs.Slots.{names_slot}
+use Rattle.sgx_rules.specs.Starts.{Start, is_load_of}
 use Rattle.driver_rules.specs.Places.{Absent, Away, Here, Leaving, Loading, Place, back_to, gone_to, leaves}
-use Rattle.sgx_types.specs.Slots.{slot_of as slot_of_start}
-use Rattle.sgx_types.specs.declared.entries.Actor.{Actor}
-use Rattle.sgx_types.proofs.Contents.{one_page, page_is_no_other}
+use Rattle.sgx_rules.specs.Slots.{slot_of as slot_of_start}
+use Rattle.sgx_types.specs.declared.names.Actor.{Actor}
+use Rattle.sgx_rules.proofs.Contents.{one_page, page_is_no_other}
 use Rattle.driver_laws.specs.Sound.{PlacesAreFrames, SlotsAreApart, SlotsHaveVersions, is_load_start, is_write_start, slot_at, slot_outside}
 use Rattle.driver_laws.specs.Sound.{stands_in, version_out}
 use Rattle.driver_laws.proofs.PlaceLaws.{holds_one, of_same}

@@ -3,27 +3,28 @@ use Rattle.std.proofs.Common.{◌≡◌, ℕ, ◌==◌, Bool, true, false, if◌
 use Rattle.std.proofs.Common.{Option, Some, None, length}
 use Rattle.std.proofs.lemmas.Bool.{eqb-true, eq-eqb, false≢true}
 use Rattle.sgx_types.proofs.Pages.{same_page-refl, same_pages}
-use Rattle.sgx_types.specs.declared.entries.Action.TheVariants.{Add, EwbStart, Ewb, EldStart, Eld}
-use Rattle.sgx_types.specs.declared.entries.Actor.{Actor}
-use Rattle.sgx_types.specs.declared.entries.Answer.{Answer}
-use Rattle.sgx_types.specs.declared.entries.Answer.TheVariants.{Moved}
-use Rattle.sgx_types.specs.declared.entries.Entry.{Entry}
-use Rattle.sgx_types.specs.declared.entries.Event.TheVariants.{Did, Refused, Age}
-use Rattle.sgx_types.specs.declared.entries.Look.{Look}
-use Rattle.sgx_types.specs.declared.entries.Look.TheVariants as looks
-use Rattle.sgx_types.specs.declared.entries.PageInit.{PageInit}
+use Rattle.sgx_rules.specs.declared.entries.Action.TheVariants.{Add, EwbStart, Ewb, EldStart, Eld}
+use Rattle.sgx_types.specs.declared.names.Actor.{Actor}
+use Rattle.sgx_rules.specs.declared.entries.Answer.{Answer}
+use Rattle.sgx_rules.specs.declared.entries.Answer.TheVariants.{Moved}
+use Rattle.sgx_rules.specs.declared.entries.Entry.{Entry}
+use Rattle.sgx_rules.specs.declared.entries.Event.TheVariants.{Did, Refused, Age}
+use Rattle.sgx_rules.specs.declared.entries.Look.{Look}
+use Rattle.sgx_rules.specs.declared.entries.Look.TheVariants as looks
+use Rattle.sgx_types.specs.declared.lawful.PageInit.{PageInit}
 use Rattle.sgx_types.specs.declared.names.Frame.{Frame}
 use Rattle.sgx_types.specs.declared.names.Kind.{Kind}
 use Rattle.sgx_types.specs.declared.names.Perm.{Perm}
 use Rattle.sgx_types.specs.declared.names.Page.{Page}
 use Rattle.sgx_types.specs.declared.names.SlotAt.{SlotAt}
-use Rattle.sgx_types.specs.declared.refusals.Refusal.{Refusal}
-use Rattle.sgx_types.specs.Frames.{content, is_page, page_at, same_page}
-use Rattle.sgx_types.specs.Starts.{Start, is_load_of, open_start, version_told}
+use Rattle.sgx_rules.specs.declared.refusals.Refusal.{Refusal}
+use Rattle.sgx_types.specs.Pages.{page_at, same_page}
+use Rattle.sgx_rules.specs.Frames.{content, is_page}
+use Rattle.sgx_rules.specs.Starts.{Start, is_load_of, open_start, version_told}
 use Rattle.driver_laws.specs.Kinds.{CanMove}
 use Rattle.driver_rules.specs.Places.{Absent, Away, Here, Leaving, Loading, Place, after_look, back_to, gone_to, place}
-use Rattle.sgx_types.specs.Slots.{slot_of as starts_slot}
-use Rattle.sgx_types.proofs.Contents.{load_no_page}
+use Rattle.sgx_rules.specs.Slots.{slot_of as starts_slot}
+use Rattle.sgx_rules.proofs.Contents.{load_no_page}
 use Rattle.driver_laws.specs.Sound.{IsSound, slot_at, slot_of, stands_in}
 use Rattle.driver_laws.proofs.PlaceLaws.{holds_one}
 use Rattle.driver_laws.proofs.SlotLaws.{none_open}

@@ -2,30 +2,31 @@
 use Rattle.std.proofs.Common.{◌≡◌, ℕ, ◌+◌, ◌==◌, not, Bool, true, false, if◌then◌else◌, refl, sym, ◌∙◌, ap}
 use Rattle.std.proofs.Common.{subst, List, [], ◌∷◌, Option, Some, None, is_some, arith, length}
 use Rattle.std.proofs.lemmas.Bool.{eq-eqb}
-use Rattle.sgx_types.specs.Slots.{slot_of as slot_of_start}
-use Rattle.sgx_types.specs.Fresh.{last_out}
-use Rattle.sgx_types.specs.declared.entries.Action.TheVariants.{Epa, Create, Add, EwbStart, Ewb, EldStart, Eld}
-use Rattle.sgx_types.specs.declared.entries.Actor.{Actor}
-use Rattle.sgx_types.specs.declared.entries.Answer.{Answer}
-use Rattle.sgx_types.specs.declared.entries.Answer.TheVariants.{Moved}
-use Rattle.sgx_types.specs.declared.entries.Entry.{Entry}
-use Rattle.sgx_types.specs.declared.entries.Event.{Event}
-use Rattle.sgx_types.specs.declared.entries.Event.TheVariants.{Did, Refused, Age}
-use Rattle.sgx_types.specs.declared.entries.Look.{Look}
-use Rattle.sgx_types.specs.declared.entries.Look.TheVariants as looks
-use Rattle.sgx_types.specs.declared.entries.PageInit.{PageInit}
+use Rattle.sgx_rules.specs.Slots.{slot_of as slot_of_start}
+use Rattle.sgx_rules.specs.Fresh.{last_out}
+use Rattle.sgx_rules.specs.declared.entries.Action.TheVariants.{Epa, Create, Add, EwbStart, Ewb, EldStart, Eld}
+use Rattle.sgx_types.specs.declared.names.Actor.{Actor}
+use Rattle.sgx_rules.specs.declared.entries.Answer.{Answer}
+use Rattle.sgx_rules.specs.declared.entries.Answer.TheVariants.{Moved}
+use Rattle.sgx_rules.specs.declared.entries.Entry.{Entry}
+use Rattle.sgx_rules.specs.declared.entries.Event.{Event}
+use Rattle.sgx_rules.specs.declared.entries.Event.TheVariants.{Did, Refused, Age}
+use Rattle.sgx_rules.specs.declared.entries.Look.{Look}
+use Rattle.sgx_rules.specs.declared.entries.Look.TheVariants as looks
+use Rattle.sgx_types.specs.declared.lawful.PageInit.{PageInit}
 use Rattle.sgx_types.specs.declared.names.Frame.{Frame}
 use Rattle.sgx_types.specs.declared.names.Kind.{Kind}
 use Rattle.sgx_types.specs.declared.names.Page.{Page}
 use Rattle.sgx_types.specs.declared.names.Perm.{Perm}
 use Rattle.sgx_types.specs.declared.names.SlotAt.{SlotAt}
-use Rattle.sgx_types.specs.declared.refusals.Refusal.{Refusal}
-use Rattle.sgx_types.specs.Frames.{Holds, IsVa, SecsOf, added, content, page_at, reloaded, same_page, vas_made}
-use Rattle.sgx_types.specs.Slots.{open_slot, version_in}
-use Rattle.sgx_types.specs.Starts.{Start, is_load_of, open_start, version_told}
+use Rattle.sgx_rules.specs.declared.refusals.Refusal.{Refusal}
+use Rattle.sgx_types.specs.Pages.{page_at, same_page}
+use Rattle.sgx_rules.specs.Frames.{Holds, IsVa, SecsOf, added, content, reloaded, vas_made}
+use Rattle.sgx_rules.specs.Slots.{open_slot, version_in}
+use Rattle.sgx_rules.specs.Starts.{Start, is_load_of, open_start, version_told}
 use Rattle.sgx_types.proofs.Pages.{same_page-refl}
-use Rattle.sgx_types.specs.Table.{is_lawful_access}
-use Rattle.sgx_types.specs.declared.entries.AccessOp.{AccessOp}
+use Rattle.sgx_rules.specs.Table.{is_lawful_access}
+use Rattle.sgx_rules.specs.declared.entries.AccessOp.{AccessOp}
 use Rattle.driver_rules.specs.Ages.{head_of}
 use Rattle.driver_laws.specs.Kinds.{CanMove}
 use Rattle.driver_rules.specs.Places.{Absent, Away, Here, Leaving, Loading, Place, active, after_look, back_to, gone_to, is_here, leaves}

@@ -1,19 +1,19 @@
 -- Where no instruction moves a page, each is refused by a case of its row, and none of these cases ends a run.
 use Rattle.std.proofs.Common.{◌≡◌, ℕ, ◌&&◌, not, Bool, true, false, if◌then◌else◌, refl, sym, ◌∙◌, ap, List, []}
 use Rattle.std.proofs.Common.{◌∷◌, Option, Some, None}
-use Rattle.sgx_types.specs.declared.entries.Action.{Action}
-use Rattle.sgx_types.specs.declared.entries.Action.TheVariants as actions
-use Rattle.sgx_types.specs.declared.entries.Actor.{Actor}
-use Rattle.sgx_types.specs.declared.entries.Cause.TheVariants as causes
-use Rattle.sgx_types.specs.declared.entries.Entry.{Entry}
-use Rattle.sgx_types.specs.declared.entries.PageInit.{PageInit}
+use Rattle.sgx_rules.specs.declared.entries.Action.{Action}
+use Rattle.sgx_rules.specs.declared.entries.Action.TheVariants as actions
+use Rattle.sgx_types.specs.declared.names.Actor.{Actor}
+use Rattle.sgx_rules.specs.declared.entries.Cause.TheVariants as causes
+use Rattle.sgx_rules.specs.declared.entries.Entry.{Entry}
+use Rattle.sgx_types.specs.declared.lawful.PageInit.{PageInit}
 use Rattle.sgx_types.specs.declared.names.Kind.{Kind}
 use Rattle.sgx_types.specs.declared.names.Perm.{Perm}
-use Rattle.sgx_types.specs.declared.refusals.Refusal.{Refusal}
-use Rattle.sgx_types.specs.Flat.{enclave_sight, flat}
+use Rattle.sgx_rules.specs.declared.refusals.Refusal.{Refusal}
+use Rattle.sgx_rules.specs.Flat.{enclave_sight, flat}
 use Rattle.sgx_types.specs.Making.{Making}
-use Rattle.sgx_types.specs.Sights.{enclave_of_stay, row_at, sight_at, stay_of}
-use Rattle.sgx_types.specs.Table.{Case, EnclaveSight, FrameSight, add_row, fill_row, first_of_row, init_row}
+use Rattle.sgx_rules.specs.Sights.{enclave_of_stay, row_at, sight_at, stay_of}
+use Rattle.sgx_rules.specs.Table.{Case, EnclaveSight, FrameSight, add_row, fill_row, first_of_row, init_row}
 use Rattle.driver_rules.specs.Stops.{is_last_refusal}
 
 -- no case of a row ends a run

@@ -6,22 +6,23 @@ use Rattle.std.proofs.lemmas.Bool.{eqb-true, eq-eqb, false≢true}
 use Rattle.std.proofs.lemmas.List.{append_assoc, append-nil}
 use Rattle.std.proofs.lemmas.List.Folds.{list_any-append}
 use Rattle.sgx_types.proofs.Truths.{eqb-swap}
-use Rattle.sgx_types.specs.declared.entries.Action.TheVariants.{Epa, Create, Add, Block, Track, EwbStart, Ewb, EldStart, Eld}
-use Rattle.sgx_types.specs.declared.entries.Actor.{Actor}
-use Rattle.sgx_types.specs.declared.entries.Actor.TheVariants as actors
-use Rattle.sgx_types.specs.declared.entries.Answer.{Answer}
-use Rattle.sgx_types.specs.declared.entries.Answer.TheVariants.{Moved}
-use Rattle.sgx_types.specs.declared.entries.Entry.{Entry}
-use Rattle.sgx_types.specs.declared.entries.Event.{Event}
-use Rattle.sgx_types.specs.declared.entries.Event.TheVariants.{Did, Refused, Age, Kick}
-use Rattle.sgx_types.specs.declared.entries.Look.{Look}
-use Rattle.sgx_types.specs.declared.entries.Look.TheVariants as looks
+use Rattle.sgx_rules.specs.declared.entries.Action.TheVariants.{Epa, Create, Add, Block, Track, EwbStart, Ewb, EldStart, Eld}
+use Rattle.sgx_types.specs.declared.names.Actor.{Actor}
+use Rattle.sgx_types.specs.declared.names.Actor.TheVariants as actors
+use Rattle.sgx_rules.specs.declared.entries.Answer.{Answer}
+use Rattle.sgx_rules.specs.declared.entries.Answer.TheVariants.{Moved}
+use Rattle.sgx_rules.specs.declared.entries.Entry.{Entry}
+use Rattle.sgx_rules.specs.declared.entries.Event.{Event}
+use Rattle.sgx_rules.specs.declared.entries.Event.TheVariants.{Did, Refused, Age, Kick}
+use Rattle.sgx_rules.specs.declared.entries.Look.{Look}
+use Rattle.sgx_rules.specs.declared.entries.Look.TheVariants as looks
 use Rattle.sgx_types.specs.declared.names.Frame.{Frame}
 use Rattle.sgx_types.specs.declared.names.Page.{Page}
 use Rattle.sgx_types.specs.declared.names.SlotAt.{SlotAt}
-use Rattle.sgx_types.specs.declared.refusals.Refusal.TheVariants as why
-use Rattle.sgx_types.specs.Frames.{Free, content, is_block, is_blocked, is_page, is_sealing, same_page}
-use Rattle.sgx_types.specs.Starts.{Start, is_load_of, open_start, version_told}
+use Rattle.sgx_rules.specs.declared.refusals.Refusal.TheVariants as why
+use Rattle.sgx_types.specs.Pages.{same_page}
+use Rattle.sgx_rules.specs.Frames.{Free, content, is_block, is_blocked, is_page, is_sealing}
+use Rattle.sgx_rules.specs.Starts.{Start, is_load_of, open_start, version_told}
 use Rattle.job_grammar.specs.Jobs.{JobView}
 use Rattle.driver_rules.specs.Ages.{AgeRule, FormOf, InPass, IsFrame, KickRule, LookOf, PassOf, head_of}
 use Rattle.driver_rules.specs.Ages as ages

@@ -5,14 +5,15 @@ use Rattle.std.proofs.lemmas.Bool.{false≢true}
 use Rattle.std.proofs.lemmas.List.Sums.{count_by_more_no, count_by_more_yes}
 use Rattle.std.proofs.lemmas.Option.{get_or_from_slice_get, slice_get_within}
 use Rattle.std.specs.List.{count_by}
-use Rattle.sgx_types.specs.Frames.{content, frame_of, least_free, page_at}
-use Rattle.sgx_types.specs.declared.entries.Action.{Action}
-use Rattle.sgx_types.specs.declared.entries.Action.TheVariants as actions
-use Rattle.sgx_types.specs.declared.entries.Actor.{Actor}
-use Rattle.sgx_types.specs.declared.entries.Actor.TheVariants as actors
-use Rattle.sgx_types.specs.declared.entries.Entry.{Entry}
-use Rattle.sgx_types.specs.declared.entries.Event.{Event}
-use Rattle.sgx_types.specs.declared.entries.Event.TheVariants.{Age, Bus, Did, Kick, Refused}
+use Rattle.sgx_types.specs.Pages.{page_at}
+use Rattle.sgx_rules.specs.Frames.{content, frame_of, least_free}
+use Rattle.sgx_rules.specs.declared.entries.Action.{Action}
+use Rattle.sgx_rules.specs.declared.entries.Action.TheVariants as actions
+use Rattle.sgx_types.specs.declared.names.Actor.{Actor}
+use Rattle.sgx_types.specs.declared.names.Actor.TheVariants as actors
+use Rattle.sgx_rules.specs.declared.entries.Entry.{Entry}
+use Rattle.sgx_rules.specs.declared.entries.Event.{Event}
+use Rattle.sgx_rules.specs.declared.entries.Event.TheVariants.{Age, Bus, Did, Kick, Refused}
 use Rattle.sgx_types.specs.declared.names.Page.{Page}
 use Rattle.sgx_types.specs.declared.names.SlotAt.{SlotAt}
 use Rattle.job_grammar.specs.Jobs.{JobView}

@@ -4,22 +4,23 @@ use Rattle.std.proofs.Common.{refl, sym, ◌∙◌, ap, subst, List, [], ◌∷�
 use Rattle.std.proofs.lemmas.Bool.{eq-eqb, false≢true, or_left, or_right}
 use Rattle.std.proofs.lemmas.List.Folds.{list_any-append}
 use Rattle.sgx_types.proofs.Pages.{same_page-refl, same_pages}
-use Rattle.sgx_types.specs.declared.entries.Action.{Action}
-use Rattle.sgx_types.specs.declared.entries.Action.TheVariants as actions
-use Rattle.sgx_types.specs.declared.entries.Actor.TheVariants as actors
-use Rattle.sgx_types.specs.declared.entries.Answer.{Answer}
-use Rattle.sgx_types.specs.declared.entries.Cause.{Cause}
-use Rattle.sgx_types.specs.declared.entries.Cause.TheVariants as causes
-use Rattle.sgx_types.specs.declared.entries.Entry.{Entry}
-use Rattle.sgx_types.specs.declared.entries.Event.{Event}
-use Rattle.sgx_types.specs.declared.entries.Event.TheVariants.{Did, Refused}
+use Rattle.sgx_rules.specs.declared.entries.Action.{Action}
+use Rattle.sgx_rules.specs.declared.entries.Action.TheVariants as actions
+use Rattle.sgx_types.specs.declared.names.Actor.TheVariants as actors
+use Rattle.sgx_rules.specs.declared.entries.Answer.{Answer}
+use Rattle.sgx_rules.specs.declared.entries.Cause.{Cause}
+use Rattle.sgx_rules.specs.declared.entries.Cause.TheVariants as causes
+use Rattle.sgx_rules.specs.declared.entries.Entry.{Entry}
+use Rattle.sgx_rules.specs.declared.entries.Event.{Event}
+use Rattle.sgx_rules.specs.declared.entries.Event.TheVariants.{Did, Refused}
 use Rattle.sgx_types.specs.declared.names.Cpu.{Cpu}
 use Rattle.sgx_types.specs.declared.names.Frame.{Frame}
 use Rattle.sgx_types.specs.declared.names.Page.{Page}
-use Rattle.sgx_types.specs.declared.refusals.Refusal.{Refusal}
-use Rattle.sgx_types.specs.Frames.{Content, content, is_page, page_at, same_page}
-use Rattle.sgx_types.specs.Processors.{Enters, Keeps, Leaves, Move, Stay, is_by, move_by, stay, stay_after, stay_from}
-use Rattle.sgx_types.proofs.Contents.{held_page}
+use Rattle.sgx_rules.specs.declared.refusals.Refusal.{Refusal}
+use Rattle.sgx_types.specs.Pages.{page_at, same_page}
+use Rattle.sgx_rules.specs.Frames.{Content, content, is_page}
+use Rattle.sgx_rules.specs.Processors.{Enters, Keeps, Leaves, Move, Stay, is_by, move_by, stay, stay_after, stay_from}
+use Rattle.sgx_rules.proofs.Contents.{held_page}
 use Rattle.job_grammar.specs.declared.jobs.Op.{Op}
 use Rattle.job_grammar.specs.declared.jobs.Op.TheVariants as ops
 use Rattle.job_grammar.specs.declared.jobs.PageLine.{PageLine}

@@ -4,21 +4,22 @@ use Rattle.std.proofs.Common.{if◌then◌else◌, refl, sym, ◌∙◌, ap, sub
 use Rattle.std.proofs.Common.{length, nat_lt, is_some, arith}
 use Rattle.std.proofs.lemmas.Bool.{eqb-true, eq-eqb, false≢true}
 use Rattle.sgx_types.proofs.Truths.{both_true}
-use Rattle.sgx_types.specs.declared.entries.Action.TheVariants.{Epa, Create, Add, Block, Ewb, EldStart, Eld}
-use Rattle.sgx_types.specs.declared.entries.Answer.TheVariants.{Moved}
-use Rattle.sgx_types.specs.declared.entries.Entry.{Entry}
-use Rattle.sgx_types.specs.declared.entries.Event.{Event}
-use Rattle.sgx_types.specs.declared.entries.Event.TheVariants.{Did, Refused, Age}
-use Rattle.sgx_types.specs.declared.entries.Look.{Look}
-use Rattle.sgx_types.specs.declared.entries.Look.TheVariants as looks
+use Rattle.sgx_rules.specs.declared.entries.Action.TheVariants.{Epa, Create, Add, Block, Ewb, EldStart, Eld}
+use Rattle.sgx_rules.specs.declared.entries.Answer.TheVariants.{Moved}
+use Rattle.sgx_rules.specs.declared.entries.Entry.{Entry}
+use Rattle.sgx_rules.specs.declared.entries.Event.{Event}
+use Rattle.sgx_rules.specs.declared.entries.Event.TheVariants.{Did, Refused, Age}
+use Rattle.sgx_rules.specs.declared.entries.Look.{Look}
+use Rattle.sgx_rules.specs.declared.entries.Look.TheVariants as looks
 use Rattle.sgx_types.specs.declared.names.Page.{Page}
 use Rattle.sgx_types.specs.declared.names.SlotAt.{SlotAt}
-use Rattle.sgx_types.specs.Epochs.{is_before, is_in_before, is_track, last_track}
-use Rattle.sgx_types.specs.Eviction.{block_place, earlier_or, is_drained, is_drained_from, keeps_back, number_kept_back, track_behind}
-use Rattle.sgx_types.specs.Frames.{Free, content, is_block, is_blocked, is_page, is_put, made_before, put_by, same_page}
-use Rattle.sgx_types.specs.Starts.{is_load_of, open_start}
-use Rattle.sgx_types.specs.Processors.{Enters, Keeps, Leaves, Move, Stay, is_by, move_by, stay, stay_after}
-use Rattle.sgx_types.proofs.Contents.{load_no_page, page_enclave}
+use Rattle.sgx_rules.specs.Epochs.{is_before, is_in_before, is_track, last_track}
+use Rattle.sgx_rules.specs.Eviction.{block_place, earlier_or, is_drained, is_drained_from, keeps_back, number_kept_back, track_behind}
+use Rattle.sgx_types.specs.Pages.{same_page}
+use Rattle.sgx_rules.specs.Frames.{Free, content, is_block, is_blocked, is_page, is_put, made_before, put_by}
+use Rattle.sgx_rules.specs.Starts.{is_load_of, open_start}
+use Rattle.sgx_rules.specs.Processors.{Enters, Keeps, Leaves, Move, Stay, is_by, move_by, stay, stay_after}
+use Rattle.sgx_rules.proofs.Contents.{load_no_page, page_enclave}
 use Rattle.sgx_types.proofs.CountLaws.{count_below-zero, count_below-none}
 use Rattle.driver_laws.specs.Kinds.{CanMove}
 use Rattle.driver_rules.specs.Places.{Absent, Away, Leaving, Loading, Place, after_look, back_to, place}

@@ -3,22 +3,23 @@ use Rattle.std.proofs.Common.{◌≡◌, ℕ, ◌<◌, ◌==◌, Bool, true, fal
 use Rattle.std.proofs.Common.{List, [], ◌∷◌, Option, Some, None, length}
 use Rattle.std.proofs.lemmas.Bool.{eq-eqb, false≢true}
 use Rattle.sgx_types.proofs.Pages.{same_slots}
-use Rattle.sgx_types.specs.declared.entries.Action.TheVariants.{Add, EwbStart, Ewb, EldStart, Eld}
-use Rattle.sgx_types.specs.declared.entries.Actor.{Actor}
-use Rattle.sgx_types.specs.declared.entries.Answer.{Answer}
-use Rattle.sgx_types.specs.declared.entries.Answer.TheVariants.{Moved}
-use Rattle.sgx_types.specs.declared.entries.Entry.{Entry}
-use Rattle.sgx_types.specs.declared.entries.Event.{Event}
-use Rattle.sgx_types.specs.declared.entries.Event.TheVariants.{Did, Refused, Age}
-use Rattle.sgx_types.specs.declared.entries.Look.{Look}
-use Rattle.sgx_types.specs.declared.entries.Look.TheVariants as looks
+use Rattle.sgx_rules.specs.declared.entries.Action.TheVariants.{Add, EwbStart, Ewb, EldStart, Eld}
+use Rattle.sgx_types.specs.declared.names.Actor.{Actor}
+use Rattle.sgx_rules.specs.declared.entries.Answer.{Answer}
+use Rattle.sgx_rules.specs.declared.entries.Answer.TheVariants.{Moved}
+use Rattle.sgx_rules.specs.declared.entries.Entry.{Entry}
+use Rattle.sgx_rules.specs.declared.entries.Event.{Event}
+use Rattle.sgx_rules.specs.declared.entries.Event.TheVariants.{Did, Refused, Age}
+use Rattle.sgx_rules.specs.declared.entries.Look.{Look}
+use Rattle.sgx_rules.specs.declared.entries.Look.TheVariants as looks
 use Rattle.sgx_types.specs.declared.names.Frame.{Frame}
 use Rattle.sgx_types.specs.declared.names.Page.{Page}
 use Rattle.sgx_types.specs.declared.names.SlotAt.{SlotAt}
-use Rattle.sgx_types.specs.declared.refusals.Refusal.{Refusal}
-use Rattle.sgx_types.specs.Frames.{page_at, same_page}
-use Rattle.sgx_types.specs.Slots.{names_slot, open_slot, same_slot, version_in}
-use Rattle.sgx_types.specs.Starts.{Start, open_start, version_told}
+use Rattle.sgx_rules.specs.declared.refusals.Refusal.{Refusal}
+use Rattle.sgx_types.specs.Pages.{page_at, same_page}
+use Rattle.sgx_types.specs.Pages.{same_slot}
+use Rattle.sgx_rules.specs.Slots.{names_slot, open_slot, version_in}
+use Rattle.sgx_rules.specs.Starts.{Start, open_start, version_told}
 use Rattle.driver_rules.specs.Places.{Here, Place, after_look, gone_to, place}
 use Rattle.driver_laws.specs.Kinds.{CanMove}
 use Rattle.driver_laws.specs.Sound.{IsSound, slot_at, slot_outside}

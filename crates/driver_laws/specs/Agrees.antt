@@ -1,15 +1,16 @@
 -- What a driver's tables agree with: the list with its marks, the keeper of the slots and the loads, as the entries give them.
 use Rattle.std.specs.Prelude.{◌||◌, ◌++◌, ℕ, ◌≡◌, Bool, true, false, List, [], ◌∷◌, Option, Some, None, length, map}
 use Rattle.std.specs.List.{list_any}
-use Rattle.sgx_types.specs.declared.entries.Entry.{Entry}
-use Rattle.sgx_types.specs.declared.entries.Event.{Event}
-use Rattle.sgx_types.specs.declared.entries.Event.TheVariants.{Did}
-use Rattle.sgx_types.specs.declared.entries.Action.TheVariants.{Add}
+use Rattle.sgx_rules.specs.declared.entries.Entry.{Entry}
+use Rattle.sgx_rules.specs.declared.entries.Event.{Event}
+use Rattle.sgx_rules.specs.declared.entries.Event.TheVariants.{Did}
+use Rattle.sgx_rules.specs.declared.entries.Action.TheVariants.{Add}
 use Rattle.sgx_types.specs.declared.names.Page.{Page}
 use Rattle.sgx_types.specs.declared.names.SlotAt.{SlotAt}
-use Rattle.sgx_types.specs.Frames.{content, same_page}
-use Rattle.sgx_types.specs.Slots.{IsIdle, version_in}
-use Rattle.sgx_types.specs.Table.{is_va}
+use Rattle.sgx_types.specs.Pages.{same_page}
+use Rattle.sgx_rules.specs.Frames.{content}
+use Rattle.sgx_rules.specs.Slots.{IsIdle, version_in}
+use Rattle.sgx_rules.specs.Table.{is_va}
 use Rattle.version_array.specs.Keeper.{Keeper, is_added, is_out}
 use Rattle.job_grammar.specs.Jobs.{JobView, va_pages}
 use Rattle.driver_rules.specs.Places.{active, is_young}

@@ -1,7 +1,7 @@
 -- A list of entries that the driver and the machine made together.
 use Rattle.std.specs.Prelude.{List}
-use Rattle.sgx_types.specs.declared.entries.Entry.{Entry}
-use Rattle.sgx_types.specs.Rules.{Along, FitsRule}
+use Rattle.sgx_rules.specs.declared.entries.Entry.{Entry}
+use Rattle.sgx_rules.specs.Rules.{Along, FitsRule}
 use Rattle.sgx_types.specs.Making.{Making}
 use Rattle.page_history.specs.Once.{KeepsMoves}
 use Rattle.job_grammar.specs.Jobs.{JobView}

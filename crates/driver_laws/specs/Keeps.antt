@@ -1,11 +1,11 @@
 -- How the keeper of the version slots moves with each kind of entry.
 use Rattle.std.specs.Prelude.{◌≡◌, Bool, true, false, List, Some, count_by, length, take}
-use Rattle.sgx_types.specs.declared.entries.Action.TheVariants.{Epa, Add, EwbStart, Eld}
-use Rattle.sgx_types.specs.declared.entries.Entry.{Entry}
-use Rattle.sgx_types.specs.declared.entries.Event.{Event}
-use Rattle.sgx_types.specs.declared.entries.Event.TheVariants.{Did, Refused}
+use Rattle.sgx_rules.specs.declared.entries.Action.TheVariants.{Epa, Add, EwbStart, Eld}
+use Rattle.sgx_rules.specs.declared.entries.Entry.{Entry}
+use Rattle.sgx_rules.specs.declared.entries.Event.{Event}
+use Rattle.sgx_rules.specs.declared.entries.Event.TheVariants.{Did, Refused}
 use Rattle.sgx_types.specs.declared.names.SlotAt.{SlotAt}
-use Rattle.sgx_types.specs.Slots.{open_slot}
+use Rattle.sgx_rules.specs.Slots.{open_slot}
 use Rattle.version_array.specs.Keeper.{Adds, Gives, Keeper, Takes, count_out, is_out}
 use Rattle.job_grammar.specs.Jobs.{JobView, va_pages}
 use Rattle.turn_rules.specs.declared.steps.BuildStep.{BuildStep}

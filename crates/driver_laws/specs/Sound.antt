@@ -2,14 +2,15 @@
 -- stands, the list has each page that is here once, and no two pages have one slot.
 use Rattle.std.specs.Prelude.{ℕ, ◌≡◌, ◌==◌, ◌+◌, Bool, true, false, not, if◌then◌else◌, List, [], ◌∷◌, Option}
 use Rattle.std.specs.Prelude.{Some, None, is_some}
-use Rattle.sgx_types.specs.declared.entries.Entry.{Entry}
+use Rattle.sgx_rules.specs.declared.entries.Entry.{Entry}
 use Rattle.sgx_types.specs.declared.names.Page.{Page}
 use Rattle.sgx_types.specs.declared.names.SlotAt.{SlotAt}
-use Rattle.sgx_types.specs.Frames.{Content, added, content, is_page, same_page}
-use Rattle.sgx_types.specs.Slots.{slot_of as slot_of_start, version_in}
-use Rattle.sgx_types.specs.Starts.{Start, is_load_of, open_start}
-use Rattle.sgx_types.specs.Fresh.{Out, last_out}
-use Rattle.sgx_types.specs.Table.{is_loading}
+use Rattle.sgx_types.specs.Pages.{same_page}
+use Rattle.sgx_rules.specs.Frames.{Content, added, content, is_page}
+use Rattle.sgx_rules.specs.Slots.{slot_of as slot_of_start, version_in}
+use Rattle.sgx_rules.specs.Starts.{Start, is_load_of, open_start}
+use Rattle.sgx_rules.specs.Fresh.{Out, last_out}
+use Rattle.sgx_rules.specs.Table.{is_loading}
 use Rattle.driver_rules.specs.Places.{Absent, Away, Here, Leaving, Loading, Place, active, is_here, place}
 
 -- ---- places

@@ -1,13 +1,13 @@
 -- How the pages of a pass stand, as long as each entry is the driver's: those that were taken wait in their frames, each once, and are
 -- blocked in their order; a frame whose page is here is not blocked; a page has started to go out only behind its tries.
 use Rattle.std.specs.Prelude.{ℕ, ◌≡◌, ◌==◌, ◌≤◌, Bool, true, false, List, [], ◌∷◌, ◌++◌, Some, None, length}
-use Rattle.sgx_types.specs.declared.entries.Entry.{Entry}
-use Rattle.sgx_types.specs.declared.entries.Event.{Event}
-use Rattle.sgx_types.specs.declared.entries.Event.TheVariants.{Did}
-use Rattle.sgx_types.specs.declared.entries.Action.TheVariants.{Block, EwbStart, Ewb}
+use Rattle.sgx_rules.specs.declared.entries.Entry.{Entry}
+use Rattle.sgx_rules.specs.declared.entries.Event.{Event}
+use Rattle.sgx_rules.specs.declared.entries.Event.TheVariants.{Did}
+use Rattle.sgx_rules.specs.declared.entries.Action.TheVariants.{Block, EwbStart, Ewb}
 use Rattle.sgx_types.specs.declared.names.Page.{Page}
-use Rattle.sgx_types.specs.Frames.{is_blocked, is_sealing}
-use Rattle.sgx_types.specs.Starts.{Start, open_start}
+use Rattle.sgx_rules.specs.Frames.{is_blocked, is_sealing}
+use Rattle.sgx_rules.specs.Starts.{Start, open_start}
 use Rattle.driver_rules.specs.Holds.{is_among}
 use Rattle.driver_rules.specs.Passes.{Between, Blocking, Form, Pass, Scan, Sealing, Tries}
 use Rattle.driver_rules.specs.Places.{Here, Leaving, active, place}

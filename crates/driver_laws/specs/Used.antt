@@ -1,18 +1,18 @@
 -- What the entries give of slots as long as each entry is the driver's: the slot of a page that is outside holds a version, a load has
 -- found the version of its slot, and no two starts name one slot.
 use Rattle.std.specs.Prelude.{ℕ, ◌≡◌, ◌<◌, not, Bool, List, Option, Some, None}
-use Rattle.sgx_types.specs.declared.entries.Action.TheVariants.{EwbStart, Ewb, EldStart}
-use Rattle.sgx_types.specs.declared.entries.Answer.TheVariants.{Moved}
-use Rattle.sgx_types.specs.declared.entries.Entry.{Entry}
-use Rattle.sgx_types.specs.declared.entries.Event.{Event}
-use Rattle.sgx_types.specs.declared.entries.Event.TheVariants.{Did}
+use Rattle.sgx_rules.specs.declared.entries.Action.TheVariants.{EwbStart, Ewb, EldStart}
+use Rattle.sgx_rules.specs.declared.entries.Answer.TheVariants.{Moved}
+use Rattle.sgx_rules.specs.declared.entries.Entry.{Entry}
+use Rattle.sgx_rules.specs.declared.entries.Event.{Event}
+use Rattle.sgx_rules.specs.declared.entries.Event.TheVariants.{Did}
 use Rattle.sgx_types.specs.declared.names.Page.{Page}
 use Rattle.sgx_types.specs.declared.names.SlotAt.{SlotAt}
-use Rattle.sgx_types.specs.Frames.{is_sealing}
-use Rattle.sgx_types.specs.Slots.{version_in}
-use Rattle.sgx_types.specs.declared.refusals.Refusal.TheVariants as why
-use Rattle.sgx_types.specs.Table.{Case, DrainSight, allowed, when, ◌otherwise◌}
-use Rattle.sgx_types.specs.Starts.{Start, open_start, version_told}
+use Rattle.sgx_rules.specs.Frames.{is_sealing}
+use Rattle.sgx_rules.specs.Slots.{version_in}
+use Rattle.sgx_rules.specs.declared.refusals.Refusal.TheVariants as why
+use Rattle.sgx_rules.specs.Table.{Case, DrainSight, allowed, when, ◌otherwise◌}
+use Rattle.sgx_rules.specs.Starts.{Start, open_start, version_told}
 use Rattle.driver_rules.specs.Places.{Away, Place, place}
 use Rattle.driver_laws.specs.Sound.{is_write_start, slot_outside}
 

@@ -3,13 +3,14 @@ use Rattle.std.specs.Prelude.{ℕ, zero, suc, ◌||◌, Bool, false, if◌then�
 use Rattle.std.specs.Prelude.{length, slice_get}
 use Rattle.std.specs.List.{list_any}
 use Rattle.std.specs.Option.{option_to_list}
-use Rattle.sgx_types.specs.declared.entries.Entry.{Entry}
-use Rattle.sgx_types.specs.declared.entries.Action.{Action}
-use Rattle.sgx_types.specs.declared.entries.Action.TheVariants.{Resume, Aex, Fill, EldStart}
-use Rattle.sgx_types.specs.declared.entries.Cause.TheVariants as causes
+use Rattle.sgx_rules.specs.declared.entries.Entry.{Entry}
+use Rattle.sgx_rules.specs.declared.entries.Action.{Action}
+use Rattle.sgx_rules.specs.declared.entries.Action.TheVariants.{Resume, Aex, Fill, EldStart}
+use Rattle.sgx_rules.specs.declared.entries.Cause.TheVariants as causes
 use Rattle.sgx_types.specs.declared.names.Page.{Page}
-use Rattle.sgx_types.specs.Frames.{Content, content, page_at, page_of, same_page}
-use Rattle.sgx_types.specs.Processors.{Stay, is_by, stay}
+use Rattle.sgx_types.specs.Pages.{page_at, same_page}
+use Rattle.sgx_rules.specs.Frames.{Content, content, page_of}
+use Rattle.sgx_rules.specs.Processors.{Stay, is_by, stay}
 use Rattle.job_grammar.specs.Jobs.{JobView}
 use Rattle.turn_rules.specs.declared.steps.BuildStep.{BuildStep}
 use Rattle.turn_rules.specs.declared.steps.BuildStep.TheVariants as builds

@@ -1,9 +1,9 @@
 //! Laws of the definitions. Each is the contract of a function without arguments, and so holds for every list of entries.
 
 ghost use Rattle.std.specs.Prelude.{◌≡◌, ◌⊎◌, Bool, false, List};
-ghost use Rattle.sgx_types.specs.declared.entries.Actor.TheVariants as actors;
-ghost use Rattle.sgx_types.specs.declared.entries.Entry.{Entry};
-ghost use Rattle.sgx_types.specs.declared.entries.Event.{Event};
+ghost use Rattle.sgx_types.specs.declared.names.Actor.TheVariants as actors;
+ghost use Rattle.sgx_rules.specs.declared.entries.Entry.{Entry};
+ghost use Rattle.sgx_rules.specs.declared.entries.Event.{Event};
 ghost use Rattle.job_grammar.specs.Jobs.{JobView};
 ghost use Rattle.driver_rules.specs.Ages.{AgeRule, KickRule};
 ghost use Rattle.driver_rules.specs.Decided.{Tells, is_ended, keeps_age, keeps_kick, keeps_script};

@@ -1,6 +1,6 @@
 -- Driver and machine agree on one entry more.
 use Rattle.std.proofs.Common.{List, ◌∷◌, sym, ◌∙◌}
-use Rattle.sgx_types.specs.declared.entries.Entry.{Entry}
+use Rattle.sgx_rules.specs.declared.entries.Entry.{Entry}
 use Rattle.sgx_types.specs.Making.{Making}
 use Rattle.job_grammar.specs.Jobs.{JobView}
 use Rattle.paging_machine.specs.Parts.{Parts}

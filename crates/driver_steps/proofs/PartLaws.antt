@@ -3,9 +3,9 @@ use Rattle.std.proofs.Common.{◌≡◌, ℕ, Bool, true, false, sym, ap, refl, 
 use Rattle.std.proofs.lemmas.Bool.{false≢true, leb-true}
 use Rattle.std.proofs.lemmas.List.{get_or_past}
 use Rattle.sgx_types.specs.declared.names.Page.{Page}
-use Rattle.sgx_types.specs.Flat.{FlatEnclave, enclave_sight_of}
-use Rattle.sgx_types.specs.Frames.{is_free}
-use Rattle.sgx_types.specs.Table as table
+use Rattle.sgx_rules.specs.Flat.{FlatEnclave, enclave_sight_of}
+use Rattle.sgx_rules.specs.Frames.{is_free}
+use Rattle.sgx_rules.specs.Table as table
 use Rattle.epcm_entry.specs.Epc.{free_frame}
 use Rattle.epcm_entry.specs.Sights.{held}
 use Rattle.secs_state.specs.Secs.{SecsState}

@@ -1,6 +1,6 @@
 -- When the driver and the machine agree on one list of entries.
 use Rattle.std.specs.Prelude.{◌≡◌, List, length}
-use Rattle.sgx_types.specs.declared.entries.Entry.{Entry}
+use Rattle.sgx_rules.specs.declared.entries.Entry.{Entry}
 use Rattle.sgx_types.specs.Making.{Making}
 use Rattle.job_grammar.specs.Jobs.{JobView}
 use Rattle.paging_laws.specs.Shape.{FitsApart, ShapeWithRules}

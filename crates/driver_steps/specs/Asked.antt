@@ -1,6 +1,6 @@
 -- What an entry has to be, so that driver and machine agree on the entries with it.
 use Rattle.std.specs.Prelude.{◌≡◌, List, ◌∷◌, length}
-use Rattle.sgx_types.specs.declared.entries.Entry.{Entry}
+use Rattle.sgx_rules.specs.declared.entries.Entry.{Entry}
 use Rattle.sgx_types.specs.Making.{Making}
 use Rattle.job_grammar.specs.Jobs.{JobView}
 use Rattle.version_array.specs.Keeper.{count_out}

@@ -1,8 +1,8 @@
 -- What an entry carries on from a machine's state before it to the one behind it.
 use Rattle.std.specs.Prelude.{◌≡◌, List, ◌∷◌}
-use Rattle.sgx_types.specs.declared.entries.Entry.{Entry}
+use Rattle.sgx_rules.specs.declared.entries.Entry.{Entry}
 use Rattle.sgx_types.specs.Making.{Making}
-use Rattle.sgx_types.specs.Rules.{LoadsAwayRule}
+use Rattle.sgx_rules.specs.Rules.{LoadsAwayRule}
 use Rattle.seal_record.specs.Records.{Made}
 use Rattle.paging_laws.specs.Histories.{StandsWithAllRules}
 use Rattle.paging_laws.specs.Shape.{FitsApart, ShapeWithRules}

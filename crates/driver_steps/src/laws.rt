@@ -7,7 +7,7 @@ ghost use Rattle.driver_tables.specs.declared.driver.Driver.{Driver};
 ghost use Rattle.job_grammar.specs.Jobs.{JobView};
 ghost use Rattle.paging_machine.specs.Parts.{Parts};
 ghost use Rattle.sgx_types.specs.Making.{Making};
-ghost use Rattle.sgx_types.specs.declared.entries.Entry.{Entry};
+ghost use Rattle.sgx_rules.specs.declared.entries.Entry.{Entry};
 
 /// Where driver and machine agree on some entries, they agree on one entry more of any actor and any kind, which is that actor's next by
 /// the rules, as long as machine and tables show it.

@@ -7,7 +7,8 @@ ghost use Rattle.driver_rules.specs.Reclaims.{is_refused};
 ghost use Rattle.driver_steps.specs.Carried.{Carries};
 
 use paging_machine::machine::Machine;
-use sgx_types::entries::{Action, Actor, Entry, Event};
+use sgx_rules::entries::{Action, Entry, Event};
+use sgx_types::names::Actor;
 use std::alloc::Global;
 
 /// One instruction, by its row of this project's instruction table. None of `epa` and `create`, which take memory.

@@ -5,13 +5,13 @@ use Rattle.std.proofs.Common.{ap, subst, ◌∙◌, arith}
 use Rattle.std.proofs.lemmas.Bool.{false≢true}
 use Rattle.std.specs.List.{All, flat_map}
 use Rattle.std.proofs.lemmas.List.Elements.{All-cons, All-head, All-nil, All-tail}
-use Rattle.sgx_types.specs.declared.entries.PageInit.{PageInit}
-use Rattle.sgx_types.specs.declared.entries.PageInit.TheVariants as inits
+use Rattle.sgx_types.specs.declared.lawful.PageInit.{PageInit}
+use Rattle.sgx_types.specs.declared.lawful.PageInit.TheVariants as inits
 use Rattle.sgx_types.specs.declared.names.Kind.{Kind}
 use Rattle.sgx_types.specs.declared.names.Kind.TheVariants as kinds
 use Rattle.sgx_types.specs.declared.names.Page.{Page}
 use Rattle.sgx_types.specs.declared.names.Perm.{Perm}
-use Rattle.sgx_types.specs.Frames.{no_perm, page_at}
+use Rattle.sgx_types.specs.Pages.{no_perm, page_at}
 use Rattle.job_grammar.specs.declared.jobs.PageLine.{PageLine}
 use Rattle.job_grammar.specs.declared.jobs.PageLine.TheVariants as lines
 use Rattle.job_grammar.specs.Jobs.{EnclaveView, JobView, va_pages}

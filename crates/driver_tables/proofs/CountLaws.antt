@@ -4,7 +4,7 @@ use Rattle.std.proofs.Common.{fold, max, All, nat_le, sym, arith, subst}
 use Rattle.std.proofs.lemmas.Bool.{and_parts, leb-true}
 use Rattle.std.proofs.lemmas.List.Elements.{All-nil, All-cons, All-head, All-tail}
 use Rattle.std.proofs.lemmas.List.Sums.{sum_by-cons}
-use Rattle.sgx_types.specs.Table.{is_lawful, is_lawful_size}
+use Rattle.sgx_types.specs.Lawful.{is_lawful, is_lawful_size}
 use Rattle.job_grammar.specs.declared.jobs.EnclaveJob.{EnclaveJob}
 use Rattle.job_grammar.specs.declared.jobs.PageLine.{PageLine}
 use Rattle.job_grammar.specs.declared.jobs.PageLine.TheVariants.{Tcs, Reg}

@@ -5,12 +5,12 @@ use Rattle.std.proofs.Common.{subst, ◌∙◌, arith}
 use Rattle.std.proofs.lemmas.Bool.{eqb-true, eqb-false}
 use Rattle.std.proofs.lemmas.List.{get_or-set_other, length-set}
 use Rattle.std.proofs.Math.Bool.{or-false}
-use Rattle.sgx_types.specs.declared.entries.Actor.TheVariants as actors
-use Rattle.sgx_types.specs.declared.entries.Entry.{Entry}
+use Rattle.sgx_types.specs.declared.names.Actor.TheVariants as actors
+use Rattle.sgx_rules.specs.declared.entries.Entry.{Entry}
 use Rattle.sgx_types.specs.declared.names.Cpu.{Cpu}
 use Rattle.sgx_types.specs.declared.names.Page.{Page}
-use Rattle.sgx_types.specs.declared.entries.Event.{Event}
-use Rattle.sgx_types.specs.Frames.{same_page}
+use Rattle.sgx_rules.specs.declared.entries.Event.{Event}
+use Rattle.sgx_types.specs.Pages.{same_page}
 use Rattle.sgx_types.proofs.Pages.{same_pages}
 use Rattle.driver_laws.proofs.SoundLaws.{entry_of}
 use Rattle.driver_tables.proofs.FirstLaws.{all_same}

@@ -4,9 +4,9 @@ use Rattle.std.proofs.Common.{List, [], ◌∷◌, Some, drop, length, map, arit
 use Rattle.std.specs.List.{list_any}
 use Rattle.std.proofs.lemmas.Bool.{false≢true}
 use Rattle.sgx_types.proofs.Pages.{same_page-refl, same_pages}
-use Rattle.sgx_types.specs.declared.entries.Entry.{Entry}
+use Rattle.sgx_rules.specs.declared.entries.Entry.{Entry}
 use Rattle.sgx_types.specs.declared.names.Page.{Page}
-use Rattle.sgx_types.specs.Frames.{same_page}
+use Rattle.sgx_types.specs.Pages.{same_page}
 use Rattle.active_list.specs.declared.ring.Listed as ring
 use Rattle.active_list.specs.Listing as listing
 use Rattle.active_list.specs.Ring.{is_listed, pages_of}

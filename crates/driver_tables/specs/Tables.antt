@@ -1,6 +1,6 @@
 -- The driver's tables say what the entries say.
 use Rattle.std.specs.Prelude.{ℕ, ◌≡◌, ◌≤◌, false, List, ◌∷◌, None, length, map, replicate, sum}
-use Rattle.sgx_types.specs.declared.entries.Entry.{Entry}
+use Rattle.sgx_rules.specs.declared.entries.Entry.{Entry}
 use Rattle.sgx_types.specs.declared.names.Page.{Page}
 use Rattle.job_grammar.specs.Jobs.{JobView, va_pages}
 use Rattle.active_list.specs.declared.ring.Listed as ring

@@ -4,7 +4,7 @@ ghost use Rattle.std.specs.Prelude.{◌≡◌, ◌≤◌, [], List, length};
 ghost use Rattle.active_list.specs.Holds.{is_held as is_held_by};
 ghost use Rattle.driver_rules.specs.Holds.{is_held};
 ghost use Rattle.driver_tables.specs.Held.{ShowsHolds};
-ghost use Rattle.sgx_types.specs.declared.entries.Entry.{Entry};
+ghost use Rattle.sgx_rules.specs.declared.entries.Entry.{Entry};
 ghost use Rattle.sgx_types.specs.declared.names.Page.{Page};
 ghost use Rattle.driver_tables.specs.Tables.{IsNew, ShowsTables};
 ghost use Rattle.driver_tables.specs.declared.driver.Driver.{Driver};

@@ -7,13 +7,13 @@ ghost use Rattle.active_list.specs.Places.{IsPlaced};
 ghost use Rattle.active_list.specs.Ring.{is_listed};
 ghost use Rattle.active_list.specs.States.{state_of, with_state};
 ghost use Rattle.active_list.specs.declared.page_states.PageState.TheVariants as states;
-ghost use Rattle.sgx_types.specs.declared.entries.Look.TheVariants as looks;
+ghost use Rattle.sgx_rules.specs.declared.entries.Look.TheVariants as looks;
 ghost use Rattle.version_array.specs.Keeper.{is_out};
 ghost use Rattle.driver_tables.specs.Moves.{IsLooked, IsLoaded, frame_in, leaving_of, slot_away};
 
 use crate::driver::Driver;
 use active_list::page_states::PageState;
-use sgx_types::entries::Look;
+use sgx_rules::entries::Look;
 use sgx_types::names::{Frame, Page, SlotAt};
 
 impl Driver {

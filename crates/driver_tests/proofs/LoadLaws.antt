@@ -4,7 +4,7 @@ use Rattle.sgx_types.specs.declared.names.Cpu.{Cpu}
 use Rattle.sgx_types.specs.declared.names.Frame.{Frame}
 use Rattle.sgx_types.specs.declared.names.Page.{Page}
 use Rattle.sgx_types.specs.declared.names.SlotAt.{SlotAt}
-use Rattle.sgx_types.specs.Table.{is_loading}
+use Rattle.sgx_rules.specs.Table.{is_loading}
 use Rattle.active_list.specs.Keeping.{Kept, keeping, kept_at, page_kept}
 use Rattle.active_list.specs.Places.{IsPlaced}
 use Rattle.active_list.specs.Ring.{is_listed}

@@ -1,23 +1,23 @@
 -- What a turn of a pass leaves of the tables.
 use Rattle.std.proofs.Common.{◌≡◌, ◌⊎◌, inl, inr, ℕ, zero, suc, Bool, true, false, ◌||◌, List, Option, None, Some}
 use Rattle.std.proofs.Common.{MatchOption, Result, Ok, Err, IfOk, refl, sym, ap, subst, ◌∙◌, slice_get, arith}
-use Rattle.sgx_types.specs.declared.entries.Action.{Action}
-use Rattle.sgx_types.specs.declared.entries.Action.TheVariants.{EwbStart}
-use Rattle.sgx_types.specs.declared.entries.Actor.TheVariants as actors
-use Rattle.sgx_types.specs.declared.entries.Answer.{Answer}
-use Rattle.sgx_types.specs.declared.entries.Answer.TheVariants as answers
-use Rattle.sgx_types.specs.declared.entries.Entry.{Entry}
-use Rattle.sgx_types.specs.declared.entries.Event.{Event}
-use Rattle.sgx_types.specs.declared.entries.Event.TheVariants.{Refused}
-use Rattle.sgx_types.specs.declared.entries.Look.{Look}
-use Rattle.sgx_types.specs.declared.entries.Look.TheVariants as looks
+use Rattle.sgx_rules.specs.declared.entries.Action.{Action}
+use Rattle.sgx_rules.specs.declared.entries.Action.TheVariants.{EwbStart}
+use Rattle.sgx_types.specs.declared.names.Actor.TheVariants as actors
+use Rattle.sgx_rules.specs.declared.entries.Answer.{Answer}
+use Rattle.sgx_rules.specs.declared.entries.Answer.TheVariants as answers
+use Rattle.sgx_rules.specs.declared.entries.Entry.{Entry}
+use Rattle.sgx_rules.specs.declared.entries.Event.{Event}
+use Rattle.sgx_rules.specs.declared.entries.Event.TheVariants.{Refused}
+use Rattle.sgx_rules.specs.declared.entries.Look.{Look}
+use Rattle.sgx_rules.specs.declared.entries.Look.TheVariants as looks
 use Rattle.sgx_types.specs.declared.names.Frame.{Frame}
 use Rattle.sgx_types.specs.declared.names.Memory.{Memory}
 use Rattle.sgx_types.specs.declared.names.Page.{Page}
 use Rattle.sgx_types.specs.declared.names.SlotAt.{SlotAt}
-use Rattle.sgx_types.specs.declared.refusals.Refusal.{Refusal}
-use Rattle.sgx_types.specs.declared.refusals.Refusal.TheVariants as why
-use Rattle.sgx_types.specs.Slots.{same_slot}
+use Rattle.sgx_rules.specs.declared.refusals.Refusal.{Refusal}
+use Rattle.sgx_rules.specs.declared.refusals.Refusal.TheVariants as why
+use Rattle.sgx_types.specs.Pages.{same_slot}
 use Rattle.active_list.specs.Active.{turned}
 use Rattle.active_list.specs.States.{state_of as page_state, with_state}
 use Rattle.driver_rules.specs.Reclaims.{is_refused}
@@ -26,7 +26,7 @@ use Rattle.driver_tables.specs.Moves.{IsLooked, leaving_of}
 use Rattle.paging_laws.specs.State.{State, row_of}
 use Rattle.paging_laws.specs.Steps.{IsDone, did_by, refused_by}
 use Rattle.paging_machine.specs.Parts.{Parts, state_of}
-use Rattle.sgx_types.specs.Table.{first_of_row}
+use Rattle.sgx_rules.specs.Table.{first_of_row}
 use Rattle.version_array.specs.Keeper.{Keeper, is_out}
 use Rattle.reclaim_worker.specs.declared.turns.Form.{Form}
 use Rattle.reclaim_worker.specs.declared.turns.Form.TheVariants as forms

@@ -1,12 +1,12 @@
 -- What the calls of the driver leave of its tables, so that the next call can be made.
 use Rattle.std.specs.Prelude.{ℕ, ◌≡◌, ◌<◌, ◌≤◌, true, false, List, Option, Some, None, length}
-use Rattle.sgx_types.specs.declared.entries.Event.{Event}
-use Rattle.sgx_types.specs.declared.entries.Event.TheVariants.{Did}
-use Rattle.sgx_types.specs.declared.entries.Action.TheVariants.{EwbStart}
+use Rattle.sgx_rules.specs.declared.entries.Event.{Event}
+use Rattle.sgx_rules.specs.declared.entries.Event.TheVariants.{Did}
+use Rattle.sgx_rules.specs.declared.entries.Action.TheVariants.{EwbStart}
 use Rattle.sgx_types.specs.declared.names.Cpu.{Cpu}
 use Rattle.sgx_types.specs.declared.names.Page.{Page}
 use Rattle.sgx_types.specs.declared.names.SlotAt.{SlotAt}
-use Rattle.sgx_types.specs.Slots.{same_slot}
+use Rattle.sgx_types.specs.Pages.{same_slot}
 use Rattle.active_list.specs.Holds.{most_of}
 use Rattle.active_list.specs.Keeping.{kept_at, page_kept}
 use Rattle.fault_handler.specs.Finishing.{CanFinish}

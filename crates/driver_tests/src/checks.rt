@@ -18,8 +18,8 @@ use driver_tables::driver::Driver;
 use paging_machine::machine::Machine;
 use reclaim_worker::passes::Pass;
 use reclaim_worker::turns::{PassTurn, Phase};
-use sgx_types::entries::{Action, Actor, Event};
-use sgx_types::names::{Cpu, Frame, Memory, Page, SlotAt};
+use sgx_rules::entries::{Action, Event};
+use sgx_types::names::{Actor, Cpu, Frame, Memory, Page, SlotAt};
 use std::alloc::Global;
 
 /// Whether a page is one of those that are counted.

@@ -3,7 +3,7 @@
 use crate::needs::{Way, access_page, page_at};
 use cached_translations::processor::Mode;
 use job_grammar::jobs::Op;
-use sgx_types::entries::{Action, Cause, Entry, Event};
+use sgx_rules::entries::{Action, Cause, Entry, Event};
 use sgx_types::names::{Memory, Page};
 use std::alloc::Global;
 

@@ -1,6 +1,6 @@
 //! Which slot of a given trace stands for which of the driver's.
 
-use sgx_types::entries::{Action, Entry, Event};
+use sgx_rules::entries::{Action, Entry, Event};
 use sgx_types::names::{Memory, SlotAt};
 use std::alloc::Global;
 

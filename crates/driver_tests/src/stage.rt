@@ -18,8 +18,8 @@ use job_grammar::jobs::{Job, Op};
 use paging_machine::machine::Machine;
 use reclaim_worker::passes::Pass;
 use reclaim_worker::turns::PassTurn;
-use sgx_types::entries::{Action, Actor, Entry, Event};
-use sgx_types::names::{Cpu, Frame, Memory, Page};
+use sgx_rules::entries::{Action, Entry, Event};
+use sgx_types::names::{Actor, Cpu, Frame, Memory, Page};
 use std::alloc::Global;
 
 /// The machine, the driver's two halves with their tables, the store, and how far the processors are.

@@ -14,9 +14,9 @@ use paging_machine::machine::Machine;
 use reclaim_worker::passes::Pass;
 use reclaim_worker::turns::PassTurn;
 use seal_record::seal::{SealWork, seal};
-use sgx_types::entries::{Actor, Entry};
+use sgx_rules::entries::Entry;
 use sgx_types::layouts::TcsFields;
-use sgx_types::names::{Cpu, Frame, Memory, Page, SlotAt};
+use sgx_types::names::{Actor, Cpu, Frame, Memory, Page, SlotAt};
 use std::alloc::Global;
 use std::marker::Model;
 

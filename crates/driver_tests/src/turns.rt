@@ -22,8 +22,8 @@ use reclaim_worker::passes::Pass;
 use reclaim_worker::turns::PassTurn;
 use seal_record::seal::SealedWork;
 use seal_record::unseal::{UnsealedWork, unseal};
-use sgx_types::entries::{Actor, Entry};
-use sgx_types::names::{Cpu, Memory, Page, SlotAt};
+use sgx_rules::entries::Entry;
+use sgx_types::names::{Actor, Cpu, Memory, Page, SlotAt};
 use std::alloc::Global;
 
 /// One turn of a pass.

@@ -2,10 +2,10 @@
 use Rattle.std.proofs.Common.{is_none, ◌≡◌, ◌<◌, ◌&&◌, not, Bool, true, false, refl, List, [], ◌∷◌, Some, None, length}
 use Rattle.std.proofs.Common.{arith}
 use Rattle.std.proofs.lemmas.Bool.{false≢true}
-use Rattle.sgx_types.specs.declared.entries.Action.TheVariants.{Init}
-use Rattle.sgx_types.specs.declared.entries.Actor.{Actor}
-use Rattle.sgx_types.specs.declared.entries.Entry.{Entry}
-use Rattle.sgx_types.specs.Flat.{accepts, flat}
+use Rattle.sgx_rules.specs.declared.entries.Action.TheVariants.{Init}
+use Rattle.sgx_types.specs.declared.names.Actor.{Actor}
+use Rattle.sgx_rules.specs.declared.entries.Entry.{Entry}
+use Rattle.sgx_rules.specs.Flat.{accepts, flat}
 use Rattle.sgx_types.proofs.Truths.{both_true}
 use Rattle.measure_log.specs.Rule.{measurement}
 use Rattle.job_grammar.specs.Jobs.{JobView}

@@ -1,6 +1,6 @@
 -- Which rule an entry breaks, and none before it.
 use Rattle.std.specs.Prelude.{ℕ, ◌-◌, ◌&&◌, Bool, true, false, not, List, [], ◌∷◌, drop, length}
-use Rattle.sgx_types.specs.declared.entries.Entry.{Entry}
+use Rattle.sgx_rules.specs.declared.entries.Entry.{Entry}
 use Rattle.job_grammar.specs.Jobs.{JobView}
 use Rattle.driver_rules.specs.Decided.{all_along, is_ended, keeps_age, keeps_kick, keeps_script}
 use Rattle.run_history.specs.declared.rules.Rule.{Rule}

@@ -1,8 +1,8 @@
 -- A job with a page that is measured, and so held by the builder, while pages go out.
 use Rattle.std.specs.Prelude.{List, [], ◌∷◌, None, true, false, replicate, reverse}
-use Rattle.sgx_types.specs.declared.entries.Actor.TheVariants.{Builder, Reclaimer}
-use Rattle.sgx_types.specs.declared.entries.Entry.{Entry}
-use Rattle.sgx_types.specs.declared.entries.Look.TheVariants as looks
+use Rattle.sgx_types.specs.declared.names.Actor.TheVariants.{Builder, Reclaimer}
+use Rattle.sgx_rules.specs.declared.entries.Entry.{Entry}
+use Rattle.sgx_rules.specs.declared.entries.Look.TheVariants as looks
 use Rattle.job_grammar.specs.declared.jobs.PageLine.TheVariants as lines
 use Rattle.job_grammar.specs.declared.jobs.Op.TheVariants as ops
 use Rattle.job_grammar.specs.Jobs.{JobView}

@@ -1,9 +1,9 @@
 -- A job of two processors in one enclave, both of which are kicked and go on.
 use Rattle.std.specs.Prelude.{List, [], ◌∷◌, None, true, replicate, reverse}
-use Rattle.sgx_types.specs.declared.entries.Actor.TheVariants.{Builder, Reclaimer}
-use Rattle.sgx_types.specs.declared.entries.Cause.TheVariants as causes
-use Rattle.sgx_types.specs.declared.entries.Entry.{Entry}
-use Rattle.sgx_types.specs.declared.entries.Look.TheVariants as looks
+use Rattle.sgx_types.specs.declared.names.Actor.TheVariants.{Builder, Reclaimer}
+use Rattle.sgx_rules.specs.declared.entries.Cause.TheVariants as causes
+use Rattle.sgx_rules.specs.declared.entries.Entry.{Entry}
+use Rattle.sgx_rules.specs.declared.entries.Look.TheVariants as looks
 use Rattle.job_grammar.specs.declared.jobs.PageLine.TheVariants as lines
 use Rattle.job_grammar.specs.declared.jobs.Op.TheVariants as ops
 use Rattle.job_grammar.specs.Jobs.{JobView, default_marks}

@@ -2,11 +2,12 @@
 -- translation. Each passes only where that is so.
 use Rattle.std.specs.Prelude.{ℕ, zero, suc, ◌==◌, ◌&&◌, ◌||◌, not, Bool, true, false, List, [], ◌∷◌, Option, Some, None}
 use Rattle.std.specs.Prelude.{length, nat_lt}
-use Rattle.sgx_types.specs.declared.entries.Actor.{Actor}
-use Rattle.sgx_types.specs.declared.entries.Actor.TheVariants as actors
-use Rattle.sgx_types.specs.declared.entries.Entry.{Entry}
-use Rattle.sgx_types.specs.Frames.{Content, Holds, Put, content, is_page, is_sealing, made_before, page_at, put_by, same_page}
-use Rattle.sgx_types.specs.Processors.{BareTranslation, Stay, stay, translations}
+use Rattle.sgx_types.specs.declared.names.Actor.{Actor}
+use Rattle.sgx_types.specs.declared.names.Actor.TheVariants as actors
+use Rattle.sgx_rules.specs.declared.entries.Entry.{Entry}
+use Rattle.sgx_types.specs.Pages.{page_at, same_page}
+use Rattle.sgx_rules.specs.Frames.{Content, Holds, Put, content, is_page, is_sealing, made_before, put_by}
+use Rattle.sgx_rules.specs.Processors.{BareTranslation, Stay, stay, translations}
 use Rattle.job_grammar.specs.Jobs.{JobView}
 use Rattle.driver_rules.specs.Decided.{all_along}
 use Rattle.driver_rules.specs.Same.{same_kind, same_perm}

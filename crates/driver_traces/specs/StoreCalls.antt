@@ -1,6 +1,6 @@
 -- What the store was asked and answered in some of the runs. The records are left empty, since nothing here looks into them.
 use Rattle.std.specs.Prelude.{List, [], ◌∷◌, true, false, reverse}
-use Rattle.sgx_types.specs.Frames.{page_at}
+use Rattle.sgx_types.specs.Pages.{page_at}
 use Rattle.sgx_types.specs.Sealed.{Sealed}
 use Rattle.backing_store.specs.Calls.{Call, Given, Got, Put, Room}
 

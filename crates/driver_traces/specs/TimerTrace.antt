@@ -1,11 +1,11 @@
 -- A job with an interrupt, faults that no reload can help and a load from outside: saved state survives that its page is out.
 use Rattle.std.specs.Prelude.{List, [], ◌∷◌, None, true, replicate, reverse}
-use Rattle.sgx_types.specs.declared.entries.AccessOp.TheVariants as accesses
-use Rattle.sgx_types.specs.declared.entries.Actor.TheVariants.{Builder, Reclaimer}
-use Rattle.sgx_types.specs.declared.entries.Cause.TheVariants as causes
-use Rattle.sgx_types.specs.declared.entries.Entry.{Entry}
-use Rattle.sgx_types.specs.declared.entries.Look.TheVariants as looks
-use Rattle.sgx_types.specs.declared.entries.PfWhy.TheVariants as pfs
+use Rattle.sgx_rules.specs.declared.entries.AccessOp.TheVariants as accesses
+use Rattle.sgx_types.specs.declared.names.Actor.TheVariants.{Builder, Reclaimer}
+use Rattle.sgx_rules.specs.declared.entries.Cause.TheVariants as causes
+use Rattle.sgx_rules.specs.declared.entries.Entry.{Entry}
+use Rattle.sgx_rules.specs.declared.entries.Look.TheVariants as looks
+use Rattle.sgx_rules.specs.declared.entries.PfWhy.TheVariants as pfs
 use Rattle.job_grammar.specs.declared.jobs.PageLine.TheVariants as lines
 use Rattle.job_grammar.specs.declared.jobs.Op.TheVariants as ops
 use Rattle.job_grammar.specs.Jobs.{JobView, default_marks}

@@ -1,7 +1,7 @@
 //! The store's calls of some runs are those of which their traces tell, and with one call dropped or another answer they are not.
 
 ghost use Rattle.std.specs.Prelude.{◌∷◌, drop, true};
-ghost use Rattle.sgx_types.specs.Frames.{page_at};
+ghost use Rattle.sgx_types.specs.Pages.{page_at};
 ghost use Rattle.backing_store.specs.Calls.{Room};
 ghost use Rattle.run_history.specs.Calls.{CallsAre};
 ghost use Rattle.driver_traces.specs.BusTrace.{bus_trace};

@@ -1,10 +1,10 @@
 //! What is due to each actor at places of the right traces, read from the rules by hand.
 
 ghost use Rattle.std.specs.Prelude.{◌≡◌, [], ◌∷◌, None, Some, true, false};
-ghost use Rattle.sgx_types.specs.declared.entries.Action.TheVariants as actions;
-ghost use Rattle.sgx_types.specs.declared.entries.BusWhy.TheVariants as reasons;
-ghost use Rattle.sgx_types.specs.declared.entries.Cause.TheVariants as causes;
-ghost use Rattle.sgx_types.specs.Frames.{page_at};
+ghost use Rattle.sgx_rules.specs.declared.entries.Action.TheVariants as actions;
+ghost use Rattle.sgx_rules.specs.declared.entries.BusWhy.TheVariants as reasons;
+ghost use Rattle.sgx_rules.specs.declared.entries.Cause.TheVariants as causes;
+ghost use Rattle.sgx_types.specs.Pages.{page_at};
 ghost use Rattle.turn_rules.specs.Script.{frame_at};
 ghost use Rattle.driver_rules.specs.declared.waits.Why.TheVariants as waits;
 ghost use Rattle.driver_rules.specs.Dues.{Ends, Fetches, Finished, KicksAll, LooksAt, Makes, Reports, Stopped, TriesOut, Waits};

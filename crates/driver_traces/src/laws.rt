@@ -1,7 +1,7 @@
 //! Laws of the tests by which wrong entries are told.
 
 ghost use Rattle.std.specs.Prelude.{◌≡◌, true, List, ◌∷◌, Some, length};
-ghost use Rattle.sgx_types.specs.declared.entries.Entry.{Entry};
+ghost use Rattle.sgx_rules.specs.declared.entries.Entry.{Entry};
 ghost use Rattle.job_grammar.specs.Jobs.{JobView};
 ghost use Rattle.run_history.specs.declared.rules.Rule.{Rule};
 ghost use Rattle.run_history.specs.Histories.{FailsFirst, FailsHere, History, Keeps, Says, is_machines};

@@ -1,7 +1,7 @@
 //! Traces of which all eleven rules are evaluated: a whole history, and traces that fail at their last entry and nowhere before.
 
 ghost use Rattle.std.specs.Prelude.{◌∷◌};
-ghost use Rattle.sgx_types.specs.declared.entries.Actor.TheVariants.{Builder, Reclaimer};
+ghost use Rattle.sgx_types.specs.declared.names.Actor.TheVariants.{Builder, Reclaimer};
 ghost use Rattle.run_history.specs.declared.rules.Rule.TheVariants as rules;
 ghost use Rattle.run_history.specs.Histories.{FailsFirst, History};
 ghost use Rattle.driver_traces.specs.KickTrace.{kick_job, kick_trace};

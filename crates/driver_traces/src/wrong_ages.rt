@@ -2,8 +2,8 @@
 //! written by hand.
 
 ghost use Rattle.std.specs.Prelude.{◌≡◌, true, Some};
-ghost use Rattle.sgx_types.specs.declared.entries.Actor.TheVariants.{Reclaimer};
-ghost use Rattle.sgx_types.specs.declared.entries.Look.TheVariants as looks;
+ghost use Rattle.sgx_types.specs.declared.names.Actor.TheVariants.{Reclaimer};
+ghost use Rattle.sgx_rules.specs.declared.entries.Look.TheVariants as looks;
 ghost use Rattle.run_history.specs.declared.rules.Rule.TheVariants as rules;
 ghost use Rattle.run_history.specs.Histories.{FailsHere};
 ghost use Rattle.driver_traces.specs.BusTrace.{bus_job, bus_trace};

@@ -1,8 +1,8 @@
 //! Entries that break the rule Kick, and no rule before it. Another program names Kick at half of them; the others are written by hand.
 
 ghost use Rattle.std.specs.Prelude.{◌≡◌, true};
-ghost use Rattle.sgx_types.specs.declared.entries.Actor.TheVariants.{Reclaimer};
-ghost use Rattle.sgx_types.specs.declared.entries.Cause.TheVariants as causes;
+ghost use Rattle.sgx_types.specs.declared.names.Actor.TheVariants.{Reclaimer};
+ghost use Rattle.sgx_rules.specs.declared.entries.Cause.TheVariants as causes;
 ghost use Rattle.run_history.specs.declared.rules.Rule.TheVariants as rules;
 ghost use Rattle.driver_traces.specs.BusTrace.{bus_job, bus_trace};
 ghost use Rattle.driver_traces.specs.CrowdTrace.{crowd_job, crowd_trace};

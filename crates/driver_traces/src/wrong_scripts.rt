@@ -1,9 +1,9 @@
 //! Entries that break the rule Script, and ends at which something is missing.
 
 ghost use Rattle.std.specs.Prelude.{◌≡◌, [], true, false};
-ghost use Rattle.sgx_types.specs.declared.entries.Actor.TheVariants.{Builder, Reclaimer};
-ghost use Rattle.sgx_types.specs.declared.entries.BusWhy.TheVariants as reasons;
-ghost use Rattle.sgx_types.specs.declared.entries.Cause.TheVariants as causes;
+ghost use Rattle.sgx_types.specs.declared.names.Actor.TheVariants.{Builder, Reclaimer};
+ghost use Rattle.sgx_rules.specs.declared.entries.BusWhy.TheVariants as reasons;
+ghost use Rattle.sgx_rules.specs.declared.entries.Cause.TheVariants as causes;
 ghost use Rattle.driver_rules.specs.Decided.{is_ended, keeps_script};
 ghost use Rattle.run_history.specs.declared.rules.Rule.TheVariants as rules;
 ghost use Rattle.driver_traces.specs.BusTrace.{bus_job, bus_trace};

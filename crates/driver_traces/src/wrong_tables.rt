@@ -2,7 +2,7 @@
 //! Script holds at each. But for the track at the last epoch they are written by hand.
 
 ghost use Rattle.std.specs.Prelude.{◌≡◌, true};
-ghost use Rattle.sgx_types.specs.declared.entries.Actor.TheVariants.{Reclaimer};
+ghost use Rattle.sgx_types.specs.declared.names.Actor.TheVariants.{Reclaimer};
 ghost use Rattle.run_history.specs.declared.rules.Rule.TheVariants as rules;
 ghost use Rattle.driver_traces.specs.CrowdTrace.{crowd_job, crowd_trace};
 ghost use Rattle.driver_traces.specs.KickTrace.{kick_job, kick_trace};

@@ -1,11 +1,11 @@
 -- What translation fills and accesses see of a processor and the frames, and what each leaves.
 use Rattle.std.specs.Prelude.{ℕ, ◌/◌, ◌<◌, Bool, List, Option, Some, None, All}
-use Rattle.sgx_types.specs.declared.entries.AccessOp.{AccessOp}
-use Rattle.sgx_types.specs.declared.entries.AccessOp.TheVariants as accesses
+use Rattle.sgx_rules.specs.declared.entries.AccessOp.{AccessOp}
+use Rattle.sgx_rules.specs.declared.entries.AccessOp.TheVariants as accesses
 use Rattle.sgx_types.specs.declared.names.Frame.{Frame}
 use Rattle.sgx_types.specs.declared.names.Perm.{Perm}
-use Rattle.sgx_types.specs.Table.{Case, load_row, store_row, xadd_row}
-use Rattle.sgx_types.specs.Flat.{word_index}
+use Rattle.sgx_rules.specs.Table.{Case, load_row, store_row, xadd_row}
+use Rattle.sgx_rules.specs.Flat.{word_index}
 use Rattle.epcm_entry.specs.Epc.{EpcFrame, word_at, with_word}
 use Rattle.cached_translations.specs.declared.cache.Translation.{Translation}
 use Rattle.cached_translations.specs.declared.processor.Processor.{Processor}

@@ -1,16 +1,16 @@
 //! Loads, stores and exchanges of a processor inside an enclave.
 
 ghost use Rattle.std.specs.Prelude.{◌≡◌, length, IfOk, OnOk, OnErr};
-ghost use Rattle.sgx_types.specs.Table.{refusal_in, first_of_row, load_row, store_row, xadd_row};
-ghost use Rattle.sgx_types.specs.Flat.{sum_of};
+ghost use Rattle.sgx_rules.specs.Table.{refusal_in, first_of_row, load_row, store_row, xadd_row};
+ghost use Rattle.sgx_rules.specs.Flat.{sum_of};
 ghost use Rattle.cached_translations.specs.Modes.{is_inside};
 ghost use Rattle.enclave_access.specs.Access.{LeadsBelow, perm_at, word_through, with_stored};
 
 use crate::translate::{translate, word_index};
 use cached_translations::processor::Processor;
 use epcm_entry::epc::Epc;
-use sgx_types::entries::AccessOp;
-use sgx_types::refusals::Refusal;
+use sgx_rules::entries::AccessOp;
+use sgx_rules::refusals::Refusal;
 
 /// The word of 8 bytes at an offset in bytes in the enclave that a processor is inside. It is read through the translation
 /// that the processor holds: no EPCM entry is looked at, so it is answered also where the page is blocked.

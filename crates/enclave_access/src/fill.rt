@@ -1,7 +1,7 @@
 //! The fill of a translation: the one place where an access looks at the EPCM.
 
 ghost use Rattle.std.specs.Prelude.{◌≡◌, None, OnOk, OnErr};
-ghost use Rattle.sgx_types.specs.Table.{refusal_in, first_of_row, fill_row, perm_in};
+ghost use Rattle.sgx_rules.specs.Table.{refusal_in, first_of_row, fill_row, perm_in};
 ghost use Rattle.epcm_entry.specs.Sights.{sight_in};
 ghost use Rattle.cached_translations.specs.Modes.{enclave_inside};
 ghost use Rattle.enclave_access.specs.Access.{with_filled};
@@ -9,8 +9,8 @@ ghost use Rattle.enclave_access.specs.Access.{with_filled};
 use cached_translations::cache::Translation;
 use cached_translations::processor::{Mode, Processor};
 use epcm_entry::epc::Epc;
+use sgx_rules::refusals::Refusal;
 use sgx_types::names::Frame;
-use sgx_types::refusals::Refusal;
 
 /// A processor inside takes the translation of page `number` of its enclave to a frame, with the frame's permissions
 /// (Intel SDM volume 3D, access control for enclave pages; that it is an instruction is this project's own). A page whose

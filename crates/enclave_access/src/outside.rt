@@ -1,12 +1,12 @@
 //! Accesses to an enclave's memory from outside, which reach nothing of it.
 
 ghost use Rattle.std.specs.Prelude.{◌≡◌, IfOk};
-ghost use Rattle.sgx_types.specs.Table.{refusal_in, first_of_row, outload_row, outstore_row};
-ghost use Rattle.sgx_types.specs.Flat.{all_ones};
+ghost use Rattle.sgx_rules.specs.Table.{refusal_in, first_of_row, outload_row, outstore_row};
+ghost use Rattle.sgx_rules.specs.Flat.{all_ones};
 ghost use Rattle.cached_translations.specs.Modes.{is_inside};
 
 use cached_translations::processor::Processor;
-use sgx_types::refusals::Refusal;
+use sgx_rules::refusals::Refusal;
 
 /// A load of an enclave's address by a processor outside answers 2^64 - 1, whatever is there (this project's own: the
 /// manual's abort page reads as all ones).

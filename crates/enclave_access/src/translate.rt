@@ -1,17 +1,17 @@
 //! The way from an offset to a frame, by the translations alone.
 
 ghost use Rattle.std.specs.Prelude.{◌≡◌, ◌/◌, ◌<◌, Some, IfOk};
-ghost use Rattle.sgx_types.specs.Table.{refusal_in, first_of_row, allows};
-ghost use Rattle.sgx_types.specs.Flat.{word_index};
+ghost use Rattle.sgx_rules.specs.Table.{refusal_in, first_of_row, allows};
+ghost use Rattle.sgx_rules.specs.Flat.{word_index};
 ghost use Rattle.cached_translations.specs.Modes.{is_inside};
 ghost use Rattle.cached_translations.specs.Translations.{translation_of};
 ghost use Rattle.enclave_access.specs.Access.{translation_at, perm_at, row_of};
 
 use cached_translations::cache::{Cache, Translation};
 use cached_translations::processor::Processor;
-use sgx_types::entries::AccessOp;
+use sgx_rules::entries::AccessOp;
+use sgx_rules::refusals::Refusal;
 use sgx_types::names::Perm;
-use sgx_types::refusals::Refusal;
 
 /// The translation through which an access goes, or the first case of its row that holds.
 pub fn translate(cpu: &Processor, off: u64, op: AccessOp) -> Result<Translation, Refusal>

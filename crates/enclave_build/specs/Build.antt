@@ -2,16 +2,17 @@
 use Rattle.std.specs.Prelude.{ℕ, ◌+◌, ◌-◌, ◌*◌, ◌^◌, Bool, true, not, List, [], ◌++◌, Option, Some, None, Result, Ok}
 use Rattle.std.specs.Prelude.{Err, min}
 use Rattle.std.specs.Str.{bytes_eq}
-use Rattle.sgx_types.specs.declared.entries.PageInit.{PageInit}
+use Rattle.sgx_types.specs.declared.lawful.PageInit.{PageInit}
 use Rattle.sgx_types.specs.declared.names.Page.{Page}
 use Rattle.sgx_types.specs.declared.names.Kind.{Kind}
 use Rattle.sgx_types.specs.declared.names.Kind.TheVariants as kinds
 use Rattle.sgx_types.specs.declared.names.Perm.{Perm}
-use Rattle.sgx_types.specs.declared.refusals.Refusal.{Refusal}
-use Rattle.sgx_types.specs.declared.refusals.Refusal.TheVariants as why
-use Rattle.sgx_types.specs.Frames.{Content, Holds, no_perm, page_at}
-use Rattle.sgx_types.specs.Table.{Case, allowed, when, ◌otherwise◌, EnclaveSight, init_row}
-use Rattle.sgx_types.specs.Flat.{first_words}
+use Rattle.sgx_rules.specs.declared.refusals.Refusal.{Refusal}
+use Rattle.sgx_rules.specs.declared.refusals.Refusal.TheVariants as why
+use Rattle.sgx_types.specs.Pages.{no_perm, page_at}
+use Rattle.sgx_rules.specs.Frames.{Content, Holds}
+use Rattle.sgx_rules.specs.Table.{Case, allowed, when, ◌otherwise◌, EnclaveSight, init_row}
+use Rattle.sgx_rules.specs.Flat.{first_words}
 use Rattle.epcm_entry.specs.Epc.{EpcFrame, with_page, with_words, bytes_at, entry_at}
 use Rattle.epcm_entry.specs.Sights.{held}
 use Rattle.secs_state.specs.Secs.{SecsState, with_children}

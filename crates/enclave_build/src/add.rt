@@ -1,9 +1,10 @@
 //! EADD: a page is added to an enclave that is being built.
 
 ghost use Rattle.std.specs.Prelude.{◌≡◌, ◌<◌, ◌*◌, false, None, Some, OnOk, OnErr, is_some, length};
-ghost use Rattle.sgx_types.specs.Frames.{page_at};
+ghost use Rattle.sgx_types.specs.Pages.{page_at};
 ghost use Rattle.sgx_types.specs.Layouts.{flags_of};
-ghost use Rattle.sgx_types.specs.Table.{is_addable, is_lawful_perm, is_within, refusal_in, first_of_row, add_row};
+ghost use Rattle.sgx_types.specs.Lawful.{is_addable, is_lawful_perm, is_within};
+ghost use Rattle.sgx_rules.specs.Table.{refusal_in, first_of_row, add_row};
 ghost use Rattle.epcm_entry.specs.EntryView.{is_valid};
 ghost use Rattle.epcm_entry.specs.Epc.{entry_at};
 ghost use Rattle.epcm_entry.specs.Sights.{sight_in};
@@ -15,11 +16,10 @@ ghost use Rattle.enclave_build.specs.Build.{Appends, with_added, with_resident};
 use epcm_entry::epc::Epc;
 use measure_log::measure::Measure;
 use secs_state::secs::Secs;
-use sgx_types::entries::PageInit;
-use sgx_types::lawful::{is_addable, is_lawful_perm, is_within};
+use sgx_rules::refusals::Refusal;
+use sgx_types::lawful::{PageInit, is_addable, is_lawful_perm, is_within};
 use sgx_types::layouts::flags;
 use sgx_types::names::{Frame, Kind, Page, Perm};
-use sgx_types::refusals::Refusal;
 
 /// EADD (Intel SDM volume 3D): a free frame becomes page `number` of an enclave that is not initialised, with the bytes
 /// of `init`. The log gets the page's offset and SECINFO.FLAGS, and the page counts as resident.

@@ -3,8 +3,8 @@
 ghost use Rattle.std.specs.Prelude.{◌≡◌};
 ghost use Rattle.enclave_build.specs.declared.build_refusal.BuildRefusal.TheVariants as ends;
 
+use sgx_rules::refusals::Refusal;
 use sgx_types::names::Memory;
-use sgx_types::refusals::Refusal;
 
 /// Why an instruction that takes memory was not done: the first case of its row that holds, or want of memory.
 #[derive(Clone, Copy, Debug, PartialEq, Eq)]

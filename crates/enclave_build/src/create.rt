@@ -1,7 +1,8 @@
 //! ECREATE: an enclave begins.
 
 ghost use Rattle.std.specs.Prelude.{◌≡◌, None, OnOk, OnErr, IfOk};
-ghost use Rattle.sgx_types.specs.Table.{is_enclave, first_of_row, create_row};
+ghost use Rattle.sgx_types.specs.Lawful.{is_enclave};
+ghost use Rattle.sgx_rules.specs.Table.{first_of_row, create_row};
 ghost use Rattle.epcm_entry.specs.Sights.{sight_in};
 ghost use Rattle.secs_state.specs.Secs.{created};
 ghost use Rattle.measure_log.specs.Blocks.{ecreate_block};
@@ -12,9 +13,9 @@ use crate::build_refusal::BuildRefusal;
 use epcm_entry::epc::Epc;
 use measure_log::measure::Measure;
 use secs_state::secs::Secs;
+use sgx_rules::refusals::Refusal;
 use sgx_types::lawful::{is_enclave, is_lawful};
 use sgx_types::names::{Frame, Kind, Page, Perm};
-use sgx_types::refusals::Refusal;
 use std::alloc::Global;
 
 /// ECREATE (Intel SDM volume 3D): a free frame becomes the SECS of enclave `enclave`, numbered from 1 to 8, over `size`

@@ -1,8 +1,8 @@
 //! EEXTEND: 256 bytes of a page are measured.
 
 ghost use Rattle.std.specs.Prelude.{◌≡◌, ◌<◌, ◌==◌, None, IfSome, OnOk, OnErr, false};
-ghost use Rattle.sgx_types.specs.Frames.{enclave_in};
-ghost use Rattle.sgx_types.specs.Table.{refusal_in, first_of_row, extend_row};
+ghost use Rattle.sgx_rules.specs.Frames.{enclave_in};
+ghost use Rattle.sgx_rules.specs.Table.{refusal_in, first_of_row, extend_row};
 ghost use Rattle.epcm_entry.specs.Sights.{sight_in};
 ghost use Rattle.measure_log.specs.Blocks.{chunk_of};
 ghost use Rattle.enclave_build.specs.Build.{Appends, chunk_block};
@@ -11,8 +11,8 @@ use epcm_entry::entry_view::EntryView;
 use epcm_entry::epc::Epc;
 use measure_log::measure::Measure;
 use secs_state::secs::Secs;
+use sgx_rules::refusals::Refusal;
 use sgx_types::names::Frame;
-use sgx_types::refusals::Refusal;
 
 /// EEXTEND (Intel SDM volume 3D): the log of an enclave that is not initialised gets the 256 bytes of chunk `chunk`,
 /// from 0 to 15, of the TCS or REG page in a frame, with their offset in the enclave. `secs` and `log` are those of the

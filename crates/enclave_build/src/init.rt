@@ -1,7 +1,7 @@
 //! EINIT: an enclave is initialised, and its measurement is final.
 
 ghost use Rattle.std.specs.Prelude.{◌≡◌, List, ℕ, Some, OnOk, OnErr, IfOk};
-ghost use Rattle.sgx_types.specs.Table.{refusal_in, first_of_row, init_row};
+ghost use Rattle.sgx_rules.specs.Table.{refusal_in, first_of_row, init_row};
 ghost use Rattle.secs_state.specs.Secs.{with_init};
 ghost use Rattle.measure_log.specs.Measure.{HoldsLog, measurement_of};
 ghost use Rattle.secs_state.specs.Sights.{sight_of};
@@ -9,7 +9,7 @@ ghost use Rattle.enclave_build.specs.Build.{AgreesWith, is_expected, measured_ro
 
 use measure_log::measure::Measure;
 use secs_state::secs::Secs;
-use sgx_types::refusals::Refusal;
+use sgx_rules::refusals::Refusal;
 
 /// EINIT (Intel SDM volume 3D): an enclave is initialised, and answers the measurement of its log, SHA-256.
 ///

@@ -2,10 +2,10 @@
 use Rattle.std.specs.Prelude.{◌≡◌, ℕ, ◌+◌, ◌-◌, ◌/◌, ◌<◌, ◌==◌, false, List, [], Some, IsSome, Contains}
 use Rattle.sgx_types.specs.declared.layouts.TcsFields.{TcsFields}
 use Rattle.sgx_types.specs.declared.names.Frame.{Frame}
-use Rattle.sgx_types.specs.declared.refusals.Refusal.TheVariants as why
-use Rattle.sgx_types.specs.Frames.{Content, Holds}
-use Rattle.sgx_types.specs.Table.{Case, when, TcsSight, EnterSight, enter_row, resume_row}
-use Rattle.sgx_types.specs.Flat.{tcs_fields, with_cssa}
+use Rattle.sgx_rules.specs.declared.refusals.Refusal.TheVariants as why
+use Rattle.sgx_rules.specs.Frames.{Content, Holds}
+use Rattle.sgx_rules.specs.Table.{Case, when, TcsSight, EnterSight, enter_row, resume_row}
+use Rattle.sgx_rules.specs.Flat.{tcs_fields, with_cssa}
 use Rattle.epcm_entry.specs.Epc.{EpcFrame, words_at, with_word, with_words}
 use Rattle.epcm_entry.specs.Sights.{sight_in}
 use Rattle.secs_state.specs.Secs.{SecsState, added_at, is_busy_at, with_busy}

@@ -1,7 +1,7 @@
 //! EENTER and ERESUME: a processor comes inside.
 
 ghost use Rattle.std.specs.Prelude.{◌≡◌, ◌<◌, true, false, length, IfOk, OnOk, OnErr};
-ghost use Rattle.sgx_types.specs.Table.{refusal_in, first_of_row, enter_row, resume_row};
+ghost use Rattle.sgx_rules.specs.Table.{refusal_in, first_of_row, enter_row, resume_row};
 ghost use Rattle.epcm_entry.specs.Epc.{word_at};
 ghost use Rattle.epcm_entry.specs.Sights.{sight_in};
 ghost use Rattle.secs_state.specs.Secs.{with_busy};
@@ -14,8 +14,8 @@ use crate::way_in::{WayIn, seat};
 use cached_translations::processor::Processor;
 use epcm_entry::epc::Epc;
 use secs_state::secs::Secs;
+use sgx_rules::refusals::Refusal;
 use sgx_types::names::{Frame, PROCESSORS};
-use sgx_types::refusals::Refusal;
 use track_epoch::track::Track;
 
 /// EENTER (Intel SDM volume 3D): a processor enters the enclave of `secs` by its TCS page `tcs` in a frame, with the frame

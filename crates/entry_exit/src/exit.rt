@@ -1,7 +1,7 @@
 //! EEXIT and the asynchronous exit: a processor leaves its enclave.
 
 ghost use Rattle.std.specs.Prelude.{◌≡◌, ◌<◌, true, false, length, Contains, IsSome, OnOk, OnErr};
-ghost use Rattle.sgx_types.specs.Table.{refusal_in, first_of_row, exit_row};
+ghost use Rattle.sgx_rules.specs.Table.{refusal_in, first_of_row, exit_row};
 ghost use Rattle.secs_state.specs.Secs.{added_at, with_busy};
 ghost use Rattle.cached_translations.specs.Modes.{is_inside};
 ghost use Rattle.track_epoch.specs.Tracking.{left};
@@ -12,8 +12,8 @@ use crate::tcs::{fields, set_cssa};
 use cached_translations::processor::{Mode, Processor};
 use epcm_entry::epc::Epc;
 use secs_state::secs::Secs;
+use sgx_rules::refusals::Refusal;
 use sgx_types::names::Frame;
-use sgx_types::refusals::Refusal;
 use track_epoch::track::Track;
 
 /// EEXIT (Intel SDM volume 3D): a processor leaves its enclave, of which `secs` and `track` are. No processor is inside by

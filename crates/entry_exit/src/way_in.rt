@@ -1,7 +1,7 @@
 //! What the two ways into an enclave share: the cases of their rows, and the seat.
 
 ghost use Rattle.std.specs.Prelude.{◌≡◌, ◌<◌, true, false, length, IsSome};
-ghost use Rattle.sgx_types.specs.Table.{first_of_row, ssa_row};
+ghost use Rattle.sgx_rules.specs.Table.{first_of_row, ssa_row};
 ghost use Rattle.epcm_entry.specs.Sights.{sight_in};
 ghost use Rattle.secs_state.specs.Secs.{added_at, with_busy};
 ghost use Rattle.track_epoch.specs.Tracking.{entered};
@@ -11,9 +11,9 @@ use crate::tcs::fields;
 use cached_translations::processor::{Mode, Processor};
 use epcm_entry::epc::Epc;
 use secs_state::secs::Secs;
+use sgx_rules::refusals::Refusal;
 use sgx_types::layouts::TcsFields;
 use sgx_types::names::{Frame, PROCESSORS};
-use sgx_types::refusals::Refusal;
 use track_epoch::track::Track;
 
 /// The two ways into an enclave: with a new state, or with the one that was saved last.

@@ -1,10 +1,11 @@
 //! The EPCM entry of a frame, and what the rows ask of one.
 
 ghost use Rattle.std.specs.Prelude.{◌≡◌, ◌||◌, is_some};
-ghost use Rattle.sgx_types.specs.Frames.{page_at, is_page};
-ghost use Rattle.sgx_types.specs.Frames.{is_free as holds_nothing};
-ghost use Rattle.sgx_types.specs.Table.{is_loading, is_reg, is_secs, is_tcs, is_va, perm_in};
-ghost use Rattle.sgx_types.specs.Table.{is_valid as holds_something};
+ghost use Rattle.sgx_types.specs.Pages.{page_at};
+ghost use Rattle.sgx_rules.specs.Frames.{is_page};
+ghost use Rattle.sgx_rules.specs.Frames.{is_free as holds_nothing};
+ghost use Rattle.sgx_rules.specs.Table.{is_loading, is_reg, is_secs, is_tcs, is_va, perm_in};
+ghost use Rattle.sgx_rules.specs.Table.{is_valid as holds_something};
 ghost use Rattle.epcm_entry.specs.EntryView.{is_free, is_busy, is_valid, block_of, goes_out, outgoing, with_block};
 ghost use Rattle.epcm_entry.specs.Sights.{held};
 

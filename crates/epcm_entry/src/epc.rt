@@ -8,8 +8,8 @@ ghost use Rattle.epcm_entry.specs.Epc.{with_page, with_blocked, with_sealing, wi
 
 use crate::entry_view::EntryView;
 use crate::free_map::FreeMap;
+use sgx_rules::refusals::Refusal;
 use sgx_types::names::{Frame, Kind, Memory, Page, Perm};
-use sgx_types::refusals::Refusal;
 use std::alloc::Global;
 use std::marker::Model;
 

@@ -3,22 +3,22 @@ use Rattle.std.proofs.Common.{◌≡◌, ◌==◌, ◌≤◌, ◌<◌, ◌-◌, 
 use Rattle.std.proofs.Common.{if◌then◌else◌, set, get_or, List, [], ◌∷◌, ◌++◌, length, refl, sym, ap, ◌∙◌, subst}
 use Rattle.std.proofs.Common.{Option, Some, None, IfSome, is_some, arith}
 use Rattle.std.proofs.lemmas.Bool.{false≢true}
-use Rattle.sgx_types.specs.declared.entries.Action.{Action}
-use Rattle.sgx_types.specs.declared.entries.Action.TheVariants as actions
-use Rattle.sgx_types.specs.declared.entries.Actor.{Actor}
-use Rattle.sgx_types.specs.declared.entries.Actor.TheVariants as actors
-use Rattle.sgx_types.specs.declared.entries.Answer.{Answer}
-use Rattle.sgx_types.specs.declared.entries.Cause.{Cause}
-use Rattle.sgx_types.specs.declared.entries.Entry.{Entry}
-use Rattle.sgx_types.specs.declared.entries.Event.{Event}
-use Rattle.sgx_types.specs.declared.entries.Event.TheVariants.{Age, Bus, Did, Kick, Refused}
+use Rattle.sgx_rules.specs.declared.entries.Action.{Action}
+use Rattle.sgx_rules.specs.declared.entries.Action.TheVariants as actions
+use Rattle.sgx_types.specs.declared.names.Actor.{Actor}
+use Rattle.sgx_types.specs.declared.names.Actor.TheVariants as actors
+use Rattle.sgx_rules.specs.declared.entries.Answer.{Answer}
+use Rattle.sgx_rules.specs.declared.entries.Cause.{Cause}
+use Rattle.sgx_rules.specs.declared.entries.Entry.{Entry}
+use Rattle.sgx_rules.specs.declared.entries.Event.{Event}
+use Rattle.sgx_rules.specs.declared.entries.Event.TheVariants.{Age, Bus, Did, Kick, Refused}
 use Rattle.sgx_types.specs.declared.names.Cpu.{Cpu}
 use Rattle.sgx_types.specs.declared.names.Frame.{Frame}
-use Rattle.sgx_types.specs.Enclaves.{created, created_by}
-use Rattle.sgx_types.specs.Epochs.{is_track, noted}
-use Rattle.sgx_types.specs.Flat.{FlatEnclave, marked}
-use Rattle.sgx_types.specs.Rules.{Along}
-use Rattle.sgx_types.specs.Processors.{Enters, Keeps, Leaves, Move, Seat, Stay, is_by, move_by, stay, stay_after}
+use Rattle.sgx_rules.specs.Enclaves.{created, created_by}
+use Rattle.sgx_rules.specs.Epochs.{is_track, noted}
+use Rattle.sgx_rules.specs.Flat.{FlatEnclave, marked}
+use Rattle.sgx_rules.specs.Rules.{Along}
+use Rattle.sgx_rules.specs.Processors.{Enters, Keeps, Leaves, Move, Seat, Stay, is_by, move_by, stay, stay_after}
 use Rattle.driver_laws.specs.Tracking.{CanMoveFrom, CanTrack, StayTells, TrackTells, TrackingRule}
 use Rattle.epoch_words.specs.Seen.{HasRoom, tracked}
 use Rattle.epoch_words.specs.Seen as words

@@ -3,9 +3,9 @@ use Rattle.std.proofs.Common.{◌≡◌, ◌+◌, ◌-◌, ◌≤◌, ◌<◌, �
 use Rattle.std.proofs.Common.{length, reverse, drop, take, sym, ap, ◌∙◌, subst, is_some, arith}
 use Rattle.std.specs.List.{All}
 use Rattle.std.proofs.lemmas.List.{append_assoc, get_or-reverse, length-reverse, reverse-append, take-append-drop, take_all, take_more}
-use Rattle.sgx_types.specs.declared.entries.Entry.{Entry}
-use Rattle.sgx_types.specs.Enclaves.{created}
-use Rattle.sgx_types.specs.Rules.{Along}
+use Rattle.sgx_rules.specs.declared.entries.Entry.{Entry}
+use Rattle.sgx_rules.specs.Enclaves.{created}
+use Rattle.sgx_rules.specs.Rules.{Along}
 use Rattle.driver_laws.specs.Tracking.{TrackingRule}
 use Rattle.epoch_notes.specs.Notes.{CanNote, IsOfCpus, NotesView, TellsEntries}
 use Rattle.epoch_notes.proofs.EntryLaws.{created_more}

@@ -5,19 +5,19 @@ use Rattle.std.proofs.Common.{IfSome, arith, length-set, get_or-set_same, get_or
 use Rattle.std.proofs.lemmas.Bool.{cases_lt, eq-eqb, eqb-true, false≢true, lt-ltb}
 use Rattle.std.proofs.lemmas.List.{get_or-replicate, length-replicate}
 use Rattle.sgx_types.specs.Counts.{count_below}
-use Rattle.sgx_types.specs.declared.entries.Action.TheVariants as actions
-use Rattle.sgx_types.specs.declared.entries.Actor.{Actor}
-use Rattle.sgx_types.specs.declared.entries.Actor.TheVariants as actors
-use Rattle.sgx_types.specs.declared.entries.Answer.{Answer}
-use Rattle.sgx_types.specs.declared.entries.Entry.{Entry}
-use Rattle.sgx_types.specs.declared.entries.Event.{Event}
-use Rattle.sgx_types.specs.declared.entries.Event.TheVariants.{Did}
+use Rattle.sgx_rules.specs.declared.entries.Action.TheVariants as actions
+use Rattle.sgx_types.specs.declared.names.Actor.{Actor}
+use Rattle.sgx_types.specs.declared.names.Actor.TheVariants as actors
+use Rattle.sgx_rules.specs.declared.entries.Answer.{Answer}
+use Rattle.sgx_rules.specs.declared.entries.Entry.{Entry}
+use Rattle.sgx_rules.specs.declared.entries.Event.{Event}
+use Rattle.sgx_rules.specs.declared.entries.Event.TheVariants.{Did}
 use Rattle.sgx_types.specs.declared.names.Cpu.{Cpu}
 use Rattle.sgx_types.specs.declared.names.TheConstants.{LAST_EPOCH}
-use Rattle.sgx_types.specs.Epochs.{epoch, is_in_before, is_track, last_track, noted, noted_after}
-use Rattle.sgx_types.specs.Processors.{Enters, Keeps, Leaves, Move, Seat, Stay, is_by, move_by, stay, stay_after, stay_from}
-use Rattle.sgx_types.specs.Rules.{Along}
-use Rattle.sgx_types.proofs.Keystone.{IsNoted, all_noted}
+use Rattle.sgx_rules.specs.Epochs.{epoch, is_in_before, is_track, last_track, noted, noted_after}
+use Rattle.sgx_rules.specs.Processors.{Enters, Keeps, Leaves, Move, Seat, Stay, is_by, move_by, stay, stay_after, stay_from}
+use Rattle.sgx_rules.specs.Rules.{Along}
+use Rattle.sgx_rules.proofs.Keystone.{IsNoted, all_noted}
 use Rattle.sgx_types.proofs.CountLaws.{count_below-none}
 use Rattle.driver_laws.specs.Tracking.{CanTrack, TrackTells, TrackingRule}
 use Rattle.epoch_words.specs.declared.seen.Seen.{Seen}

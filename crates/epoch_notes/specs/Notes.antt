@@ -1,14 +1,14 @@
 -- What the words of a run say by its entries, and who is inside which enclave since which epoch.
 use Rattle.std.specs.Prelude.{ℕ, ◌≡◌, ◌≤◌, ◌<◌, ◌-◌, ◌++◌, All, true, List, Option, Some, None, is_some, length}
 use Rattle.std.specs.Prelude.{slice_index_or, slice_set}
-use Rattle.sgx_types.specs.declared.entries.Actor.{Actor}
-use Rattle.sgx_types.specs.declared.entries.Actor.TheVariants as actors
-use Rattle.sgx_types.specs.declared.entries.Entry.{Entry}
+use Rattle.sgx_types.specs.declared.names.Actor.{Actor}
+use Rattle.sgx_types.specs.declared.names.Actor.TheVariants as actors
+use Rattle.sgx_rules.specs.declared.entries.Entry.{Entry}
 use Rattle.sgx_types.specs.declared.names.TheConstants.{LAST_EPOCH}
-use Rattle.sgx_types.specs.Enclaves.{created}
-use Rattle.sgx_types.specs.Epochs.{epoch, newer_at, noted, older_at}
-use Rattle.sgx_types.specs.Processors.{Stay, stay}
-use Rattle.sgx_types.specs.Rules.{Along}
+use Rattle.sgx_rules.specs.Enclaves.{created}
+use Rattle.sgx_rules.specs.Epochs.{epoch, newer_at, noted, older_at}
+use Rattle.sgx_rules.specs.Processors.{Stay, stay}
+use Rattle.sgx_rules.specs.Rules.{Along}
 use Rattle.driver_laws.specs.Tracking.{TrackingRule}
 pub use Rattle.atomic_table.specs.Seated.{TableId}
 use Rattle.epoch_words.specs.declared.seen.Seen.{Seen}

@@ -7,8 +7,8 @@ ghost use Rattle.epoch_words.specs.Seen.{HasRoom};
 ghost use Rattle.epoch_notes.specs.Notes.{CanNote, IsIn, TellsEntries, after_enter, after_leave};
 
 use epoch_words::words::{HardwareSeat, Words};
-use sgx_types::entries::{Action, Actor, Entry, Event};
-use sgx_types::names::{Cpu, Memory};
+use sgx_rules::entries::{Action, Entry, Event};
+use sgx_types::names::{Actor, Cpu, Memory};
 use std::alloc::Global;
 use std::marker::Model;
 

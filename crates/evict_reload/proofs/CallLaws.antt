@@ -8,10 +8,10 @@ use Rattle.sgx_types.specs.declared.names.Kind.TheVariants as kinds
 use Rattle.sgx_types.specs.declared.names.Page.{Page}
 use Rattle.sgx_types.specs.declared.names.Perm.{Perm}
 use Rattle.sgx_types.specs.declared.names.SlotAt.{SlotAt}
-use Rattle.sgx_types.specs.declared.refusals.Refusal.{Refusal}
-use Rattle.sgx_types.specs.declared.refusals.Refusal.TheVariants as why
-use Rattle.sgx_types.specs.Table.{DrainSight, EnclaveSight, refusal_in, first_of_row, is_made, is_va, is_valid, is_loading, is_out_of_range}
-use Rattle.sgx_types.specs.Table.{ewbstart_row, eldstart_row}
+use Rattle.sgx_rules.specs.declared.refusals.Refusal.{Refusal}
+use Rattle.sgx_rules.specs.declared.refusals.Refusal.TheVariants as why
+use Rattle.sgx_rules.specs.Table.{DrainSight, EnclaveSight, refusal_in, first_of_row, is_made, is_va, is_valid, is_loading, is_out_of_range}
+use Rattle.sgx_rules.specs.Table.{ewbstart_row, eldstart_row}
 use Rattle.epcm_entry.specs.declared.entry_view.EntryView.TheVariants as views
 use Rattle.epcm_entry.specs.EntryView.{holding, outgoing}
 use Rattle.epcm_entry.specs.Epc.{EpcFrame, entry_at, with_page, with_sealing, with_loading, cleared}
@@ -21,7 +21,7 @@ use Rattle.version_array.specs.declared.va_page.VaSlot.{VaSlot}
 use Rattle.version_array.specs.Slots.{IsSlot, with_busy, with_version, is_busy_at}
 use Rattle.version_array.specs.Versions.{is_spent_at}
 use Rattle.version_array.proofs.TableLaws.{slot_kept}
-use Rattle.sgx_types.proofs.Contents.{invalid_no_va, loading_no_va}
+use Rattle.sgx_rules.proofs.Contents.{invalid_no_va, loading_no_va}
 use Rattle.sgx_types.proofs.Truths.{neither}
 use Rattle.evict_reload.specs.Sights.{AreVaPages, slot_sight}
 use Rattle.evict_reload.specs.Effects.{with_ended, with_plain}

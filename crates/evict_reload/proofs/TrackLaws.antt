@@ -1,6 +1,6 @@
 -- A refused track leaves the tracks.
 use Rattle.std.proofs.Common.{◌≡◌, ℕ, ◌≤◌, List, Some, Result, Ok, Err, OnErr, ap, ◌∙◌}
-use Rattle.sgx_types.specs.declared.refusals.Refusal.{Refusal}
+use Rattle.sgx_rules.specs.declared.refusals.Refusal.{Refusal}
 use Rattle.track_epoch.specs.Tracking.{Tracking}
 use Rattle.track_epoch.specs.Tracks.{track_of, with_track}
 use Rattle.track_epoch.proofs.TracksLaws.{with_track-track_of}

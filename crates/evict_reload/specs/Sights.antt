@@ -5,8 +5,8 @@ use Rattle.sgx_types.specs.declared.names.Kind.{Kind}
 use Rattle.sgx_types.specs.declared.names.Page.{Page}
 use Rattle.sgx_types.specs.declared.names.Perm.{Perm}
 use Rattle.sgx_types.specs.declared.names.SlotAt.{SlotAt}
-use Rattle.sgx_types.specs.Frames.{Content, enclave_in}
-use Rattle.sgx_types.specs.Table.{is_va, EnclaveSight, TrackSight, SlotSight, DrainSight}
+use Rattle.sgx_rules.specs.Frames.{Content, enclave_in}
+use Rattle.sgx_rules.specs.Table.{is_va, EnclaveSight, TrackSight, SlotSight, DrainSight}
 use Rattle.epcm_entry.specs.declared.entry_view.EntryView.{EntryView}
 use Rattle.epcm_entry.specs.declared.entry_view.EntryView.TheVariants as views
 use Rattle.epcm_entry.specs.Epc.{EpcFrame, entry_at}

@@ -1,15 +1,15 @@
 //! EBLOCK: no new translation of a page is made.
 
 ghost use Rattle.std.specs.Prelude.{◌≡◌, OnOk, OnErr};
-ghost use Rattle.sgx_types.specs.Table.{refusal_in, first_of_row, block_row};
+ghost use Rattle.sgx_rules.specs.Table.{refusal_in, first_of_row, block_row};
 ghost use Rattle.epcm_entry.specs.Sights.{sight_in};
 ghost use Rattle.evict_reload.specs.Sights.{IsNumbered};
 ghost use Rattle.evict_reload.specs.Effects.{with_blocked};
 
 use epcm_entry::entry_view::EntryView;
 use epcm_entry::epc::Epc;
+use sgx_rules::refusals::Refusal;
 use sgx_types::names::Frame;
-use sgx_types::refusals::Refusal;
 use track_epoch::tracks::Tracks;
 
 /// EBLOCK (Intel SDM volume 3D): the TCS or REG page in a frame is blocked, so that no new translation of it is taken. The

@@ -1,7 +1,7 @@
 //! ELDU by a start and a commit: a page comes back.
 
 ghost use Rattle.std.specs.Prelude.{◌≡◌, ◌<◌, true, false, Some, IfOk, OnOk, OnErr, length};
-ghost use Rattle.sgx_types.specs.Table.{refusal_in, first_of_row, eldstart_row, is_loading};
+ghost use Rattle.sgx_rules.specs.Table.{refusal_in, first_of_row, eldstart_row, is_loading};
 ghost use Rattle.epcm_entry.specs.EntryView.{is_valid};
 ghost use Rattle.epcm_entry.specs.Epc.{entry_at, with_loading, with_page, with_words, cleared};
 ghost use Rattle.epcm_entry.specs.Sights.{sight_in};
@@ -16,10 +16,10 @@ use epcm_entry::epc::Epc;
 use seal_record::unseal::UnsealedWork;
 use secs_state::secs::Secs;
 use secs_state::table::SecsTable;
+use sgx_rules::refusals::Refusal;
 use sgx_types::layouts::flags;
 use sgx_types::names::{Frame, Kind, Page, Perm, SlotAt};
 use sgx_types::record::Header;
-use sgx_types::refusals::Refusal;
 use version_array::va_table::VaTable;
 
 /// The start of ELDU (Intel SDM volume 3D): a free frame waits for a page whose version stands in a slot. The slot is

@@ -1,7 +1,7 @@
 //! The cases of a row that a slot gives.
 
 ghost use Rattle.std.specs.Prelude.{◌≡◌, ◌<◌, length};
-ghost use Rattle.sgx_types.specs.Table.{is_out_of_range};
+ghost use Rattle.sgx_rules.specs.Table.{is_out_of_range};
 ghost use Rattle.epcm_entry.specs.Sights.{sight_in};
 ghost use Rattle.version_array.specs.Slots.{is_busy_at};
 ghost use Rattle.evict_reload.specs.Sights.{AreVaPages, slot_sight};

@@ -1,13 +1,13 @@
 //! ETRACK: an enclave's next epoch begins.
 
 ghost use Rattle.std.specs.Prelude.{◌≡◌, ◌+◌, IfOk, OnOk, OnErr};
-ghost use Rattle.sgx_types.specs.Table.{refusal_in, first_of_row, track_row};
+ghost use Rattle.sgx_rules.specs.Table.{refusal_in, first_of_row, track_row};
 ghost use Rattle.track_epoch.specs.Tracks.{track_of};
 ghost use Rattle.evict_reload.specs.Sights.{track_sight};
 ghost use Rattle.evict_reload.specs.Effects.{epoch_tracked, with_tracked};
 
 use secs_state::table::SecsTable;
-use sgx_types::refusals::Refusal;
+use sgx_rules::refusals::Refusal;
 use track_epoch::tracks::Tracks;
 
 /// ETRACK (Intel SDM volume 3D): an enclave's next epoch begins, which is the answer.

@@ -1,7 +1,7 @@
 //! EWB by a start and a commit: a page goes out.
 
 ghost use Rattle.std.specs.Prelude.{◌≡◌, ◌+◌, ◌<◌, true, Some, IfOk, OnOk, OnErr};
-ghost use Rattle.sgx_types.specs.Table.{refusal_in, first_of_row, ewbstart_row};
+ghost use Rattle.sgx_rules.specs.Table.{refusal_in, first_of_row, ewbstart_row};
 ghost use Rattle.epcm_entry.specs.Epc.{entry_at, with_sealing, cleared};
 ghost use Rattle.epcm_entry.specs.Sights.{sight_in};
 ghost use Rattle.version_array.specs.Slots.{IsSlot, with_busy};
@@ -13,8 +13,8 @@ use crate::slot::{is_out_of_range, is_slot_busy};
 use epcm_entry::entry_view::EntryView;
 use epcm_entry::epc::Epc;
 use seal_record::seal::SealedWork;
+use sgx_rules::refusals::Refusal;
 use sgx_types::names::{Frame, Page, SlotAt};
-use sgx_types::refusals::Refusal;
 use track_epoch::tracks::Tracks;
 use version_array::va_table::VaTable;
 use version_array::versions::Versions;

@@ -1,23 +1,23 @@
 -- The answer of a fault step is what is due, and what its entry keeps.
 use Rattle.std.proofs.Common.{◌≡◌, ℕ, ◌<◌, Bool, true, false, List, ◌∷◌, Option, None, Some, Result, Ok, Err, IfOk}
 use Rattle.std.proofs.Common.{MatchOption, length, refl, sym, ap, subst, ◌∙◌}
-use Rattle.sgx_types.specs.declared.entries.Action.TheVariants.{EldStart}
-use Rattle.sgx_types.specs.declared.entries.Actor.TheVariants as actors
-use Rattle.sgx_types.specs.declared.entries.Answer.{Answer}
-use Rattle.sgx_types.specs.declared.entries.BusWhy.{BusWhy}
-use Rattle.sgx_types.specs.declared.entries.BusWhy.TheVariants as reasons
-use Rattle.sgx_types.specs.declared.entries.Entry.{Entry}
-use Rattle.sgx_types.specs.declared.entries.Event.TheVariants.{Bus}
+use Rattle.sgx_rules.specs.declared.entries.Action.TheVariants.{EldStart}
+use Rattle.sgx_types.specs.declared.names.Actor.TheVariants as actors
+use Rattle.sgx_rules.specs.declared.entries.Answer.{Answer}
+use Rattle.sgx_rules.specs.declared.entries.BusWhy.{BusWhy}
+use Rattle.sgx_rules.specs.declared.entries.BusWhy.TheVariants as reasons
+use Rattle.sgx_rules.specs.declared.entries.Entry.{Entry}
+use Rattle.sgx_rules.specs.declared.entries.Event.TheVariants.{Bus}
 use Rattle.sgx_types.specs.declared.names.Cpu.{Cpu}
 use Rattle.sgx_types.specs.declared.names.Page.{Page}
 use Rattle.sgx_types.specs.declared.names.SlotAt.{SlotAt}
-use Rattle.sgx_types.specs.declared.refusals.Refusal.{Refusal}
-use Rattle.sgx_types.specs.Frames.{content, is_page, least_free}
+use Rattle.sgx_rules.specs.declared.refusals.Refusal.{Refusal}
+use Rattle.sgx_rules.specs.Frames.{content, is_page, least_free}
 use Rattle.sgx_types.specs.Making.{Making}
-use Rattle.sgx_types.specs.Rules.{LoadsAwayRule}
+use Rattle.sgx_rules.specs.Rules.{LoadsAwayRule}
 use Rattle.sgx_types.specs.Sealed.{Sealed}
-use Rattle.sgx_types.specs.Starts.{Start, is_load_of, open_start}
-use Rattle.sgx_types.specs.Table.{first_of_row}
+use Rattle.sgx_rules.specs.Starts.{Start, is_load_of, open_start}
+use Rattle.sgx_rules.specs.Table.{first_of_row}
 use Rattle.turn_rules.specs.Script.{frame_at}
 use Rattle.job_grammar.specs.Jobs.{JobView}
 use Rattle.backing_store.specs.Calls.{Call}

@@ -4,23 +4,23 @@ use Rattle.std.proofs.Common.{Some, MatchOption, ⊎_elim, ◌⊎◌, inl, inr, 
 use Rattle.std.proofs.lemmas.Bool.{eq-eqb}
 use Rattle.std.specs.Str.{bytes_eq}
 use Rattle.std.proofs.lemmas.Option.{same_Some}
-use Rattle.sgx_types.specs.declared.entries.Action.TheVariants.{Eld}
-use Rattle.sgx_types.specs.declared.entries.Actor.TheVariants as actors
-use Rattle.sgx_types.specs.declared.entries.Answer.TheVariants.{Moved}
-use Rattle.sgx_types.specs.declared.entries.Entry.{Entry}
-use Rattle.sgx_types.specs.declared.entries.Event.TheVariants.{Did, Refused}
+use Rattle.sgx_rules.specs.declared.entries.Action.TheVariants.{Eld}
+use Rattle.sgx_types.specs.declared.names.Actor.TheVariants as actors
+use Rattle.sgx_rules.specs.declared.entries.Answer.TheVariants.{Moved}
+use Rattle.sgx_rules.specs.declared.entries.Entry.{Entry}
+use Rattle.sgx_rules.specs.declared.entries.Event.TheVariants.{Did, Refused}
 use Rattle.sgx_types.specs.declared.names.Cpu.{Cpu}
 use Rattle.sgx_types.specs.declared.names.Frame.{Frame}
 use Rattle.sgx_types.specs.declared.names.Page.{Page}
 use Rattle.sgx_types.specs.declared.names.SlotAt.{SlotAt}
-use Rattle.sgx_types.specs.declared.refusals.Refusal.{Refusal}
-use Rattle.sgx_types.specs.declared.refusals.Refusal.TheVariants as why
-use Rattle.sgx_types.specs.Frames.{content}
+use Rattle.sgx_rules.specs.declared.refusals.Refusal.{Refusal}
+use Rattle.sgx_rules.specs.declared.refusals.Refusal.TheVariants as why
+use Rattle.sgx_rules.specs.Frames.{content}
 use Rattle.sgx_types.specs.Making.{Making}
 use Rattle.sgx_types.specs.Sealed.{Sealed}
-use Rattle.sgx_types.specs.Starts.{Start, open_start, BareStart}
-use Rattle.sgx_types.specs.Table.{first_of_row, is_loading}
-use Rattle.sgx_types.proofs.Busy.{IsBareOf}
+use Rattle.sgx_rules.specs.Starts.{Start, open_start, BareStart}
+use Rattle.sgx_rules.specs.Table.{first_of_row, is_loading}
+use Rattle.sgx_rules.proofs.Busy.{IsBareOf}
 use Rattle.epcm_entry.specs.Words.{words_of}
 use Rattle.job_grammar.specs.Jobs.{JobView}
 use Rattle.active_list.specs.Keeping.{Kept, keeping, kept_at, page_kept}

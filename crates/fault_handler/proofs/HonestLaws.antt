@@ -2,19 +2,19 @@
 use Rattle.std.proofs.Common.{◌≡◌, ℕ, Bool, true, false, refl, sym, ◌∙◌, ap, subst, List, Option, None, Some}
 use Rattle.std.proofs.lemmas.Option.{same_Some}
 use Rattle.sgx_types.proofs.Pages.{same_pages}
-use Rattle.sgx_types.specs.declared.entries.Entry.{Entry}
+use Rattle.sgx_rules.specs.declared.entries.Entry.{Entry}
 use Rattle.sgx_types.specs.declared.names.Cpu.{Cpu}
 use Rattle.sgx_types.specs.declared.names.Kind.{Kind}
 use Rattle.sgx_types.specs.declared.names.Page.{Page}
 use Rattle.sgx_types.specs.declared.names.Perm.{Perm}
 use Rattle.sgx_types.specs.declared.names.SlotAt.{SlotAt}
-use Rattle.sgx_types.specs.Flat.{FlatEnclave, FlatPage, added_as, flat, header_by}
-use Rattle.sgx_types.specs.Frames.{same_page}
-use Rattle.sgx_types.specs.Fresh.{Out, last_out}
+use Rattle.sgx_rules.specs.Flat.{FlatEnclave, FlatPage, added_as, flat, header_by}
+use Rattle.sgx_types.specs.Pages.{same_page}
+use Rattle.sgx_rules.specs.Fresh.{Out, last_out}
 use Rattle.sgx_types.specs.Making.{Making}
 use Rattle.sgx_types.specs.Sealed.{Sealed, header_of}
-use Rattle.sgx_types.specs.Slots.{version_in}
-use Rattle.sgx_types.specs.Starts.{Start, loads_page, open_start, BareStart}
+use Rattle.sgx_rules.specs.Slots.{version_in}
+use Rattle.sgx_rules.specs.Starts.{Start, loads_page, open_start, BareStart}
 use Rattle.seal_record.specs.Cipher.{tag}
 use Rattle.paging_laws.specs.Columns.{EnclaveColumns}
 use Rattle.paging_laws.proofs.ColumnLaws.{added_is}
@@ -35,9 +35,9 @@ use Rattle.run_history.specs.Honest.{GiftsAreLast, IsLastPut}
 use Rattle.run_history.specs.Stored.{StoreCalls}
 use Rattle.run_history.proofs.HonestLaws.{last_sealed, load_at}
 use Rattle.active_list.specs.Places.{IsPlaced}
-use Rattle.sgx_types.specs.declared.entries.Actor.TheVariants as actors
-use Rattle.sgx_types.specs.Enclaves.{EnclavesAreFlat}
-use Rattle.sgx_types.proofs.Busy.{IsBareOf}
+use Rattle.sgx_types.specs.declared.names.Actor.TheVariants as actors
+use Rattle.sgx_rules.specs.Enclaves.{EnclavesAreFlat}
+use Rattle.sgx_rules.proofs.Busy.{IsBareOf}
 use Rattle.fault_handler.specs.declared.answers.Loaded.{Loaded}
 use Rattle.fault_handler.specs.Finishing.{CanFinish, IsBack, IsFinished}
 use Rattle.fault_handler.proofs.OwnRecords.{own_record}

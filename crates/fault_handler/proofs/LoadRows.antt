@@ -3,18 +3,18 @@ use Rattle.std.proofs.Common.{◌≡◌, ℕ, suc, zero, ◌+◌, ◌<◌, ◌�
 use Rattle.std.proofs.Common.{◌∙◌, List, Option, Some, None, is_some, nat_le, nat_lt, arith}
 use Rattle.std.proofs.lemmas.Bool.{and_parts, leb-true}
 use Rattle.std.proofs.lemmas.Option.{same_Some}
-use Rattle.sgx_types.specs.declared.entries.Action.TheVariants.{EldStart}
-use Rattle.sgx_types.specs.declared.entries.Actor.{Actor}
-use Rattle.sgx_types.specs.declared.entries.Entry.{Entry}
+use Rattle.sgx_rules.specs.declared.entries.Action.TheVariants.{EldStart}
+use Rattle.sgx_types.specs.declared.names.Actor.{Actor}
+use Rattle.sgx_rules.specs.declared.entries.Entry.{Entry}
 use Rattle.sgx_types.specs.declared.names.Page.{Page}
 use Rattle.sgx_types.specs.declared.names.SlotAt.{SlotAt}
-use Rattle.sgx_types.specs.Flat.{enclave_sight_of}
-use Rattle.sgx_types.specs.Frames.{Content, content, free_from, is_free, least_free}
+use Rattle.sgx_rules.specs.Flat.{enclave_sight_of}
+use Rattle.sgx_rules.specs.Frames.{Content, content, free_from, is_free, least_free}
 use Rattle.sgx_types.specs.Making.{Making}
-use Rattle.sgx_types.specs.Rules.{Along, FitsRule}
-use Rattle.sgx_types.specs.Sights.{sight_at, slot_sight_at}
-use Rattle.sgx_types.specs.Table.{EnclaveSight, FrameSight, SlotSight, eldstart_row, first_of_row}
-use Rattle.sgx_types.specs.Starts.{open_start}
+use Rattle.sgx_rules.specs.Rules.{Along, FitsRule}
+use Rattle.sgx_rules.specs.Sights.{sight_at, slot_sight_at}
+use Rattle.sgx_rules.specs.Table.{EnclaveSight, FrameSight, SlotSight, eldstart_row, first_of_row}
+use Rattle.sgx_rules.specs.Starts.{open_start}
 use Rattle.turn_rules.specs.Script.{frame_at}
 use Rattle.job_grammar.specs.Jobs.{JobView}
 use Rattle.version_array.specs.Keeper.{is_added, is_among, is_ours, is_out}

@@ -1,13 +1,13 @@
 -- The answer of a fault step by the rules, and what its entry leaves.
 use Rattle.std.specs.Prelude.{◌≡◌, true, false, List, ◌∷◌, None}
-use Rattle.sgx_types.specs.declared.entries.Actor.TheVariants as actors
-use Rattle.sgx_types.specs.declared.entries.Entry.{Entry}
-use Rattle.sgx_types.specs.declared.entries.Event.TheVariants.{Bus}
-use Rattle.sgx_types.specs.declared.entries.Action.TheVariants.{Eld}
+use Rattle.sgx_types.specs.declared.names.Actor.TheVariants as actors
+use Rattle.sgx_rules.specs.declared.entries.Entry.{Entry}
+use Rattle.sgx_rules.specs.declared.entries.Event.TheVariants.{Bus}
+use Rattle.sgx_rules.specs.declared.entries.Action.TheVariants.{Eld}
 use Rattle.sgx_types.specs.declared.names.Cpu.{Cpu}
 use Rattle.sgx_types.specs.declared.names.Frame.{Frame}
 use Rattle.sgx_types.specs.declared.names.Page.{Page}
-use Rattle.sgx_types.specs.Rules.{LoadsAwayRule}
+use Rattle.sgx_rules.specs.Rules.{LoadsAwayRule}
 use Rattle.job_grammar.specs.Jobs.{JobView}
 use Rattle.driver_rules.specs.declared.waits.Why.{Why}
 use Rattle.driver_rules.specs.declared.waits.Why.TheVariants as waits

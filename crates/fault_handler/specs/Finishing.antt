@@ -1,19 +1,19 @@
 -- What the end of a load does.
 use Rattle.std.specs.Prelude.{ℕ, ◌≡◌, ◌<◌, true, false, List, ◌∷◌, ◌++◌, None, Some, length, slice_set}
-use Rattle.sgx_types.specs.declared.entries.Actor.TheVariants as actors
-use Rattle.sgx_types.specs.declared.entries.BusWhy.{BusWhy}
-use Rattle.sgx_types.specs.declared.entries.BusWhy.TheVariants as reasons
-use Rattle.sgx_types.specs.declared.entries.Entry.{Entry}
-use Rattle.sgx_types.specs.declared.entries.Event.{Event}
-use Rattle.sgx_types.specs.declared.entries.Event.TheVariants.{Refused}
+use Rattle.sgx_types.specs.declared.names.Actor.TheVariants as actors
+use Rattle.sgx_rules.specs.declared.entries.BusWhy.{BusWhy}
+use Rattle.sgx_rules.specs.declared.entries.BusWhy.TheVariants as reasons
+use Rattle.sgx_rules.specs.declared.entries.Entry.{Entry}
+use Rattle.sgx_rules.specs.declared.entries.Event.{Event}
+use Rattle.sgx_rules.specs.declared.entries.Event.TheVariants.{Refused}
 use Rattle.sgx_types.specs.declared.names.Cpu.{Cpu}
 use Rattle.sgx_types.specs.declared.names.Frame.{Frame}
 use Rattle.sgx_types.specs.declared.names.Page.{Page}
 use Rattle.sgx_types.specs.declared.names.SlotAt.{SlotAt}
-use Rattle.sgx_types.specs.declared.refusals.Refusal.TheVariants as why
+use Rattle.sgx_rules.specs.declared.refusals.Refusal.TheVariants as why
 use Rattle.sgx_types.specs.Making.{Making}
 use Rattle.sgx_types.specs.Sealed.{Sealed}
-use Rattle.sgx_types.specs.Table.{is_loading}
+use Rattle.sgx_rules.specs.Table.{is_loading}
 use Rattle.seal_record.specs.Records.{Given, Made, Unforged}
 use Rattle.paging_laws.specs.Histories.{BringsIn, StandsWithAllRules, looked_at}
 use Rattle.paging_laws.specs.Notes.{IsDone}

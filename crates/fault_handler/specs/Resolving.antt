@@ -1,16 +1,16 @@
 -- What the first half of a fault step does.
 use Rattle.std.specs.Prelude.{ℕ, ◌≡◌, false, if◌then◌else◌, List, Option, Some, None, Result, Ok, Err}
-use Rattle.sgx_types.specs.declared.entries.Action.TheVariants as actions
-use Rattle.sgx_types.specs.declared.entries.Actor.TheVariants as actors
-use Rattle.sgx_types.specs.declared.entries.BusWhy.TheVariants as reasons
-use Rattle.sgx_types.specs.declared.entries.Entry.{Entry}
+use Rattle.sgx_rules.specs.declared.entries.Action.TheVariants as actions
+use Rattle.sgx_types.specs.declared.names.Actor.TheVariants as actors
+use Rattle.sgx_rules.specs.declared.entries.BusWhy.TheVariants as reasons
+use Rattle.sgx_rules.specs.declared.entries.Entry.{Entry}
 use Rattle.sgx_types.specs.declared.names.Cpu.{Cpu}
 use Rattle.sgx_types.specs.declared.names.Frame.{Frame}
 use Rattle.sgx_types.specs.declared.names.Page.{Page}
 use Rattle.sgx_types.specs.declared.names.SlotAt.{SlotAt}
-use Rattle.sgx_types.specs.Frames.{least_free}
+use Rattle.sgx_rules.specs.Frames.{least_free}
 use Rattle.sgx_types.specs.Sealed.{Sealed}
-use Rattle.sgx_types.specs.Starts.{BareStart}
+use Rattle.sgx_rules.specs.Starts.{BareStart}
 use Rattle.turn_rules.specs.Script.{frame_at}
 use Rattle.std.specs.Global.{Box}
 use Rattle.seal_record.specs.declared.unseal.UnsealWork.{UnsealWork}

@@ -2,7 +2,7 @@
 
 use driver_rules::waits::Why;
 use seal_record::unseal::UnsealWork;
-use sgx_types::entries::{BusWhy, Entry};
+use sgx_rules::entries::{BusWhy, Entry};
 
 /// What comes of a fault step for a page.
 #[derive(Drop)]

@@ -2,7 +2,7 @@
 
 ghost use Rattle.std.specs.Prelude.{ℕ, ◌≡◌, true, List, length};
 ghost use Rattle.sgx_types.specs.Making.{Making};
-ghost use Rattle.sgx_types.specs.declared.entries.Entry.{Entry};
+ghost use Rattle.sgx_rules.specs.declared.entries.Entry.{Entry};
 ghost use Rattle.job_grammar.specs.Jobs.{JobView};
 ghost use Rattle.driver_rules.specs.Turns.{Loads, last_of};
 ghost use Rattle.fault_handler.specs.Due.{IsRightEnd};
@@ -17,10 +17,10 @@ use driver_steps::steps::is_refused;
 use driver_tables::driver::Driver;
 use paging_machine::machine::Machine;
 use seal_record::unseal::{UnsealWork, UnsealedWork, unseal};
-use sgx_types::entries::{Actor, BusWhy, Entry, Event};
-use sgx_types::names::{Cpu, Frame, Page, SlotAt};
+use sgx_rules::entries::{BusWhy, Entry, Event};
+use sgx_rules::refusals::Refusal;
+use sgx_types::names::{Actor, Cpu, Frame, Page, SlotAt};
 use sgx_types::record::Record;
-use sgx_types::refusals::Refusal;
 
 /// The end of a processor's load of a page, by the record that is kept for it: where the work opened another one, the kept record
 /// is opened anew in the work's buffers. Takes no memory.

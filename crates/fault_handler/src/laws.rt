@@ -15,15 +15,15 @@ ghost use Rattle.paging_laws.specs.State.{State};
 ghost use Rattle.paging_laws.specs.Steps.{IsReloaded};
 ghost use Rattle.seal_record.specs.Cipher.{tag};
 ghost use Rattle.sgx_types.specs.Sealed.{Sealed};
-ghost use Rattle.sgx_types.specs.declared.entries.Actor.{Actor};
+ghost use Rattle.sgx_types.specs.declared.names.Actor.{Actor};
 ghost use Rattle.sgx_types.specs.declared.names.Frame.{Frame};
 ghost use Rattle.job_grammar.specs.Jobs.{JobView};
 ghost use Rattle.paging_machine.specs.Parts.{Parts, state_of};
 ghost use Rattle.sgx_types.specs.Making.{Making};
-ghost use Rattle.sgx_types.specs.declared.entries.Entry.{Entry};
+ghost use Rattle.sgx_rules.specs.declared.entries.Entry.{Entry};
 ghost use Rattle.sgx_types.specs.declared.names.Cpu.{Cpu};
 ghost use Rattle.sgx_types.specs.declared.names.Page.{Page};
-ghost use Rattle.sgx_types.specs.Enclaves.{EnclavesAreFlat};
+ghost use Rattle.sgx_rules.specs.Enclaves.{EnclavesAreFlat};
 
 /// A load that ends by a record with the page's header, and with the tag of it under the version that its start found, is not refused,
 /// whatever the record's cipher is. Nothing is supposed of other records.

@@ -4,7 +4,7 @@ ghost use Rattle.std.specs.Prelude.{List, ◌≡◌, ◌<◌, ◌≤◌, Some, l
 ghost use Rattle.active_list.specs.Places.{IsPlaced};
 ghost use Rattle.active_list.specs.States.{state_of as page_state};
 ghost use Rattle.sgx_types.specs.Making.{Making};
-ghost use Rattle.sgx_types.specs.declared.entries.Entry.{Entry};
+ghost use Rattle.sgx_rules.specs.declared.entries.Entry.{Entry};
 ghost use Rattle.job_grammar.specs.Jobs.{JobView};
 ghost use Rattle.fault_handler.specs.Due.{IsRight};
 ghost use Rattle.driver_steps.specs.Agrees.{Agrees};
@@ -12,7 +12,7 @@ ghost use Rattle.std.specs.Result.{IsOkAnd};
 ghost use Rattle.io_edges.specs.Faults.{HasCause};
 ghost use Rattle.fault_handler.specs.Resolving.{TellsFault, IsFetch, IsResolved, IsStarted};
 ghost use Rattle.paging_machine.specs.Parts.{state_of};
-ghost use Rattle.sgx_types.specs.Frames.{least_free};
+ghost use Rattle.sgx_rules.specs.Frames.{least_free};
 
 use crate::answers::FaultAnswer;
 use crate::rooms::room;
@@ -23,8 +23,8 @@ use driver_steps::steps::{is_refused, step};
 use driver_tables::driver::Driver;
 use paging_machine::machine::Machine;
 use seal_record::unseal::UnsealWork;
-use sgx_types::entries::{Action, Actor, BusWhy};
-use sgx_types::names::{Cpu, Frame, Memory, Page, SlotAt};
+use sgx_rules::entries::{Action, BusWhy};
+use sgx_types::names::{Actor, Cpu, Frame, Memory, Page, SlotAt};
 use sgx_types::record::Record;
 use std::alloc::Global;
 

@@ -5,8 +5,8 @@ use Rattle.std.proofs.Common.{replicate}
 use Rattle.std.proofs.lemmas.Bool.{cond_both, cases_lt, eqb-true, false≢true}
 use Rattle.std.proofs.lemmas.List.{set_past, get_or_past, length-set}
 use Rattle.sgx_types.specs.declared.names.Page.{Page}
-use Rattle.sgx_types.specs.Frames.{same_page, page_at}
-use Rattle.sgx_types.specs.Flat.{fresh, rewritten, with_words, with_busy, with_cpu}
+use Rattle.sgx_types.specs.Pages.{same_page, page_at}
+use Rattle.sgx_rules.specs.Flat.{fresh, rewritten, with_words, with_busy, with_cpu}
 use Rattle.flat_machine.specs.declared.table.PlainPage.{PlainPage}
 use Rattle.flat_machine.specs.declared.flat.Processor.{Processor}
 use Rattle.flat_machine.specs.declared.flat.Enclave.{Enclave}

@@ -1,6 +1,6 @@
 -- The bytes of a page.
 use Rattle.std.specs.Prelude.{ℕ, List, Option, Some, None}
-use Rattle.sgx_types.specs.Flat.{FlatPage}
+use Rattle.sgx_rules.specs.Flat.{FlatPage}
 use Rattle.sgx_types.specs.Layouts.{bytes_of}
 
 -- the bytes of a page that was added, and else what was there before

@@ -3,10 +3,10 @@ use Rattle.std.specs.Prelude.{ℕ, ◌/◌, Bool, false, List, [], Option, Some,
 use Rattle.sgx_types.specs.declared.names.Page.{Page}
 use Rattle.sgx_types.specs.declared.names.Kind.{Kind}
 use Rattle.sgx_types.specs.declared.names.Perm.{Perm}
-use Rattle.sgx_types.specs.Frames.{Content, Free, Holds}
-use Rattle.sgx_types.specs.Flat as flat
+use Rattle.sgx_rules.specs.Frames.{Content, Free, Holds}
+use Rattle.sgx_rules.specs.Flat as flat
 use Rattle.sgx_types.specs.declared.layouts.TcsFields.{TcsFields}
-use Rattle.sgx_types.specs.Table.{TcsSight}
+use Rattle.sgx_rules.specs.Table.{TcsSight}
 use Rattle.flat_machine.specs.declared.flat.Enclave.{Enclave}
 use Rattle.flat_machine.specs.declared.flat.Mode.{Mode}
 use Rattle.flat_machine.specs.declared.flat.Mode.TheVariants.{Outside, Inside}

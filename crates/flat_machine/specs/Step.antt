@@ -1,17 +1,17 @@
 -- One instruction of flat memory: its reply and the memory after it, exactly by its row.
 use Rattle.std.specs.Prelude.{◌≡◌, ◌<◌, Bool, true, List, Option, Some, None, if◌then◌else◌}
-use Rattle.sgx_types.specs.declared.entries.Actor.{Actor}
-use Rattle.sgx_types.specs.declared.entries.Actor.TheVariants.{Cpu}
-use Rattle.sgx_types.specs.declared.entries.Action.{Action}
-use Rattle.sgx_types.specs.declared.entries.Action.TheVariants as actions
-use Rattle.sgx_types.specs.declared.entries.Answer.{Answer}
-use Rattle.sgx_types.specs.declared.refusals.Refusal.{Refusal}
-use Rattle.sgx_types.specs.declared.entries.AccessOp.{AccessOp}
-use Rattle.sgx_types.specs.declared.entries.AccessOp.TheVariants as accesses
+use Rattle.sgx_types.specs.declared.names.Actor.{Actor}
+use Rattle.sgx_types.specs.declared.names.Actor.TheVariants.{Cpu}
+use Rattle.sgx_rules.specs.declared.entries.Action.{Action}
+use Rattle.sgx_rules.specs.declared.entries.Action.TheVariants as actions
+use Rattle.sgx_rules.specs.declared.entries.Answer.{Answer}
+use Rattle.sgx_rules.specs.declared.refusals.Refusal.{Refusal}
+use Rattle.sgx_rules.specs.declared.entries.AccessOp.{AccessOp}
+use Rattle.sgx_rules.specs.declared.entries.AccessOp.TheVariants as accesses
 use Rattle.sgx_types.specs.declared.names.Perm.{Perm}
 use Rattle.sgx_types.specs.declared.names.TheConstants.{PROCESSORS}
-use Rattle.sgx_types.specs.Table.{Case, first_of_row, allows_read, allows_write, allows_update}
-use Rattle.sgx_types.specs.Flat.{FlatMemory, is_processors, flat_cpu_row, flat_build_row, accepts, flat_answer, memory_after}
+use Rattle.sgx_rules.specs.Table.{Case, first_of_row, allows_read, allows_write, allows_update}
+use Rattle.sgx_rules.specs.Flat.{FlatMemory, is_processors, flat_cpu_row, flat_build_row, accepts, flat_answer, memory_after}
 use Rattle.flat_machine.specs.declared.reply.FlatReply.{FlatReply}
 use Rattle.flat_machine.specs.declared.reply.FlatReply.TheVariants.{Did, Refused}
 

@@ -1,20 +1,20 @@
 //! Loads, stores and exchanges of flat memory, and its page faults.
 
 ghost use Rattle.std.specs.Prelude.{◌≡◌, ◌<◌, ◌==◌, ◌&&◌, ◌^◌, ◌/◌, ◌%◌, ◌+◌, is_some, Some};
-ghost use Rattle.sgx_types.specs.declared.entries.Answer.TheVariants as answers;
-ghost use Rattle.sgx_types.specs.Table.{first_of_row, access_row, load_row, store_row, xadd_row, set_row, plus_row, pf_row};
-ghost use Rattle.sgx_types.specs.Table.{outload_row, outstore_row, allows, is_lawful_access, fault_of};
-ghost use Rattle.sgx_types.specs.declared.entries.AccessOp.TheVariants as accesses;
-ghost use Rattle.sgx_types.specs.Flat.{flat_translation, added_at_offset, word_seen, stored, sum_of, all_ones, with_acc};
+ghost use Rattle.sgx_rules.specs.declared.entries.Answer.TheVariants as answers;
+ghost use Rattle.sgx_rules.specs.Table.{first_of_row, access_row, load_row, store_row, xadd_row, set_row, plus_row, pf_row};
+ghost use Rattle.sgx_rules.specs.Table.{outload_row, outstore_row, allows, is_lawful_access, fault_of};
+ghost use Rattle.sgx_rules.specs.declared.entries.AccessOp.TheVariants as accesses;
+ghost use Rattle.sgx_rules.specs.Flat.{flat_translation, added_at_offset, word_seen, stored, sum_of, all_ones, with_acc};
 ghost use Rattle.flat_machine.specs.Parts.{memory_of, kind_of};
 ghost use Rattle.flat_machine.specs.Step.{replied, taken, allowed_by};
 
 use crate::flat::{Flat, Mode, Processor};
 use crate::reply::FlatReply;
 use crate::table::Added;
-use sgx_types::entries::{AccessOp, Answer, PfWhy};
+use sgx_rules::entries::{AccessOp, Answer, PfWhy};
+use sgx_rules::refusals::Refusal;
 use sgx_types::names::{Cpu, Kind, PROCESSORS, Perm};
-use sgx_types::refusals::Refusal;
 
 impl Flat {
     /// A processor reads a word of its enclave.

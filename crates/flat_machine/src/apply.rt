@@ -1,15 +1,15 @@
 //! One instruction of flat memory.
 
 ghost use Rattle.std.specs.Prelude.{◌≡◌, true, IfOk, OnOk, OnErr};
-ghost use Rattle.sgx_types.specs.Flat.{is_visible};
+ghost use Rattle.sgx_rules.specs.Flat.{is_visible};
 ghost use Rattle.flat_machine.specs.Parts.{memory_of};
 ghost use Rattle.flat_machine.specs.Step.{IsItsActor, MayNeedMemory, reply_of, step_of};
 
 use crate::build::extend;
 use crate::flat::Flat;
 use crate::reply::FlatReply;
-use sgx_types::entries::{Action, Actor};
-use sgx_types::names::Memory;
+use sgx_rules::entries::Action;
+use sgx_types::names::{Actor, Memory};
 use std::alloc::Global;
 
 impl Flat {

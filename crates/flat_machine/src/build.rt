@@ -1,10 +1,10 @@
 //! The instructions of flat memory that build an enclave.
 
 ghost use Rattle.std.specs.Prelude.{◌≡◌, ◌<◌, false, is_some, IfOk, OnOk, OnErr};
-ghost use Rattle.sgx_types.specs.declared.entries.Answer.TheVariants as answers;
-ghost use Rattle.sgx_types.specs.Frames.{page_at};
-ghost use Rattle.sgx_types.specs.Table.{first_of_row, create_row, add_row, extend_row, init_row};
-ghost use Rattle.sgx_types.specs.Flat.{open_frame, some_page, enclave_sight, first_words, with_enclave, with_page, initialised};
+ghost use Rattle.sgx_rules.specs.declared.entries.Answer.TheVariants as answers;
+ghost use Rattle.sgx_types.specs.Pages.{page_at};
+ghost use Rattle.sgx_rules.specs.Table.{first_of_row, create_row, add_row, extend_row, init_row};
+ghost use Rattle.sgx_rules.specs.Flat.{open_frame, some_page, enclave_sight, first_words, with_enclave, with_page, initialised};
 ghost use Rattle.flat_machine.specs.Parts.{memory_of};
 ghost use Rattle.flat_machine.specs.Step.{replied, taken};
 
@@ -12,10 +12,10 @@ use crate::flat::{Enclave, Flat};
 use crate::reply::FlatReply;
 use crate::table::{PlainPage, Table};
 use crate::words::Words;
-use sgx_types::entries::{Answer, PageInit};
-use sgx_types::lawful::{is_addable, is_enclave, is_lawful, is_lawful_perm, is_within};
+use sgx_rules::entries::Answer;
+use sgx_rules::refusals::Refusal;
+use sgx_types::lawful::{PageInit, is_addable, is_enclave, is_lawful, is_lawful_perm, is_within};
 use sgx_types::names::{Kind, Memory, Perm};
-use sgx_types::refusals::Refusal;
 use std::alloc::Global;
 
 impl Flat {

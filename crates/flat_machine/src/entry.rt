@@ -1,20 +1,20 @@
 //! Entries and exits of flat memory.
 
 ghost use Rattle.std.specs.Prelude.{◌≡◌, ◌<◌, ◌+◌, ◌-◌, ◌==◌, ◌^◌, ◌%◌, ◌/◌, true, is_some, Some};
-ghost use Rattle.sgx_types.specs.declared.entries.Answer.TheVariants as answers;
-ghost use Rattle.sgx_types.specs.Frames.{page_at};
-ghost use Rattle.sgx_types.specs.Table.{first_of_row, when, entry_row, ssa_row, exit_row, aex_row};
-ghost use Rattle.sgx_types.specs.Flat.{flat_frame, flat_enter_sight, flat_enter_row, flat_resume_row, fields_in};
-ghost use Rattle.sgx_types.specs.Flat.{with_words, with_cssa, entered, left, saved, resumed, resumed_word};
+ghost use Rattle.sgx_rules.specs.declared.entries.Answer.TheVariants as answers;
+ghost use Rattle.sgx_types.specs.Pages.{page_at};
+ghost use Rattle.sgx_rules.specs.Table.{first_of_row, when, entry_row, ssa_row, exit_row, aex_row};
+ghost use Rattle.sgx_rules.specs.Flat.{flat_frame, flat_enter_sight, flat_enter_row, flat_resume_row, fields_in};
+ghost use Rattle.sgx_rules.specs.Flat.{with_words, with_cssa, entered, left, saved, resumed, resumed_word};
 ghost use Rattle.flat_machine.specs.Parts.{memory_of, fields_of, seat};
 ghost use Rattle.flat_machine.specs.Step.{replied, taken};
 
 use crate::flat::{Flat, Mode, Processor};
 use crate::reply::FlatReply;
-use sgx_types::entries::Answer;
+use sgx_rules::entries::Answer;
+use sgx_rules::refusals::Refusal;
 use sgx_types::layouts::TcsFields;
 use sgx_types::names::{Cpu, Kind, PROCESSORS};
-use sgx_types::refusals::Refusal;
 
 impl Flat {
     /// A processor goes into an enclave by a free TCS page (EENTER).

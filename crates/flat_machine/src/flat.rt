@@ -1,8 +1,8 @@
 //! Plain enclave memory: its enclaves, pages and processors.
 
 ghost use Rattle.std.specs.Prelude.{◌≡◌, ◌<◌, true, replicate, slice_index, slice_set, is_some, IfOk, [], None};
-ghost use Rattle.sgx_types.specs.Frames.{page_at};
-ghost use Rattle.sgx_types.specs.Flat.{fresh, flat_content, reg_perm, added_as, words_of, with_cpu, with_words, with_busy};
+ghost use Rattle.sgx_types.specs.Pages.{page_at};
+ghost use Rattle.sgx_rules.specs.Flat.{fresh, flat_content, reg_perm, added_as, words_of, with_cpu, with_words, with_busy};
 ghost use Rattle.flat_machine.specs.Parts.{memory_of, look, added_in, kind_of, content_in, words_in, enclave_of, inside_of, cpu_of, idle};
 ghost use Rattle.flat_machine.specs.Parts.{with_slot, with_word, with_busy_mark};
 ghost use Rattle.flat_machine.specs.Bytes.{bytes_in};

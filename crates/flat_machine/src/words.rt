@@ -1,10 +1,10 @@
 //! The 512 words of a page.
 
 ghost use Rattle.std.specs.Prelude.{◌≡◌, ◌<◌, length, replicate, slice_index, slice_set, IfOk};
-ghost use Rattle.sgx_types.specs.Flat.{first_words};
+ghost use Rattle.sgx_rules.specs.Flat.{first_words};
 ghost use Rattle.sgx_types.specs.Layouts.{bytes_of};
 
-use sgx_types::entries::PageInit;
+use sgx_types::lawful::PageInit;
 use sgx_types::names::Memory;
 use std::alloc::Global;
 use std::marker::Model;

@@ -1,8 +1,8 @@
 -- Where each page came back no processor was ended.
 use Rattle.std.proofs.Common.{◌≡◌, ℕ, ◌<◌, Bool, true, false, if◌then◌else◌, List, [], ◌∷◌, length, refl, ap}
 use Rattle.std.proofs.Common.{◌∙◌}
-use Rattle.sgx_types.specs.declared.entries.Entry.{Entry}
-use Rattle.sgx_types.specs.Processors.{is_by}
+use Rattle.sgx_rules.specs.declared.entries.Entry.{Entry}
+use Rattle.sgx_rules.specs.Processors.{is_by}
 use Rattle.job_grammar.specs.Jobs.{JobView}
 use Rattle.driver_rules.specs.Scripts.{IsDone, IsEnded}
 use Rattle.driver_rules.specs.Stops.{has_bus, is_bus, is_spent}

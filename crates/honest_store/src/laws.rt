@@ -7,7 +7,7 @@ ghost use Rattle.driver_rules.specs.Stops.{is_spent};
 ghost use Rattle.job_grammar.specs.Jobs.{JobView};
 ghost use Rattle.run_book.specs.Lost.{AllCameBack};
 ghost use Rattle.run_history.specs.Honest.{IsHonest};
-ghost use Rattle.sgx_types.specs.declared.entries.Entry.{Entry};
+ghost use Rattle.sgx_rules.specs.declared.entries.Entry.{Entry};
 ghost use Rattle.std.specs.Prelude.{ℕ, ◌≡◌, ◌<◌, false, List, [], count_by, length};
 
 /// The planned store fails nothing and gives each page's last record put, where it was handed no plan lines. Its calls are answered by its

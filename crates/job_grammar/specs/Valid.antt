@@ -2,7 +2,7 @@
 use Rattle.std.specs.Prelude.{ℕ, ◌≡◌, ◌+◌, ◌-◌, ◌/◌, ◌%◌, ◌^◌, ◌<◌, ◌≤◌, true, List, Option, None}
 use Rattle.std.specs.Prelude.{Some, IfSome, length, count_by, sum_by}
 use Rattle.std.specs.List.{All}
-use Rattle.sgx_types.specs.Table.{is_lawful}
+use Rattle.sgx_types.specs.Lawful.{is_lawful}
 use Rattle.io_edges.specs.declared.plans.PlanLine.{PlanLine}
 use Rattle.io_edges.specs.declared.plans.PlanLine.TheVariants.{FailRoom, FailPut, FailGet, DropGet, Flip, Replay, Swap}
 use Rattle.job_grammar.specs.declared.jobs.Marks.{Marks}

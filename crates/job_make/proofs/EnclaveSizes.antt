@@ -5,7 +5,7 @@ use Rattle.std.specs.Int.{IsPowerOfTwo}
 use Rattle.std.specs.Int.RustNames.{count_ones}
 use Rattle.std.proofs.lemmas.Bool.{and_parts, cases_eq, cases_lt, eq-eqb, eqb-true, leb-true, le-leb, lt-leb}
 use Rattle.std.proofs.lemmas.Nat.{mod-mul-add, ones_cat, ones_le_self, pow-add, pow_below, pow_pos, zero_from_ones}
-use Rattle.sgx_types.specs.Table.{is_lawful}
+use Rattle.sgx_types.specs.Lawful.{is_lawful}
 use Rattle.job_make.specs.MadeJob.{IsLeastLawful, least_size, made_bytes}
 
 -- ---- powers of two

@@ -5,7 +5,7 @@ use Rattle.std.proofs.Common.{arith}
 use Rattle.std.proofs.lemmas.Bool.{and_from, eq-eqb, le-leb, le-ltb, lt-ltb}
 use Rattle.std.proofs.lemmas.List.{append-nil, length-append}
 use Rattle.std.proofs.lemmas.List.Elements.{All-push}
-use Rattle.sgx_types.specs.Table.{is_lawful}
+use Rattle.sgx_types.specs.Lawful.{is_lawful}
 use Rattle.sgx_types.specs.declared.names.Perm.{Perm}
 use Rattle.sgx_types.specs.Digests.{IsDigest}
 use Rattle.job_grammar.specs.declared.jobs.PageLine.{PageLine}

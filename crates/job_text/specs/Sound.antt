@@ -2,7 +2,7 @@
 use Rattle.std.specs.Prelude.{◌≡◌, ℕ, ◌+◌, ◌-◌, ◌^◌, ◌<◌, ◌≤◌, ◌/◌, Bool, true, List, [], ◌∷◌}
 use Rattle.std.specs.Prelude.{IfSome, length, count_by, sum_by}
 use Rattle.std.specs.List.{All}
-use Rattle.sgx_types.specs.Table.{is_lawful}
+use Rattle.sgx_types.specs.Lawful.{is_lawful}
 use Rattle.sgx_types.specs.Digests.{IsDigest}
 use Rattle.io_edges.specs.declared.plans.PlanLine.{PlanLine}
 use Rattle.job_grammar.specs.declared.jobs.Op.{Op}

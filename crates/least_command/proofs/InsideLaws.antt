@@ -2,7 +2,7 @@
 use Rattle.std.proofs.Common.{◌≡◌, ℕ, ◌+◌, ◌<◌, List, ◌∷◌, ◌++◌, Option, length, take, reverse, get_or, sym, ap}
 use Rattle.std.proofs.Common.{subst, ◌∙◌}
 use Rattle.trace_text.proofs.EntryLaws.{newest_more}
-use Rattle.sgx_types.specs.declared.entries.Entry.{Entry}
+use Rattle.sgx_rules.specs.declared.entries.Entry.{Entry}
 use Rattle.sgx_types.specs.declared.names.Page.{Page}
 use Rattle.least_command.specs.Accesses.{accessed, accesses_of}
 use Rattle.least_command.specs.Kept.{AreInside}

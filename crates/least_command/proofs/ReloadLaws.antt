@@ -2,7 +2,7 @@
 use Rattle.std.proofs.Common.{◌≡◌, ℕ, ◌+◌, ◌<◌, if◌then◌else◌, List, ◌∷◌, length, take, reverse, get_or, sym}
 use Rattle.std.proofs.Common.{ap, subst, ◌∙◌}
 use Rattle.trace_text.proofs.EntryLaws.{newest_more}
-use Rattle.sgx_types.specs.declared.entries.Entry.{Entry}
+use Rattle.sgx_rules.specs.declared.entries.Entry.{Entry}
 use Rattle.sgx_types.specs.declared.names.Page.{Page}
 use Rattle.least_command.specs.Accesses.{brings_back, made}
 use Rattle.least_command.specs.Reloads.{AreRegs}

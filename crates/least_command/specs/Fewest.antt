@@ -1,7 +1,7 @@
 -- The fewest loads for the accesses of a trace, and the text that tells them beside the reloads that were made.
 use Rattle.std.specs.Prelude.{ℕ, ◌≡◌, ◌≤◌, List, [], ◌∷◌, codes, flat_map, length}
 use Rattle.std.specs.Fmt.{decimal}
-use Rattle.sgx_types.specs.declared.entries.Entry.{Entry}
+use Rattle.sgx_rules.specs.declared.entries.Entry.{Entry}
 use Rattle.sgx_types.specs.declared.names.Page.{Page}
 use Rattle.job_grammar.specs.Jobs.{JobView}
 use Rattle.least_reloads.specs.Plans.{PlanView, IsLawful}

@@ -1,9 +1,9 @@
 -- What is kept while a trace is gone along: by which enclaves processors are inside, and pages of any offset.
 use Rattle.std.specs.Prelude.{ℕ, ◌≡◌, ◌<◌, ◌==◌, ◌&&◌, Bool, List, Option, Some, None, slice_index_or}
-use Rattle.sgx_types.specs.declared.entries.Entry.{Entry}
+use Rattle.sgx_rules.specs.declared.entries.Entry.{Entry}
 use Rattle.sgx_types.specs.declared.names.Page.{Page}
-use Rattle.sgx_types.specs.Frames.{page_at}
-use Rattle.sgx_types.specs.Processors.{Move, Enters, Leaves, Keeps, Stay, stay}
+use Rattle.sgx_types.specs.Pages.{page_at}
+use Rattle.sgx_rules.specs.Processors.{Move, Enters, Leaves, Keeps, Stay, stay}
 use Rattle.least_command.specs.declared.accesses.Access.{Access}
 
 -- the page of an access

@@ -1,7 +1,7 @@
 -- Pages by other names.
 use Rattle.std.specs.Prelude.{ℕ, ◌≡◌, ◌<◌, true, List, Option, Some, map}
 use Rattle.sgx_types.specs.declared.names.Page.{Page}
-use Rattle.sgx_types.specs.Frames.{page_at}
+use Rattle.sgx_types.specs.Pages.{page_at}
 use Rattle.least_reloads.specs.Plans.{has}
 use Rattle.least_command.specs.declared.accesses.Access.{Access}
 

@@ -1,8 +1,8 @@
 -- Which pages are REG pages, kept while a trace is gone along.
 use Rattle.std.specs.Prelude.{◌≡◌, List}
-use Rattle.sgx_types.specs.declared.entries.Entry.{Entry}
+use Rattle.sgx_rules.specs.declared.entries.Entry.{Entry}
 use Rattle.sgx_types.specs.declared.names.Page.{Page}
-use Rattle.sgx_types.specs.Frames.{added}
+use Rattle.sgx_rules.specs.Frames.{added}
 use Rattle.least_reloads.specs.Plans.{has}
 use Rattle.least_command.specs.Accesses.{is_reg}
 

@@ -1,13 +1,13 @@
 //! The accesses of a trace.
 
 ghost use Rattle.std.specs.Prelude.{◌≡◌, ◌∷◌, ◌++◌, List, map, reverse, IfOk, OnOk};
-ghost use Rattle.sgx_types.specs.declared.entries.Entry.{Entry};
-ghost use Rattle.sgx_types.specs.Processors.{move_by};
+ghost use Rattle.sgx_rules.specs.declared.entries.Entry.{Entry};
+ghost use Rattle.sgx_rules.specs.Processors.{move_by};
 ghost use Rattle.least_command.specs.Accesses.{accessed, accesses_of, offset_of};
 ghost use Rattle.least_command.specs.Kept.{AreInside, enclave_after, page_of};
 
-use sgx_types::entries::{Action, Actor, Entry, Event};
-use sgx_types::names::{Memory, PAGE_BYTES};
+use sgx_rules::entries::{Action, Entry, Event};
+use sgx_types::names::{Actor, Memory, PAGE_BYTES};
 use std::alloc::Global;
 
 /// An access of enclave code to a page: the enclave, and the page's offset from the enclave's base in pages of 4096 bytes. A trace

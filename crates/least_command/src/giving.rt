@@ -9,7 +9,7 @@ use crate::numbers::print_least;
 use io_edges::giving::give_all;
 use io_edges::sinks::Sink;
 use job_grammar::jobs::Job;
-use sgx_types::entries::Entry;
+use sgx_rules::entries::Entry;
 use std::alloc::Global;
 use trace_pieces::ungiven::Ungiven;
 

@@ -8,7 +8,7 @@ use crate::accesses::accesses_of;
 use crate::fewest::fewest_loads;
 use crate::reloads::made;
 use job_grammar::jobs::Job;
-use sgx_types::entries::Entry;
+use sgx_rules::entries::Entry;
 use sgx_types::names::Memory;
 use std::alloc::Global;
 use text_words::words::Word::{Decimal, Name};

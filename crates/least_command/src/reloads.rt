@@ -1,12 +1,12 @@
 //! The reloads that a trace made.
 
 ghost use Rattle.std.specs.Prelude.{◌≡◌, ◌∷◌, List, IfOk, OnOk, reverse};
-ghost use Rattle.sgx_types.specs.declared.entries.Entry.{Entry};
+ghost use Rattle.sgx_rules.specs.declared.entries.Entry.{Entry};
 ghost use Rattle.least_command.specs.Accesses.{brings_back, made};
 ghost use Rattle.least_command.specs.Reloads.{AreRegs};
 
 use least_reloads::page_set::PageSet;
-use sgx_types::entries::{Action, Answer, Entry, Event};
+use sgx_rules::entries::{Action, Answer, Entry, Event};
 use sgx_types::names::{Kind, Memory, Page};
 use std::alloc::Global;
 

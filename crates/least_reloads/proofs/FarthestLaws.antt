@@ -5,7 +5,7 @@ use Rattle.std.specs.List.{IsDistinct}
 use Rattle.std.proofs.lemmas.Bool.{false≢true, and_right, or_left}
 use Rattle.std.proofs.lemmas.List.{length-append, append-nil}
 use Rattle.sgx_types.specs.declared.names.Page.{Page}
-use Rattle.sgx_types.specs.Frames.{same_page}
+use Rattle.sgx_types.specs.Pages.{same_page}
 use Rattle.sgx_types.proofs.Pages.{same_page-refl}
 use Rattle.sgx_types.proofs.CountLaws.{one_if}
 use Rattle.least_reloads.specs.Plans.{StepView, PlanView, has, kept, after, IsStep, IsRun, loads_of, IsLawful, IsLeast}

@@ -6,7 +6,7 @@ use Rattle.std.proofs.lemmas.Bool.{false≢true, or_cases, or_parts, or_from, or
 use Rattle.std.proofs.lemmas.List.Folds.{list_any-append}
 use Rattle.std.proofs.lemmas.Map.Views.{any-filter_same}
 use Rattle.sgx_types.specs.declared.names.Page.{Page}
-use Rattle.sgx_types.specs.Frames.{same_page}
+use Rattle.sgx_types.specs.Pages.{same_page}
 use Rattle.sgx_types.proofs.Pages.{same_pages, same_page-refl}
 use Rattle.least_reloads.specs.Plans.{StepView, has, kept, after}
 use Rattle.least_reloads.proofs.Pages.{distinct_parts, distinct_cons, none_distinct}

@@ -13,7 +13,7 @@ use Rattle.std.proofs.lemmas.Bool.{false_from_ne_true, cases_eq, le-ltb, eq-eqb,
 use Rattle.std.proofs.lemmas.Cmp.{ranked}
 use Rattle.std.proofs.lemmas.List.{length-append}
 use Rattle.sgx_types.specs.declared.names.Page.{Page}
-use Rattle.sgx_types.specs.Frames.{same_page}
+use Rattle.sgx_types.specs.Pages.{same_page}
 use Rattle.sgx_types.proofs.Pages.{same_pages, same_page-refl}
 use Rattle.least_reloads.specs.Plans.{has}
 use Rattle.least_reloads.specs.Farthest.{next_use, IsUse, Keeps}

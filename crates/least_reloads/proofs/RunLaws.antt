@@ -7,7 +7,7 @@ use Rattle.std.proofs.lemmas.Bool.{false≢true}
 use Rattle.std.proofs.lemmas.List.{take_more, drop_more, drop_all}
 use Rattle.std.proofs.lemmas.Map.Made.{length-from_same_keys}
 use Rattle.sgx_types.specs.declared.names.Page.{Page}
-use Rattle.sgx_types.specs.Frames.{same_page}
+use Rattle.sgx_types.specs.Pages.{same_page}
 use Rattle.least_reloads.specs.Plans.{StepView, has, kept, after, loads_of, IsStep, IsRun}
 use Rattle.least_reloads.specs.Sets.{AreOf, CanLeave, CanJoin, Leave, Join}
 use Rattle.least_reloads.proofs.Pages.{page_laws, none_distinct}

@@ -2,7 +2,7 @@
 use Rattle.std.specs.Prelude.{◌≡◌, ℕ, ◌+◌, ◌≤◌, Bool, true, false, not, List, [], ◌∷◌, ◌++◌, length}
 use Rattle.std.specs.List.{filter, list_any, IsDistinct}
 use Rattle.sgx_types.specs.declared.names.Page.{Page}
-use Rattle.sgx_types.specs.Frames.{same_page}
+use Rattle.sgx_types.specs.Pages.{same_page}
 
 -- a step: the pages that go out of their frames, and then the pages that are loaded
 pub record StepView : Type 0 where

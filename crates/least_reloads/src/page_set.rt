@@ -3,7 +3,7 @@
 ghost use Rattle.std.specs.Prelude.{◌≡◌, [], true, false, not, if◌then◌else◌, length, IfOk, OnOk};
 ghost use Rattle.std.specs.List.{IsDistinct};
 ghost use Rattle.sgx_types.specs.declared.names.Page.{Page};
-ghost use Rattle.sgx_types.specs.Frames.{same_page};
+ghost use Rattle.sgx_types.specs.Pages.{same_page};
 ghost use Rattle.least_reloads.specs.Plans.{has};
 
 use crate::page_key::PageKey;

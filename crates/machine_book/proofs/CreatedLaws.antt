@@ -4,21 +4,21 @@ use Rattle.std.proofs.Common.{refl, sym, ◌∙◌, subst, List, [], ◌∷◌, 
 use Rattle.std.proofs.Common.{replicate, arith}
 use Rattle.std.proofs.lemmas.Bool.{eqb-true, false≢true}
 use Rattle.std.specs.List.{flat_map, slice_get}
-use Rattle.sgx_types.specs.declared.entries.Action.TheVariants as actions
-use Rattle.sgx_types.specs.declared.entries.Actor.{Actor}
-use Rattle.sgx_types.specs.declared.entries.Entry.{Entry}
-use Rattle.sgx_types.specs.declared.entries.PageInit.{PageInit}
-use Rattle.sgx_types.specs.declared.entries.PageInit.TheVariants as inits
+use Rattle.sgx_rules.specs.declared.entries.Action.TheVariants as actions
+use Rattle.sgx_types.specs.declared.names.Actor.{Actor}
+use Rattle.sgx_rules.specs.declared.entries.Entry.{Entry}
+use Rattle.sgx_types.specs.declared.lawful.PageInit.{PageInit}
+use Rattle.sgx_types.specs.declared.lawful.PageInit.TheVariants as inits
 use Rattle.sgx_types.specs.declared.names.Frame.{Frame}
 use Rattle.sgx_types.specs.declared.names.Kind.{Kind}
 use Rattle.sgx_types.specs.declared.names.Kind.TheVariants as kinds
 use Rattle.sgx_types.specs.declared.names.Perm.{Perm}
-use Rattle.sgx_types.specs.Frames.{no_perm}
-use Rattle.sgx_types.specs.declared.entries.Event.{Event}
-use Rattle.sgx_types.specs.declared.entries.Event.TheVariants.{Did}
-use Rattle.sgx_types.specs.Enclaves.{created, created_by}
-use Rattle.sgx_types.specs.Flat.{FlatEnclave, marked}
-use Rattle.sgx_types.specs.Rules.{Along}
+use Rattle.sgx_types.specs.Pages.{no_perm}
+use Rattle.sgx_rules.specs.declared.entries.Event.{Event}
+use Rattle.sgx_rules.specs.declared.entries.Event.TheVariants.{Did}
+use Rattle.sgx_rules.specs.Enclaves.{created, created_by}
+use Rattle.sgx_rules.specs.Flat.{FlatEnclave, marked}
+use Rattle.sgx_rules.specs.Rules.{Along}
 use Rattle.job_grammar.specs.Jobs.{EnclaveView, JobView, va_pages}
 use Rattle.job_grammar.specs.declared.jobs.PageLine.{PageLine}
 use Rattle.job_grammar.specs.declared.jobs.PageLine.TheVariants as lines

@@ -15,7 +15,7 @@ pub use run_turns::book::Parts;
 pub use run_turns::turn::Turn;
 use seal_record::seal::SealedWork;
 use seal_record::unseal::UnsealedWork;
-use sgx_types::entries::Entry;
+use sgx_rules::entries::Entry;
 use sgx_types::names::{Cpu, Memory};
 use std::alloc::Global;
 use std::marker::Model;

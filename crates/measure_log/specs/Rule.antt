@@ -1,14 +1,14 @@
 -- The rule of the measurement: what `init` answers, by the entries before it, which stand newest first.
 use Rattle.std.specs.Prelude.{ℕ, ◌≡◌, ◌≢◌, List, Option, Some, None}
-use Rattle.sgx_types.specs.declared.entries.Entry.{Entry}
-use Rattle.sgx_types.specs.declared.entries.Event.{Event}
-use Rattle.sgx_types.specs.declared.entries.Event.TheVariants.{Did, Refused}
-use Rattle.sgx_types.specs.declared.entries.Action.TheVariants.{Init}
-use Rattle.sgx_types.specs.declared.entries.Answer.TheVariants.{Hash}
-use Rattle.sgx_types.specs.declared.refusals.Refusal.TheVariants.{BadMeasure}
+use Rattle.sgx_rules.specs.declared.entries.Entry.{Entry}
+use Rattle.sgx_rules.specs.declared.entries.Event.{Event}
+use Rattle.sgx_rules.specs.declared.entries.Event.TheVariants.{Did, Refused}
+use Rattle.sgx_rules.specs.declared.entries.Action.TheVariants.{Init}
+use Rattle.sgx_rules.specs.declared.entries.Answer.TheVariants.{Hash}
+use Rattle.sgx_rules.specs.declared.refusals.Refusal.TheVariants.{BadMeasure}
 use Rattle.sgx_types.specs.declared.names.Page.{Page}
-use Rattle.sgx_types.specs.Frames.{content, page_of}
-use Rattle.sgx_types.specs.Flat.{bytes_at}
+use Rattle.sgx_rules.specs.Frames.{content, page_of}
+use Rattle.sgx_rules.specs.Flat.{bytes_at}
 use Rattle.measure_log.specs.Log.{log_of}
 use Rattle.measure_log.specs.Measure.{measurement_of}
 

@@ -1,7 +1,7 @@
 -- A text reads as one thing.
 use Rattle.std.proofs.Common.{◌≡◌, inl, inr, ⊎_elim, ℕ, List, Result, Ok, Err, sym, ap, ◌∙◌, arith}
 use Rattle.std.proofs.lemmas.Bool.{cases_order}
-use Rattle.sgx_types.specs.declared.entries.Entry.{Entry}
+use Rattle.sgx_rules.specs.declared.entries.Entry.{Entry}
 use Rattle.trace_reader.specs.Faults.{IsFirstFault}
 use Rattle.trace_reader.proofs.FaultLaws.{same_text}
 use Rattle.old_trace.specs.Reading.{Reads}

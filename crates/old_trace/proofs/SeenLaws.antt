@@ -5,7 +5,7 @@ use Rattle.std.specs.Prelude.{IfErr, IfOk, IfSome, IsErrOf}
 use Rattle.std.proofs.lemmas.List.{append-nil}
 use Rattle.io_edges.specs.Sources.{HasRead}
 use Rattle.io_edges.proofs.Read.{HasRead-all, HasRead-append, HasRead-bound}
-use Rattle.sgx_types.specs.declared.entries.Entry.{Entry}
+use Rattle.sgx_rules.specs.declared.entries.Entry.{Entry}
 use Rattle.trace_reader.specs.Faults.{IsFirstFault, Progress, Reading, Faulted}
 use Rattle.trace_reader.specs.Outcomes.{Feeds, Finishes, Tells}
 use Rattle.trace_reader.specs.declared.refusals.TraceRefusal.{TraceRefusal}

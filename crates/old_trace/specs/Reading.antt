@@ -2,7 +2,7 @@
 use Rattle.std.specs.Prelude.{ℕ, ◌≡◌, ◌^◌, ◌<◌, ◌≤◌, ◌⊎◌, List, ◌++◌, Option, IfSome, Result, Ok, Err}
 use Rattle.std.specs.Prelude.{codes, length}
 use Rattle.std.specs.Fmt.{decimal}
-use Rattle.sgx_types.specs.declared.entries.Entry.{Entry}
+use Rattle.sgx_rules.specs.declared.entries.Entry.{Entry}
 use Rattle.trace_reader.specs.Faults.{IsFirstFault, text_of}
 use Rattle.trace_text.specs.Readable.{AreReadable}
 use Rattle.old_trace.specs.declared.unread.Unread.{Unread}

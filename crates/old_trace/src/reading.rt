@@ -6,11 +6,11 @@ ghost use Rattle.io_edges.specs.Faults.{HasCause};
 ghost use Rattle.io_edges.specs.Sources.{HasRead, TakesAtMost};
 ghost use Rattle.old_trace.specs.Reading.{IsFaultOf, OfRead, Reads};
 ghost use Rattle.old_trace.specs.Seen.{HasSeen};
-ghost use Rattle.sgx_types.specs.declared.entries.Entry.{Entry};
+ghost use Rattle.sgx_rules.specs.declared.entries.Entry.{Entry};
 
 use crate::unread::Unread;
 use io_edges::sources::Source;
-use sgx_types::entries::Entry;
+use sgx_rules::entries::Entry;
 use std::alloc::Global;
 use trace_reader::reader::TraceReader;
 use trace_reader::refusals::TraceRefusal;

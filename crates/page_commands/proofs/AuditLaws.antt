@@ -1,7 +1,7 @@
 -- A trace of a job is not both a history and one that fails somewhere.
 use Rattle.std.proofs.Common.{◌≡◌, ℕ, List, Option, Some, None, Ok, reverse, sym, subst, ◌∙◌}
 use Rattle.std.specs.Prelude.{IsSomeAnd}
-use Rattle.sgx_types.specs.declared.entries.Entry.{Entry}
+use Rattle.sgx_rules.specs.declared.entries.Entry.{Entry}
 use Rattle.job_grammar.specs.Jobs.{JobView}
 use Rattle.trace_reader.proofs.FaultLaws.{same_text}
 use Rattle.run_history.specs.Histories.{History}

@@ -4,7 +4,7 @@ use Rattle.std.proofs.Common.{sym, subst, ◌∙◌, arith}
 use Rattle.std.specs.Prelude.{IfSome, replicate}
 use Rattle.std.proofs.Math.Seq.{drop-length}
 use Rattle.std.proofs.lemmas.List.{length-replicate}
-use Rattle.sgx_types.specs.declared.entries.Entry.{Entry}
+use Rattle.sgx_rules.specs.declared.entries.Entry.{Entry}
 use Rattle.io_edges.specs.Sources.{emptied, TakesAtMost}
 use Rattle.io_edges.specs.declared.plans.PlanLine.{PlanLine}
 use Rattle.job_lines.specs.declared.kinds.JobKind.TheVariants.{TooLong}

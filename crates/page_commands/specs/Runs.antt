@@ -3,7 +3,7 @@ use Rattle.std.specs.Prelude.{ℕ, ◌≡◌, ◌⊎◌, List, ◌++◌, Option,
 use Rattle.std.specs.Fmt.{decimal}
 use Rattle.io_edges.specs.Sinks.{followed_by, GivesPart}
 use Rattle.io_edges.specs.declared.plans.PlanLine.{PlanLine}
-use Rattle.sgx_types.specs.declared.entries.Entry.{Entry}
+use Rattle.sgx_rules.specs.declared.entries.Entry.{Entry}
 use Rattle.job_lines.specs.declared.kinds.JobKind.{JobKind}
 use Rattle.job_lines.specs.declared.kinds.JobKind.TheVariants as kinds
 use Rattle.job_text.specs.declared.refusals.Fault.{Fault}

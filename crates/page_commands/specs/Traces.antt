@@ -1,7 +1,7 @@
 -- What a command says of an old trace: its numbers for a job, the verdict on it, or its first faulty line.
 use Rattle.std.specs.Prelude.{ℕ, ◌≡◌, List, Option, Ok, Err, reverse}
 use Rattle.io_edges.specs.Sinks.{followed_by, GivesPart}
-use Rattle.sgx_types.specs.declared.entries.Entry.{Entry}
+use Rattle.sgx_rules.specs.declared.entries.Entry.{Entry}
 use Rattle.job_grammar.specs.Jobs.{JobView}
 use Rattle.job_text.specs.Reading.{read}
 use Rattle.old_trace.specs.Reading.{Reads, fault_line}

@@ -19,7 +19,7 @@ use job_make::maker::make_job;
 use job_print::printer::print_job;
 use run_jobs::run::{Run, run_job};
 use run_summary::summary::print_summary;
-use sgx_types::entries::Entry;
+use sgx_rules::entries::Entry;
 use sgx_types::names::Memory;
 use std::alloc::Global;
 use std::sync::Wait;

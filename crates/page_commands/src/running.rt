@@ -18,7 +18,7 @@ use io_edges::sources::Source;
 use job_grammar::jobs::Job;
 use run_jobs::run::{Run, run_job};
 use run_replies::replies::print_out;
-use sgx_types::entries::Entry;
+use sgx_rules::entries::Entry;
 use sgx_types::names::Memory;
 use std::alloc::Global;
 use std::sync::Wait;

@@ -19,7 +19,7 @@ use job_grammar::jobs::Job;
 use old_trace::faults::give_fault;
 use old_trace::reading::read_old;
 use old_trace::unread::Unread;
-use sgx_types::entries::Entry;
+use sgx_rules::entries::Entry;
 use std::alloc::Global;
 use trace_pieces::ungiven::Ungiven;
 

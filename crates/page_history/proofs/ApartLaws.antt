@@ -2,8 +2,8 @@
 use Rattle.std.proofs.Common.{◌≡◌, ℕ, ◌==◌, Bool, true, false, cond, refl, sym, ◌∙◌, Option, None}
 use Rattle.std.proofs.lemmas.Bool.{cond_both, false≢true, eqb-true, eq-eqb}
 use Rattle.sgx_types.specs.declared.names.Page.{Page}
-use Rattle.sgx_types.specs.Frames.{Content, is_page}
-use Rattle.sgx_types.specs.Starts.{Start, is_load_of}
+use Rattle.sgx_rules.specs.Frames.{Content, is_page}
+use Rattle.sgx_rules.specs.Starts.{Start, is_load_of}
 
 -- a test that cannot succeed fails
 pub never : (b : Bool) → (b ≡ true → ⊥) → b ≡ false

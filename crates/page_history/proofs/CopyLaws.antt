@@ -2,36 +2,38 @@
 use Rattle.std.proofs.Common.{◌≡◌, ℕ, ◌<◌, ◌≤◌, ◌==◌, Bool, true, false, cond, refl, sym, ap, subst, ◌∙◌, arith}
 use Rattle.std.proofs.Common.{Option, Some, None, is_some, List, [], ◌∷◌, Any}
 use Rattle.std.proofs.lemmas.Bool.{cond_both, false≢true, eqb-true, eq-eqb}
-use Rattle.sgx_types.specs.declared.entries.Entry.{Entry}
-use Rattle.sgx_types.specs.declared.entries.Event.{Event}
-use Rattle.sgx_types.specs.declared.entries.Event.TheVariants.{Did, Refused}
-use Rattle.sgx_types.specs.declared.entries.Actor.{Actor}
-use Rattle.sgx_types.specs.declared.entries.Action.TheVariants.{Epa, Create, Add, Ewb, EldStart, Eld}
-use Rattle.sgx_types.specs.declared.entries.Answer.{Answer}
-use Rattle.sgx_types.specs.declared.entries.Answer.TheVariants.{Moved}
-use Rattle.sgx_types.specs.declared.entries.PageInit.{PageInit}
+use Rattle.sgx_rules.specs.declared.entries.Entry.{Entry}
+use Rattle.sgx_rules.specs.declared.entries.Event.{Event}
+use Rattle.sgx_rules.specs.declared.entries.Event.TheVariants.{Did, Refused}
+use Rattle.sgx_types.specs.declared.names.Actor.{Actor}
+use Rattle.sgx_rules.specs.declared.entries.Action.TheVariants.{Epa, Create, Add, Ewb, EldStart, Eld}
+use Rattle.sgx_rules.specs.declared.entries.Answer.{Answer}
+use Rattle.sgx_rules.specs.declared.entries.Answer.TheVariants.{Moved}
+use Rattle.sgx_types.specs.declared.lawful.PageInit.{PageInit}
 use Rattle.sgx_types.specs.declared.names.Frame.{Frame}
 use Rattle.sgx_types.specs.declared.names.Kind.{Kind}
 use Rattle.sgx_types.specs.declared.names.Page.{Page}
 use Rattle.sgx_types.specs.declared.names.Perm.{Perm}
 use Rattle.sgx_types.specs.declared.names.SlotAt.{SlotAt}
-use Rattle.sgx_types.specs.Flat.{FlatPage, added_as, flat}
-use Rattle.sgx_types.specs.Frames.{Content, Free, IsVa, SecsOf, Holds, IsLoading, added, content, is_page, page_at, reloaded, same_page}
-use Rattle.sgx_types.specs.Rules.{RefusalRule}
-use Rattle.sgx_types.specs.Sights.{row_at, sight_at}
-use Rattle.sgx_types.specs.Slots.{open_slot, same_slot, slot_of, version_in}
-use Rattle.sgx_types.specs.Starts.{Start, open_start}
-use Rattle.sgx_types.specs.Table.{EnclaveSight, FrameSight, add_row, create_row, epa_row, first_of_row, is_valid}
+use Rattle.sgx_rules.specs.Flat.{FlatPage, added_as, flat}
+use Rattle.sgx_types.specs.Pages.{page_at, same_page}
+use Rattle.sgx_rules.specs.Frames.{Content, Free, IsVa, SecsOf, Holds, IsLoading, added, content, is_page, reloaded}
+use Rattle.sgx_rules.specs.Rules.{RefusalRule}
+use Rattle.sgx_rules.specs.Sights.{row_at, sight_at}
+use Rattle.sgx_types.specs.Pages.{same_slot}
+use Rattle.sgx_rules.specs.Slots.{open_slot, slot_of, version_in}
+use Rattle.sgx_rules.specs.Starts.{Start, open_start}
+use Rattle.sgx_rules.specs.Table.{EnclaveSight, FrameSight, add_row, create_row, epa_row, first_of_row, is_valid}
 use Rattle.page_history.specs.Copies.{InFrame, InSlot, OneLiveCopy, copy, copy_after, in_slot}
-use Rattle.sgx_types.specs.Fresh.{FreshRule, IsLastOut, Out, last_out, out_after}
+use Rattle.sgx_rules.specs.Fresh.{FreshRule, IsLastOut, Out, last_out, out_after}
 use Rattle.sgx_types.specs.Making.{Making}
-use Rattle.sgx_types.specs.Ends.{EndsIn}
+use Rattle.sgx_rules.specs.Ends.{EndsIn}
 use Rattle.page_history.specs.Once.{DrawnOnce, Gone, IsGone, KeepsMoves, StartsApart, gone, gone_after}
 use Rattle.page_history.proofs.DrawnLaws.{drawn_once}
 use Rattle.page_history.proofs.FlatLaws.{added_flat}
-use Rattle.sgx_types.proofs.Contents.{one_page, vacant}
+use Rattle.sgx_rules.proofs.Contents.{one_page, vacant}
 use Rattle.sgx_types.proofs.Pages.{same_page-refl, same_pages, same_slots}
-use Rattle.sgx_types.proofs.Rows.{none_holds}
+use Rattle.sgx_rules.proofs.Rows.{none_holds}
 use Rattle.page_history.proofs.OpenStarts.{any_head, any_rest, entry_of}
 use Rattle.page_history.proofs.StartLaws.{starts_apart}
 

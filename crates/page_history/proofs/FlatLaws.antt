@@ -2,28 +2,29 @@
 use Rattle.std.proofs.Common.{◌≡◌, ℕ, ◌+◌, ◌-◌, ◌==◌, Bool, true, false, cond, refl, sym, ap, ◌∙◌, Option, Some}
 use Rattle.std.proofs.Common.{None, is_some, is_none, List, [], ◌∷◌, slice_set}
 use Rattle.std.proofs.lemmas.Bool.{cond_both, eqb-true, false≢true}
-use Rattle.sgx_types.specs.declared.entries.Action.{Action}
-use Rattle.sgx_types.specs.declared.entries.Action.TheVariants.{Create, Add, Init, Resume, Aex, Store, Xadd}
-use Rattle.sgx_types.specs.declared.entries.Actor.{Actor}
-use Rattle.sgx_types.specs.declared.entries.Actor.TheVariants as actors
-use Rattle.sgx_types.specs.declared.entries.Answer.{Answer}
-use Rattle.sgx_types.specs.declared.entries.Entry.{Entry}
-use Rattle.sgx_types.specs.declared.entries.Event.{Event}
-use Rattle.sgx_types.specs.declared.entries.Event.TheVariants.{Did}
-use Rattle.sgx_types.specs.declared.entries.PageInit.{PageInit}
+use Rattle.sgx_rules.specs.declared.entries.Action.{Action}
+use Rattle.sgx_rules.specs.declared.entries.Action.TheVariants.{Create, Add, Init, Resume, Aex, Store, Xadd}
+use Rattle.sgx_types.specs.declared.names.Actor.{Actor}
+use Rattle.sgx_types.specs.declared.names.Actor.TheVariants as actors
+use Rattle.sgx_rules.specs.declared.entries.Answer.{Answer}
+use Rattle.sgx_rules.specs.declared.entries.Entry.{Entry}
+use Rattle.sgx_rules.specs.declared.entries.Event.{Event}
+use Rattle.sgx_rules.specs.declared.entries.Event.TheVariants.{Did}
+use Rattle.sgx_types.specs.declared.lawful.PageInit.{PageInit}
 use Rattle.sgx_types.specs.declared.names.Kind.{Kind}
 use Rattle.sgx_types.specs.declared.names.Page.{Page}
 use Rattle.sgx_types.specs.declared.names.Perm.{Perm}
 use Rattle.sgx_types.specs.declared.record.Header.{Header}
-use Rattle.sgx_types.specs.Flat.{FlatEnclave, FlatMemory, FlatPage, Inside, accepts, added_as, at_offset, build_after, cpu_after}
-use Rattle.sgx_types.specs.Flat.{enclave_sight, event_after, fields_in, first_words, flat, flat_build_row, header_by, header_in, marked}
-use Rattle.sgx_types.specs.Flat.{memory_after, open_frame, rewritten, saved, stored, sum_of, with_cssa, with_words, word_index, word_seen}
-use Rattle.sgx_types.specs.Frames.{added, page_at, same_page}
-use Rattle.sgx_types.specs.Rules.{Along, FlatRule}
+use Rattle.sgx_rules.specs.Flat.{FlatEnclave, FlatMemory, FlatPage, Inside, accepts, added_as, at_offset, build_after, cpu_after}
+use Rattle.sgx_rules.specs.Flat.{enclave_sight, event_after, fields_in, first_words, flat, flat_build_row, header_by, header_in, marked}
+use Rattle.sgx_rules.specs.Flat.{memory_after, open_frame, rewritten, saved, stored, sum_of, with_cssa, with_words, word_index, word_seen}
+use Rattle.sgx_types.specs.Pages.{page_at, same_page}
+use Rattle.sgx_rules.specs.Frames.{added}
+use Rattle.sgx_rules.specs.Rules.{Along, FlatRule}
 use Rattle.sgx_types.specs.Sealed.{header_of}
-use Rattle.sgx_types.specs.Table.{EnclaveSight, FrameSight, add_row, first_of_row}
+use Rattle.sgx_rules.specs.Table.{EnclaveSight, FrameSight, add_row, first_of_row}
 use Rattle.sgx_types.proofs.Pages.{same_page-swap, same_pages}
-use Rattle.sgx_types.proofs.Rows.{NoneHolds, none_holds}
+use Rattle.sgx_rules.proofs.Rows.{NoneHolds, none_holds}
 use Rattle.page_history.proofs.OpenStarts.{entry_of}
 
 -- changed words are of the same kind and permissions

@@ -3,30 +3,32 @@
 use Rattle.std.proofs.Common.{◌≡◌, ℕ, ◌<◌, ◌==◌, ◌||◌, not, Bool, true, false, cond, leb, ltb, refl, sym, ap, ◌∙◌}
 use Rattle.std.proofs.Common.{subst, Option, Some, None, is_none, is_some, List, [], ◌∷◌, length}
 use Rattle.std.proofs.lemmas.Bool.{cond_both, eqb-true, false≢true, leb-false}
-use Rattle.sgx_types.specs.declared.entries.Action.{Action}
-use Rattle.sgx_types.specs.declared.entries.Action.TheVariants.{Epa, Create, Add, Extend, Enter, Resume, Fill, Block, EwbStart, Ewb}
-use Rattle.sgx_types.specs.declared.entries.Action.TheVariants.{EldStart, Eld}
-use Rattle.sgx_types.specs.declared.entries.Actor.{Actor}
-use Rattle.sgx_types.specs.declared.entries.Answer.{Answer}
-use Rattle.sgx_types.specs.declared.entries.Entry.{Entry}
-use Rattle.sgx_types.specs.declared.entries.Event.{Event}
-use Rattle.sgx_types.specs.declared.entries.Event.TheVariants.{Did, Refused}
-use Rattle.sgx_types.specs.declared.entries.PageInit.{PageInit}
+use Rattle.sgx_rules.specs.declared.entries.Action.{Action}
+use Rattle.sgx_rules.specs.declared.entries.Action.TheVariants.{Epa, Create, Add, Extend, Enter, Resume, Fill, Block, EwbStart, Ewb}
+use Rattle.sgx_rules.specs.declared.entries.Action.TheVariants.{EldStart, Eld}
+use Rattle.sgx_types.specs.declared.names.Actor.{Actor}
+use Rattle.sgx_rules.specs.declared.entries.Answer.{Answer}
+use Rattle.sgx_rules.specs.declared.entries.Entry.{Entry}
+use Rattle.sgx_rules.specs.declared.entries.Event.{Event}
+use Rattle.sgx_rules.specs.declared.entries.Event.TheVariants.{Did, Refused}
+use Rattle.sgx_types.specs.declared.lawful.PageInit.{PageInit}
 use Rattle.sgx_types.specs.declared.names.Kind.{Kind}
 use Rattle.sgx_types.specs.declared.names.Page.{Page}
 use Rattle.sgx_types.specs.declared.names.Perm.{Perm}
-use Rattle.sgx_types.specs.Ends.{EndsIn, EndsOut, IsBack}
-use Rattle.sgx_types.specs.Flat.{FlatPage, added_as, enclave_sight, flat, flat_build_row, open_frame}
-use Rattle.sgx_types.specs.Frames.{Content, Free, IsVa, SecsOf, Holds, IsLoading, added, content, is_page, page_at, reloaded, same_page}
+use Rattle.sgx_rules.specs.Ends.{EndsIn, EndsOut, IsBack}
+use Rattle.sgx_rules.specs.Flat.{FlatPage, added_as, enclave_sight, flat, flat_build_row, open_frame}
+use Rattle.sgx_types.specs.Pages.{page_at, same_page}
+use Rattle.sgx_rules.specs.Frames.{Content, Free, IsVa, SecsOf, Holds, IsLoading, added, content, is_page, reloaded}
 use Rattle.sgx_types.specs.Making.{Making}
-use Rattle.sgx_types.specs.Rules.{Along, Fits, FitsRule, LoadsAwayRule, NamesFrames, RefusalRule, TakesFree}
-use Rattle.sgx_types.specs.Sights.{enclave_of_stay, row_at, sight_at, stay_of}
-use Rattle.sgx_types.specs.Slots.{is_slot_busy}
-use Rattle.sgx_types.specs.Starts.{LoadsAreApart, Start, is_load_of, loads_page, open_start, version_told}
-use Rattle.sgx_types.specs.Table.{EnclaveSight, FrameSight, add_row, fill_row, is_busy, is_enclave, is_lawful}
-use Rattle.sgx_types.proofs.Contents.{free_there}
+use Rattle.sgx_rules.specs.Rules.{Along, Fits, FitsRule, LoadsAwayRule, NamesFrames, RefusalRule, TakesFree}
+use Rattle.sgx_rules.specs.Sights.{enclave_of_stay, row_at, sight_at, stay_of}
+use Rattle.sgx_rules.specs.Slots.{is_slot_busy}
+use Rattle.sgx_rules.specs.Starts.{LoadsAreApart, Start, is_load_of, loads_page, open_start, version_told}
+use Rattle.sgx_types.specs.Lawful.{is_enclave, is_lawful}
+use Rattle.sgx_rules.specs.Table.{EnclaveSight, FrameSight, add_row, fill_row, is_busy}
+use Rattle.sgx_rules.proofs.Contents.{free_there}
 use Rattle.sgx_types.proofs.Pages.{same_page-refl, same_pages}
-use Rattle.sgx_types.proofs.Rows.{NoneHolds, none_holds, none_refused}
+use Rattle.sgx_rules.proofs.Rows.{NoneHolds, none_holds, none_refused}
 use Rattle.sgx_types.proofs.Truths.{neither, not_false}
 use Rattle.page_history.proofs.ApartLaws.{IsApart, IsAway, loaded_away, never, put_apart, start_apart}
 use Rattle.page_history.proofs.FlatLaws.{TakesAdds, added_next}

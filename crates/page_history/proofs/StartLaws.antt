@@ -3,31 +3,33 @@ use Rattle.std.proofs.Common.{◌≡◌, ℕ, zero, suc, ◌<◌, ◌==◌, Bool
 use Rattle.std.proofs.Common.{Option, Some, None, is_some, List, [], ◌∷◌, length, ◌||◌, nat_le, nat_lt, ◌⊎◌, inl, inr}
 use Rattle.std.proofs.Common.{⊎_elim, arith}
 use Rattle.std.proofs.lemmas.Bool.{cond_both, eqb-true, eq-eqb, false≢true, leb-false}
-use Rattle.sgx_types.specs.declared.entries.Action.TheVariants.{Epa, Create, Add, EwbStart, Ewb, EldStart, Eld}
-use Rattle.sgx_types.specs.declared.entries.Actor.{Actor}
-use Rattle.sgx_types.specs.declared.entries.Answer.TheVariants.{Moved}
-use Rattle.sgx_types.specs.declared.entries.Entry.{Entry}
-use Rattle.sgx_types.specs.declared.entries.Event.{Event}
-use Rattle.sgx_types.specs.declared.entries.Event.TheVariants.{Did, Refused}
-use Rattle.sgx_types.specs.declared.entries.PageInit.{PageInit}
+use Rattle.sgx_rules.specs.declared.entries.Action.TheVariants.{Epa, Create, Add, EwbStart, Ewb, EldStart, Eld}
+use Rattle.sgx_types.specs.declared.names.Actor.{Actor}
+use Rattle.sgx_rules.specs.declared.entries.Answer.TheVariants.{Moved}
+use Rattle.sgx_rules.specs.declared.entries.Entry.{Entry}
+use Rattle.sgx_rules.specs.declared.entries.Event.{Event}
+use Rattle.sgx_rules.specs.declared.entries.Event.TheVariants.{Did, Refused}
+use Rattle.sgx_types.specs.declared.lawful.PageInit.{PageInit}
 use Rattle.sgx_types.specs.declared.names.Kind.{Kind}
 use Rattle.sgx_types.specs.declared.names.Page.{Page}
 use Rattle.sgx_types.specs.declared.names.Perm.{Perm}
 use Rattle.sgx_types.specs.declared.names.SlotAt.{SlotAt}
-use Rattle.sgx_types.specs.Flat.{FlatPage, added_as, enclave_sight, flat}
-use Rattle.sgx_types.specs.Frames.{Content, Holds, IsLoading, IsVa, SecsOf, added, content, page_at, same_page}
-use Rattle.sgx_types.specs.Rules.{Along, FlatRule, RefusalRule}
-use Rattle.sgx_types.specs.Sights.{row_at, sight_at, slot_sight_at}
-use Rattle.sgx_types.specs.Slots.{is_slot_busy, names_slot, open_slot, same_slot, slot_of, version_after, version_in}
-use Rattle.sgx_types.specs.Starts.{Start, open_start, opened_by, version_told}
-use Rattle.sgx_types.specs.Table.{EnclaveSight, FrameSight, add_row, is_busy, is_loading, is_out_of_range}
+use Rattle.sgx_rules.specs.Flat.{FlatPage, added_as, enclave_sight, flat}
+use Rattle.sgx_types.specs.Pages.{page_at, same_page}
+use Rattle.sgx_rules.specs.Frames.{Content, Holds, IsLoading, IsVa, SecsOf, added, content}
+use Rattle.sgx_rules.specs.Rules.{Along, FlatRule, RefusalRule}
+use Rattle.sgx_rules.specs.Sights.{row_at, sight_at, slot_sight_at}
+use Rattle.sgx_types.specs.Pages.{same_slot}
+use Rattle.sgx_rules.specs.Slots.{is_slot_busy, names_slot, open_slot, slot_of, version_after, version_in}
+use Rattle.sgx_rules.specs.Starts.{Start, open_start, opened_by, version_told}
+use Rattle.sgx_rules.specs.Table.{EnclaveSight, FrameSight, add_row, is_busy, is_loading, is_out_of_range}
 use Rattle.sgx_types.specs.Making.{Making}
 use Rattle.page_history.specs.Once.{KeepsMoves, StartsApart}
 use Rattle.page_history.proofs.DrawnLaws.{keeps_before}
 use Rattle.page_history.proofs.FlatLaws.{added_flat}
-use Rattle.sgx_types.proofs.Busy.{open_busy}
+use Rattle.sgx_rules.proofs.Busy.{open_busy}
 use Rattle.sgx_types.proofs.Pages.{same_slots}
-use Rattle.sgx_types.proofs.Rows.{NoneHolds, none_holds}
+use Rattle.sgx_rules.proofs.Rows.{NoneHolds, none_holds}
 use Rattle.sgx_types.proofs.Truths.{neither, not_false}
 use Rattle.page_history.proofs.OpenStarts.{apart_frames, ended_cases, entry_of, opened_cases}
 

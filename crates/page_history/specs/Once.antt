@@ -2,20 +2,21 @@
 -- page's.
 use Rattle.std.specs.Prelude.{ℕ, ◌≡◌, ◌<◌, ◌≤◌, true, List, [], ◌∷◌, Some, None, is_some}
 use Rattle.std.specs.List.{Any}
-use Rattle.sgx_types.specs.declared.entries.Action.TheVariants.{Ewb}
-use Rattle.sgx_types.specs.declared.entries.Answer.TheVariants.{Moved}
-use Rattle.sgx_types.specs.declared.entries.Entry.{Entry}
-use Rattle.sgx_types.specs.declared.entries.Event.{Event}
-use Rattle.sgx_types.specs.declared.entries.Event.TheVariants.{Did}
+use Rattle.sgx_rules.specs.declared.entries.Action.TheVariants.{Ewb}
+use Rattle.sgx_rules.specs.declared.entries.Answer.TheVariants.{Moved}
+use Rattle.sgx_rules.specs.declared.entries.Entry.{Entry}
+use Rattle.sgx_rules.specs.declared.entries.Event.{Event}
+use Rattle.sgx_rules.specs.declared.entries.Event.TheVariants.{Did}
 use Rattle.sgx_types.specs.declared.names.Page.{Page}
-use Rattle.sgx_types.specs.Frames.{IsLoading, added, content}
-use Rattle.sgx_types.specs.Rules.{Along, EvictRule, FlatRule, RefusalRule}
-use Rattle.sgx_types.specs.Flat.{header_at}
-use Rattle.sgx_types.specs.Slots.{is_slot_busy, next_version, same_slot, version_in}
-use Rattle.sgx_types.specs.Starts.{Start, open_start}
+use Rattle.sgx_rules.specs.Frames.{IsLoading, added, content}
+use Rattle.sgx_rules.specs.Rules.{Along, EvictRule, FlatRule, RefusalRule}
+use Rattle.sgx_rules.specs.Flat.{header_at}
+use Rattle.sgx_types.specs.Pages.{same_slot}
+use Rattle.sgx_rules.specs.Slots.{is_slot_busy, next_version, version_in}
+use Rattle.sgx_rules.specs.Starts.{Start, open_start}
 use Rattle.seal_record.specs.Cipher.{tag}
 use Rattle.seal_record.specs.Records.{Made, made_of, tag_of}
-use Rattle.sgx_types.specs.Fresh.{FreshRule, Out, last_out}
+use Rattle.sgx_rules.specs.Fresh.{FreshRule, Out, last_out}
 use Rattle.sgx_types.specs.Making.{Making}
 use Rattle.seal_record.specs.Sealing.{made_by}
 

@@ -1,10 +1,10 @@
 //! Laws of the definitions. Each is the contract of a function without arguments, and so holds for every list of entries.
 
 ghost use Rattle.std.specs.Prelude.{ℕ, ◌≡◌, ◌≤◌, ◌<◌, List, Some};
-ghost use Rattle.sgx_types.specs.declared.entries.Entry.{Entry};
-ghost use Rattle.sgx_types.specs.Rules.{Along, Fits, LoadsAwayRule, RefusalRule};
-ghost use Rattle.sgx_types.specs.Slots.{version_in};
-ghost use Rattle.sgx_types.specs.Starts.{LoadsAreApart};
+ghost use Rattle.sgx_rules.specs.declared.entries.Entry.{Entry};
+ghost use Rattle.sgx_rules.specs.Rules.{Along, Fits, LoadsAwayRule, RefusalRule};
+ghost use Rattle.sgx_rules.specs.Slots.{version_in};
+ghost use Rattle.sgx_rules.specs.Starts.{LoadsAreApart};
 ghost use Rattle.sgx_types.specs.declared.names.Page.{Page};
 ghost use Rattle.sgx_types.specs.declared.names.SlotAt.{SlotAt};
 ghost use Rattle.page_history.specs.Copies.{InSlot, OneLiveCopy, copy};

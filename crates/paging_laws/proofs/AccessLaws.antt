@@ -4,20 +4,21 @@ use Rattle.std.proofs.Common.{Some, None, List, is_some, set, unwrap_or}
 use Rattle.std.specs.List.{All}
 use Rattle.std.proofs.lemmas.Bool.{cond_both, false≢true, eqb-true, leb-false, lt-ltb}
 use Rattle.std.proofs.lemmas.List.Elements.{recursion_from_All}
-use Rattle.sgx_types.specs.declared.entries.Entry.{Entry}
-use Rattle.sgx_types.specs.declared.entries.Actor.TheVariants as actors
-use Rattle.sgx_types.specs.declared.entries.Action.TheVariants.{Fill, Load, Store, Xadd}
-use Rattle.sgx_types.specs.declared.entries.Answer.TheVariants.{Plain, Value}
+use Rattle.sgx_rules.specs.declared.entries.Entry.{Entry}
+use Rattle.sgx_types.specs.declared.names.Actor.TheVariants as actors
+use Rattle.sgx_rules.specs.declared.entries.Action.TheVariants.{Fill, Load, Store, Xadd}
+use Rattle.sgx_rules.specs.declared.entries.Answer.TheVariants.{Plain, Value}
 use Rattle.sgx_types.specs.declared.names.Cpu.{Cpu}
 use Rattle.sgx_types.specs.declared.names.Page.{Page}
 use Rattle.sgx_types.specs.declared.names.Kind.TheVariants as kinds
 use Rattle.sgx_types.specs.declared.names.Perm.{Perm}
-use Rattle.sgx_types.specs.Frames.{Content, Holds, is_page, page_at, SecsOf, Free, IsVa, IsLoading, no_perm}
-use Rattle.sgx_types.specs.Processors.{Seat, Stay, stay, holds_number, translations}
-use Rattle.sgx_types.specs.Table.{FrameSight, is_busy, is_loading, is_reg, perm_in, allows_read, allows_write, allows_update, access_row}
-use Rattle.sgx_types.specs.Table.{fill_row, first_of_row}
-use Rattle.sgx_types.specs.Flat.{flat, flat_translation, memory_after, stored, sum_of, with_words, word_index, word_seen}
-use Rattle.sgx_types.specs.Sights.{translation_at}
+use Rattle.sgx_types.specs.Pages.{page_at, no_perm}
+use Rattle.sgx_rules.specs.Frames.{Content, Holds, is_page, SecsOf, Free, IsVa, IsLoading}
+use Rattle.sgx_rules.specs.Processors.{Seat, Stay, stay, holds_number, translations}
+use Rattle.sgx_rules.specs.Table.{FrameSight, is_busy, is_loading, is_reg, perm_in, allows_read, allows_write, allows_update, access_row}
+use Rattle.sgx_rules.specs.Table.{fill_row, first_of_row}
+use Rattle.sgx_rules.specs.Flat.{flat, flat_translation, memory_after, stored, sum_of, with_words, word_index, word_seen}
+use Rattle.sgx_rules.specs.Sights.{translation_at}
 use Rattle.cached_translations.specs.declared.cache.Translation.{Translation}
 use Rattle.cached_translations.specs.Translations.{translation_of, with_translation}
 use Rattle.paging_laws.specs.State.{State, sight, seat_enclave, perm_of_held, translation, row_of, frame_in, rewritten, after_fill}
@@ -31,8 +32,8 @@ use Rattle.paging_laws.specs.Columns.{seat_of_stay}
 use Rattle.paging_laws.proofs.NextEntry.{BringsDone}
 use Rattle.paging_laws.proofs.ColumnLaws.{inside_flat, inside_is, translations_are}
 use Rattle.paging_laws.proofs.SoundLaws.{seat_at}
-use Rattle.sgx_types.specs.Rules.{NoPageTwice}
-use Rattle.sgx_types.proofs.Rows.{none_holds}
+use Rattle.sgx_rules.specs.Rules.{NoPageTwice}
+use Rattle.sgx_rules.proofs.Rows.{none_holds}
 use Rattle.sgx_types.proofs.Truths.{neither, not_false}
 use Rattle.sgx_types.proofs.Pages.{same_page-at}
 use Rattle.paging_laws.proofs.TranslationLaws.{holds_number-map, All-with_translation, found_there}

@@ -3,9 +3,9 @@ use Rattle.std.proofs.Common.{◌≡◌, ℕ, ◌<◌, ◌==◌, Bool, true, fal
 use Rattle.std.proofs.Common.{None, ◌⊎◌, inl, inr}
 use Rattle.std.proofs.lemmas.Bool.{cond_both, eqb-true, eq-eqb, false≢true}
 use Rattle.sgx_types.specs.declared.names.SlotAt.{SlotAt}
-use Rattle.sgx_types.specs.Slots.{same_slot}
-use Rattle.sgx_types.specs.Starts.{BareStart}
-use Rattle.sgx_types.proofs.Busy.{same_slot-refl}
+use Rattle.sgx_types.specs.Pages.{same_slot}
+use Rattle.sgx_rules.specs.Starts.{BareStart}
+use Rattle.sgx_rules.proofs.Busy.{same_slot-refl}
 use Rattle.sgx_types.proofs.Pages.{same_slots}
 use Rattle.page_history.proofs.OpenStarts.{ended_cases, opened_cases}
 use Rattle.paging_laws.specs.Guarded.{AreApart, IsNamed}

@@ -3,23 +3,25 @@ use Rattle.std.proofs.Common.{◌≡◌, ℕ, ◌*◌, ◌==◌, ◌||◌, not, 
 use Rattle.std.proofs.Common.{Option, Some, None, List, [], is_some, length}
 use Rattle.std.specs.Option.{IsSomeAnd}
 use Rattle.std.proofs.lemmas.Bool.{cond_both, false≢true}
-use Rattle.sgx_types.specs.declared.entries.Entry.{Entry}
-use Rattle.sgx_types.specs.declared.entries.Actor.{Actor}
-use Rattle.sgx_types.specs.declared.entries.Action.TheVariants.{Epa, Create, Add, Init}
-use Rattle.sgx_types.specs.declared.entries.Answer.TheVariants.{Plain, Hash}
-use Rattle.sgx_types.specs.declared.entries.PageInit.{PageInit}
+use Rattle.sgx_rules.specs.declared.entries.Entry.{Entry}
+use Rattle.sgx_types.specs.declared.names.Actor.{Actor}
+use Rattle.sgx_rules.specs.declared.entries.Action.TheVariants.{Epa, Create, Add, Init}
+use Rattle.sgx_rules.specs.declared.entries.Answer.TheVariants.{Plain, Hash}
+use Rattle.sgx_types.specs.declared.lawful.PageInit.{PageInit}
 use Rattle.sgx_types.specs.declared.names.Frame.{Frame}
 use Rattle.sgx_types.specs.declared.names.Page.{Page}
 use Rattle.sgx_types.specs.declared.names.Kind.{Kind}
 use Rattle.sgx_types.specs.declared.names.Perm.{Perm}
-use Rattle.sgx_types.specs.Frames.{Content, Free, IsVa, SecsOf, Holds, content, page_at, same_page}
-use Rattle.sgx_types.specs.Table.{FrameSight, is_busy, is_valid, is_enclave, is_lawful, epa_row, create_row, add_row, EnclaveSight}
-use Rattle.sgx_types.specs.Table.{first_of_row}
-use Rattle.sgx_types.specs.Flat.{FlatEnclave, FlatPage, FlatMemory, added_as, flat, open_frame, enclave_sight_of, first_words, with_page}
-use Rattle.sgx_types.specs.Flat.{marked}
+use Rattle.sgx_types.specs.Pages.{page_at, same_page}
+use Rattle.sgx_rules.specs.Frames.{Content, Free, IsVa, SecsOf, Holds, content}
+use Rattle.sgx_types.specs.Lawful.{is_enclave, is_lawful}
+use Rattle.sgx_rules.specs.Table.{FrameSight, is_busy, is_valid, epa_row, create_row, add_row, EnclaveSight}
+use Rattle.sgx_rules.specs.Table.{first_of_row}
+use Rattle.sgx_rules.specs.Flat.{FlatEnclave, FlatPage, FlatMemory, added_as, flat, open_frame, enclave_sight_of, first_words, with_page}
+use Rattle.sgx_rules.specs.Flat.{marked}
 use Rattle.sgx_types.specs.Layouts.{flags_of}
-use Rattle.sgx_types.proofs.Contents.{free_there}
-use Rattle.sgx_types.proofs.Rows.{none_holds, none_refused}
+use Rattle.sgx_rules.proofs.Contents.{free_there}
+use Rattle.sgx_rules.proofs.Rows.{none_holds, none_refused}
 use Rattle.sgx_types.proofs.Truths.{neither}
 use Rattle.sgx_types.proofs.Pages.{same_page-at, same_pages}
 use Rattle.measure_log.specs.declared.measure.Measure.{Measure}

@@ -1,17 +1,17 @@
 -- Each column of a state that stands for entries, as the entries and flat memory have it.
 use Rattle.std.proofs.Common.{◌≡◌, ℕ, ◌||◌, ◌&&◌, not, Bool, true, false, cond, refl, sym, ap, ◌∙◌, Some, None, List}
 use Rattle.std.proofs.Common.{[], ◌∷◌, map, is_some}
-use Rattle.sgx_types.specs.declared.entries.Entry.{Entry}
+use Rattle.sgx_rules.specs.declared.entries.Entry.{Entry}
 use Rattle.sgx_types.specs.declared.names.Page.{Page}
 use Rattle.sgx_types.specs.declared.names.SlotAt.{SlotAt}
-use Rattle.sgx_types.specs.Enclaves.{EnclavesAreFlat, created}
-use Rattle.sgx_types.specs.Epochs.{block_epoch, epoch, epoch_in, noted}
-use Rattle.sgx_types.specs.Flat.{added_as, flat}
-use Rattle.sgx_types.specs.Frames.{added, content, is_block, is_blocked, is_put, is_sealing, made_before, put_by}
-use Rattle.sgx_types.specs.Processors.{stay, translations}
-use Rattle.sgx_types.specs.Sights.{sight_at}
-use Rattle.sgx_types.specs.Slots.{next_version, version_in}
-use Rattle.sgx_types.specs.Starts.{bare_start, open_start}
+use Rattle.sgx_rules.specs.Enclaves.{EnclavesAreFlat, created}
+use Rattle.sgx_rules.specs.Epochs.{block_epoch, epoch, epoch_in, noted}
+use Rattle.sgx_rules.specs.Flat.{added_as, flat}
+use Rattle.sgx_rules.specs.Frames.{added, content, is_block, is_blocked, is_put, is_sealing, made_before, put_by}
+use Rattle.sgx_rules.specs.Processors.{stay, translations}
+use Rattle.sgx_rules.specs.Sights.{sight_at}
+use Rattle.sgx_rules.specs.Slots.{next_version, version_in}
+use Rattle.sgx_rules.specs.Starts.{bare_start, open_start}
 use Rattle.paging_laws.specs.Columns.{HasColumns, noted_inside, without_perm, seat_of_stay}
 use Rattle.paging_laws.specs.Stands.{Stands, inside_of_stay}
 use Rattle.paging_laws.specs.State.{State, sight}

@@ -4,9 +4,9 @@ use Rattle.sgx_types.specs.declared.names.Page.{Page}
 use Rattle.sgx_types.specs.declared.names.Kind.{Kind}
 use Rattle.sgx_types.specs.declared.names.Kind.TheVariants as kinds
 use Rattle.sgx_types.specs.declared.names.Perm.{Perm}
-use Rattle.sgx_types.specs.Frames.{Content, Free, IsVa, SecsOf, Holds, IsLoading, is_page}
-use Rattle.sgx_types.specs.Table.{is_tcs, is_reg, is_loading}
-use Rattle.sgx_types.proofs.Contents.{one_page}
+use Rattle.sgx_rules.specs.Frames.{Content, Free, IsVa, SecsOf, Holds, IsLoading, is_page}
+use Rattle.sgx_rules.specs.Table.{is_tcs, is_reg, is_loading}
+use Rattle.sgx_rules.proofs.Contents.{one_page}
 use Rattle.sgx_types.proofs.Pages.{same_pages}
 
 pub record IsKindOf (c : Content) (g : Page) (kind : Kind) : Type 0 where

@@ -4,23 +4,24 @@ use Rattle.std.proofs.Common.{inr, not, Bool, true, false, cond, refl, sym, ap, 
 use Rattle.std.specs.Prelude.{slice_index}
 use Rattle.std.proofs.lemmas.Bool.{cases_lt, lt-ltb, false≢true}
 use Rattle.std.proofs.lemmas.List.Elements.{All-nil}
-use Rattle.sgx_types.specs.declared.entries.Entry.{Entry}
-use Rattle.sgx_types.specs.declared.entries.Actor.TheVariants as actors
-use Rattle.sgx_types.specs.declared.entries.Action.TheVariants.{Enter, Resume}
-use Rattle.sgx_types.specs.declared.entries.Answer.TheVariants.{Cssa, Value}
+use Rattle.sgx_rules.specs.declared.entries.Entry.{Entry}
+use Rattle.sgx_types.specs.declared.names.Actor.TheVariants as actors
+use Rattle.sgx_rules.specs.declared.entries.Action.TheVariants.{Enter, Resume}
+use Rattle.sgx_rules.specs.declared.entries.Answer.TheVariants.{Cssa, Value}
 use Rattle.sgx_types.specs.declared.names.Cpu.{Cpu}
 use Rattle.sgx_types.specs.declared.names.Frame.{Frame}
 use Rattle.sgx_types.specs.declared.names.Kind.{Kind}
 use Rattle.sgx_types.specs.declared.names.Kind.TheVariants as kinds
 use Rattle.sgx_types.specs.declared.names.Perm.{Perm}
-use Rattle.sgx_types.specs.declared.refusals.Refusal.TheVariants as why
-use Rattle.sgx_types.specs.Frames.{Content, Holds, is_page, page_at, same_page}
-use Rattle.sgx_types.specs.Processors.{Seat, stay, stay_from}
-use Rattle.sgx_types.specs.Table.{Case, when, FrameSight, EnterSight, TcsSight, EnclaveSight, is_busy, is_loading, is_tcs, is_reg, is_made}
-use Rattle.sgx_types.specs.Table.{is_ready, perm_in, allows_update, entry_row, enter_row, resume_row, first_of_row}
-use Rattle.sgx_types.specs.Flat.{FlatCpu, page_words, flat_content, flat, enclave_sight_of, tcs_fields, fields_in, with_cssa, with_words}
-use Rattle.sgx_types.specs.Flat.{words_of, flat_enter_sight, resumed_word, entered, memory_after, FlatMemory}
-use Rattle.sgx_types.specs.Sights.{seat_of}
+use Rattle.sgx_rules.specs.declared.refusals.Refusal.TheVariants as why
+use Rattle.sgx_types.specs.Pages.{page_at, same_page}
+use Rattle.sgx_rules.specs.Frames.{Content, Holds, is_page}
+use Rattle.sgx_rules.specs.Processors.{Seat, stay, stay_from}
+use Rattle.sgx_rules.specs.Table.{Case, when, FrameSight, EnterSight, TcsSight, EnclaveSight, is_busy, is_loading, is_tcs, is_reg, is_made}
+use Rattle.sgx_rules.specs.Table.{is_ready, perm_in, allows_update, entry_row, enter_row, resume_row, first_of_row}
+use Rattle.sgx_rules.specs.Flat.{FlatCpu, page_words, flat_content, flat, enclave_sight_of, tcs_fields, fields_in, with_cssa, with_words}
+use Rattle.sgx_rules.specs.Flat.{words_of, flat_enter_sight, resumed_word, entered, memory_after, FlatMemory}
+use Rattle.sgx_rules.specs.Sights.{seat_of}
 use Rattle.paging_laws.specs.State.{State, enter_sight, row_of, cssa_in, saved_word, rewritten, after_enter, after_resume}
 use Rattle.paging_laws.specs.Stands.{Stands, IsUsable, IsSeated, IsSound, inside_of_stay, next_save, EnclavesSeen, cpu_shown}
 use Rattle.paging_laws.proofs.TestLaws.{both_false, equal}
@@ -30,8 +31,8 @@ use Rattle.paging_laws.proofs.WordLaws.{once_in_state, ossa-with_cssa, cssa-with
 use Rattle.paging_laws.proofs.ProcessorLaws.{mode_in_flat}
 use Rattle.paging_laws.proofs.NextEntry.{BringsDone}
 use Rattle.paging_laws.proofs.ColumnLaws.{busy_flat, enclave_flat}
-use Rattle.sgx_types.specs.Rules.{NoPageTwice}
-use Rattle.sgx_types.proofs.Rows.{none_holds, none_refused}
+use Rattle.sgx_rules.specs.Rules.{NoPageTwice}
+use Rattle.sgx_rules.proofs.Rows.{none_holds, none_refused}
 use Rattle.sgx_types.proofs.Truths.{neither, not_false}
 
 -- ---- what an entry by a TCS page needs of what it sees

@@ -3,18 +3,18 @@ use Rattle.std.proofs.Common.{◌≡◌, ℕ, ◌+◌, ◌<◌, ◌==◌, Bool, 
 use Rattle.std.proofs.Common.{None, List, ◌∷◌, is_some, set}
 use Rattle.std.proofs.lemmas.Bool.{false≢true, lt-ltb}
 use Rattle.std.proofs.lemmas.List.{length-set}
-use Rattle.sgx_types.specs.declared.entries.Entry.{Entry}
-use Rattle.sgx_types.specs.declared.entries.Actor.TheVariants as actors
-use Rattle.sgx_types.specs.declared.entries.Action.TheVariants.{Exit, Aex}
-use Rattle.sgx_types.specs.declared.entries.Answer.TheVariants.{Plain}
-use Rattle.sgx_types.specs.declared.entries.Cause.{Cause}
+use Rattle.sgx_rules.specs.declared.entries.Entry.{Entry}
+use Rattle.sgx_types.specs.declared.names.Actor.TheVariants as actors
+use Rattle.sgx_rules.specs.declared.entries.Action.TheVariants.{Exit, Aex}
+use Rattle.sgx_rules.specs.declared.entries.Answer.TheVariants.{Plain}
+use Rattle.sgx_rules.specs.declared.entries.Cause.{Cause}
 use Rattle.sgx_types.specs.declared.names.Cpu.{Cpu}
 use Rattle.sgx_types.specs.declared.names.Kind.TheVariants as kinds
-use Rattle.sgx_types.specs.Frames.{page_at}
-use Rattle.sgx_types.specs.Processors.{Seat, Stay, stay}
-use Rattle.sgx_types.specs.Table.{TcsSight, inside_row, first_of_row}
-use Rattle.sgx_types.specs.Flat.{FlatCpu, Inside, flat, fields_in, left, saved, tcs_fields, with_cssa, with_words, page_words, memory_after}
-use Rattle.sgx_types.specs.Flat.{FlatMemory, is_inside_by}
+use Rattle.sgx_types.specs.Pages.{page_at}
+use Rattle.sgx_rules.specs.Processors.{Seat, Stay, stay}
+use Rattle.sgx_rules.specs.Table.{TcsSight, inside_row, first_of_row}
+use Rattle.sgx_rules.specs.Flat.{FlatCpu, Inside, flat, fields_in, left, saved, tcs_fields, with_cssa, with_words, page_words, memory_after}
+use Rattle.sgx_rules.specs.Flat.{FlatMemory, is_inside_by}
 use Rattle.paging_laws.specs.State.{State, row_of, cssa_in, rewritten, with_saved, after_exit, after_aex, is_seated_by}
 use Rattle.paging_laws.specs.Stands.{IsSound, inside_of_stay, next_save, Shows, Stands, cpu_shown, enclaves_flat, enclaves_seen}
 use Rattle.paging_laws.proofs.TestLaws.{equal}
@@ -26,7 +26,7 @@ use Rattle.paging_laws.specs.Steps.{did_by}
 use Rattle.paging_laws.specs.Columns.{seat_of_stay}
 use Rattle.paging_laws.proofs.NextEntry.{BringsDone}
 use Rattle.paging_laws.proofs.ColumnLaws.{acc_flat, inside_flat, inside_is}
-use Rattle.sgx_types.specs.Rules.{NoPageTwice}
+use Rattle.sgx_rules.specs.Rules.{NoPageTwice}
 use Rattle.sgx_types.specs.declared.names.Page.{Page}
 use Rattle.sgx_types.proofs.Truths.{apart}
 

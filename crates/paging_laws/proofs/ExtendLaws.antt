@@ -3,16 +3,16 @@ use Rattle.std.proofs.Common.{◌≡◌, ℕ, ◌+◌, ◌*◌, leb, ltb, false,
 use Rattle.std.specs.Int.{w64, to_le_bytes}
 use Rattle.std.specs.List.{flat_map}
 use Rattle.std.specs.Option.{IsSomeAnd}
-use Rattle.sgx_types.specs.declared.entries.Entry.{Entry}
-use Rattle.sgx_types.specs.declared.entries.Actor.{Actor}
-use Rattle.sgx_types.specs.declared.entries.Action.TheVariants.{Extend}
-use Rattle.sgx_types.specs.declared.entries.Answer.TheVariants.{Plain}
+use Rattle.sgx_rules.specs.declared.entries.Entry.{Entry}
+use Rattle.sgx_types.specs.declared.names.Actor.{Actor}
+use Rattle.sgx_rules.specs.declared.entries.Action.TheVariants.{Extend}
+use Rattle.sgx_rules.specs.declared.entries.Answer.TheVariants.{Plain}
 use Rattle.sgx_types.specs.declared.names.Frame.{Frame}
 use Rattle.sgx_types.specs.declared.names.Page.{Page}
-use Rattle.sgx_types.specs.Frames.{Content, Free, IsVa, SecsOf, Holds, IsLoading, enclave_in, page_of}
-use Rattle.sgx_types.specs.Table.{extend_row, first_of_row}
-use Rattle.sgx_types.specs.Flat.{some_page, page_words, bytes_at}
-use Rattle.sgx_types.proofs.Rows.{none_holds, none_refused}
+use Rattle.sgx_rules.specs.Frames.{Content, Free, IsVa, SecsOf, Holds, IsLoading, enclave_in, page_of}
+use Rattle.sgx_rules.specs.Table.{extend_row, first_of_row}
+use Rattle.sgx_rules.specs.Flat.{some_page, page_words, bytes_at}
+use Rattle.sgx_rules.proofs.Rows.{none_holds, none_refused}
 use Rattle.sgx_types.proofs.Truths.{neither}
 use Rattle.sgx_types.specs.Layouts.{bytes_of}
 use Rattle.measure_log.specs.declared.measure.Measure.{Measure}

@@ -2,23 +2,24 @@
 use Rattle.std.proofs.Common.{◌≡◌, ℕ, ◌<◌, ◌≤◌, inl, inr, true, false, refl, sym, ap, subst, ◌∙◌, Option, Some}
 use Rattle.std.proofs.Common.{None, IfSome, List, ◌∷◌, MatchOption, is_some, length}
 use Rattle.std.proofs.lemmas.Bool.{false≢true, eq-eqb}
-use Rattle.sgx_types.specs.declared.entries.Entry.{Entry}
-use Rattle.sgx_types.specs.declared.entries.Actor.{Actor}
-use Rattle.sgx_types.specs.declared.entries.Action.{Action}
-use Rattle.sgx_types.specs.declared.entries.Action.TheVariants.{Epa, Create, Add, EwbStart, Ewb, EldStart, Eld}
-use Rattle.sgx_types.specs.declared.entries.Answer.{Answer}
-use Rattle.sgx_types.specs.declared.entries.Answer.TheVariants as answers
-use Rattle.sgx_types.specs.declared.entries.PageInit.{PageInit}
+use Rattle.sgx_rules.specs.declared.entries.Entry.{Entry}
+use Rattle.sgx_types.specs.declared.names.Actor.{Actor}
+use Rattle.sgx_rules.specs.declared.entries.Action.{Action}
+use Rattle.sgx_rules.specs.declared.entries.Action.TheVariants.{Epa, Create, Add, EwbStart, Ewb, EldStart, Eld}
+use Rattle.sgx_rules.specs.declared.entries.Answer.{Answer}
+use Rattle.sgx_rules.specs.declared.entries.Answer.TheVariants as answers
+use Rattle.sgx_types.specs.declared.lawful.PageInit.{PageInit}
 use Rattle.sgx_types.specs.declared.names.Frame.{Frame}
 use Rattle.sgx_types.specs.declared.names.Kind.{Kind}
 use Rattle.sgx_types.specs.declared.names.Page.{Page}
 use Rattle.sgx_types.specs.declared.names.Perm.{Perm}
 use Rattle.sgx_types.specs.declared.names.SlotAt.{SlotAt}
-use Rattle.sgx_types.specs.declared.refusals.Refusal.{Refusal}
-use Rattle.sgx_types.specs.Frames.{Content, Free, IsVa, SecsOf, Holds, IsLoading, added, content, is_page, page_at, reloaded, same_page}
-use Rattle.sgx_types.specs.Starts.{BareStart, Start, bare_start, open_start, is_load_of, loads_page, version_told}
-use Rattle.sgx_types.specs.Rules.{FitsRule, LoadsAwayRule, NoPageTwice}
-use Rattle.sgx_types.specs.Table.{is_loading, first_of_row}
+use Rattle.sgx_rules.specs.declared.refusals.Refusal.{Refusal}
+use Rattle.sgx_types.specs.Pages.{page_at, same_page}
+use Rattle.sgx_rules.specs.Frames.{Content, Free, IsVa, SecsOf, Holds, IsLoading, added, content, is_page, reloaded}
+use Rattle.sgx_rules.specs.Starts.{BareStart, Start, bare_start, open_start, is_load_of, loads_page, version_told}
+use Rattle.sgx_rules.specs.Rules.{FitsRule, LoadsAwayRule, NoPageTwice}
+use Rattle.sgx_rules.specs.Table.{is_loading, first_of_row}
 use Rattle.sgx_types.specs.Sealed.{Sealed}
 use Rattle.epcm_entry.specs.Words.{words_of}
 use Rattle.seal_record.specs.Cipher.{cipher}
@@ -35,7 +36,7 @@ use Rattle.paging_laws.proofs.ColumnLaws.{added_is, content_is, start_is}
 use Rattle.paging_laws.proofs.SlotLaws.{started_as}
 use Rattle.paging_laws.proofs.RowLaws.{row_fits, step_entry, IsEntryOf}
 use Rattle.paging_laws.proofs.MoveEnds.{is_end, no_end}
-use Rattle.sgx_types.specs.Flat.{enclave_sight_of}
+use Rattle.sgx_rules.specs.Flat.{enclave_sight_of}
 use Rattle.sgx_types.proofs.Pages.{same_pages}
 use Rattle.sgx_types.specs.Making.{Making}
 

@@ -6,11 +6,12 @@ use Rattle.std.proofs.lemmas.Bool.{cond_both, false≢true, eqb-true}
 use Rattle.std.proofs.lemmas.List.Elements.{All-nil}
 use Rattle.std.proofs.lemmas.Option.{IfSome_then}
 use Rattle.sgx_types.specs.declared.names.Page.{Page}
-use Rattle.sgx_types.specs.Flat.{tcs_fields}
-use Rattle.sgx_types.specs.Frames.{enclave_in, page_at, same_page}
-use Rattle.sgx_types.specs.Processors.{Seat}
-use Rattle.sgx_types.specs.Table.{FrameSight, enter_row, resume_row, fill_row, first_of_row}
-use Rattle.sgx_types.proofs.Rows.{none_holds}
+use Rattle.sgx_rules.specs.Flat.{tcs_fields}
+use Rattle.sgx_types.specs.Pages.{page_at, same_page}
+use Rattle.sgx_rules.specs.Frames.{enclave_in}
+use Rattle.sgx_rules.specs.Processors.{Seat}
+use Rattle.sgx_rules.specs.Table.{FrameSight, enter_row, resume_row, fill_row, first_of_row}
+use Rattle.sgx_rules.proofs.Rows.{none_holds}
 use Rattle.sgx_types.proofs.Pages.{same_page-at, same_pages}
 use Rattle.cached_translations.specs.declared.cache.Translation.{Translation}
 use Rattle.cached_translations.specs.Translations.{with_translation}

@@ -4,17 +4,18 @@ use Rattle.std.proofs.Common.{Option, Some, None, IfSome, IsSomeAnd, List, is_so
 use Rattle.std.proofs.lemmas.Bool.{cond_both, false≢true, eqb-true}
 use Rattle.std.proofs.lemmas.List.Elements.{All-weaker}
 use Rattle.std.proofs.lemmas.Option.{IfSome_then}
-use Rattle.sgx_types.specs.declared.entries.PageInit.{PageInit}
+use Rattle.sgx_types.specs.declared.lawful.PageInit.{PageInit}
 use Rattle.sgx_types.specs.declared.names.Kind.{Kind}
 use Rattle.sgx_types.specs.declared.names.Page.{Page}
 use Rattle.sgx_types.specs.declared.names.Perm.{Perm}
 use Rattle.sgx_types.specs.declared.names.SlotAt.{SlotAt}
-use Rattle.sgx_types.specs.Epochs.{epoch_of}
-use Rattle.sgx_types.specs.Flat.{FlatEnclave}
-use Rattle.sgx_types.specs.Frames.{Content, Free, SecsOf, Holds, IsLoading, enclave_in, same_page}
-use Rattle.sgx_types.specs.Processors.{Seat}
-use Rattle.sgx_types.specs.Starts.{BareStart}
-use Rattle.sgx_types.specs.Table.{is_loading, is_va}
+use Rattle.sgx_rules.specs.Epochs.{epoch_of}
+use Rattle.sgx_rules.specs.Flat.{FlatEnclave}
+use Rattle.sgx_types.specs.Pages.{same_page}
+use Rattle.sgx_rules.specs.Frames.{Content, Free, SecsOf, Holds, IsLoading, enclave_in}
+use Rattle.sgx_rules.specs.Processors.{Seat}
+use Rattle.sgx_rules.specs.Starts.{BareStart}
+use Rattle.sgx_rules.specs.Table.{is_loading, is_va}
 use Rattle.sgx_types.proofs.Truths.{apart}
 use Rattle.measure_log.specs.declared.measure.Measure.{Measure}
 use Rattle.cached_translations.specs.declared.cache.Translation.{Translation}

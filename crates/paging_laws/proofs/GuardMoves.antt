@@ -5,20 +5,20 @@ use Rattle.std.proofs.Common.{IsSomeAnd, List, is_some}
 use Rattle.std.specs.List.{All}
 use Rattle.std.proofs.lemmas.Bool.{cond_both, false≢true, eqb-true, eq-eqb, ltb-true, ltb-false, leb-false, cases_lt}
 use Rattle.std.proofs.lemmas.Option.{IfSome_then}
-use Rattle.sgx_types.specs.Flat.{enclave_sight_of}
+use Rattle.sgx_rules.specs.Flat.{enclave_sight_of}
 use Rattle.sgx_types.specs.declared.names.Kind.{Kind}
 use Rattle.sgx_types.specs.declared.names.Page.{Page}
 use Rattle.sgx_types.specs.declared.names.Perm.{Perm}
 use Rattle.sgx_types.specs.declared.names.SlotAt.{SlotAt}
-use Rattle.sgx_types.specs.Epochs.{epoch_of}
-use Rattle.sgx_types.specs.Frames.{Content, Free, IsVa, SecsOf, Holds, IsLoading, enclave_in, is_free}
-use Rattle.sgx_types.specs.Processors.{Seat}
-use Rattle.sgx_types.specs.Slots.{same_slot}
-use Rattle.sgx_types.specs.Starts.{BareStart}
-use Rattle.sgx_types.specs.Table.{is_loading, is_out_of_range, is_secs, is_va, block_row, track_row, ewbstart_row, eldstart_row}
-use Rattle.sgx_types.specs.Table.{first_of_row}
-use Rattle.sgx_types.proofs.Contents.{enclave_no_va, free_there}
-use Rattle.sgx_types.proofs.Rows.{none_holds}
+use Rattle.sgx_rules.specs.Epochs.{epoch_of}
+use Rattle.sgx_rules.specs.Frames.{Content, Free, IsVa, SecsOf, Holds, IsLoading, enclave_in, is_free}
+use Rattle.sgx_rules.specs.Processors.{Seat}
+use Rattle.sgx_types.specs.Pages.{same_slot}
+use Rattle.sgx_rules.specs.Starts.{BareStart}
+use Rattle.sgx_rules.specs.Table.{is_loading, is_out_of_range, is_secs, is_va, block_row, track_row, ewbstart_row, eldstart_row}
+use Rattle.sgx_rules.specs.Table.{first_of_row}
+use Rattle.sgx_rules.proofs.Contents.{enclave_no_va, free_there}
+use Rattle.sgx_rules.proofs.Rows.{none_holds}
 use Rattle.sgx_types.proofs.Truths.{both_true, neither, not_false}
 use Rattle.sgx_types.proofs.CountLaws.{count_below-none}
 use Rattle.cached_translations.specs.declared.cache.Translation.{Translation}

@@ -2,21 +2,21 @@
 use Rattle.std.proofs.Common.{◌≡◌, ℕ, ◌<◌, ◌==◌, true, false, cond, refl, sym, ap, ◌∙◌, Option, Some, None}
 use Rattle.std.proofs.Common.{MatchOption, is_some, List}
 use Rattle.std.proofs.lemmas.Option.{same_Some}
-use Rattle.sgx_types.specs.declared.entries.Entry.{Entry}
-use Rattle.sgx_types.specs.declared.entries.Actor.{Actor}
-use Rattle.sgx_types.specs.declared.entries.Action.TheVariants.{Block, Track, EwbStart, Ewb, EldStart, Eld}
-use Rattle.sgx_types.specs.declared.entries.Answer.TheVariants as answers
+use Rattle.sgx_rules.specs.declared.entries.Entry.{Entry}
+use Rattle.sgx_types.specs.declared.names.Actor.{Actor}
+use Rattle.sgx_rules.specs.declared.entries.Action.TheVariants.{Block, Track, EwbStart, Ewb, EldStart, Eld}
+use Rattle.sgx_rules.specs.declared.entries.Answer.TheVariants as answers
 use Rattle.sgx_types.specs.declared.names.Frame.{Frame}
 use Rattle.sgx_types.specs.declared.names.Kind.{Kind}
 use Rattle.sgx_types.specs.declared.names.Page.{Page}
 use Rattle.sgx_types.specs.declared.names.Perm.{Perm}
-use Rattle.sgx_types.specs.declared.refusals.Refusal.{Refusal}
-use Rattle.sgx_types.specs.Flat.{FlatMemory, FlatPage, added_as, flat, page_words}
-use Rattle.sgx_types.specs.Flat as flats
-use Rattle.sgx_types.specs.Frames.{Content, Free, Holds, IsLoading}
+use Rattle.sgx_rules.specs.declared.refusals.Refusal.{Refusal}
+use Rattle.sgx_rules.specs.Flat.{FlatMemory, FlatPage, added_as, flat, page_words}
+use Rattle.sgx_rules.specs.Flat as flats
+use Rattle.sgx_rules.specs.Frames.{Content, Free, Holds, IsLoading}
 use Rattle.sgx_types.specs.Sealed.{Sealed}
-use Rattle.sgx_types.specs.Starts.{BareStart}
-use Rattle.sgx_types.specs.Table.{first_of_row}
+use Rattle.sgx_rules.specs.Starts.{BareStart}
+use Rattle.sgx_rules.specs.Table.{first_of_row}
 use Rattle.epcm_entry.specs.Words.{words_of, zero_words}
 use Rattle.seal_record.specs.Cipher.{cipher}
 use Rattle.paging_laws.specs.Stands.{Stands, StandsWithRules, HasWords}

@@ -1,22 +1,22 @@
 -- What the rows of the instructions that move pages see in the state is what they see by the entries.
 use Rattle.std.proofs.Common.{◌≡◌, ℕ, ◌==◌, ◌^◌, Bool, leb, refl, sym, ap, ◌∙◌, Option, Some, None, is_some, List}
-use Rattle.sgx_types.specs.declared.entries.Entry.{Entry}
-use Rattle.sgx_types.specs.declared.entries.Actor.{Actor}
-use Rattle.sgx_types.specs.declared.entries.Action.TheVariants.{Block, Track, EwbStart, EldStart}
+use Rattle.sgx_rules.specs.declared.entries.Entry.{Entry}
+use Rattle.sgx_types.specs.declared.names.Actor.{Actor}
+use Rattle.sgx_rules.specs.declared.entries.Action.TheVariants.{Block, Track, EwbStart, EldStart}
 use Rattle.sgx_types.specs.declared.names.Frame.{Frame}
 use Rattle.sgx_types.specs.declared.names.SlotAt.{SlotAt}
-use Rattle.sgx_types.specs.ByEpochs.{up_to_block}
-use Rattle.sgx_types.specs.Enclaves.{EnclavesAreFlat}
-use Rattle.sgx_types.specs.Epochs.{block_epoch, epoch, epoch_in, epoch_of}
-use Rattle.sgx_types.specs.Eviction.{kept_back}
-use Rattle.sgx_types.specs.Flat.{enclave_sight_of, flat}
+use Rattle.sgx_rules.specs.ByEpochs.{up_to_block}
+use Rattle.sgx_rules.specs.Enclaves.{EnclavesAreFlat}
+use Rattle.sgx_rules.specs.Epochs.{block_epoch, epoch, epoch_in, epoch_of}
+use Rattle.sgx_rules.specs.Eviction.{kept_back}
+use Rattle.sgx_rules.specs.Flat.{enclave_sight_of, flat}
 use Rattle.sgx_types.specs.declared.names.TheConstants.{LAST_EPOCH}
 use Rattle.sgx_types.specs.declared.names.Page.{Page}
-use Rattle.sgx_types.specs.Frames.{content, enclave_in}
-use Rattle.sgx_types.specs.Table.{DrainSight, EnclaveSight, FrameSight, SlotSight, block_row, eldstart_row, ewbstart_row, first_of_row}
-use Rattle.sgx_types.specs.Table.{track_row}
-use Rattle.sgx_types.proofs.Keystone.{epochs_tell}
-use Rattle.sgx_types.specs.Sights.{drain_sight_at, row_at, slot_sight_at, track_sight_at}
+use Rattle.sgx_rules.specs.Frames.{content, enclave_in}
+use Rattle.sgx_rules.specs.Table.{DrainSight, EnclaveSight, FrameSight, SlotSight, block_row, eldstart_row, ewbstart_row, first_of_row}
+use Rattle.sgx_rules.specs.Table.{track_row}
+use Rattle.sgx_rules.proofs.Keystone.{epochs_tell}
+use Rattle.sgx_rules.specs.Sights.{drain_sight_at, row_at, slot_sight_at, track_sight_at}
 use Rattle.paging_laws.specs.State.{making_of}
 use Rattle.paging_laws.specs.State.{State, drain_sight, number_up_to, row_of, slot_sight, track_sight}
 use Rattle.paging_laws.proofs.BuildLaws.{is_some-added_as}

@@ -1,15 +1,15 @@
 -- What the entry of a step brings, so that a state that stands for its entries and keeps the rules goes on to.
 use Rattle.std.proofs.Common.{◌≡◌, true, sym, subst, ◌∙◌, None, List, ◌∷◌, refl}
-use Rattle.sgx_types.specs.declared.entries.Entry.{Entry}
-use Rattle.sgx_types.specs.declared.entries.Event.TheVariants.{Did}
-use Rattle.sgx_types.specs.declared.entries.Actor.{Actor}
-use Rattle.sgx_types.specs.declared.entries.Action.{Action}
-use Rattle.sgx_types.specs.declared.entries.Answer.{Answer}
-use Rattle.sgx_types.specs.declared.refusals.Refusal.{Refusal}
-use Rattle.sgx_types.specs.Flat.{FlatMemory, flat, accepts, flat_answer, is_visible, memory_after, event_after}
-use Rattle.sgx_types.specs.Rules.{FitsRule, FlatRule, HasForm, KeepsRules, NamesFrames, NoPageTwice, RefusalRule, TakesFree, seen_answer}
-use Rattle.sgx_types.specs.Sights.{row_at}
-use Rattle.sgx_types.specs.Table.{first_of_row}
+use Rattle.sgx_rules.specs.declared.entries.Entry.{Entry}
+use Rattle.sgx_rules.specs.declared.entries.Event.TheVariants.{Did}
+use Rattle.sgx_types.specs.declared.names.Actor.{Actor}
+use Rattle.sgx_rules.specs.declared.entries.Action.{Action}
+use Rattle.sgx_rules.specs.declared.entries.Answer.{Answer}
+use Rattle.sgx_rules.specs.declared.refusals.Refusal.{Refusal}
+use Rattle.sgx_rules.specs.Flat.{FlatMemory, flat, accepts, flat_answer, is_visible, memory_after, event_after}
+use Rattle.sgx_rules.specs.Rules.{FitsRule, FlatRule, HasForm, KeepsRules, NamesFrames, NoPageTwice, RefusalRule, TakesFree, seen_answer}
+use Rattle.sgx_rules.specs.Sights.{row_at}
+use Rattle.sgx_rules.specs.Table.{first_of_row}
 use Rattle.sgx_types.specs.Making.{Making}
 use Rattle.measure_log.specs.Rule.{MeasureRule}
 use Rattle.paging_laws.specs.Shape.{ShapeWithRules}

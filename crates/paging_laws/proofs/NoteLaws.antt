@@ -1,13 +1,13 @@
 -- An entry of no instruction leaves a state what it was, and keeps each rule.
 use Rattle.std.proofs.Common.{◌≡◌, ℕ, refl, List, ◌∷◌}
-use Rattle.sgx_types.specs.declared.entries.Actor.{Actor}
-use Rattle.sgx_types.specs.declared.entries.Entry.{Entry}
-use Rattle.sgx_types.specs.declared.entries.Event.{Event}
-use Rattle.sgx_types.specs.declared.entries.Event.TheVariants.{Did, Refused}
-use Rattle.sgx_types.specs.Fresh.{ReloadRule}
+use Rattle.sgx_types.specs.declared.names.Actor.{Actor}
+use Rattle.sgx_rules.specs.declared.entries.Entry.{Entry}
+use Rattle.sgx_rules.specs.declared.entries.Event.{Event}
+use Rattle.sgx_rules.specs.declared.entries.Event.TheVariants.{Did, Refused}
+use Rattle.sgx_rules.specs.Fresh.{ReloadRule}
 use Rattle.sgx_types.specs.Making.{Making}
-use Rattle.sgx_types.specs.Rules.{EvictRule, FitsRule, RisingRule, StaleRule}
-use Rattle.sgx_types.specs.Starts.{open_start}
+use Rattle.sgx_rules.specs.Rules.{EvictRule, FitsRule, RisingRule, StaleRule}
+use Rattle.sgx_rules.specs.Starts.{open_start}
 use Rattle.seal_record.specs.Sealing.{SealedRule, made_by}
 use Rattle.paging_laws.specs.Guarded.{IsGuarded}
 use Rattle.paging_laws.specs.Histories.{OutsideBytes}

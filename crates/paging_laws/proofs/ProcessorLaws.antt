@@ -1,10 +1,10 @@
 -- How processors stand, in the state, by the entries and in flat memory.
 use Rattle.std.proofs.Common.{◌≡◌, ℕ, refl, sym, ap, ◌∙◌, Option, Some, None, List, is_some}
-use Rattle.sgx_types.specs.declared.entries.Entry.{Entry}
+use Rattle.sgx_rules.specs.declared.entries.Entry.{Entry}
 use Rattle.sgx_types.specs.declared.names.Page.{Page}
-use Rattle.sgx_types.specs.Processors.{Stay, stay}
-use Rattle.sgx_types.specs.Flat.{flat, is_inside_by}
-use Rattle.sgx_types.specs.Sights.{enclave_of_stay}
+use Rattle.sgx_rules.specs.Processors.{Stay, stay}
+use Rattle.sgx_rules.specs.Flat.{flat, is_inside_by}
+use Rattle.sgx_rules.specs.Sights.{enclave_of_stay}
 use Rattle.paging_laws.specs.State.{State, seat_enclave, is_seated_by}
 use Rattle.paging_laws.specs.Stands.{Stands, inside_of_stay}
 use Rattle.paging_laws.specs.Columns.{seat_of_stay}

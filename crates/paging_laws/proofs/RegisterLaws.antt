@@ -2,19 +2,19 @@
 use Rattle.std.proofs.Common.{◌≡◌, ℕ, ◌/◌, ◌<◌, ◌==◌, Bool, true, false, cond, refl, sym, ap, ◌∙◌, Option, Some}
 use Rattle.std.proofs.Common.{None, List}
 use Rattle.std.proofs.lemmas.Bool.{eqb-true, lt-ltb}
-use Rattle.sgx_types.specs.declared.entries.Entry.{Entry}
-use Rattle.sgx_types.specs.declared.entries.Actor.TheVariants as actors
-use Rattle.sgx_types.specs.declared.entries.AccessOp.{AccessOp}
-use Rattle.sgx_types.specs.declared.entries.Action.TheVariants.{Set, Plus, Pf, OutLoad, OutStore}
-use Rattle.sgx_types.specs.declared.entries.Answer.TheVariants as answers
+use Rattle.sgx_rules.specs.declared.entries.Entry.{Entry}
+use Rattle.sgx_types.specs.declared.names.Actor.TheVariants as actors
+use Rattle.sgx_rules.specs.declared.entries.AccessOp.{AccessOp}
+use Rattle.sgx_rules.specs.declared.entries.Action.TheVariants.{Set, Plus, Pf, OutLoad, OutStore}
+use Rattle.sgx_rules.specs.declared.entries.Answer.TheVariants as answers
 use Rattle.sgx_types.specs.declared.names.Cpu.{Cpu}
 use Rattle.sgx_types.specs.declared.names.Kind.{Kind}
 use Rattle.sgx_types.specs.declared.names.Perm.{Perm}
-use Rattle.sgx_types.specs.Frames.{page_at}
-use Rattle.sgx_types.specs.Processors.{Stay, stay}
-use Rattle.sgx_types.specs.Table.{outside_row, pf_row, fault_of, first_of_row}
-use Rattle.sgx_types.specs.Flat.{FlatCpu, FlatMemory, flat, added_at_offset, all_ones, sum_of, with_acc, memory_after}
-use Rattle.sgx_types.specs.Sights.{added_at}
+use Rattle.sgx_types.specs.Pages.{page_at}
+use Rattle.sgx_rules.specs.Processors.{Stay, stay}
+use Rattle.sgx_rules.specs.Table.{outside_row, pf_row, fault_of, first_of_row}
+use Rattle.sgx_rules.specs.Flat.{FlatCpu, FlatMemory, flat, added_at_offset, all_ones, sum_of, with_acc, memory_after}
+use Rattle.sgx_rules.specs.Sights.{added_at}
 use Rattle.paging_laws.specs.State.{State, row_of, added_inside}
 use Rattle.paging_laws.specs.State.{with_acc as acc_set}
 use Rattle.paging_laws.specs.Stands.{Stands, IsSound, inside_of_stay, cpu_shown}

@@ -4,23 +4,23 @@ use Rattle.std.proofs.Common.{◌∙◌, arith, Option, Some, None, List, [], �
 use Rattle.std.proofs.lemmas.Bool.{eqb-true}
 use Rattle.std.proofs.lemmas.List.{get_or_default}
 use Rattle.std.proofs.lemmas.Slice.Eq.{bytes_eq-Decides}
-use Rattle.sgx_types.specs.declared.entries.Entry.{Entry}
-use Rattle.sgx_types.specs.declared.entries.Actor.{Actor}
-use Rattle.sgx_types.specs.declared.entries.Action.TheVariants.{Eld}
-use Rattle.sgx_types.specs.declared.entries.Answer.TheVariants as answers
+use Rattle.sgx_rules.specs.declared.entries.Entry.{Entry}
+use Rattle.sgx_types.specs.declared.names.Actor.{Actor}
+use Rattle.sgx_rules.specs.declared.entries.Action.TheVariants.{Eld}
+use Rattle.sgx_rules.specs.declared.entries.Answer.TheVariants as answers
 use Rattle.sgx_types.specs.declared.names.Frame.{Frame}
 use Rattle.sgx_types.specs.declared.names.Kind.{Kind}
 use Rattle.sgx_types.specs.declared.names.Page.{Page}
 use Rattle.sgx_types.specs.declared.names.Perm.{Perm}
 use Rattle.sgx_types.specs.declared.record.Header.{Header}
-use Rattle.sgx_types.specs.Flat.{FlatEnclave, FlatPage, flat, header_at, header_by}
-use Rattle.sgx_types.specs.Flat as memory
-use Rattle.sgx_types.specs.Rules.{Along, RefusalRule}
+use Rattle.sgx_rules.specs.Flat.{FlatEnclave, FlatPage, flat, header_at, header_by}
+use Rattle.sgx_rules.specs.Flat as memory
+use Rattle.sgx_rules.specs.Rules.{Along, RefusalRule}
 use Rattle.sgx_types.specs.Sealed.{Sealed, header_of}
-use Rattle.sgx_types.specs.Slots.{version_in}
-use Rattle.sgx_types.specs.Starts.{BareStart, Start, open_start}
-use Rattle.sgx_types.specs.Table.{first_of_row}
-use Rattle.sgx_types.proofs.Rows.{none_holds}
+use Rattle.sgx_rules.specs.Slots.{version_in}
+use Rattle.sgx_rules.specs.Starts.{BareStart, Start, open_start}
+use Rattle.sgx_rules.specs.Table.{first_of_row}
+use Rattle.sgx_rules.proofs.Rows.{none_holds}
 use Rattle.sgx_types.proofs.Truths.{both_true, not_false}
 use Rattle.sgx_types.specs.Making.{Making}
 use Rattle.sgx_types.specs.Layouts.{bytes_of}
@@ -31,8 +31,8 @@ use Rattle.seal_record.specs.Records.{Given, Made, Tagged, Unforged, given_of, m
 use Rattle.seal_record.proofs.CipherLaws.{cipher_twice}
 use Rattle.seal_record.proofs.RecordLaws.{fitting_made}
 use Rattle.page_history.specs.Copies.{InSlot, copy}
-use Rattle.sgx_types.specs.Fresh.{ReloadRule}
-use Rattle.sgx_types.proofs.Busy.{IsBareOf}
+use Rattle.sgx_rules.specs.Fresh.{ReloadRule}
+use Rattle.sgx_rules.proofs.Busy.{IsBareOf}
 use Rattle.page_history.specs.Once.{Gone, IsMade, IsOfPage, KeepsMoves, MadeOnce}
 use Rattle.seal_record.specs.Sealing.{SealedRule, made_by}
 use Rattle.page_history.proofs.CopyLaws.{copy_is_last, live_copies, went_out}

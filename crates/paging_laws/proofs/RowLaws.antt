@@ -1,36 +1,38 @@
 -- The rows by the state and by the entries: both allow an instruction, or refuse it by the same case.
 use Rattle.std.proofs.Common.{◌≡◌, ℕ, ◌/◌, Bool, true, false, refl, sym, ap, ◌∙◌, ◌⊎◌, inl, inr, Option, Some, None}
 use Rattle.std.proofs.Common.{List, is_some, cond, leb, ltb, not, ◌||◌, ◌<◌, MatchOption}
-use Rattle.sgx_types.specs.declared.entries.Entry.{Entry}
-use Rattle.sgx_types.specs.declared.entries.Actor.{Actor}
-use Rattle.sgx_types.specs.declared.entries.Actor.TheVariants as actors
-use Rattle.sgx_types.specs.declared.entries.Action.{Action}
-use Rattle.sgx_types.specs.declared.entries.Action.TheVariants.{Epa, Create, Add, Extend, Init, Enter, Resume, Exit, Aex, Fill, Load, Store}
-use Rattle.sgx_types.specs.declared.entries.Action.TheVariants.{Xadd, Set, Plus, Pf, OutLoad, OutStore, Block, Track, EwbStart, Ewb}
-use Rattle.sgx_types.specs.declared.entries.Action.TheVariants.{EldStart, Eld}
-use Rattle.sgx_types.specs.declared.entries.PageInit.{PageInit}
-use Rattle.sgx_types.specs.declared.refusals.Refusal.{Refusal}
-use Rattle.sgx_types.specs.declared.refusals.Refusal.TheVariants as why
+use Rattle.sgx_rules.specs.declared.entries.Entry.{Entry}
+use Rattle.sgx_types.specs.declared.names.Actor.{Actor}
+use Rattle.sgx_types.specs.declared.names.Actor.TheVariants as actors
+use Rattle.sgx_rules.specs.declared.entries.Action.{Action}
+use Rattle.sgx_rules.specs.declared.entries.Action.TheVariants.{Epa, Create, Add, Extend, Init, Enter, Resume, Exit, Aex, Fill, Load, Store}
+use Rattle.sgx_rules.specs.declared.entries.Action.TheVariants.{Xadd, Set, Plus, Pf, OutLoad, OutStore, Block, Track, EwbStart, Ewb}
+use Rattle.sgx_rules.specs.declared.entries.Action.TheVariants.{EldStart, Eld}
+use Rattle.sgx_types.specs.declared.lawful.PageInit.{PageInit}
+use Rattle.sgx_rules.specs.declared.refusals.Refusal.{Refusal}
+use Rattle.sgx_rules.specs.declared.refusals.Refusal.TheVariants as why
 use Rattle.sgx_types.specs.declared.names.Cpu.{Cpu}
 use Rattle.sgx_types.specs.declared.names.Frame.{Frame}
 use Rattle.sgx_types.specs.declared.names.Page.{Page}
 use Rattle.sgx_types.specs.declared.names.Kind.{Kind}
 use Rattle.sgx_types.specs.declared.names.Kind.TheVariants as kinds
 use Rattle.sgx_types.specs.declared.names.Perm.{Perm}
-use Rattle.sgx_types.specs.Enclaves.{EnclavesAreFlat}
-use Rattle.sgx_types.specs.Frames.{enclave_in, is_page, page_at, Free, content}
-use Rattle.sgx_types.specs.Processors.{stay, Seat}
-use Rattle.sgx_types.specs.Table.{Case, FrameSight, EnterSight, TcsSight, is_tcs, is_ready, epa_row, create_row, add_row, extend_row}
-use Rattle.sgx_types.specs.Table.{init_row, inside_row, outside_row, fill_row, access_row, allows_read, allows_write, allows_update, pf_row}
-use Rattle.sgx_types.specs.Table.{first_of_row, EnclaveSight, is_loading, is_valid, entry_row, is_enclave, is_lawful}
-use Rattle.sgx_types.specs.Flat.{FlatEnclave, flat, enclave_sight_of, tcs_fields, words_of, page_words}
-use Rattle.sgx_types.specs.Sights.{row_at, seat_of, translation_at}
-use Rattle.sgx_types.specs.Sights as sights
-use Rattle.sgx_types.specs.Sights.{enter_sight_at}
-use Rattle.sgx_types.specs.Rules.{case_of, RefusalRule, NamesFrames, TakesFree}
+use Rattle.sgx_rules.specs.Enclaves.{EnclavesAreFlat}
+use Rattle.sgx_types.specs.Pages.{page_at}
+use Rattle.sgx_rules.specs.Frames.{enclave_in, is_page, Free, content}
+use Rattle.sgx_rules.specs.Processors.{stay, Seat}
+use Rattle.sgx_rules.specs.Table.{Case, FrameSight, EnterSight, TcsSight, is_tcs, is_ready, epa_row, create_row, add_row, extend_row}
+use Rattle.sgx_rules.specs.Table.{init_row, inside_row, outside_row, fill_row, access_row, allows_read, allows_write, allows_update, pf_row}
+use Rattle.sgx_types.specs.Lawful.{is_enclave, is_lawful}
+use Rattle.sgx_rules.specs.Table.{first_of_row, EnclaveSight, is_loading, is_valid, entry_row}
+use Rattle.sgx_rules.specs.Flat.{FlatEnclave, flat, enclave_sight_of, tcs_fields, words_of, page_words}
+use Rattle.sgx_rules.specs.Sights.{row_at, seat_of, translation_at}
+use Rattle.sgx_rules.specs.Sights as sights
+use Rattle.sgx_rules.specs.Sights.{enter_sight_at}
+use Rattle.sgx_rules.specs.Rules.{case_of, RefusalRule, NamesFrames, TakesFree}
 use Rattle.measure_log.specs.Rule.{MeasureRule}
-use Rattle.sgx_types.specs.declared.entries.AccessOp.{AccessOp}
-use Rattle.sgx_types.specs.declared.entries.Answer.TheVariants as answers
+use Rattle.sgx_rules.specs.declared.entries.AccessOp.{AccessOp}
+use Rattle.sgx_rules.specs.declared.entries.Answer.TheVariants as answers
 use Rattle.paging_laws.specs.State.{State, making_of, enter_sight, seat_enclave, is_closed, row_of, row_outside, translation, sight}
 use Rattle.paging_laws.specs.Stands.{Stands, IsSound}
 use Rattle.paging_laws.proofs.BuildLaws.{is_some-added_as, adds}
@@ -47,9 +49,9 @@ use Rattle.paging_laws.proofs.ColumnLaws.{sight_is}
 use Rattle.paging_laws.specs.Columns.{HasColumns}
 use Rattle.paging_laws.specs.Guarded.{IsGuarded}
 use Rattle.std.proofs.lemmas.Bool.{leb-false}
-use Rattle.sgx_types.specs.declared.entries.Answer.{Answer}
-use Rattle.sgx_types.proofs.Contents.{free_there}
-use Rattle.sgx_types.proofs.Rows.{none_holds}
+use Rattle.sgx_rules.specs.declared.entries.Answer.{Answer}
+use Rattle.sgx_rules.proofs.Contents.{free_there}
+use Rattle.sgx_rules.proofs.Rows.{none_holds}
 use Rattle.sgx_types.proofs.Truths.{neither, tested}
 
 -- ---- the rows by the state and by the entries

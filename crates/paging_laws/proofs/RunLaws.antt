@@ -3,10 +3,10 @@ use Rattle.std.proofs.Common.{◌≡◌, zero, suc, ◌≤◌, sym, subst, arith
 use Rattle.std.proofs.Common.{All}
 use Rattle.std.proofs.lemmas.List.{append-nil, length-append}
 use Rattle.std.proofs.lemmas.List.Elements.{All-append, All-nil, All-weaker}
-use Rattle.sgx_types.specs.declared.entries.Entry.{Entry}
+use Rattle.sgx_rules.specs.declared.entries.Entry.{Entry}
 use Rattle.sgx_types.specs.Making.{Making}
 use Rattle.sgx_types.specs.Sealed.{Sealed}
-use Rattle.sgx_types.specs.Starts.{BareStart}
+use Rattle.sgx_rules.specs.Starts.{BareStart}
 use Rattle.seal_record.specs.Records.{Given, Made, Unforged}
 use Rattle.seal_record.proofs.RecordLaws.{Unforged-before}
 use Rattle.paging_laws.specs.Histories.{StandsWithAllRules, given_out, looked_at, looked_at_by}

@@ -6,18 +6,19 @@ use Rattle.std.specs.Option.{IsSomeAnd}
 use Rattle.std.proofs.lemmas.List.Elements.{All-weaker, All-map}
 use Rattle.std.proofs.lemmas.Option.{IfSome_then}
 use Rattle.std.proofs.Math.Bool.{and-true}
-use Rattle.sgx_types.specs.declared.entries.Entry.{Entry}
+use Rattle.sgx_rules.specs.declared.entries.Entry.{Entry}
 use Rattle.sgx_types.specs.declared.names.Page.{Page}
 use Rattle.sgx_types.specs.Counts.{count_below}
-use Rattle.sgx_types.specs.ByEpochs.{notes, number_noting as number_noting_by, passed_block}
-use Rattle.sgx_types.specs.Enclaves.{IsTaken}
-use Rattle.sgx_types.specs.Epochs.{epoch, noted, block_epoch, is_before, is_in, is_in_before, last_track, newer_at, older_at}
-use Rattle.sgx_types.specs.Eviction.{is_drained}
-use Rattle.sgx_types.specs.Frames.{content, enclave_in, is_sealing, page_at}
-use Rattle.sgx_types.specs.Processors.{Seat, Stay, stay}
-use Rattle.sgx_types.specs.Rules.{EvictRule, FitsRule, IsCurrent, IsUndisturbed, NoneStale, RisingRule, StaleRule}
+use Rattle.sgx_rules.specs.ByEpochs.{notes, number_noting as number_noting_by, passed_block}
+use Rattle.sgx_rules.specs.Enclaves.{IsTaken}
+use Rattle.sgx_rules.specs.Epochs.{epoch, noted, block_epoch, is_before, is_in, is_in_before, last_track, newer_at, older_at}
+use Rattle.sgx_rules.specs.Eviction.{is_drained}
+use Rattle.sgx_types.specs.Pages.{page_at}
+use Rattle.sgx_rules.specs.Frames.{content, enclave_in, is_sealing}
+use Rattle.sgx_rules.specs.Processors.{Seat, Stay, stay}
+use Rattle.sgx_rules.specs.Rules.{EvictRule, FitsRule, IsCurrent, IsUndisturbed, NoneStale, RisingRule, StaleRule}
 use Rattle.sgx_types.proofs.CountLaws.{count_below-agrees, count_below-splits, one_if, one_of_those}
-use Rattle.sgx_types.proofs.Keystone.{epochs_tell}
+use Rattle.sgx_rules.proofs.Keystone.{epochs_tell}
 use Rattle.sgx_types.proofs.Pages.{same_page-at}
 use Rattle.sgx_types.specs.Making.{Making}
 use Rattle.cached_translations.specs.declared.cache.Translation.{Translation}

@@ -1,11 +1,11 @@
 -- A slot of a guarded state is busy exactly where an open start names it by the entries too.
 use Rattle.std.proofs.Common.{◌≡◌, ℕ, Bool, true, false, refl, sym, ap, ◌∙◌, subst, Some, List}
 use Rattle.std.proofs.lemmas.Bool.{false≢true}
-use Rattle.sgx_types.specs.declared.entries.Entry.{Entry}
+use Rattle.sgx_rules.specs.declared.entries.Entry.{Entry}
 use Rattle.sgx_types.specs.declared.names.SlotAt.{SlotAt}
-use Rattle.sgx_types.specs.Slots.{is_slot_busy}
-use Rattle.sgx_types.specs.Starts.{BareStart, bare_start, open_start, without_place}
-use Rattle.sgx_types.proofs.Busy.{IsBareOf, bare_of, busy_named, open_busy}
+use Rattle.sgx_rules.specs.Slots.{is_slot_busy}
+use Rattle.sgx_rules.specs.Starts.{BareStart, bare_start, open_start, without_place}
+use Rattle.sgx_rules.proofs.Busy.{IsBareOf, bare_of, busy_named, open_busy}
 use Rattle.paging_laws.specs.Columns.{HasColumns}
 use Rattle.paging_laws.specs.Guarded.{IsGuarded}
 use Rattle.paging_laws.specs.State.{State}

@@ -4,9 +4,10 @@ use Rattle.std.proofs.Common.{[], length}
 use Rattle.std.proofs.lemmas.Bool.{cond_both, false≢true, eqb-true}
 use Rattle.std.proofs.lemmas.List.Elements.{All-weaker}
 use Rattle.sgx_types.specs.declared.names.Page.{Page}
-use Rattle.sgx_types.specs.Frames.{Content, Free, page_at, same_page}
-use Rattle.sgx_types.specs.Processors.{Seat}
-use Rattle.sgx_types.specs.Table.{is_reg}
+use Rattle.sgx_types.specs.Pages.{page_at, same_page}
+use Rattle.sgx_rules.specs.Frames.{Content, Free}
+use Rattle.sgx_rules.specs.Processors.{Seat}
+use Rattle.sgx_rules.specs.Table.{is_reg}
 use Rattle.sgx_types.proofs.Truths.{apart}
 use Rattle.sgx_types.proofs.Pages.{same_page-at, same_pages}
 use Rattle.cached_translations.specs.declared.cache.Translation.{Translation}

@@ -1,17 +1,17 @@
 -- What the entry of each instruction brings, done or refused.
 use Rattle.std.proofs.Common.{ℕ, ◌≡◌, ◌≤◌, refl, ap, arith, ◌⊎◌, inl, inr, Option, Some, None, List, true, MatchOption}
 use Rattle.std.proofs.Common.{unwrap_or, is_some}
-use Rattle.sgx_types.specs.declared.entries.Entry.{Entry}
-use Rattle.sgx_types.specs.declared.entries.Actor.{Actor}
-use Rattle.sgx_types.specs.declared.entries.Actor.TheVariants as actors
-use Rattle.sgx_types.specs.declared.entries.Action.{Action}
-use Rattle.sgx_types.specs.declared.entries.Action.TheVariants.{Epa, Create, Add, Extend, Init, Enter, Resume, Exit, Aex, Fill, Load, Store}
-use Rattle.sgx_types.specs.declared.entries.Action.TheVariants.{Xadd, Set, Plus, Pf, OutLoad, OutStore, Block, Track, EwbStart, EldStart}
-use Rattle.sgx_types.specs.declared.entries.Answer.TheVariants as answers
-use Rattle.sgx_types.specs.declared.refusals.Refusal.{Refusal}
-use Rattle.sgx_types.specs.declared.refusals.Refusal.TheVariants as why
-use Rattle.sgx_types.specs.Table.{EnclaveSight, init_row, first_of_row, perm_in}
-use Rattle.sgx_types.specs.Rules.{NoPageTwice}
+use Rattle.sgx_rules.specs.declared.entries.Entry.{Entry}
+use Rattle.sgx_types.specs.declared.names.Actor.{Actor}
+use Rattle.sgx_types.specs.declared.names.Actor.TheVariants as actors
+use Rattle.sgx_rules.specs.declared.entries.Action.{Action}
+use Rattle.sgx_rules.specs.declared.entries.Action.TheVariants.{Epa, Create, Add, Extend, Init, Enter, Resume, Exit, Aex, Fill, Load, Store}
+use Rattle.sgx_rules.specs.declared.entries.Action.TheVariants.{Xadd, Set, Plus, Pf, OutLoad, OutStore, Block, Track, EwbStart, EldStart}
+use Rattle.sgx_rules.specs.declared.entries.Answer.TheVariants as answers
+use Rattle.sgx_rules.specs.declared.refusals.Refusal.{Refusal}
+use Rattle.sgx_rules.specs.declared.refusals.Refusal.TheVariants as why
+use Rattle.sgx_rules.specs.Table.{EnclaveSight, init_row, first_of_row, perm_in}
+use Rattle.sgx_rules.specs.Rules.{NoPageTwice}
 use Rattle.paging_laws.specs.State.{State, row_of, after_init}
 use Rattle.paging_laws.specs.Stands.{HasEnclaves, IsSound, Stands}
 use Rattle.measure_log.specs.Rule.{log, measurement, IsExpected, IsOther}
@@ -27,8 +27,8 @@ use Rattle.paging_laws.proofs.EntryLaws.{enter_brings, resume_brings}
 use Rattle.paging_laws.proofs.NextEntry.{Brings, BringsDone, done_brings, refused_brings, brings_as}
 use Rattle.paging_laws.proofs.MoveLaws.{block_brings, eldstart_brings, ewbstart_brings, track_brings}
 use Rattle.paging_laws.specs.Guarded.{IsGuarded}
-use Rattle.sgx_types.specs.declared.entries.Answer.{Answer}
-use Rattle.sgx_types.specs.Frames.{no_perm}
+use Rattle.sgx_rules.specs.declared.entries.Answer.{Answer}
+use Rattle.sgx_types.specs.Pages.{no_perm}
 
 -- the row of `init` finds a created enclave
 init_made : (o : Option EnclaveSight) → first_of_row (init_row o) ≡ None → is_some o ≡ true

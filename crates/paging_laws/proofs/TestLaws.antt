@@ -2,8 +2,8 @@
 use Rattle.std.proofs.Common.{◌≡◌, ℕ, ◌==◌, ◌||◌, Bool, true, false, refl, Option, Some, None, IfSome, IsSomeAnd, is_some}
 use Rattle.std.proofs.Common.{is_none, List, [], ◌∷◌}
 use Rattle.std.proofs.lemmas.Bool.{eq-eqb}
-use Rattle.sgx_types.specs.declared.entries.Entry.{Entry}
-use Rattle.sgx_types.specs.Rules.{AtEachPlace}
+use Rattle.sgx_rules.specs.declared.entries.Entry.{Entry}
+use Rattle.sgx_rules.specs.Rules.{AtEachPlace}
 
 pub last_place : (P : List Entry → Type 0) (past : List Entry) → AtEachPlace P past → P past
 last_place P [] h = h

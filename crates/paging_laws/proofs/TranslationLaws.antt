@@ -5,7 +5,7 @@ use Rattle.std.specs.List.{All, AllByRecursion}
 use Rattle.std.proofs.lemmas.Bool.{cond_both, eqb-true}
 use Rattle.std.proofs.lemmas.List.{length-map, map-append}
 use Rattle.std.proofs.lemmas.List.Elements.{All-push, All-drop}
-use Rattle.sgx_types.specs.Processors.{holds_number, with_filled, newest}
+use Rattle.sgx_rules.specs.Processors.{holds_number, with_filled, newest}
 use Rattle.cached_translations.specs.declared.cache.Translation.{Translation}
 use Rattle.cached_translations.specs.Translations.{translation_of, with_translation, newest as newest_translations}
 use Rattle.paging_laws.specs.Columns.{without_perm}

@@ -2,20 +2,20 @@
 -- forged.
 use Rattle.std.proofs.Common.{◌≡◌, ℕ, ◌≤◌, inl, inr, true, refl, sym, ap, subst, ◌∙◌, Option, Some, None, List, []}
 use Rattle.std.proofs.Common.{◌∷◌, ◌++◌}
-use Rattle.sgx_types.specs.declared.entries.Entry.{Entry}
-use Rattle.sgx_types.specs.declared.entries.Actor.{Actor}
-use Rattle.sgx_types.specs.declared.entries.Action.{Action}
-use Rattle.sgx_types.specs.declared.entries.Action.TheVariants.{Eld}
-use Rattle.sgx_types.specs.declared.entries.Answer.{Answer}
+use Rattle.sgx_rules.specs.declared.entries.Entry.{Entry}
+use Rattle.sgx_types.specs.declared.names.Actor.{Actor}
+use Rattle.sgx_rules.specs.declared.entries.Action.{Action}
+use Rattle.sgx_rules.specs.declared.entries.Action.TheVariants.{Eld}
+use Rattle.sgx_rules.specs.declared.entries.Answer.{Answer}
 use Rattle.sgx_types.specs.declared.names.Frame.{Frame}
-use Rattle.sgx_types.specs.declared.refusals.Refusal.{Refusal}
-use Rattle.sgx_types.specs.Rules.{NoPageTwice, RefusalRule}
+use Rattle.sgx_rules.specs.declared.refusals.Refusal.{Refusal}
+use Rattle.sgx_rules.specs.Rules.{NoPageTwice, RefusalRule}
 use Rattle.sgx_types.specs.Sealed.{Sealed}
-use Rattle.sgx_types.specs.Table.{first_of_row, is_loading}
+use Rattle.sgx_rules.specs.Table.{first_of_row, is_loading}
 use Rattle.sgx_types.specs.Making.{Making}
 use Rattle.seal_record.specs.Records.{Given, Made, Unforged}
 use Rattle.page_history.specs.Copies.{InFrame}
-use Rattle.sgx_types.specs.Fresh.{ReloadRule}
+use Rattle.sgx_rules.specs.Fresh.{ReloadRule}
 use Rattle.page_history.specs.Once.{KeepsMoves}
 use Rattle.seal_record.specs.Sealing.{SealedRule, made_by}
 use Rattle.page_history.proofs.CopyLaws.{live_copies}
@@ -23,7 +23,7 @@ use Rattle.paging_laws.specs.Guarded.{IsGuarded}
 use Rattle.paging_laws.specs.Histories.{BringsBack, BringsIn, OutsideBytes, StandsWithAllRules, given_out, looked_at}
 use Rattle.paging_laws.specs.Notes.{IsDone, IsNote}
 use Rattle.paging_laws.proofs.NoteLaws.{noted_brings, noted_made, noted_outside, noted_reload, noted_sealed, noted_shaped}
-use Rattle.sgx_types.specs.declared.entries.Answer.TheVariants as answers
+use Rattle.sgx_rules.specs.declared.entries.Answer.TheVariants as answers
 use Rattle.epcm_entry.specs.Words.{words_of}
 use Rattle.seal_record.specs.Cipher.{cipher}
 use Rattle.paging_laws.specs.Shape.{ShapeWithRules}

@@ -3,14 +3,15 @@ use Rattle.std.proofs.Common.{◌≡◌, ℕ, ◌+◌, ◌*◌, ◌/◌, ◌%◌
 use Rattle.std.proofs.Common.{sym, ap, ◌∙◌, arith, Option, Some, None, List, length, get_or, set, replicate}
 use Rattle.std.proofs.lemmas.Bool.{false≢true, eqb-true}
 use Rattle.std.proofs.lemmas.List.{get_or-set_same, get_or-set_other, length-set, length-replicate}
-use Rattle.sgx_types.specs.declared.entries.PageInit.{PageInit}
-use Rattle.sgx_types.specs.declared.entries.PageInit.TheVariants as inits
+use Rattle.sgx_types.specs.declared.lawful.PageInit.{PageInit}
+use Rattle.sgx_types.specs.declared.lawful.PageInit.TheVariants as inits
 use Rattle.sgx_types.specs.declared.names.Page.{Page}
-use Rattle.sgx_types.specs.Frames.{Content, Holds, is_page, same_page}
-use Rattle.sgx_types.specs.Flat.{FlatMemory, FlatPage, added_as, first_words, tcs_fields, with_cssa, with_words}
-use Rattle.sgx_types.specs.Flat.{rewritten as rewritten_page}
-use Rattle.sgx_types.specs.declared.entries.Entry.{Entry}
-use Rattle.sgx_types.specs.Rules.{NoPageTwice}
+use Rattle.sgx_types.specs.Pages.{same_page}
+use Rattle.sgx_rules.specs.Frames.{Content, Holds, is_page}
+use Rattle.sgx_rules.specs.Flat.{FlatMemory, FlatPage, added_as, first_words, tcs_fields, with_cssa, with_words}
+use Rattle.sgx_rules.specs.Flat.{rewritten as rewritten_page}
+use Rattle.sgx_rules.specs.declared.entries.Entry.{Entry}
+use Rattle.sgx_rules.specs.Rules.{NoPageTwice}
 use Rattle.sgx_types.proofs.Pages.{same_page-at, same_pages}
 use Rattle.paging_laws.specs.State.{State, rewritten}
 use Rattle.paging_laws.specs.Stands.{HasWords, Shows, Stands, enclaves_flat}

@@ -1,18 +1,18 @@
 -- The columns of a state, in four groups, and what the entries say of each. It is so without a bound: beyond the last frame,
 -- enclave or processor there is nothing on either side.
 use Rattle.std.specs.Prelude.{ℕ, ◌≡◌, Bool, List, Option, Some, None, map}
-use Rattle.sgx_types.specs.declared.entries.Entry.{Entry}
+use Rattle.sgx_rules.specs.declared.entries.Entry.{Entry}
 use Rattle.sgx_types.specs.declared.names.Kind.{Kind}
 use Rattle.sgx_types.specs.declared.names.Page.{Page}
 use Rattle.sgx_types.specs.declared.names.Perm.{Perm}
 use Rattle.sgx_types.specs.declared.names.SlotAt.{SlotAt}
-use Rattle.sgx_types.specs.Enclaves.{created}
-use Rattle.sgx_types.specs.Epochs.{block_epoch, epoch, noted}
-use Rattle.sgx_types.specs.Flat.{FlatEnclave}
-use Rattle.sgx_types.specs.Frames.{Content, added, content, is_sealing, vas_made}
-use Rattle.sgx_types.specs.Processors.{BareTranslation, Seat, Stay, stay, translations}
-use Rattle.sgx_types.specs.Slots.{next_version, version_in}
-use Rattle.sgx_types.specs.Starts.{BareStart, bare_start, open_start}
+use Rattle.sgx_rules.specs.Enclaves.{created}
+use Rattle.sgx_rules.specs.Epochs.{block_epoch, epoch, noted}
+use Rattle.sgx_rules.specs.Flat.{FlatEnclave}
+use Rattle.sgx_rules.specs.Frames.{Content, added, content, is_sealing, vas_made}
+use Rattle.sgx_rules.specs.Processors.{BareTranslation, Seat, Stay, stay, translations}
+use Rattle.sgx_rules.specs.Slots.{next_version, version_in}
+use Rattle.sgx_rules.specs.Starts.{BareStart, bare_start, open_start}
 use Rattle.cached_translations.specs.declared.cache.Translation.{Translation}
 use Rattle.paging_laws.specs.State.{State}
 

@@ -1,23 +1,23 @@
 -- A machine that stands in all for its entries and for the records that its write-outs gave: what it keeps where no record is
 -- forged.
 use Rattle.std.specs.Prelude.{ℕ, ◌≡◌, ◌≤◌, List, [], ◌∷◌, Option, Some, None, length}
-use Rattle.sgx_types.specs.declared.entries.Action.TheVariants.{Ewb}
-use Rattle.sgx_types.specs.declared.entries.Answer.TheVariants.{Moved}
-use Rattle.sgx_types.specs.declared.entries.Entry.{Entry}
-use Rattle.sgx_types.specs.declared.entries.Event.{Event}
-use Rattle.sgx_types.specs.declared.entries.Event.TheVariants.{Did}
+use Rattle.sgx_rules.specs.declared.entries.Action.TheVariants.{Ewb}
+use Rattle.sgx_rules.specs.declared.entries.Answer.TheVariants.{Moved}
+use Rattle.sgx_rules.specs.declared.entries.Entry.{Entry}
+use Rattle.sgx_rules.specs.declared.entries.Event.{Event}
+use Rattle.sgx_rules.specs.declared.entries.Event.TheVariants.{Did}
 use Rattle.sgx_types.specs.declared.names.Page.{Page}
 use Rattle.sgx_types.specs.declared.names.SlotAt.{SlotAt}
-use Rattle.sgx_types.specs.Flat.{bytes_at, flat, words_of}
-use Rattle.sgx_types.specs.Rules.{Along}
+use Rattle.sgx_rules.specs.Flat.{bytes_at, flat, words_of}
+use Rattle.sgx_rules.specs.Rules.{Along}
 use Rattle.sgx_types.specs.Sealed.{Sealed}
-use Rattle.sgx_types.specs.Starts.{BareStart}
+use Rattle.sgx_rules.specs.Starts.{BareStart}
 use Rattle.sgx_types.specs.Making.{Making}
 use Rattle.epcm_entry.specs.Words as words
 use Rattle.seal_record.specs.Cipher.{cipher}
 use Rattle.seal_record.specs.Records.{Given, Made}
 use Rattle.page_history.specs.Copies.{InSlot, copy}
-use Rattle.sgx_types.specs.Fresh.{FreshRule, IsLastOut}
+use Rattle.sgx_rules.specs.Fresh.{FreshRule, IsLastOut}
 use Rattle.page_history.specs.Once.{IsMade}
 use Rattle.seal_record.specs.Sealing.{SealedRule, made_by, made_with}
 use Rattle.paging_laws.specs.Shape.{ShapeWithRules}

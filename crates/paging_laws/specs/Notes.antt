@@ -1,6 +1,6 @@
 -- Entries of no instruction, and those of a done one.
-use Rattle.sgx_types.specs.declared.entries.Event.{Event}
-use Rattle.sgx_types.specs.declared.entries.Event.TheVariants.{Did, Refused, Age, Kick, Bus}
+use Rattle.sgx_rules.specs.declared.entries.Event.{Event}
+use Rattle.sgx_rules.specs.declared.entries.Event.TheVariants.{Did, Refused, Age, Kick, Bus}
 
 -- a look at a page, a kick, or a page that could not be reloaded
 abbrev pub IsNote : Event → Type 0

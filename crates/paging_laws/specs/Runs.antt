@@ -1,11 +1,11 @@
 -- What a fresh machine comes to, step by step, through states that are sound and guarded, whatever records are brought: its entries,
 -- the records that its write-outs gave out, and those that the commits of its loads looked at.
 use Rattle.std.specs.Prelude.{ℕ, ◌≡◌, ◌≤◌, true, List, [], ◌∷◌, ◌++◌}
-use Rattle.sgx_types.specs.declared.entries.Entry.{Entry}
-use Rattle.sgx_types.specs.declared.entries.Actor.{Actor}
-use Rattle.sgx_types.specs.declared.entries.Action.{Action}
+use Rattle.sgx_rules.specs.declared.entries.Entry.{Entry}
+use Rattle.sgx_types.specs.declared.names.Actor.{Actor}
+use Rattle.sgx_rules.specs.declared.entries.Action.{Action}
 use Rattle.sgx_types.specs.declared.names.Frame.{Frame}
-use Rattle.sgx_types.specs.Table.{is_loading}
+use Rattle.sgx_rules.specs.Table.{is_loading}
 use Rattle.sgx_types.specs.Sealed.{Sealed}
 use Rattle.seal_record.specs.Records.{Given, Made}
 use Rattle.paging_laws.specs.Guarded.{IsGuarded}

@@ -1,13 +1,13 @@
 -- The machine has the shape that some entries give it: all of its state that no page's bytes decide.
 use Rattle.std.specs.Prelude.{ℕ, ◌≡◌, not, true, List, nat_lt}
-use Rattle.sgx_types.specs.declared.entries.Entry.{Entry}
+use Rattle.sgx_rules.specs.declared.entries.Entry.{Entry}
 use Rattle.sgx_types.specs.declared.names.Page.{Page}
 use Rattle.sgx_types.specs.declared.names.SlotAt.{SlotAt}
-use Rattle.sgx_types.specs.Enclaves.{IsTaken}
-use Rattle.sgx_types.specs.Epochs.{newer_at, older_at}
-use Rattle.sgx_types.specs.Rules.{Along, EvictRule, Fits, FitsRule, RisingRule, Stale}
-use Rattle.sgx_types.specs.Slots.{is_slot_busy}
-use Rattle.sgx_types.specs.Starts.{LoadsAreApart}
+use Rattle.sgx_rules.specs.Enclaves.{IsTaken}
+use Rattle.sgx_rules.specs.Epochs.{newer_at, older_at}
+use Rattle.sgx_rules.specs.Rules.{Along, EvictRule, Fits, FitsRule, RisingRule, Stale}
+use Rattle.sgx_rules.specs.Slots.{is_slot_busy}
+use Rattle.sgx_rules.specs.Starts.{LoadsAreApart}
 use Rattle.sgx_types.specs.Making.{Making}
 use Rattle.paging_laws.specs.Columns.{HasColumns}
 use Rattle.paging_laws.specs.State.{State, making_of, number_noting}

@@ -2,16 +2,17 @@
 use Rattle.std.specs.Prelude.{ℕ, ◌≡◌, ◌+◌, Bool, true, false, List, [], Option, Some, None, IfSome, is_some, length}
 use Rattle.std.specs.List.{All}
 use Rattle.std.specs.Option.{IsSomeAnd}
-use Rattle.sgx_types.specs.declared.entries.Entry.{Entry}
+use Rattle.sgx_rules.specs.declared.entries.Entry.{Entry}
 use Rattle.sgx_types.specs.declared.names.Page.{Page}
 use Rattle.sgx_types.specs.declared.names.Kind.{Kind}
 use Rattle.sgx_types.specs.declared.names.Kind.TheVariants as kinds
 use Rattle.sgx_types.specs.declared.names.Perm.{Perm}
-use Rattle.sgx_types.specs.Frames.{Content, Holds, content, enclave_in, is_page, page_at, page_of}
-use Rattle.sgx_types.specs.Processors.{Seat, Stay, stay}
-use Rattle.sgx_types.specs.Table.{TcsSight, is_reg, is_tcs}
-use Rattle.sgx_types.specs.Flat.{FlatCpu, FlatEnclave, FlatMemory, Inside, added_as, flat, tcs_fields}
-use Rattle.sgx_types.specs.Rules.{Along, KeepsRules}
+use Rattle.sgx_types.specs.Pages.{page_at}
+use Rattle.sgx_rules.specs.Frames.{Content, Holds, content, enclave_in, is_page, page_of}
+use Rattle.sgx_rules.specs.Processors.{Seat, Stay, stay}
+use Rattle.sgx_rules.specs.Table.{TcsSight, is_reg, is_tcs}
+use Rattle.sgx_rules.specs.Flat.{FlatCpu, FlatEnclave, FlatMemory, Inside, added_as, flat, tcs_fields}
+use Rattle.sgx_rules.specs.Rules.{Along, KeepsRules}
 use Rattle.measure_log.specs.declared.measure.Measure.{Measure}
 use Rattle.measure_log.specs.Measure.{HoldsLog}
 use Rattle.measure_log.specs.Rule.{log, MeasureRule}

@@ -2,33 +2,34 @@
 -- what each instruction does to it.
 use Rattle.std.specs.Prelude.{ℕ, ◌==◌, ◌+◌, ◌-◌, ◌/◌, ◌^◌, ◌&&◌, Bool, true, false, if◌then◌else◌, List, []}
 use Rattle.std.specs.Prelude.{Option, Some, None, nat_le, nat_lt, is_some, slice_index, slice_set}
-use Rattle.sgx_types.specs.declared.entries.Actor.{Actor}
-use Rattle.sgx_types.specs.declared.entries.Actor.TheVariants as actors
-use Rattle.sgx_types.specs.declared.entries.Action.{Action}
-use Rattle.sgx_types.specs.declared.entries.Action.TheVariants.{Epa, Create, Add, Extend, Init, Enter, Resume, Exit, Aex, Fill, Load, Store}
-use Rattle.sgx_types.specs.declared.entries.Action.TheVariants.{Xadd, Set, Plus, Pf, OutLoad, OutStore, Block, Track, EwbStart, EldStart}
-use Rattle.sgx_types.specs.declared.entries.PageInit.{PageInit}
+use Rattle.sgx_types.specs.declared.names.Actor.{Actor}
+use Rattle.sgx_types.specs.declared.names.Actor.TheVariants as actors
+use Rattle.sgx_rules.specs.declared.entries.Action.{Action}
+use Rattle.sgx_rules.specs.declared.entries.Action.TheVariants.{Epa, Create, Add, Extend, Init, Enter, Resume, Exit, Aex, Fill, Load, Store}
+use Rattle.sgx_rules.specs.declared.entries.Action.TheVariants.{Xadd, Set, Plus, Pf, OutLoad, OutStore, Block, Track, EwbStart, EldStart}
+use Rattle.sgx_types.specs.declared.lawful.PageInit.{PageInit}
 use Rattle.sgx_types.specs.declared.names.Kind.{Kind}
 use Rattle.sgx_types.specs.declared.names.Page.{Page}
 use Rattle.sgx_types.specs.declared.names.Perm.{Perm}
 use Rattle.sgx_types.specs.declared.names.SlotAt.{SlotAt}
 use Rattle.sgx_types.specs.Counts.{count_below}
 use Rattle.sgx_types.specs.Making.{Making}
-use Rattle.sgx_types.specs.Epochs.{epoch_of}
-use Rattle.sgx_types.specs.Frames.{Content, Free, IsVa, SecsOf, Holds, IsLoading, enclave_in, same_page, page_at}
-use Rattle.sgx_types.specs.Processors.{Seat}
-use Rattle.sgx_types.specs.Table.{Case, allowed, FrameSight, EnterSight, TrackSight, SlotSight, DrainSight, is_ready, epa_row, create_row}
-use Rattle.sgx_types.specs.Table.{add_row, extend_row, init_row, enter_row, resume_row, exit_row, aex_row, fill_row, load_row, store_row}
-use Rattle.sgx_types.specs.Table.{xadd_row, set_row, plus_row, pf_row, outload_row, outstore_row, block_row, track_row, ewbstart_row}
-use Rattle.sgx_types.specs.Table.{eldstart_row}
+use Rattle.sgx_rules.specs.Epochs.{epoch_of}
+use Rattle.sgx_types.specs.Pages.{same_page, page_at}
+use Rattle.sgx_rules.specs.Frames.{Content, Free, IsVa, SecsOf, Holds, IsLoading, enclave_in}
+use Rattle.sgx_rules.specs.Processors.{Seat}
+use Rattle.sgx_rules.specs.Table.{Case, allowed, FrameSight, EnterSight, TrackSight, SlotSight, DrainSight, is_ready, epa_row, create_row}
+use Rattle.sgx_rules.specs.Table.{add_row, extend_row, init_row, enter_row, resume_row, exit_row, aex_row, fill_row, load_row, store_row}
+use Rattle.sgx_rules.specs.Table.{xadd_row, set_row, plus_row, pf_row, outload_row, outstore_row, block_row, track_row, ewbstart_row}
+use Rattle.sgx_rules.specs.Table.{eldstart_row}
 use Rattle.epcm_entry.specs.Words.{zero_words}
 use Rattle.cached_translations.specs.declared.cache.Translation.{Translation}
 use Rattle.cached_translations.specs.Translations.{translation_of, with_translation}
 use Rattle.measure_log.specs.declared.measure.Measure.{Measure}
-use Rattle.sgx_types.specs.Flat.{FlatEnclave, enclave_sight_of, marked, tcs_fields, with_cssa, first_words, word_index, sum_of}
-use Rattle.sgx_types.specs.Sights.{seat_of}
-use Rattle.sgx_types.specs.Slots.{same_slot}
-use Rattle.sgx_types.specs.Starts.{BareStart}
+use Rattle.sgx_rules.specs.Flat.{FlatEnclave, enclave_sight_of, marked, tcs_fields, with_cssa, first_words, word_index, sum_of}
+use Rattle.sgx_rules.specs.Sights.{seat_of}
+use Rattle.sgx_types.specs.Pages.{same_slot}
+use Rattle.sgx_rules.specs.Starts.{BareStart}
 use Rattle.sgx_types.specs.declared.names.TheConstants.{LAST_EPOCH}
 
 pub record State : Type 0 where

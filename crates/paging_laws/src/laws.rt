@@ -1,12 +1,12 @@
 //! Laws of the steps. Each is the contract of a function without arguments, and so holds for every run.
 
 ghost use Rattle.std.specs.Prelude.{◌≡◌, ◌≤◌, false, List};
-ghost use Rattle.sgx_types.specs.declared.entries.Action.{Action};
-ghost use Rattle.sgx_types.specs.declared.entries.Actor.{Actor};
-ghost use Rattle.sgx_types.specs.declared.entries.Entry.{Entry};
-ghost use Rattle.sgx_types.specs.Enclaves.{EnclavesAreFlat};
-ghost use Rattle.sgx_types.specs.Sights.{row_at};
-ghost use Rattle.sgx_types.specs.Table.{first_of_row};
+ghost use Rattle.sgx_rules.specs.declared.entries.Action.{Action};
+ghost use Rattle.sgx_types.specs.declared.names.Actor.{Actor};
+ghost use Rattle.sgx_rules.specs.declared.entries.Entry.{Entry};
+ghost use Rattle.sgx_rules.specs.Enclaves.{EnclavesAreFlat};
+ghost use Rattle.sgx_rules.specs.Sights.{row_at};
+ghost use Rattle.sgx_rules.specs.Table.{first_of_row};
 ghost use Rattle.seal_record.specs.Records.{Given, Made, Unforged};
 ghost use Rattle.paging_laws.specs.Columns.{HasColumns};
 ghost use Rattle.paging_laws.specs.Guarded.{IsGuarded};

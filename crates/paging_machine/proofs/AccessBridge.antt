@@ -6,11 +6,11 @@ use Rattle.std.proofs.lemmas.Bool.{cond_both, false≢true}
 use Rattle.std.proofs.lemmas.List.Elements.{recursion_from_All}
 use Rattle.sgx_types.specs.declared.names.Frame.{Frame}
 use Rattle.sgx_types.specs.declared.names.Perm.{Perm}
-use Rattle.sgx_types.specs.Processors.{Seat}
-use Rattle.sgx_types.specs.Table.{access_row, inside_row, fill_row, is_reg, perm_in, first_of_row}
-use Rattle.sgx_types.specs.Flat.{word_index}
-use Rattle.sgx_types.proofs.Rows.{none_holds}
-use Rattle.sgx_types.specs.Frames.{no_perm}
+use Rattle.sgx_rules.specs.Processors.{Seat}
+use Rattle.sgx_rules.specs.Table.{access_row, inside_row, fill_row, is_reg, perm_in, first_of_row}
+use Rattle.sgx_rules.specs.Flat.{word_index}
+use Rattle.sgx_rules.proofs.Rows.{none_holds}
+use Rattle.sgx_types.specs.Pages.{no_perm}
 use Rattle.epcm_entry.specs.Epc.{EpcFrame}
 use Rattle.epcm_entry.specs.Sights.{sight_in}
 use Rattle.epcm_entry.proofs.Columns.{length-with_words}

@@ -4,19 +4,20 @@ use Rattle.std.proofs.Common.{refl, sym, ap, ◌∙◌, Option, Some, None, List
 use Rattle.std.specs.Prelude.{slice_index_or}
 use Rattle.std.proofs.lemmas.Bool.{cases_lt, cond_both, eqb-true, false≢true, leb-false, leb-true, ltb-true}
 use Rattle.std.proofs.lemmas.List.{get_or_past, length-replicate}
-use Rattle.sgx_types.specs.declared.entries.PageInit.{PageInit}
-use Rattle.sgx_types.specs.declared.entries.PageInit.TheVariants as inits
+use Rattle.sgx_types.specs.declared.lawful.PageInit.{PageInit}
+use Rattle.sgx_types.specs.declared.lawful.PageInit.TheVariants as inits
 use Rattle.sgx_types.specs.declared.names.Page.{Page}
 use Rattle.sgx_types.specs.declared.names.Kind.{Kind}
 use Rattle.sgx_types.specs.declared.names.Kind.TheVariants as kinds
 use Rattle.sgx_types.specs.declared.names.Perm.{Perm}
 use Rattle.sgx_types.specs.declared.names.SlotAt.{SlotAt}
-use Rattle.sgx_types.specs.Frames.{Free, Holds, IsVa, page_at}
-use Rattle.sgx_types.specs.Table as table
-use Rattle.sgx_types.specs.Table.{epa_row, create_row, add_row, first_of_row}
-use Rattle.sgx_types.specs.Flat.{first_words, marked}
-use Rattle.sgx_types.proofs.Contents.{free_there}
-use Rattle.sgx_types.proofs.Rows.{none_holds}
+use Rattle.sgx_types.specs.Pages.{page_at}
+use Rattle.sgx_rules.specs.Frames.{Free, Holds, IsVa}
+use Rattle.sgx_rules.specs.Table as table
+use Rattle.sgx_rules.specs.Table.{epa_row, create_row, add_row, first_of_row}
+use Rattle.sgx_rules.specs.Flat.{first_words, marked}
+use Rattle.sgx_rules.proofs.Contents.{free_there}
+use Rattle.sgx_rules.proofs.Rows.{none_holds}
 use Rattle.sgx_types.proofs.Truths.{both_true, neither, not_false}
 use Rattle.epcm_entry.specs.declared.entry_view.EntryView.{EntryView}
 use Rattle.epcm_entry.specs.declared.entry_view.EntryView.TheVariants as views

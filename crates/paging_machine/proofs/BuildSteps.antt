@@ -2,20 +2,21 @@
 use Rattle.std.proofs.Common.{◌≡◌, ℕ, ◌+◌, ◌*◌, ◌<◌, Bool, true, false, not, cond, refl, sym, ap, ◌∙◌, arith}
 use Rattle.std.proofs.Common.{◌⊎◌, inl, inr, Option, Some, None, IfSome, List, length, get_or, set, is_some, ⊎_elim}
 use Rattle.std.proofs.lemmas.Option.{cond_some}
-use Rattle.sgx_types.specs.declared.entries.Entry.{Entry}
-use Rattle.sgx_types.specs.declared.entries.Actor.{Actor}
-use Rattle.sgx_types.specs.declared.entries.Action.TheVariants.{Add, Extend, Init}
-use Rattle.sgx_types.specs.declared.entries.PageInit.{PageInit}
+use Rattle.sgx_rules.specs.declared.entries.Entry.{Entry}
+use Rattle.sgx_types.specs.declared.names.Actor.{Actor}
+use Rattle.sgx_rules.specs.declared.entries.Action.TheVariants.{Add, Extend, Init}
+use Rattle.sgx_types.specs.declared.lawful.PageInit.{PageInit}
 use Rattle.sgx_types.specs.declared.names.Frame.{Frame}
 use Rattle.sgx_types.specs.declared.names.Page.{Page}
 use Rattle.sgx_types.specs.declared.names.Kind.{Kind}
 use Rattle.sgx_types.specs.declared.names.Kind.TheVariants as kinds
 use Rattle.sgx_types.specs.declared.names.Perm.{Perm}
-use Rattle.sgx_types.specs.declared.refusals.Refusal.{Refusal}
-use Rattle.sgx_types.specs.declared.refusals.Refusal.TheVariants as why
-use Rattle.sgx_types.specs.Frames.{Content, Free, IsVa, SecsOf, Holds, IsLoading, enclave_in, page_at}
-use Rattle.sgx_types.specs.Table.{EnclaveSight, add_row, extend_row, init_row, first_of_row}
-use Rattle.sgx_types.specs.Flat.{enclave_sight_of}
+use Rattle.sgx_rules.specs.declared.refusals.Refusal.{Refusal}
+use Rattle.sgx_rules.specs.declared.refusals.Refusal.TheVariants as why
+use Rattle.sgx_types.specs.Pages.{page_at}
+use Rattle.sgx_rules.specs.Frames.{Content, Free, IsVa, SecsOf, Holds, IsLoading, enclave_in}
+use Rattle.sgx_rules.specs.Table.{EnclaveSight, add_row, extend_row, init_row, first_of_row}
+use Rattle.sgx_rules.specs.Flat.{enclave_sight_of}
 use Rattle.epcm_entry.specs.Epc.{EpcFrame, entry_at, bytes_at, with_page}
 use Rattle.epcm_entry.specs.Sights.{held, sight_in}
 use Rattle.epcm_entry.proofs.Columns.{length-with_entry}
@@ -26,7 +27,7 @@ use Rattle.measure_log.specs.declared.measure.Measure.{Measure}
 use Rattle.measure_log.specs.Blocks.{eextend_block, chunk_of}
 use Rattle.measure_log.specs.Measure.{HoldsLog, measurement_of}
 use Rattle.measure_log.specs.Rule.{IsOther}
-use Rattle.sgx_types.specs.Frames.{page_of}
+use Rattle.sgx_rules.specs.Frames.{page_of}
 use Rattle.enclave_build.specs.Build.{Appends, with_added, with_resident, block_in, chunk_block, is_expected, measured_row, unless_measured}
 use Rattle.version_array.specs.declared.va_page.VaSlot.{VaSlot}
 use Rattle.version_array.specs.Slots.{pages_made as pages_in, with_page as with_va_page}

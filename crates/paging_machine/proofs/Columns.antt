@@ -5,7 +5,7 @@ use Rattle.std.proofs.Common.{get_or, set, replicate, length-set}
 use Rattle.std.proofs.lemmas.Bool.{cond_both, cond-false, eqb-true, eq-eqb, ne_eqb, false≢true, cases_lt, cases_eq}
 use Rattle.std.proofs.lemmas.List.{get_or-set_same, get_or-set_other, get_or_past, set-get_or, get_or-replicate, length-replicate}
 use Rattle.sgx_types.specs.declared.names.Page.{Page}
-use Rattle.sgx_types.specs.Frames.{page_at, same_page}
+use Rattle.sgx_types.specs.Pages.{page_at, same_page}
 use Rattle.sgx_types.proofs.Truths.{eqb-swap}
 use Rattle.measure_log.specs.declared.measure.Measure.{Measure}
 use Rattle.secs_state.specs.Secs.{SecsState}

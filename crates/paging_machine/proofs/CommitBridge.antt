@@ -4,22 +4,22 @@ use Rattle.std.proofs.Common.{Option, Some, None, IfSome, List, length, set, is_
 use Rattle.std.specs.Option.{IsSomeAnd}
 use Rattle.std.proofs.lemmas.Bool.{cases_lt, false≢true}
 use Rattle.std.proofs.lemmas.List.{get_or_past}
-use Rattle.sgx_types.specs.declared.entries.Actor.{Actor}
-use Rattle.sgx_types.specs.declared.entries.Action.TheVariants.{Ewb, Eld}
-use Rattle.sgx_types.specs.declared.entries.Answer.TheVariants.{Moved}
-use Rattle.sgx_types.specs.declared.entries.Entry.{Entry}
+use Rattle.sgx_types.specs.declared.names.Actor.{Actor}
+use Rattle.sgx_rules.specs.declared.entries.Action.TheVariants.{Ewb, Eld}
+use Rattle.sgx_rules.specs.declared.entries.Answer.TheVariants.{Moved}
+use Rattle.sgx_rules.specs.declared.entries.Entry.{Entry}
 use Rattle.sgx_types.specs.declared.names.Frame.{Frame}
 use Rattle.sgx_types.specs.declared.names.Page.{Page}
 use Rattle.sgx_types.specs.declared.names.Kind.{Kind}
 use Rattle.sgx_types.specs.declared.names.Kind.TheVariants as kinds
 use Rattle.sgx_types.specs.declared.names.Perm.{Perm}
-use Rattle.sgx_types.specs.declared.refusals.Refusal.{Refusal}
-use Rattle.sgx_types.specs.Frames.{Holds}
+use Rattle.sgx_rules.specs.declared.refusals.Refusal.{Refusal}
+use Rattle.sgx_rules.specs.Frames.{Holds}
 use Rattle.sgx_types.specs.Sealed.{Sealed, header_of}
-use Rattle.sgx_types.specs.Starts.{BareStart}
-use Rattle.sgx_types.specs.Table as table
-use Rattle.sgx_types.specs.Table.{first_of_row}
-use Rattle.sgx_types.proofs.Contents.{enclave_no_va, loading_no_va}
+use Rattle.sgx_rules.specs.Starts.{BareStart}
+use Rattle.sgx_rules.specs.Table as table
+use Rattle.sgx_rules.specs.Table.{first_of_row}
+use Rattle.sgx_rules.proofs.Contents.{enclave_no_va, loading_no_va}
 use Rattle.epcm_entry.specs.declared.entry_view.EntryView.{EntryView}
 use Rattle.epcm_entry.specs.declared.entry_view.EntryView.TheVariants as views
 use Rattle.epcm_entry.specs.EntryView.{holding, goes_out}

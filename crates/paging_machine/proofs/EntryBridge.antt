@@ -5,11 +5,11 @@ use Rattle.std.specs.Prelude.{slice_set}
 use Rattle.std.proofs.lemmas.Bool.{cond_both, cases_lt, leb-false}
 use Rattle.std.proofs.lemmas.List.Elements.{All-nil}
 use Rattle.sgx_types.specs.declared.names.Frame.{Frame}
-use Rattle.sgx_types.specs.Frames.{page_at}
-use Rattle.sgx_types.specs.Processors.{Seat}
-use Rattle.sgx_types.specs.Sights.{seat_of}
-use Rattle.sgx_types.specs.Table.{EnterSight, TcsSight, enter_row, resume_row, inside_row, first_of_row}
-use Rattle.sgx_types.specs.Flat.{enclave_sight_of, with_cssa}
+use Rattle.sgx_types.specs.Pages.{page_at}
+use Rattle.sgx_rules.specs.Processors.{Seat}
+use Rattle.sgx_rules.specs.Sights.{seat_of}
+use Rattle.sgx_rules.specs.Table.{EnterSight, TcsSight, enter_row, resume_row, inside_row, first_of_row}
+use Rattle.sgx_rules.specs.Flat.{enclave_sight_of, with_cssa}
 use Rattle.sgx_types.proofs.Truths.{not_false}
 use Rattle.epcm_entry.specs.Epc.{EpcFrame, word_at, with_word}
 use Rattle.epcm_entry.proofs.Columns.{length-with_words}

@@ -4,15 +4,16 @@ use Rattle.paging_laws.proofs.Contents.{waits_for}
 use Rattle.std.proofs.Common.{◌≡◌, ℕ, ◌+◌, ◌==◌, Bool, true, false, cond, refl, subst, sym, List, length, Option, Some}
 use Rattle.std.proofs.Common.{None, is_some}
 use Rattle.std.proofs.lemmas.Bool.{cond_both}
-use Rattle.sgx_types.specs.declared.entries.PageInit.{PageInit}
+use Rattle.sgx_types.specs.declared.lawful.PageInit.{PageInit}
 use Rattle.sgx_types.specs.declared.names.Page.{Page}
 use Rattle.sgx_types.specs.declared.names.Kind.{Kind}
 use Rattle.sgx_types.specs.declared.names.Perm.{Perm}
 use Rattle.sgx_types.specs.declared.names.SlotAt.{SlotAt}
-use Rattle.sgx_types.specs.Frames.{Content, Free, IsVa, SecsOf, Holds, IsLoading, same_page}
-use Rattle.sgx_types.specs.Flat.{FlatEnclave, marked, enclave_sight_of}
-use Rattle.sgx_types.specs.Starts.{BareStart}
-use Rattle.sgx_types.specs.Table.{block_row, track_row, ewbstart_row, eldstart_row, first_of_row, is_loading}
+use Rattle.sgx_types.specs.Pages.{same_page}
+use Rattle.sgx_rules.specs.Frames.{Content, Free, IsVa, SecsOf, Holds, IsLoading}
+use Rattle.sgx_rules.specs.Flat.{FlatEnclave, marked, enclave_sight_of}
+use Rattle.sgx_rules.specs.Starts.{BareStart}
+use Rattle.sgx_rules.specs.Table.{block_row, track_row, ewbstart_row, eldstart_row, first_of_row, is_loading}
 use Rattle.sgx_types.proofs.Pages.{same_page-at}
 use Rattle.measure_log.specs.declared.measure.Measure.{Measure}
 use Rattle.paging_laws.specs.State.{State, sight, track_sight, slot_sight, drain_sight, is_version_spent, with_content, after_epa}

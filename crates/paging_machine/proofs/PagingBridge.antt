@@ -10,13 +10,13 @@ use Rattle.sgx_types.specs.declared.names.SlotAt.{SlotAt}
 use Rattle.sgx_types.specs.declared.names.Kind.{Kind}
 use Rattle.sgx_types.specs.declared.names.Kind.TheVariants as kinds
 use Rattle.sgx_types.specs.declared.names.Perm.{Perm}
-use Rattle.sgx_types.specs.Frames.{Holds, enclave_in, is_free}
-use Rattle.sgx_types.specs.Slots.{same_slot}
-use Rattle.sgx_types.specs.Starts.{BareStart}
-use Rattle.sgx_types.specs.Table as table
-use Rattle.sgx_types.specs.Table.{DrainSight, first_of_row, block_row, track_row, ewbstart_row, eldstart_row, EnclaveSight}
-use Rattle.sgx_types.proofs.Contents.{invalid_no_va}
-use Rattle.sgx_types.proofs.Rows.{none_holds}
+use Rattle.sgx_rules.specs.Frames.{Holds, enclave_in, is_free}
+use Rattle.sgx_types.specs.Pages.{same_slot}
+use Rattle.sgx_rules.specs.Starts.{BareStart}
+use Rattle.sgx_rules.specs.Table as table
+use Rattle.sgx_rules.specs.Table.{DrainSight, first_of_row, block_row, track_row, ewbstart_row, eldstart_row, EnclaveSight}
+use Rattle.sgx_rules.proofs.Contents.{invalid_no_va}
+use Rattle.sgx_rules.proofs.Rows.{none_holds}
 use Rattle.sgx_types.proofs.Truths.{neither}
 use Rattle.epcm_entry.specs.declared.entry_view.EntryView.{EntryView}
 use Rattle.epcm_entry.specs.declared.entry_view.EntryView.TheVariants as views

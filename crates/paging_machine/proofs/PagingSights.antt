@@ -1,7 +1,7 @@
 -- What the rows of block, track, write-out and reload see of the machine's parts is what they see of the state.
 use Rattle.paging_laws.proofs.Contents.{waits_for}
 use Rattle.secs_state.specs.Sights.{sight_of}
-use Rattle.sgx_types.specs.Flat.{enclave_sight_of}
+use Rattle.sgx_rules.specs.Flat.{enclave_sight_of}
 use Rattle.std.proofs.Common.{◌≡◌, ℕ, zero, suc, ◌+◌, ◌-◌, ◌<◌, ◌≤◌, ◌==◌, ◌&&◌, Bool, true, false, cond}
 use Rattle.std.proofs.Common.{refl, sym, ap, ◌∙◌, arith, Option, Some, None, IfSome, is_some, List, [], ◌∷◌, length, get_or}
 use Rattle.std.specs.Prelude.{count_by, nat_lt, nat_le, slice_get}
@@ -14,11 +14,11 @@ use Rattle.sgx_types.specs.declared.names.Kind.{Kind}
 use Rattle.sgx_types.specs.declared.names.Kind.TheVariants as kinds
 use Rattle.sgx_types.specs.declared.names.Perm.{Perm}
 use Rattle.sgx_types.specs.declared.record.Header.{Header}
-use Rattle.sgx_types.specs.declared.refusals.Refusal.{Refusal}
+use Rattle.sgx_rules.specs.declared.refusals.Refusal.{Refusal}
 use Rattle.sgx_types.specs.Counts.{count_below}
-use Rattle.sgx_types.specs.Epochs.{epoch_of}
-use Rattle.sgx_types.specs.Frames.{Content, Free, IsVa, SecsOf, Holds, IsLoading, enclave_in}
-use Rattle.sgx_types.specs.Table.{DrainSight, SlotSight, first_of_row, track_row, ewbstart_row, eldstart_row, is_loading}
+use Rattle.sgx_rules.specs.Epochs.{epoch_of}
+use Rattle.sgx_rules.specs.Frames.{Content, Free, IsVa, SecsOf, Holds, IsLoading, enclave_in}
+use Rattle.sgx_rules.specs.Table.{DrainSight, SlotSight, first_of_row, track_row, ewbstart_row, eldstart_row, is_loading}
 use Rattle.sgx_types.proofs.CountLaws.{count_below-agrees, count_below-zero}
 use Rattle.epcm_entry.specs.declared.entry_view.EntryView.{EntryView}
 use Rattle.epcm_entry.specs.declared.entry_view.EntryView.TheVariants as views
@@ -31,7 +31,7 @@ use Rattle.cached_translations.specs.declared.processor.Mode.TheVariants as mode
 use Rattle.secs_state.specs.Secs.{SecsState, added_at, page_count}
 use Rattle.secs_state.specs.Table.{enclave_at}
 use Rattle.secs_state.proofs.Columns.{added_below}
-use Rattle.sgx_types.specs.Starts.{BareStart}
+use Rattle.sgx_rules.specs.Starts.{BareStart}
 use Rattle.sgx_types.proofs.Truths.{both_true}
 use Rattle.paging_laws.specs.Stands.{IsFramed}
 use Rattle.paging_laws.specs.Guarded.{IsGuarded, WritesOut, Loads}

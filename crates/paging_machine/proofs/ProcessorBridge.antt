@@ -7,8 +7,9 @@ use Rattle.sgx_types.specs.declared.names.Frame.{Frame}
 use Rattle.sgx_types.specs.declared.names.Page.{Page}
 use Rattle.sgx_types.specs.declared.names.Kind.{Kind}
 use Rattle.sgx_types.specs.declared.names.Perm.{Perm}
-use Rattle.sgx_types.specs.Frames.{Content, Free, IsVa, SecsOf, Holds, IsLoading, is_page, page_at, same_page}
-use Rattle.sgx_types.specs.Sights.{seat_of}
+use Rattle.sgx_types.specs.Pages.{page_at, same_page}
+use Rattle.sgx_rules.specs.Frames.{Content, Free, IsVa, SecsOf, Holds, IsLoading, is_page}
+use Rattle.sgx_rules.specs.Sights.{seat_of}
 use Rattle.sgx_types.proofs.Pages.{same_pages}
 use Rattle.epcm_entry.specs.EntryView.{block_of, goes_out}
 use Rattle.epcm_entry.specs.Epc.{EpcFrame, free_frame, entry_at, words_at, with_words}
@@ -26,7 +27,7 @@ use Rattle.cached_translations.specs.Translations.{with_translation}
 use Rattle.track_epoch.specs.Tracking.{Tracking, entered, left}
 use Rattle.track_epoch.specs.Tracks.{track_of, with_track}
 use Rattle.track_epoch.proofs.TracksLaws.{track_of-with_track}
-use Rattle.sgx_types.specs.Frames.{page_of}
+use Rattle.sgx_rules.specs.Frames.{page_of}
 use Rattle.entry_exit.specs.Entry.{IsAdded}
 use Rattle.paging_laws.specs.State.{State, seat_enclave, is_seated_by, rewritten, with_inside, with_acc, after_exit, after_fill}
 use Rattle.paging_machine.specs.Parts.{Parts, added_in, enclave_of, epoch_from, is_busy_in, idle, cpu_at, noted_by, seat_of_mode, state_of}

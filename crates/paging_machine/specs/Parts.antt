@@ -5,9 +5,9 @@ use Rattle.sgx_types.specs.declared.names.Kind.{Kind}
 use Rattle.sgx_types.specs.declared.names.Kind.TheVariants as kinds
 use Rattle.sgx_types.specs.declared.names.Perm.{Perm}
 use Rattle.sgx_types.specs.declared.layouts.TcsFields.{TcsFields}
-use Rattle.sgx_types.specs.Frames.{Content, Holds}
-use Rattle.sgx_types.specs.Processors.{Seat}
-use Rattle.sgx_types.specs.Flat.{FlatEnclave, tcs_fields}
+use Rattle.sgx_rules.specs.Frames.{Content, Holds}
+use Rattle.sgx_rules.specs.Processors.{Seat}
+use Rattle.sgx_rules.specs.Flat.{FlatEnclave, tcs_fields}
 use Rattle.epcm_entry.specs.EntryView.{block_of, goes_out}
 use Rattle.epcm_entry.specs.Epc.{EpcFrame, free_frames, entry_at, words_at}
 use Rattle.epcm_entry.specs.Sights.{held}
@@ -21,7 +21,7 @@ use Rattle.track_epoch.specs.Tracking.{Tracking, starting_at}
 use Rattle.track_epoch.specs.Tracks.{track_of}
 use Rattle.version_array.specs.declared.va_page.VaSlot.{VaSlot}
 use Rattle.version_array.specs.Slots.{is_busy_at as is_slot_busy_at, pages_made, version_in}
-use Rattle.sgx_types.specs.Starts.{BareStart}
+use Rattle.sgx_rules.specs.Starts.{BareStart}
 use Rattle.paging_machine.specs.declared.starts.Start as starts
 use Rattle.paging_laws.specs.State.{State}
 

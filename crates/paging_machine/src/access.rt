@@ -1,8 +1,8 @@
 //! The rows of translations and accesses.
 
 ghost use Rattle.std.specs.Prelude.{◌≡◌, ◌<◌, length};
-ghost use Rattle.sgx_types.specs.declared.entries.Actor.TheVariants as actors;
-ghost use Rattle.sgx_types.specs.declared.entries.Action.TheVariants as actions;
+ghost use Rattle.sgx_types.specs.declared.names.Actor.TheVariants as actors;
+ghost use Rattle.sgx_rules.specs.declared.entries.Action.TheVariants as actions;
 ghost use Rattle.paging_machine.specs.Parts.{state_of};
 ghost use Rattle.paging_laws.specs.Steps.{IsStep};
 
@@ -10,8 +10,8 @@ use crate::apply::{done, refused};
 use crate::machine::Machine;
 use enclave_access::access::{load, store, xadd};
 use enclave_access::fill::fill;
-use sgx_types::entries::{Action, Actor, Answer, Entry};
-use sgx_types::names::{Cpu, Frame};
+use sgx_rules::entries::{Action, Answer, Entry};
+use sgx_types::names::{Actor, Cpu, Frame};
 
 impl Machine {
     /// A processor takes the translation of a page, with the permissions of the page.

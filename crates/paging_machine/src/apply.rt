@@ -2,9 +2,9 @@
 
 ghost use Rattle.paging_laws.specs.State.{making_of};
 ghost use Rattle.std.specs.Prelude.{◌≡◌, IfOk, OnErr, length, List, ◌∷◌};
-ghost use Rattle.sgx_types.specs.declared.entries.Entry.{Entry};
+ghost use Rattle.sgx_rules.specs.declared.entries.Entry.{Entry};
 ghost use Rattle.paging_machine.specs.Parts.{state_of};
-ghost use Rattle.sgx_types.specs.Rules.{LoadsAwayRule};
+ghost use Rattle.sgx_rules.specs.Rules.{LoadsAwayRule};
 ghost use Rattle.sgx_types.specs.Making.{Making};
 ghost use Rattle.paging_laws.specs.Shape.{ShapeWithRules, FitsApart};
 ghost use Rattle.seal_record.specs.Records.{Made};
@@ -12,9 +12,9 @@ ghost use Rattle.paging_laws.specs.Histories.{StandsWithAllRules};
 ghost use Rattle.paging_laws.specs.Steps.{IsStep, CanApply, MayNeedMemory, did_by, refused_by};
 
 use crate::machine::Machine;
-use sgx_types::entries::{Action, Actor, Answer, Entry, Event};
-use sgx_types::names::{Memory, Page};
-use sgx_types::refusals::Refusal;
+use sgx_rules::entries::{Action, Answer, Entry, Event};
+use sgx_rules::refusals::Refusal;
+use sgx_types::names::{Actor, Memory, Page};
 use std::alloc::Global;
 
 impl Machine {

@@ -1,10 +1,10 @@
 //! The rows that make version array pages and build enclaves.
 
 ghost use Rattle.std.specs.Prelude.{◌≡◌, true, None, Some, IfOk, OnOk, OnErr, is_some, length};
-ghost use Rattle.sgx_types.specs.Table.{first_of_row, when, ◌otherwise◌, allowed, epa_row};
-ghost use Rattle.sgx_types.specs.declared.refusals.Refusal.TheVariants as why;
+ghost use Rattle.sgx_rules.specs.Table.{first_of_row, when, ◌otherwise◌, allowed, epa_row};
+ghost use Rattle.sgx_rules.specs.declared.refusals.Refusal.TheVariants as why;
 ghost use Rattle.epcm_entry.specs.Sights.{sight_in};
-ghost use Rattle.sgx_types.specs.declared.entries.Action.TheVariants as actions;
+ghost use Rattle.sgx_rules.specs.declared.entries.Action.TheVariants as actions;
 ghost use Rattle.paging_machine.specs.Parts.{state_of};
 ghost use Rattle.paging_laws.specs.Stands.{IsSound};
 ghost use Rattle.paging_laws.specs.State.{sight, after_epa};
@@ -17,9 +17,10 @@ use enclave_build::build_refusal::BuildRefusal;
 use enclave_build::create::ecreate;
 use enclave_build::init::einit;
 use epcm_entry::epc::Epc;
-use sgx_types::entries::{Action, Actor, Answer, Entry, PageInit};
-use sgx_types::names::{Frame, Kind, Memory, Page, Perm};
-use sgx_types::refusals::Refusal;
+use sgx_rules::entries::{Action, Answer, Entry};
+use sgx_rules::refusals::Refusal;
+use sgx_types::lawful::PageInit;
+use sgx_types::names::{Actor, Frame, Kind, Memory, Page, Perm};
 use std::alloc::Global;
 
 impl Machine {

@@ -4,8 +4,8 @@ ghost use Rattle.paging_laws.specs.Notes.{IsDone};
 ghost use Rattle.paging_laws.specs.State.{making_of};
 ghost use Rattle.std.specs.Prelude.{◌≡◌, ◌∷◌, ◌++◌, true, Some, length, List, is_some};
 ghost use Rattle.std.specs.Option.{IsSomeAnd};
-ghost use Rattle.sgx_types.specs.declared.entries.Entry.{Entry};
-ghost use Rattle.sgx_types.specs.Table.{is_loading};
+ghost use Rattle.sgx_rules.specs.declared.entries.Entry.{Entry};
+ghost use Rattle.sgx_rules.specs.Table.{is_loading};
 ghost use Rattle.sgx_types.specs.Making.{Making};
 ghost use Rattle.seal_record.specs.Records.{Given, Made, Unforged};
 ghost use Rattle.paging_laws.specs.Histories.{StandsWithAllRules, given_out, looked_at, BringsIn};
@@ -21,9 +21,9 @@ use evict_reload::reload::eld_commit;
 use evict_reload::write_out::ewb_commit;
 use seal_record::seal::{SealWork, SealedWork, seal};
 use seal_record::unseal::{UnsealWork, UnsealedWork, unseal};
-use sgx_types::entries::{Action, Actor, Answer, Entry};
+use sgx_rules::entries::{Action, Answer, Entry};
 use sgx_types::layouts::flags;
-use sgx_types::names::Frame;
+use sgx_types::names::{Actor, Frame};
 use sgx_types::record::{Header, Record};
 
 // The second halves of EWB and ELDU. What is sealed or opened between the halves is not trusted: a work of another input is

@@ -1,10 +1,10 @@
 //! The rows that take a processor into an enclave and out of it.
 
 ghost use Rattle.std.specs.Prelude.{◌≡◌, ◌<◌, ◌||◌, true, Some, length};
-ghost use Rattle.sgx_types.specs.Table.{first_of_row, when, ◌otherwise◌, allowed};
-ghost use Rattle.sgx_types.specs.declared.entries.Actor.TheVariants as actors;
-ghost use Rattle.sgx_types.specs.declared.entries.Action.TheVariants as actions;
-ghost use Rattle.sgx_types.specs.declared.refusals.Refusal.TheVariants as why;
+ghost use Rattle.sgx_rules.specs.Table.{first_of_row, when, ◌otherwise◌, allowed};
+ghost use Rattle.sgx_types.specs.declared.names.Actor.TheVariants as actors;
+ghost use Rattle.sgx_rules.specs.declared.entries.Action.TheVariants as actions;
+ghost use Rattle.sgx_rules.specs.declared.refusals.Refusal.TheVariants as why;
 ghost use Rattle.epcm_entry.specs.Sights.{sight_in};
 ghost use Rattle.cached_translations.specs.Modes.{is_inside};
 ghost use Rattle.paging_machine.specs.Parts.{state_of};
@@ -16,9 +16,9 @@ use cached_translations::processor::Mode;
 use entry_exit::enter::{eenter, eresume};
 use entry_exit::exit::{aex, eexit};
 use epcm_entry::epc::Epc;
-use sgx_types::entries::{Action, Actor, Answer, Cause, Entry};
-use sgx_types::names::{Cpu, Frame};
-use sgx_types::refusals::Refusal;
+use sgx_rules::entries::{Action, Answer, Cause, Entry};
+use sgx_rules::refusals::Refusal;
+use sgx_types::names::{Actor, Cpu, Frame};
 
 impl Machine {
     /// A processor enters an enclave by a free TCS page, with a new state (EENTER).

@@ -1,9 +1,9 @@
 //! The row that measures a chunk of a page.
 
 ghost use Rattle.std.specs.Prelude.{◌≡◌, length};
-ghost use Rattle.sgx_types.specs.declared.entries.Action.TheVariants as actions;
+ghost use Rattle.sgx_rules.specs.declared.entries.Action.TheVariants as actions;
 ghost use Rattle.epcm_entry.specs.Sights.{held};
-ghost use Rattle.sgx_types.specs.Frames.{page_of};
+ghost use Rattle.sgx_rules.specs.Frames.{page_of};
 ghost use Rattle.paging_machine.specs.Parts.{state_of};
 ghost use Rattle.paging_laws.specs.Steps.{IsStep};
 
@@ -11,8 +11,8 @@ use crate::apply::{done, refused};
 use crate::machine::Machine;
 use enclave_build::extend::{eextend, extend_refusal};
 use epcm_entry::entry_view::EntryView;
-use sgx_types::entries::{Action, Actor, Answer, Entry};
-use sgx_types::names::{Frame, Kind, Page};
+use sgx_rules::entries::{Action, Answer, Entry};
+use sgx_types::names::{Actor, Frame, Kind, Page};
 
 impl Machine {
     /// A chunk of 256 bytes of a page is added to the measurement of its enclave, which is not initialised (EEXTEND).

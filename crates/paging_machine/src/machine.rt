@@ -2,9 +2,10 @@
 
 ghost use Rattle.std.specs.Prelude.{◌≡◌, ◌<◌, ◌≤◌, ◌^◌, ◌%◌, ◌/◌, count_by, length, is_some, nat_le, true};
 ghost use Rattle.std.specs.Option.{option_map};
-ghost use Rattle.sgx_types.specs.Frames.{least_free, page_at};
-ghost use Rattle.sgx_types.specs.Table.{allows, is_lawful_access, is_loading, is_ready};
-ghost use Rattle.sgx_types.specs.Flat.{enclave_sight_of};
+ghost use Rattle.sgx_types.specs.Pages.{page_at};
+ghost use Rattle.sgx_rules.specs.Frames.{least_free};
+ghost use Rattle.sgx_rules.specs.Table.{allows, is_lawful_access, is_loading, is_ready};
+ghost use Rattle.sgx_rules.specs.Flat.{enclave_sight_of};
 ghost use Rattle.epcm_entry.specs.Epc.{is_free_frame};
 ghost use Rattle.cached_translations.specs.Translations.{translation_of};
 ghost use Rattle.paging_machine.specs.Parts.{state_of, cpu_at, tcs_of};
@@ -17,7 +18,7 @@ use epcm_entry::entry_view::EntryView;
 use epcm_entry::epc::Epc;
 use measure_log::measure::Measure;
 use secs_state::table::SecsTable;
-use sgx_types::entries::AccessOp;
+use sgx_rules::entries::AccessOp;
 use sgx_types::layouts::TcsFields;
 use sgx_types::names::{Cpu, Frame, Kind, Page, Perm};
 use std::alloc::Global;

@@ -1,7 +1,7 @@
 //! Entries of no instruction.
 
 ghost use Rattle.std.specs.Prelude.{ℕ, ◌∷◌, List};
-ghost use Rattle.sgx_types.specs.declared.entries.Entry.{Entry};
+ghost use Rattle.sgx_rules.specs.declared.entries.Entry.{Entry};
 ghost use Rattle.sgx_types.specs.Making.{Making};
 ghost use Rattle.seal_record.specs.Records.{Made};
 ghost use Rattle.paging_laws.specs.Histories.{StandsWithAllRules};
@@ -10,7 +10,7 @@ ghost use Rattle.paging_laws.specs.Shape.{FitsApart, ShapeWithRules};
 ghost use Rattle.paging_machine.specs.Parts.{state_of};
 
 use crate::machine::Machine;
-use sgx_types::entries::{Entry, Event};
+use sgx_rules::entries::{Entry, Event};
 
 impl Machine {
     /// An entry of no instruction: a look at a page, a kick, or a page that could not be reloaded. The machine is what it was, and

@@ -4,16 +4,16 @@ ghost use Rattle.std.specs.Prelude.{◌≡◌};
 ghost use Rattle.entry_exit.specs.Entry.{row_of};
 ghost use Rattle.paging_laws.specs.State.{enter_sight, from_outside, row_outside};
 ghost use Rattle.paging_machine.specs.Parts.{state_of};
-ghost use Rattle.sgx_types.specs.Sights.{seat_of};
-ghost use Rattle.sgx_types.specs.Table.{first_of_row};
+ghost use Rattle.sgx_rules.specs.Sights.{seat_of};
+ghost use Rattle.sgx_rules.specs.Table.{first_of_row};
 
 use crate::entry::absent;
 use crate::machine::Machine;
 use cached_translations::processor::Mode;
 use entry_exit::way_in::WayIn;
-use sgx_types::entries::Action;
+use sgx_rules::entries::Action;
+use sgx_rules::refusals::Refusal;
 use sgx_types::names::Frame;
-use sgx_types::refusals::Refusal;
 
 impl Machine {
     /// The first case that refuses an instruction of processors to who is inside no enclave, as a driver is. None where no case holds, and

@@ -1,7 +1,7 @@
 //! The rows of block, track and the starts of write-outs and loads.
 
 ghost use Rattle.std.specs.Prelude.{◌≡◌, length};
-ghost use Rattle.sgx_types.specs.declared.entries.Action.TheVariants as actions;
+ghost use Rattle.sgx_rules.specs.declared.entries.Action.TheVariants as actions;
 ghost use Rattle.paging_machine.specs.Parts.{state_of};
 ghost use Rattle.paging_laws.specs.Steps.{IsStep};
 
@@ -12,8 +12,8 @@ use evict_reload::block::eblock;
 use evict_reload::reload::eld_start;
 use evict_reload::track::etrack;
 use evict_reload::write_out::ewb_start;
-use sgx_types::entries::{Action, Actor, Answer, Entry};
-use sgx_types::names::{Frame, Page, SlotAt};
+use sgx_rules::entries::{Action, Answer, Entry};
+use sgx_types::names::{Actor, Frame, Page, SlotAt};
 
 // The order of these is what keeps a translation of a page from outliving it: after the block no new one is taken, the
 // track tells the processors that entered before it from those that enter later, and the start waits for the former.

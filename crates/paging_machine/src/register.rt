@@ -1,18 +1,18 @@
 //! The rows of the accumulator, of page faults, and of accesses from outside.
 
 ghost use Rattle.std.specs.Prelude.{◌≡◌, ◌<◌, length};
-ghost use Rattle.sgx_types.specs.Table.{fault_of};
-ghost use Rattle.sgx_types.specs.declared.entries.Actor.TheVariants as actors;
-ghost use Rattle.sgx_types.specs.declared.entries.Action.TheVariants as actions;
+ghost use Rattle.sgx_rules.specs.Table.{fault_of};
+ghost use Rattle.sgx_types.specs.declared.names.Actor.TheVariants as actors;
+ghost use Rattle.sgx_rules.specs.declared.entries.Action.TheVariants as actions;
 ghost use Rattle.paging_machine.specs.Parts.{state_of};
 ghost use Rattle.paging_laws.specs.Steps.{IsStep};
 
 use crate::apply::{done, refused};
 use crate::machine::{Machine, is_lawful_access};
 use enclave_access::outside::{outside_load, outside_store};
-use sgx_types::entries::{AccessOp, Action, Actor, Answer, Entry, PfWhy};
-use sgx_types::names::{Cpu, Kind, Perm};
-use sgx_types::refusals::Refusal;
+use sgx_rules::entries::{AccessOp, Action, Answer, Entry, PfWhy};
+use sgx_rules::refusals::Refusal;
+use sgx_types::names::{Actor, Cpu, Kind, Perm};
 
 // The instructions that touch no memory: of the accumulator, of a fault that no reload can help, and of an enclave's
 // memory from outside.

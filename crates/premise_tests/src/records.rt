@@ -3,7 +3,7 @@
 use backing_store::calls::{GetAnswer, StoreCall};
 use backing_store::planned_store::PlannedStore;
 use seal_record::seal::{SealWork, SealedWork, seal};
-use sgx_types::entries::{Action, Answer, Entry, Event};
+use sgx_rules::entries::{Action, Answer, Entry, Event};
 use sgx_types::names::Memory;
 use sgx_types::record::Record;
 use std::alloc::Global;

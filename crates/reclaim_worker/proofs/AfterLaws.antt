@@ -3,22 +3,22 @@ use Rattle.std.proofs.Common.{◌≡◌, inl, inr, ℕ, zero, suc, ◌+◌, ◌-
 use Rattle.std.proofs.Common.{ap, subst, List, [], ◌∷◌, ◌++◌}
 use Rattle.std.proofs.Common.{drop, length, nat_lt, Some, arith}
 use Rattle.std.proofs.lemmas.Bool.{eq-eqb}
-use Rattle.sgx_types.specs.declared.entries.Action.TheVariants.{Block, EwbStart, Track}
-use Rattle.sgx_types.specs.declared.entries.Action.{Action}
-use Rattle.sgx_types.specs.declared.entries.Answer.{Answer}
+use Rattle.sgx_rules.specs.declared.entries.Action.TheVariants.{Block, EwbStart, Track}
+use Rattle.sgx_rules.specs.declared.entries.Action.{Action}
+use Rattle.sgx_rules.specs.declared.entries.Answer.{Answer}
 use Rattle.sgx_types.specs.declared.names.Frame.{Frame}
 use Rattle.sgx_types.specs.declared.names.SlotAt.{SlotAt}
-use Rattle.sgx_types.specs.declared.refusals.Refusal.{Refusal}
-use Rattle.sgx_types.specs.declared.refusals.Refusal.TheVariants as why
-use Rattle.sgx_types.specs.Epochs.{epoch}
+use Rattle.sgx_rules.specs.declared.refusals.Refusal.{Refusal}
+use Rattle.sgx_rules.specs.declared.refusals.Refusal.TheVariants as why
+use Rattle.sgx_rules.specs.Epochs.{epoch}
 use Rattle.driver_laws.specs.Kinds.{is_quiet}
 use Rattle.driver_rules.specs.Passes as passes
 use Rattle.reclaim_worker.specs.declared.turns.Form as forms_of
-use Rattle.sgx_types.specs.declared.entries.Answer.TheVariants as answers
-use Rattle.sgx_types.specs.declared.entries.Entry.{Entry}
-use Rattle.sgx_types.specs.declared.entries.Event.TheVariants.{Did, Refused, Age, Kick}
-use Rattle.sgx_types.specs.declared.entries.Look.{Look}
-use Rattle.sgx_types.specs.declared.entries.Look.TheVariants as looks
+use Rattle.sgx_rules.specs.declared.entries.Answer.TheVariants as answers
+use Rattle.sgx_rules.specs.declared.entries.Entry.{Entry}
+use Rattle.sgx_rules.specs.declared.entries.Event.TheVariants.{Did, Refused, Age, Kick}
+use Rattle.sgx_rules.specs.declared.entries.Look.{Look}
+use Rattle.sgx_rules.specs.declared.entries.Look.TheVariants as looks
 use Rattle.sgx_types.specs.declared.names.Page.{Page}
 use Rattle.job_grammar.specs.Jobs.{JobView}
 use Rattle.turn_rules.specs.Script.{frame_at}
@@ -28,11 +28,11 @@ use Rattle.driver_rules.specs.Ages.{head_of}
 use Rattle.driver_rules.specs.Passes.{Third, decided, free_count, keepers, kicks_on, pass, pass_after, Blocking, First}
 use Rattle.driver_rules.specs.Passes.{Sealing, Second, ToKick, ToTrack, Tries, block_on, next_tries, scan_on, taken_by}
 use Rattle.driver_rules.specs.Places.{Here, Leaving, active, place}
-use Rattle.sgx_types.specs.Starts.{open_start}
+use Rattle.sgx_rules.specs.Starts.{open_start}
 use Rattle.driver_laws.specs.Sound.{slot_at, slot_of, IsSound, is_absent}
 use Rattle.driver_laws.proofs.MoveLaws.{place-quiet, place-taken}
 use Rattle.driver_laws.proofs.SoundLaws.{head_here}
-use Rattle.sgx_types.specs.declared.entries.Actor.TheVariants as actors
+use Rattle.sgx_types.specs.declared.names.Actor.TheVariants as actors
 use Rattle.driver_tables.specs.declared.driver.Driver.{Driver}
 use Rattle.reclaim_worker.specs.declared.turns.Form.TheVariants as forms
 use Rattle.reclaim_worker.specs.declared.turns.Phase.{Phase}

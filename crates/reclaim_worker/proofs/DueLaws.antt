@@ -4,12 +4,12 @@ use Rattle.std.proofs.Common.{List, [], ◌∷◌, drop}
 use Rattle.std.proofs.Common.{length, get_or, slice_get, count_by, Option, Some, Result, Ok, Err, IfOk, add-zero, arith}
 use Rattle.paging_laws.proofs.ColumnLaws.{content_is}
 use Rattle.std.proofs.lemmas.List.Sums.{sum_by-cons}
-use Rattle.sgx_types.specs.declared.entries.Entry.{Entry}
+use Rattle.sgx_rules.specs.declared.entries.Entry.{Entry}
 use Rattle.sgx_types.specs.declared.names.Kind.TheVariants as kinds
 use Rattle.sgx_types.specs.declared.names.Page.{Page}
-use Rattle.sgx_types.specs.Epochs.{epoch}
-use Rattle.sgx_types.specs.Frames.{Content, content}
-use Rattle.sgx_types.specs.Frames as frames
+use Rattle.sgx_rules.specs.Epochs.{epoch}
+use Rattle.sgx_rules.specs.Frames.{Content, content}
+use Rattle.sgx_rules.specs.Frames as frames
 use Rattle.epcm_entry.specs.declared.entry_view.EntryView.{EntryView}
 use Rattle.epcm_entry.specs.declared.entry_view.EntryView.TheVariants as views
 use Rattle.epcm_entry.specs.EntryView.{is_free}

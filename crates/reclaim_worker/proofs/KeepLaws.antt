@@ -6,13 +6,13 @@ use Rattle.paging_laws.proofs.ColumnLaws.{inside_is, noted_is}
 use Rattle.std.specs.List.{list_any}
 use Rattle.std.proofs.lemmas.Bool.{eqb-true}
 use Rattle.std.proofs.lemmas.List.{get_or_past}
-use Rattle.sgx_types.specs.ByEpochs.{IsTrackedBlock, notes}
-use Rattle.sgx_types.specs.declared.entries.Entry.{Entry}
+use Rattle.sgx_rules.specs.ByEpochs.{IsTrackedBlock, notes}
+use Rattle.sgx_rules.specs.declared.entries.Entry.{Entry}
 use Rattle.sgx_types.specs.declared.names.Page.{Page}
-use Rattle.sgx_types.specs.Epochs.{epoch, noted}
-use Rattle.sgx_types.specs.Frames.{content}
-use Rattle.sgx_types.specs.Processors.{Stay, stay}
-use Rattle.sgx_types.proofs.Contents.{page_enclave}
+use Rattle.sgx_rules.specs.Epochs.{epoch, noted}
+use Rattle.sgx_rules.specs.Frames.{content}
+use Rattle.sgx_rules.specs.Processors.{Stay, stay}
+use Rattle.sgx_rules.proofs.Contents.{page_enclave}
 use Rattle.cached_translations.specs.declared.processor.Mode.{Mode}
 use Rattle.cached_translations.specs.declared.processor.Mode.TheVariants as modes
 use Rattle.paging_machine.specs.Parts.{Parts, cpu_at, idle, noted_by, seat_of_mode, state_of}

@@ -3,20 +3,20 @@ use Rattle.std.proofs.Common.{◌≡◌, inl, inr, ℕ, ◌^◌, ◌==◌, Bool,
 use Rattle.std.proofs.Common.{subst, List, [], ◌∷◌, Option}
 use Rattle.std.proofs.Common.{Some, None}
 use Rattle.std.proofs.lemmas.Bool.{false≢true}
-use Rattle.sgx_types.specs.declared.entries.Action.TheVariants.{Track, EwbStart, Ewb}
-use Rattle.sgx_types.specs.declared.entries.Answer.{Answer}
-use Rattle.sgx_types.specs.declared.entries.Answer.TheVariants as answers
-use Rattle.sgx_types.specs.declared.entries.Entry.{Entry}
-use Rattle.sgx_types.specs.declared.entries.Event.TheVariants.{Did, Refused, Age}
-use Rattle.sgx_types.specs.declared.entries.Look.{Look}
+use Rattle.sgx_rules.specs.declared.entries.Action.TheVariants.{Track, EwbStart, Ewb}
+use Rattle.sgx_rules.specs.declared.entries.Answer.{Answer}
+use Rattle.sgx_rules.specs.declared.entries.Answer.TheVariants as answers
+use Rattle.sgx_rules.specs.declared.entries.Entry.{Entry}
+use Rattle.sgx_rules.specs.declared.entries.Event.TheVariants.{Did, Refused, Age}
+use Rattle.sgx_rules.specs.declared.entries.Look.{Look}
 use Rattle.sgx_types.specs.declared.names.Frame.{Frame}
 use Rattle.sgx_types.specs.declared.names.Page.{Page}
 use Rattle.sgx_types.specs.declared.names.SlotAt.{SlotAt}
-use Rattle.sgx_types.specs.declared.refusals.Refusal.TheVariants as why
-use Rattle.sgx_types.specs.Epochs.{epoch, epoch_in}
-use Rattle.sgx_types.specs.Eviction.{is_drained, kept_back}
-use Rattle.sgx_types.specs.Frames.{is_blocked}
-use Rattle.sgx_types.specs.Slots.{next_version}
+use Rattle.sgx_rules.specs.declared.refusals.Refusal.TheVariants as why
+use Rattle.sgx_rules.specs.Epochs.{epoch, epoch_in}
+use Rattle.sgx_rules.specs.Eviction.{is_drained, kept_back}
+use Rattle.sgx_rules.specs.Frames.{is_blocked}
+use Rattle.sgx_rules.specs.Slots.{next_version}
 use Rattle.version_array.specs.Keeper.{Keeper}
 use Rattle.sgx_types.specs.declared.names.TheConstants.{LAST_EPOCH}
 use Rattle.job_grammar.specs.Jobs.{JobView}
@@ -24,7 +24,7 @@ use Rattle.turn_rules.specs.Script.{frame_at}
 use Rattle.sgx_types.specs.Making.{Making}
 use Rattle.driver_rules.specs.Ages as ages
 use Rattle.driver_rules.specs.Ages.{head_of}
-use Rattle.sgx_types.specs.declared.entries.Actor.TheVariants as actors
+use Rattle.sgx_types.specs.declared.names.Actor.TheVariants as actors
 use Rattle.driver_laws.specs.Agrees.{ShowsSlots}
 use Rattle.driver_rules.specs.Passes.{Between, Blocking, First, Form, Kicks, Pass, Scan, Sealing, Second, Third, ToKick, ToTrack, Tries}
 use Rattle.driver_rules.specs.Passes.{keepers}

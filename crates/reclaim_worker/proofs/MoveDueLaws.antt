@@ -4,23 +4,23 @@ use Rattle.std.proofs.Common.{◌∙◌, ap, subst, List, Some}
 use Rattle.std.proofs.Common.{None, MatchOption, is_some, not}
 use Rattle.turn_rules.specs.Script.{frame_at}
 use Rattle.paging_laws.proofs.ColumnLaws.{next_version_is, epoch_is, added_is}
-use Rattle.sgx_types.specs.declared.entries.Action.{Action}
-use Rattle.sgx_types.specs.declared.entries.Action.TheVariants.{Block, Track, EwbStart}
-use Rattle.sgx_types.specs.declared.entries.Actor.TheVariants as actors
-use Rattle.sgx_types.specs.declared.entries.Answer.TheVariants as answers
-use Rattle.sgx_types.specs.declared.entries.Entry.{Entry}
-use Rattle.sgx_types.specs.declared.entries.Event.TheVariants.{Did, Refused}
+use Rattle.sgx_rules.specs.declared.entries.Action.{Action}
+use Rattle.sgx_rules.specs.declared.entries.Action.TheVariants.{Block, Track, EwbStart}
+use Rattle.sgx_types.specs.declared.names.Actor.TheVariants as actors
+use Rattle.sgx_rules.specs.declared.entries.Answer.TheVariants as answers
+use Rattle.sgx_rules.specs.declared.entries.Entry.{Entry}
+use Rattle.sgx_rules.specs.declared.entries.Event.TheVariants.{Did, Refused}
 use Rattle.sgx_types.specs.declared.names.Page.{Page}
 use Rattle.sgx_types.specs.declared.names.SlotAt.{SlotAt}
-use Rattle.sgx_types.specs.declared.refusals.Refusal.{Refusal}
-use Rattle.sgx_types.specs.declared.refusals.Refusal.TheVariants as why
-use Rattle.sgx_types.specs.Epochs.{epoch, epoch_in}
-use Rattle.sgx_types.specs.Eviction.{is_drained, kept_back}
-use Rattle.sgx_types.specs.Frames.{is_blocked, is_sealing}
-use Rattle.sgx_types.specs.Slots.{next_version}
-use Rattle.sgx_types.specs.Starts.{open_start}
-use Rattle.sgx_types.specs.Table.{first_of_row}
-use Rattle.sgx_types.specs.Sights.{drain_sight_at}
+use Rattle.sgx_rules.specs.declared.refusals.Refusal.{Refusal}
+use Rattle.sgx_rules.specs.declared.refusals.Refusal.TheVariants as why
+use Rattle.sgx_rules.specs.Epochs.{epoch, epoch_in}
+use Rattle.sgx_rules.specs.Eviction.{is_drained, kept_back}
+use Rattle.sgx_rules.specs.Frames.{is_blocked, is_sealing}
+use Rattle.sgx_rules.specs.Slots.{next_version}
+use Rattle.sgx_rules.specs.Starts.{open_start}
+use Rattle.sgx_rules.specs.Table.{first_of_row}
+use Rattle.sgx_rules.specs.Sights.{drain_sight_at}
 use Rattle.sgx_types.specs.declared.names.TheConstants.{LAST_EPOCH}
 use Rattle.job_grammar.specs.Jobs.{JobView}
 use Rattle.paging_machine.specs.Parts.{Parts, state_of}

@@ -2,14 +2,14 @@
 use Rattle.std.proofs.Common.{◌≡◌, inl, inr, ℕ, zero, suc, ◌+◌, ◌<◌, ◌≤◌, false, refl, sym, ◌∙◌, ap, subst}
 use Rattle.std.proofs.Common.{List, [], ◌∷◌, drop, Option}
 use Rattle.std.proofs.Common.{Some, None, arith}
-use Rattle.sgx_types.specs.declared.entries.Action.TheVariants.{Block, Track, EwbStart, Ewb}
-use Rattle.sgx_types.specs.declared.entries.Entry.{Entry}
-use Rattle.sgx_types.specs.declared.entries.Event.{Event}
-use Rattle.sgx_types.specs.declared.entries.Event.TheVariants.{Did}
+use Rattle.sgx_rules.specs.declared.entries.Action.TheVariants.{Block, Track, EwbStart, Ewb}
+use Rattle.sgx_rules.specs.declared.entries.Entry.{Entry}
+use Rattle.sgx_rules.specs.declared.entries.Event.{Event}
+use Rattle.sgx_rules.specs.declared.entries.Event.TheVariants.{Did}
 use Rattle.sgx_types.specs.declared.names.Page.{Page}
-use Rattle.sgx_types.specs.Epochs.{epoch, is_in_before, is_track}
-use Rattle.sgx_types.specs.Eviction.{keeps_back}
-use Rattle.sgx_types.specs.Processors.{Stay, stay}
+use Rattle.sgx_rules.specs.Epochs.{epoch, is_in_before, is_track}
+use Rattle.sgx_rules.specs.Eviction.{keeps_back}
+use Rattle.sgx_rules.specs.Processors.{Stay, stay}
 use Rattle.job_grammar.specs.Jobs.{JobView}
 use Rattle.driver_rules.specs.Passes as passes
 use Rattle.driver_rules.specs.Passes.{Pass, Scan, Tries, decided, keepers, keepers_behind, keepers_from, keepers_in}
@@ -17,8 +17,8 @@ use Rattle.driver_rules.specs.Passes.{keeps_from}
 use Rattle.driver_rules.specs.Places.{Leaving, frame_leaving, place}
 use Rattle.driver_laws.specs.Kinds.{CanMove}
 use Rattle.driver_laws.specs.Sound.{IsSound, slot_at}
-use Rattle.sgx_types.specs.Slots.{slot_of as slot_of_start}
-use Rattle.sgx_types.specs.Starts.{open_start}
+use Rattle.sgx_rules.specs.Slots.{slot_of as slot_of_start}
+use Rattle.sgx_rules.specs.Starts.{open_start}
 use Rattle.driver_laws.specs.Stages.{touches}
 use Rattle.driver_laws.specs.Tracks.{IsCalm, IsTracked, KeepsTracks, is_reclaimers}
 use Rattle.driver_laws.proofs.EpochLaws.{drained_then}

@@ -1,10 +1,10 @@
 -- The page for whose bytes a pass waits has started to go out.
 use Rattle.std.proofs.Common.{◌≡◌, ℕ, true, List, Some, drop, slice_get, sym, ap, subst, ◌∙◌}
 use Rattle.std.specs.Option.{IsSomeAnd}
-use Rattle.sgx_types.specs.declared.entries.Entry.{Entry}
+use Rattle.sgx_rules.specs.declared.entries.Entry.{Entry}
 use Rattle.sgx_types.specs.declared.names.SlotAt.{SlotAt}
 use Rattle.sgx_types.specs.Making.{Making}
-use Rattle.sgx_types.specs.Starts.{open_start}
+use Rattle.sgx_rules.specs.Starts.{open_start}
 use Rattle.job_grammar.specs.Jobs.{JobView}
 use Rattle.active_list.specs.Places.{IsPlaced}
 use Rattle.paging_laws.proofs.ColumnLaws.{sealing_is}

@@ -10,13 +10,13 @@ use Rattle.active_list.specs.Places.{IsPlaced}
 use Rattle.paging_machine.specs.Parts.{cpu_at}
 use Rattle.reclaim_worker.specs.Moves.{IsBlockTurn}
 use Rattle.reclaim_worker.specs.Tried.{count_from, is_kept_by}
-use Rattle.sgx_types.specs.declared.entries.Action.TheVariants.{EwbStart}
-use Rattle.sgx_types.specs.declared.entries.Event.{Event}
-use Rattle.sgx_types.specs.declared.entries.Event.TheVariants.{Did, Refused}
-use Rattle.sgx_types.specs.declared.entries.Look.{Look}
-use Rattle.sgx_types.specs.declared.entries.Look.TheVariants as looks
+use Rattle.sgx_rules.specs.declared.entries.Action.TheVariants.{EwbStart}
+use Rattle.sgx_rules.specs.declared.entries.Event.{Event}
+use Rattle.sgx_rules.specs.declared.entries.Event.TheVariants.{Did, Refused}
+use Rattle.sgx_rules.specs.declared.entries.Look.{Look}
+use Rattle.sgx_rules.specs.declared.entries.Look.TheVariants as looks
 use Rattle.sgx_types.specs.declared.names.Page.{Page}
-use Rattle.sgx_types.specs.declared.refusals.Refusal.TheVariants as why
+use Rattle.sgx_rules.specs.declared.refusals.Refusal.TheVariants as why
 use Rattle.active_list.specs.States.{state_of as page_state}
 use Rattle.active_list.specs.declared.page_states.PageState.{PageState}
 use Rattle.paging_laws.specs.State.{State}

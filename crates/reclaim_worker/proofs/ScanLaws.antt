@@ -3,7 +3,7 @@ use Rattle.std.proofs.Common.{◌≡◌, inl, inr, ℕ, ◌≤◌, ◌==◌, ◌
 use Rattle.std.proofs.Common.{ap, subst, List, [], ◌∷◌}
 use Rattle.std.proofs.Common.{length, min, Some, arith}
 use Rattle.std.specs.List.{list_all}
-use Rattle.sgx_types.specs.declared.entries.Entry.{Entry}
+use Rattle.sgx_rules.specs.declared.entries.Entry.{Entry}
 use Rattle.sgx_types.specs.declared.names.Page.{Page}
 use Rattle.job_grammar.specs.Jobs.{JobView}
 use Rattle.active_list.specs.Active.{are_held}

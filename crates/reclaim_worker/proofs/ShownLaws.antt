@@ -2,23 +2,23 @@
 use Rattle.std.proofs.Common.{◌≡◌, ◌⊎◌, inl, inr, ℕ, zero, suc, ◌==◌, true, false, refl, sym, ◌∙◌, ap, subst, List}
 use Rattle.std.proofs.Common.{[], ◌∷◌, drop, length}
 use Rattle.std.proofs.Common.{map, slice_get, Some, None, Result, Ok, Err, IfOk, arith}
-use Rattle.sgx_types.specs.declared.entries.Action.TheVariants.{Block, EwbStart, Track}
-use Rattle.sgx_types.specs.declared.entries.Answer.TheVariants as answers
-use Rattle.sgx_types.specs.declared.entries.Entry.{Entry}
-use Rattle.sgx_types.specs.declared.entries.Event.{Event}
-use Rattle.sgx_types.specs.declared.entries.Event.TheVariants.{Did, Refused, Age, Kick}
-use Rattle.sgx_types.specs.declared.entries.Look.{Look}
-use Rattle.sgx_types.specs.declared.entries.Look.TheVariants as looks
+use Rattle.sgx_rules.specs.declared.entries.Action.TheVariants.{Block, EwbStart, Track}
+use Rattle.sgx_rules.specs.declared.entries.Answer.TheVariants as answers
+use Rattle.sgx_rules.specs.declared.entries.Entry.{Entry}
+use Rattle.sgx_rules.specs.declared.entries.Event.{Event}
+use Rattle.sgx_rules.specs.declared.entries.Event.TheVariants.{Did, Refused, Age, Kick}
+use Rattle.sgx_rules.specs.declared.entries.Look.{Look}
+use Rattle.sgx_rules.specs.declared.entries.Look.TheVariants as looks
 use Rattle.sgx_types.specs.declared.names.Page.{Page}
 use Rattle.sgx_types.specs.declared.names.SlotAt.{SlotAt}
-use Rattle.sgx_types.specs.declared.refusals.Refusal.{Refusal}
-use Rattle.sgx_types.specs.declared.refusals.Refusal.TheVariants as why
+use Rattle.sgx_rules.specs.declared.refusals.Refusal.{Refusal}
+use Rattle.sgx_rules.specs.declared.refusals.Refusal.TheVariants as why
 use Rattle.sgx_types.specs.declared.names.Frame.{Frame}
-use Rattle.sgx_types.specs.declared.entries.Answer.{Answer}
+use Rattle.sgx_rules.specs.declared.entries.Answer.{Answer}
 use Rattle.std.specs.List.{list_any}
 use Rattle.driver_rules.specs.declared.waits.Why.{Why}
-use Rattle.sgx_types.specs.Eviction.{is_drained}
-use Rattle.sgx_types.specs.Starts.{open_start}
+use Rattle.sgx_rules.specs.Eviction.{is_drained}
+use Rattle.sgx_rules.specs.Starts.{open_start}
 use Rattle.job_grammar.specs.Jobs.{JobView}
 use Rattle.turn_rules.specs.Script.{frame_at}
 use Rattle.active_list.specs.Holds.{is_held as is_held_by}

@@ -2,12 +2,12 @@
 use Rattle.std.proofs.Common.{◌≡◌, ◌⊎◌, inl, inr, ℕ, ◌+◌, ◌-◌, true, false, refl, sym, ◌∙◌, ap, subst, List, []}
 use Rattle.std.proofs.Common.{◌∷◌, ◌++◌, drop}
 use Rattle.std.proofs.Common.{length, min, slice_get, arith}
-use Rattle.sgx_types.specs.declared.entries.Action.TheVariants.{Block, Track}
-use Rattle.sgx_types.specs.declared.entries.Answer.TheVariants as answers
-use Rattle.sgx_types.specs.declared.entries.Entry.{Entry}
-use Rattle.sgx_types.specs.declared.entries.Event.TheVariants.{Did, Refused, Age}
-use Rattle.sgx_types.specs.Epochs.{epoch, epoch_in, epoch_of}
-use Rattle.sgx_types.specs.Frames.{content}
+use Rattle.sgx_rules.specs.declared.entries.Action.TheVariants.{Block, Track}
+use Rattle.sgx_rules.specs.declared.entries.Answer.TheVariants as answers
+use Rattle.sgx_rules.specs.declared.entries.Entry.{Entry}
+use Rattle.sgx_rules.specs.declared.entries.Event.TheVariants.{Did, Refused, Age}
+use Rattle.sgx_rules.specs.Epochs.{epoch, epoch_in, epoch_of}
+use Rattle.sgx_rules.specs.Frames.{content}
 use Rattle.job_grammar.specs.Jobs.{JobView}
 use Rattle.job_grammar.specs.declared.jobs.Marks.{Marks}
 use Rattle.driver_rules.specs.declared.waits.Why.{Why}
@@ -19,9 +19,9 @@ use Rattle.driver_rules.specs.Passes.{Between, Blocking, Pass, Scan, Tries, keep
 use Rattle.driver_laws.specs.Tracks.{IsTracked, KeepsTracks}
 use Rattle.std.proofs.lemmas.Bool.{eq-eqb}
 use Rattle.sgx_types.specs.declared.names.SlotAt.{SlotAt}
-use Rattle.sgx_types.specs.declared.refusals.Refusal.TheVariants as why
-use Rattle.sgx_types.specs.Eviction.{is_drained, kept_back}
-use Rattle.sgx_types.proofs.Contents.{page_enclave}
+use Rattle.sgx_rules.specs.declared.refusals.Refusal.TheVariants as why
+use Rattle.sgx_rules.specs.Eviction.{is_drained, kept_back}
+use Rattle.sgx_rules.proofs.Contents.{page_enclave}
 use Rattle.reclaim_worker.specs.declared.turns.Form.{Form}
 use Rattle.reclaim_worker.specs.declared.turns.Form.TheVariants as forms
 use Rattle.driver_rules.specs.Places.{Leaving, active, place}

@@ -6,16 +6,17 @@ use Rattle.std.specs.Option.{IsSomeAnd}
 use Rattle.std.proofs.lemmas.Bool.{eq-eqb}
 use Rattle.sgx_types.proofs.Pages.{same_pages}
 use Rattle.sgx_types.proofs.Truths.{eqb-swap}
-use Rattle.sgx_types.specs.declared.entries.Action.TheVariants.{Ewb}
-use Rattle.sgx_types.specs.declared.entries.Answer.TheVariants.{Moved}
-use Rattle.sgx_types.specs.declared.entries.Entry.{Entry}
-use Rattle.sgx_types.specs.declared.entries.Event.TheVariants.{Did}
+use Rattle.sgx_rules.specs.declared.entries.Action.TheVariants.{Ewb}
+use Rattle.sgx_rules.specs.declared.entries.Answer.TheVariants.{Moved}
+use Rattle.sgx_rules.specs.declared.entries.Entry.{Entry}
+use Rattle.sgx_rules.specs.declared.entries.Event.TheVariants.{Did}
 use Rattle.sgx_types.specs.declared.names.SlotAt.{SlotAt}
-use Rattle.sgx_types.specs.Frames.{is_page, same_page}
-use Rattle.sgx_types.specs.Slots.{slot_of as slot_of_start}
-use Rattle.sgx_types.specs.Starts.{Start, open_start}
+use Rattle.sgx_types.specs.Pages.{same_page}
+use Rattle.sgx_rules.specs.Frames.{is_page}
+use Rattle.sgx_rules.specs.Slots.{slot_of as slot_of_start}
+use Rattle.sgx_rules.specs.Starts.{Start, open_start}
 use Rattle.sgx_types.specs.Making.{Making}
-use Rattle.sgx_types.proofs.Busy.{IsBareOf}
+use Rattle.sgx_rules.proofs.Busy.{IsBareOf}
 use Rattle.job_grammar.specs.Jobs.{JobView}
 use Rattle.backing_store.specs.Calls.{Call}
 use Rattle.paging_laws.specs.Columns.{HasColumns}

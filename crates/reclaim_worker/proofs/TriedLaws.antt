@@ -2,7 +2,7 @@
 use Rattle.std.proofs.Common.{◌≡◌, arith, ◌==◌, ◌&&◌, ◌||◌, not, Bool, true, false, refl, sym, ◌∙◌, ap, subst}
 use Rattle.std.proofs.lemmas.Bool.{eqb-true, false≢true}
 use Rattle.sgx_types.specs.declared.names.SlotAt.{SlotAt}
-use Rattle.sgx_types.specs.Slots.{same_slot}
+use Rattle.sgx_types.specs.Pages.{same_slot}
 use Rattle.version_array.specs.Keeper.{Gives, Keeper, Takes, is_out}
 use Rattle.reclaim_worker.specs.Tried.{IsSame, SlotsAfter}
 

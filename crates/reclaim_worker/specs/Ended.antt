@@ -1,6 +1,6 @@
 -- What the end of a write-out keeps, and what the pass and the tables say behind it.
 use Rattle.std.specs.Prelude.{ℕ, List, ◌∷◌, false}
-use Rattle.sgx_types.specs.declared.entries.Entry.{Entry}
+use Rattle.sgx_rules.specs.declared.entries.Entry.{Entry}
 use Rattle.job_grammar.specs.Jobs.{JobView}
 use Rattle.driver_rules.specs.Dues.{IsNext}
 use Rattle.driver_rules.specs.Passes.{pass, pass_by}

@@ -1,11 +1,11 @@
 -- The turns of a pass that make an instruction.
 use Rattle.std.specs.Prelude.{ℕ, ◌≡◌, ◌+◌, ◌⊎◌, if◌then◌else◌, List, length, nat_lt}
-use Rattle.sgx_types.specs.declared.entries.Entry.{Entry}
-use Rattle.sgx_types.specs.declared.entries.Event.{Event}
-use Rattle.sgx_types.specs.declared.entries.Event.TheVariants.{Did, Refused}
-use Rattle.sgx_types.specs.declared.entries.Actor.TheVariants as actors
-use Rattle.sgx_types.specs.declared.entries.Action.TheVariants.{Block, EwbStart, Track}
-use Rattle.sgx_types.specs.declared.refusals.Refusal.TheVariants as why
+use Rattle.sgx_rules.specs.declared.entries.Entry.{Entry}
+use Rattle.sgx_rules.specs.declared.entries.Event.{Event}
+use Rattle.sgx_rules.specs.declared.entries.Event.TheVariants.{Did, Refused}
+use Rattle.sgx_types.specs.declared.names.Actor.TheVariants as actors
+use Rattle.sgx_rules.specs.declared.entries.Action.TheVariants.{Block, EwbStart, Track}
+use Rattle.sgx_rules.specs.declared.refusals.Refusal.TheVariants as why
 use Rattle.version_array.specs.Keeper.{AllOut}
 use Rattle.paging_laws.specs.State.{State}
 use Rattle.paging_laws.specs.Steps.{IsStep}

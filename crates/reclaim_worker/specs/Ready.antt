@@ -1,6 +1,6 @@
 -- What a turn of a pass asks of the entries, the machine and the driver's tables.
 use Rattle.std.specs.Prelude.{◌≡◌, List, length}
-use Rattle.sgx_types.specs.declared.entries.Entry.{Entry}
+use Rattle.sgx_rules.specs.declared.entries.Entry.{Entry}
 use Rattle.job_grammar.specs.Jobs.{JobView}
 use Rattle.paging_machine.specs.Parts.{Parts, state_of}
 use Rattle.paging_laws.specs.Shape.{ShapeWithRules}

@@ -1,6 +1,6 @@
 -- The tables behind a turn say what the longer list says.
 use Rattle.std.specs.Prelude.{ℕ, ◌≡◌, false, List, ◌∷◌}
-use Rattle.sgx_types.specs.declared.entries.Entry.{Entry}
+use Rattle.sgx_rules.specs.declared.entries.Entry.{Entry}
 use Rattle.job_grammar.specs.Jobs.{JobView}
 use Rattle.driver_rules.specs.Dues.{KicksAll}
 use Rattle.driver_rules.specs.Passes.{Pass}

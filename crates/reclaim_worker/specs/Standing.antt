@@ -1,10 +1,10 @@
 -- What a pass stands for.
 use Rattle.std.specs.Prelude.{ℕ, ◌≡◌, ◌+◌, ◌⊎◌, Bool, true, false, List, [], ◌∷◌, drop, map, Some}
-use Rattle.sgx_types.specs.declared.entries.Entry.{Entry}
+use Rattle.sgx_rules.specs.declared.entries.Entry.{Entry}
 use Rattle.sgx_types.specs.declared.names.Page.{Page}
 use Rattle.sgx_types.specs.declared.names.SlotAt.{SlotAt}
 use Rattle.driver_laws.specs.Sound.{slot_of}
-use Rattle.sgx_types.specs.Epochs.{epoch}
+use Rattle.sgx_rules.specs.Epochs.{epoch}
 use Rattle.job_grammar.specs.declared.jobs.Marks.{Marks}
 use Rattle.driver_rules.specs.Passes as passes
 use Rattle.driver_rules.specs.Passes.{Between, Blocking, Scan, Tries, keepers, works_with}

@@ -1,6 +1,6 @@
 -- The driver's tables and holds say what the entries say.
 use Rattle.std.specs.Prelude.{◌≡◌, List}
-use Rattle.sgx_types.specs.declared.entries.Entry.{Entry}
+use Rattle.sgx_rules.specs.declared.entries.Entry.{Entry}
 use Rattle.sgx_types.specs.declared.names.Page.{Page}
 use Rattle.job_grammar.specs.Jobs.{JobView}
 use Rattle.active_list.specs.Holds.{is_held as is_held_by}

@@ -6,7 +6,7 @@ ghost use Rattle.driver_rules.specs.Holds.{is_held};
 ghost use Rattle.driver_rules.specs.Ages.{AgeRule};
 ghost use Rattle.driver_rules.specs.Reclaims.{all_finished, pass_due, reclaimer_due};
 ghost use Rattle.driver_rules.specs.Stops.{is_spent};
-ghost use Rattle.sgx_types.specs.Rules.{Along};
+ghost use Rattle.sgx_rules.specs.Rules.{Along};
 ghost use Rattle.driver_rules.specs.Passes.{pass};
 ghost use Rattle.driver_rules.specs.Places.{Leaving, place};
 ghost use Rattle.driver_steps.specs.Agrees.{Agrees};
@@ -20,7 +20,7 @@ ghost use Rattle.reclaim_worker.specs.Stored.{IsOpen, IsStarted};
 ghost use Rattle.reclaim_worker.specs.declared.turns.Phase.{Phase};
 ghost use Rattle.reclaim_worker.specs.declared.turns.Taken.{Taken};
 ghost use Rattle.sgx_types.specs.Making.{Making};
-ghost use Rattle.sgx_types.specs.declared.entries.Entry.{Entry};
+ghost use Rattle.sgx_rules.specs.declared.entries.Entry.{Entry};
 ghost use Rattle.sgx_types.specs.declared.names.Page.{Page};
 
 /// Where driver and machine agree on some entries, the holds are those of the entries, and the pass stands for them, it is ready for its

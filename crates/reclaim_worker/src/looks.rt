@@ -13,7 +13,7 @@ ghost use Rattle.reclaim_worker.specs.Looked.{told_look};
 
 use backing_store::backing::{Backing, StoreFault};
 use driver_tables::driver::Driver;
-use sgx_types::entries::Look;
+use sgx_rules::entries::Look;
 use sgx_types::names::{Memory, Page};
 use std::alloc::Global;
 

@@ -12,7 +12,7 @@ ghost use Rattle.reclaim_worker.specs.declared.turns.Form.TheVariants as forms;
 ghost use Rattle.reclaim_worker.specs.declared.turns.Phase.TheVariants as phases;
 ghost use Rattle.job_grammar.specs.Jobs.{JobView};
 ghost use Rattle.sgx_types.specs.Making.{Making};
-ghost use Rattle.sgx_types.specs.declared.entries.Entry.{Entry};
+ghost use Rattle.sgx_rules.specs.declared.entries.Entry.{Entry};
 ghost use Rattle.reclaim_worker.specs.Answers.{IsTurn};
 ghost use Rattle.driver_rules.specs.Reclaims.{pass_due};
 ghost use Rattle.driver_rules.specs.Passes.{pass, pass_after, free_count};
@@ -42,9 +42,9 @@ use driver_steps::steps::step;
 use driver_tables::driver::Driver;
 use driver_tables::moves::frame_in;
 use paging_machine::machine::Machine;
-use sgx_types::entries::{Action, Actor, Entry, Event, Look};
-use sgx_types::names::{Memory, Page};
-use sgx_types::refusals::Refusal;
+use sgx_rules::entries::{Action, Entry, Event, Look};
+use sgx_rules::refusals::Refusal;
+use sgx_types::names::{Actor, Memory, Page};
 use std::alloc::Global;
 
 // A pass takes no more pages than it looks at, and a job lets it look at no more than 64.

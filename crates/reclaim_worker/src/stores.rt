@@ -3,7 +3,7 @@
 ghost use Rattle.std.specs.Prelude.{◌≡◌, ◌∷◌, ◌≤◌, ◌<◌, ◌+◌, List, length, true};
 ghost use Rattle.active_list.specs.Places.{IsPlaced};
 ghost use Rattle.paging_machine.specs.Parts.{state_of};
-ghost use Rattle.sgx_types.specs.declared.entries.Entry.{Entry};
+ghost use Rattle.sgx_rules.specs.declared.entries.Entry.{Entry};
 ghost use Rattle.sgx_types.specs.Making.{Making};
 ghost use Rattle.job_grammar.specs.Jobs.{JobView};
 ghost use Rattle.paging_laws.specs.Shape.{FitsApart, ShapeWithRules};
@@ -19,8 +19,8 @@ use backing_store::backing::Backing;
 use driver_tables::driver::Driver;
 use paging_machine::machine::Machine;
 use seal_record::seal::{SealWork, SealedWork};
-use sgx_types::entries::{Actor, Entry};
-use sgx_types::names::{Frame, SlotAt};
+use sgx_rules::entries::Entry;
+use sgx_types::names::{Actor, Frame, SlotAt};
 
 impl Pass {
     /// The frame whose page has started to go out, None exactly where none has.

@@ -1,9 +1,9 @@
 //! What a pass does with the pages that it took: it blocks them, and writes each out.
 
 ghost use Rattle.std.specs.Prelude.{◌≡◌, ◌∷◌, ◌≤◌, ◌<◌, false, length, IfSome, IfNone};
-ghost use Rattle.sgx_types.specs.declared.entries.Actor.TheVariants as actors;
-ghost use Rattle.sgx_types.specs.declared.entries.Action.TheVariants as actions;
-ghost use Rattle.sgx_types.specs.declared.entries.Entry.{Entry};
+ghost use Rattle.sgx_types.specs.declared.names.Actor.TheVariants as actors;
+ghost use Rattle.sgx_rules.specs.declared.entries.Action.TheVariants as actions;
+ghost use Rattle.sgx_rules.specs.declared.entries.Entry.{Entry};
 ghost use Rattle.version_array.specs.Keeper.{AllOut};
 ghost use Rattle.paging_machine.specs.Parts.{cpu_at, state_of};
 ghost use Rattle.driver_steps.specs.Carried.{Carries};
@@ -14,8 +14,8 @@ use cached_translations::processor::Mode;
 use driver_steps::steps::{is_refused, step};
 use driver_tables::driver::Driver;
 use paging_machine::machine::Machine;
-use sgx_types::entries::{Action, Actor, Entry, Event};
-use sgx_types::names::{Cpu, Frame};
+use sgx_rules::entries::{Action, Entry, Event};
+use sgx_types::names::{Actor, Cpu, Frame};
 use std::alloc::Global;
 
 /// Starts to write out the page in a frame, into a slot that is not out. Where that is refused the slot is given back. None

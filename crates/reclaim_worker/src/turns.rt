@@ -1,7 +1,7 @@
 //! How far a pass is, and what one turn of it answers.
 
 use driver_rules::waits::Why;
-use sgx_types::entries::Entry;
+use sgx_rules::entries::Entry;
 use sgx_types::names::{Frame, Page, SlotAt};
 
 /// A page that was taken off the list, and the frame that it leaves.

@@ -1,6 +1,6 @@
 -- The book goes on with one entry more.
 use Rattle.std.proofs.Common.{ℕ, sym, subst, List, ◌∷◌, Option, None, Some, IfSome}
-use Rattle.sgx_types.specs.declared.entries.Entry.{Entry}
+use Rattle.sgx_rules.specs.declared.entries.Entry.{Entry}
 use Rattle.sgx_types.specs.declared.names.Page.{Page}
 use Rattle.sgx_types.specs.Making.{Making}
 use Rattle.job_grammar.specs.Jobs.{JobView}

@@ -1,17 +1,17 @@
 -- The entry of a fault step is the next of what driver and machine agree on.
 use Rattle.std.proofs.Common.{◌≡◌, ◌<◌, ℕ, Bool, true, false, if◌then◌else◌, refl, sym, ◌∙◌, ap, subst, List}
 use Rattle.std.proofs.Common.{◌∷◌, Option, Some, None, MatchOption, Result, Ok, Err, length}
-use Rattle.sgx_types.specs.declared.entries.Action.TheVariants.{EldStart, Eld}
-use Rattle.sgx_types.specs.declared.entries.Actor.TheVariants as actors
-use Rattle.sgx_types.specs.declared.entries.BusWhy.{BusWhy}
-use Rattle.sgx_types.specs.declared.entries.Entry.{Entry}
-use Rattle.sgx_types.specs.declared.entries.Event.TheVariants.{Bus}
+use Rattle.sgx_rules.specs.declared.entries.Action.TheVariants.{EldStart, Eld}
+use Rattle.sgx_types.specs.declared.names.Actor.TheVariants as actors
+use Rattle.sgx_rules.specs.declared.entries.BusWhy.{BusWhy}
+use Rattle.sgx_rules.specs.declared.entries.Entry.{Entry}
+use Rattle.sgx_rules.specs.declared.entries.Event.TheVariants.{Bus}
 use Rattle.sgx_types.specs.declared.names.Cpu.{Cpu}
 use Rattle.sgx_types.specs.declared.names.Frame.{Frame}
 use Rattle.sgx_types.specs.declared.names.Page.{Page}
 use Rattle.sgx_types.specs.declared.names.SlotAt.{SlotAt}
-use Rattle.sgx_types.specs.declared.refusals.Refusal.{Refusal}
-use Rattle.sgx_types.specs.Frames.{least_free}
+use Rattle.sgx_rules.specs.declared.refusals.Refusal.{Refusal}
+use Rattle.sgx_rules.specs.Frames.{least_free}
 use Rattle.sgx_types.specs.Making.{Making}
 use Rattle.sgx_types.specs.Sealed.{Sealed}
 use Rattle.job_grammar.specs.Jobs.{JobView}
@@ -19,7 +19,7 @@ use Rattle.backing_store.specs.Calls.{Call}
 use Rattle.backing_store.specs.declared.backing.StoreFault.{StoreFault}
 use Rattle.backing_store.specs.declared.backing.StoreFault.TheVariants as faults
 use Rattle.paging_laws.specs.Columns.{HasColumns, SlotColumns}
-use Rattle.sgx_types.specs.Table.{first_of_row}
+use Rattle.sgx_rules.specs.Table.{first_of_row}
 use Rattle.paging_laws.specs.Shape.{ShapeWithRules}
 use Rattle.paging_laws.specs.State.{State, row_of}
 use Rattle.paging_laws.specs.Steps.{IsDone, IsStep, refused_by}

@@ -2,25 +2,25 @@
 use Rattle.std.proofs.Common.{◌≡◌, ◌⊎◌, inl, inr, ℕ, not, true, false, refl, sym, ◌∙◌, ap, subst, List, [], ◌∷◌}
 use Rattle.std.proofs.Common.{Option, Some, None, is_some, length}
 use Rattle.std.proofs.lemmas.Bool.{false≢true}
-use Rattle.sgx_types.specs.declared.entries.Action.{Action}
-use Rattle.sgx_types.specs.declared.entries.Action.TheVariants.{Aex, Block, EldStart, Eld, Enter, Ewb, EwbStart, Exit, Resume, Track}
-use Rattle.sgx_types.specs.declared.entries.Actor.{Actor}
-use Rattle.sgx_types.specs.declared.entries.Actor.TheVariants as actors
-use Rattle.sgx_types.specs.declared.entries.Answer.{Answer}
-use Rattle.sgx_types.specs.declared.entries.Entry.{Entry}
-use Rattle.sgx_types.specs.declared.entries.Event.{Event}
-use Rattle.sgx_types.specs.declared.entries.Event.TheVariants.{Did, Refused}
+use Rattle.sgx_rules.specs.declared.entries.Action.{Action}
+use Rattle.sgx_rules.specs.declared.entries.Action.TheVariants.{Aex, Block, EldStart, Eld, Enter, Ewb, EwbStart, Exit, Resume, Track}
+use Rattle.sgx_types.specs.declared.names.Actor.{Actor}
+use Rattle.sgx_types.specs.declared.names.Actor.TheVariants as actors
+use Rattle.sgx_rules.specs.declared.entries.Answer.{Answer}
+use Rattle.sgx_rules.specs.declared.entries.Entry.{Entry}
+use Rattle.sgx_rules.specs.declared.entries.Event.{Event}
+use Rattle.sgx_rules.specs.declared.entries.Event.TheVariants.{Did, Refused}
 use Rattle.sgx_types.specs.declared.names.Page.{Page}
-use Rattle.sgx_types.specs.declared.refusals.Refusal.{Refusal}
-use Rattle.sgx_types.specs.Enclaves.{created}
-use Rattle.sgx_types.specs.Flat.{FlatEnclave, enclave_sight_of}
-use Rattle.sgx_types.specs.Frames.{added}
+use Rattle.sgx_rules.specs.declared.refusals.Refusal.{Refusal}
+use Rattle.sgx_rules.specs.Enclaves.{created}
+use Rattle.sgx_rules.specs.Flat.{FlatEnclave, enclave_sight_of}
+use Rattle.sgx_rules.specs.Frames.{added}
 use Rattle.sgx_types.specs.Making.{Making}
-use Rattle.sgx_types.specs.Rules.{LoadsAwayRule}
-use Rattle.sgx_types.specs.Processors.{Stay, stay}
-use Rattle.sgx_types.specs.Sights.{seat_of}
-use Rattle.sgx_types.specs.Table.{aex_row, enter_row, exit_row, first_of_row, is_made, resume_row}
-use Rattle.sgx_types.proofs.Rows.{none_holds}
+use Rattle.sgx_rules.specs.Rules.{LoadsAwayRule}
+use Rattle.sgx_rules.specs.Processors.{Stay, stay}
+use Rattle.sgx_rules.specs.Sights.{seat_of}
+use Rattle.sgx_rules.specs.Table.{aex_row, enter_row, exit_row, first_of_row, is_made, resume_row}
+use Rattle.sgx_rules.proofs.Rows.{none_holds}
 use Rattle.sgx_types.proofs.Truths.{not_false}
 use Rattle.job_grammar.specs.Jobs.{JobView}
 use Rattle.paging_laws.specs.Columns.{HasColumns, seat_of_stay}

@@ -1,10 +1,10 @@
 -- What the book of a run keeps, and what an entry has to be, so that it goes on to.
 use Rattle.std.specs.Prelude.{ℕ, ◌≡◌, false, List, ◌∷◌, Option, None, Some, IfSome}
-use Rattle.sgx_types.specs.declared.entries.Entry.{Entry}
+use Rattle.sgx_rules.specs.declared.entries.Entry.{Entry}
 use Rattle.sgx_types.specs.declared.names.Page.{Page}
 use Rattle.sgx_types.specs.Making.{Making}
-use Rattle.sgx_types.specs.Rules.{Along}
-use Rattle.sgx_types.specs.Enclaves.{EnclavesAreFlat}
+use Rattle.sgx_rules.specs.Rules.{Along}
+use Rattle.sgx_rules.specs.Enclaves.{EnclavesAreFlat}
 use Rattle.job_grammar.specs.Jobs.{JobView}
 use Rattle.backing_store.specs.Calls.{Call}
 use Rattle.paging_laws.specs.Histories.{StandsWithAllRules}

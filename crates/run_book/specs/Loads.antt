@@ -1,6 +1,6 @@
 -- The entries of a fault step.
 use Rattle.std.specs.Prelude.{List, ◌∷◌}
-use Rattle.sgx_types.specs.declared.entries.Entry.{Entry}
+use Rattle.sgx_rules.specs.declared.entries.Entry.{Entry}
 use Rattle.sgx_types.specs.declared.names.Cpu.{Cpu}
 use Rattle.sgx_types.specs.declared.names.Page.{Page}
 use Rattle.sgx_types.specs.Making.{Making}

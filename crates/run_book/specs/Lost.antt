@@ -1,6 +1,6 @@
 -- Runs whose pages all came back.
 use Rattle.std.specs.Prelude.{◌≡◌, false, List, [], ◌∷◌}
-use Rattle.sgx_types.specs.declared.entries.Entry.{Entry}
+use Rattle.sgx_rules.specs.declared.entries.Entry.{Entry}
 use Rattle.driver_rules.specs.Stops.{is_bus}
 
 -- none of the entries tells why a page could not come back

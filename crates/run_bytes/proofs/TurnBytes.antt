@@ -1,16 +1,16 @@
 -- The entry of a turn of a pass, and that of an instruction, is no done write-out, so it carries the standing on by its own clause.
 use Rattle.std.proofs.Common.{◌≡◌, ◌==◌, ◌^◌, inl, inr, ℕ, Bool, true, false, if◌then◌else◌, refl, sym, subst, List}
-use Rattle.sgx_types.specs.declared.entries.Action.TheVariants.{Block, Track, EwbStart}
-use Rattle.sgx_types.specs.declared.entries.Answer.TheVariants as answers
-use Rattle.sgx_types.specs.declared.entries.Entry.{Entry}
-use Rattle.sgx_types.specs.declared.entries.Event.TheVariants.{Did, Refused}
+use Rattle.sgx_rules.specs.declared.entries.Action.TheVariants.{Block, Track, EwbStart}
+use Rattle.sgx_rules.specs.declared.entries.Answer.TheVariants as answers
+use Rattle.sgx_rules.specs.declared.entries.Entry.{Entry}
+use Rattle.sgx_rules.specs.declared.entries.Event.TheVariants.{Did, Refused}
 use Rattle.sgx_types.specs.declared.names.SlotAt.{SlotAt}
 use Rattle.sgx_types.specs.declared.names.TheConstants.{LAST_EPOCH}
-use Rattle.sgx_types.specs.declared.refusals.Refusal.TheVariants as why
-use Rattle.sgx_types.specs.Epochs.{epoch, epoch_in}
-use Rattle.sgx_types.specs.Eviction.{is_drained, kept_back}
+use Rattle.sgx_rules.specs.declared.refusals.Refusal.TheVariants as why
+use Rattle.sgx_rules.specs.Epochs.{epoch, epoch_in}
+use Rattle.sgx_rules.specs.Eviction.{is_drained, kept_back}
 use Rattle.sgx_types.specs.Making.{Making}
-use Rattle.sgx_types.specs.Slots.{next_version}
+use Rattle.sgx_rules.specs.Slots.{next_version}
 use Rattle.job_grammar.specs.Jobs.{JobView}
 use Rattle.backing_store.specs.Calls.{Call}
 use Rattle.paging_machine.specs.Parts.{Parts, state_of}

@@ -1,7 +1,7 @@
 -- What a history gives: each rule along the trace, no place that fails, and what the driver's laws ask.
 use Rattle.std.proofs.Common.{◌≤◌, ℕ, subst, List, [], ◌∷◌, ◌++◌, Option, Some, None}
-use Rattle.sgx_types.specs.declared.entries.Entry.{Entry}
-use Rattle.sgx_types.specs.Rules.{Along}
+use Rattle.sgx_rules.specs.declared.entries.Entry.{Entry}
+use Rattle.sgx_rules.specs.Rules.{Along}
 use Rattle.job_grammar.specs.Jobs.{JobView}
 use Rattle.turn_rules.specs.Machines.{machine_of}
 use Rattle.driver_laws.specs.Driven.{IsDriven}

@@ -3,30 +3,31 @@ use Rattle.std.proofs.Common.{◌≡◌, ℕ, ◌==◌, Bool, true, false, if◌
 use Rattle.std.proofs.Common.{◌∷◌, Option, Some, None, is_some}
 use Rattle.std.proofs.lemmas.Bool.{eqb-true, eq-eqb, false≢true}
 use Rattle.sgx_types.proofs.Pages.{same_page-refl, same_pages}
-use Rattle.sgx_types.specs.declared.entries.Action.{Action}
-use Rattle.sgx_types.specs.declared.entries.Action.TheVariants.{Create, Add, Init, Aex, Store, Xadd, Ewb, EldStart, Eld}
-use Rattle.sgx_types.specs.declared.entries.Actor.{Actor}
-use Rattle.sgx_types.specs.declared.entries.Actor.TheVariants as actors
-use Rattle.sgx_types.specs.declared.entries.Answer.{Answer}
-use Rattle.sgx_types.specs.declared.entries.Answer.TheVariants.{Moved}
-use Rattle.sgx_types.specs.declared.entries.BusWhy.TheVariants as reasons
-use Rattle.sgx_types.specs.declared.entries.Entry.{Entry}
-use Rattle.sgx_types.specs.declared.entries.Event.{Event}
-use Rattle.sgx_types.specs.declared.entries.Event.TheVariants.{Did, Refused, Age, Bus}
-use Rattle.sgx_types.specs.declared.entries.Look.{Look}
-use Rattle.sgx_types.specs.declared.entries.Look.TheVariants as looks
+use Rattle.sgx_rules.specs.declared.entries.Action.{Action}
+use Rattle.sgx_rules.specs.declared.entries.Action.TheVariants.{Create, Add, Init, Aex, Store, Xadd, Ewb, EldStart, Eld}
+use Rattle.sgx_types.specs.declared.names.Actor.{Actor}
+use Rattle.sgx_types.specs.declared.names.Actor.TheVariants as actors
+use Rattle.sgx_rules.specs.declared.entries.Answer.{Answer}
+use Rattle.sgx_rules.specs.declared.entries.Answer.TheVariants.{Moved}
+use Rattle.sgx_rules.specs.declared.entries.BusWhy.TheVariants as reasons
+use Rattle.sgx_rules.specs.declared.entries.Entry.{Entry}
+use Rattle.sgx_rules.specs.declared.entries.Event.{Event}
+use Rattle.sgx_rules.specs.declared.entries.Event.TheVariants.{Did, Refused, Age, Bus}
+use Rattle.sgx_rules.specs.declared.entries.Look.{Look}
+use Rattle.sgx_rules.specs.declared.entries.Look.TheVariants as looks
 use Rattle.sgx_types.specs.declared.names.Frame.{Frame}
 use Rattle.sgx_types.specs.declared.names.Page.{Page}
 use Rattle.sgx_types.specs.declared.names.SlotAt.{SlotAt}
-use Rattle.sgx_types.specs.Enclaves.{EnclavesAreFlat, created, created_by}
-use Rattle.sgx_types.specs.Flat.{FlatEnclave, FlatMemory, Inside, accepts, cpu_after, event_after, flat, header_at, memory_after, saved}
-use Rattle.sgx_types.specs.Flat.{stored, sum_of, word_seen}
-use Rattle.sgx_types.specs.Frames.{Free, content, page_at, same_page}
-use Rattle.sgx_types.specs.Rules.{Along, FlatRule}
-use Rattle.sgx_types.specs.Fresh.{Out, last_out, out_after}
+use Rattle.sgx_rules.specs.Enclaves.{EnclavesAreFlat, created, created_by}
+use Rattle.sgx_rules.specs.Flat.{FlatEnclave, FlatMemory, Inside, accepts, cpu_after, event_after, flat, header_at, memory_after, saved}
+use Rattle.sgx_rules.specs.Flat.{stored, sum_of, word_seen}
+use Rattle.sgx_types.specs.Pages.{page_at, same_page}
+use Rattle.sgx_rules.specs.Frames.{Free, content}
+use Rattle.sgx_rules.specs.Rules.{Along, FlatRule}
+use Rattle.sgx_rules.specs.Fresh.{Out, last_out, out_after}
 use Rattle.sgx_types.specs.Sealed.{Sealed}
-use Rattle.sgx_types.specs.Starts.{Start, is_load_of, loads_page, open_start}
-use Rattle.sgx_types.specs.Table.{is_loading}
+use Rattle.sgx_rules.specs.Starts.{Start, is_load_of, loads_page, open_start}
+use Rattle.sgx_rules.specs.Table.{is_loading}
 use Rattle.page_history.proofs.FlatLaws.{added_flat, header_still}
 use Rattle.backing_store.specs.Calls.{Call, Failed, Given, Got, Nothing, Put, Room}
 use Rattle.driver_rules.specs.Places.{Absent, Away, Here, Leaving, Loading, Place, after_look, back_to, gone_to, place, place_after}

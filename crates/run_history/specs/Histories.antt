@@ -1,10 +1,10 @@
 -- The rules of a trace together: what each says of a place, and when a trace keeps them, goes on, or fails. Entries stand newest first.
 use Rattle.std.specs.Prelude.{ℕ, ◌≡◌, ◌<◌, Bool, true, false, List, [], ◌∷◌, ◌++◌, Option, Some, None, length}
-use Rattle.sgx_types.specs.declared.entries.Entry.{Entry}
-use Rattle.sgx_types.specs.declared.entries.Event.{Event}
-use Rattle.sgx_types.specs.declared.entries.Event.TheVariants.{Age, Kick, Bus}
-use Rattle.sgx_types.specs.Rules.{EvictRule, FitsRule, FlatRule, NoneStale, NoPageTwice, RefusalRule, StaleRule}
-use Rattle.sgx_types.specs.Fresh.{FreshRule}
+use Rattle.sgx_rules.specs.declared.entries.Entry.{Entry}
+use Rattle.sgx_rules.specs.declared.entries.Event.{Event}
+use Rattle.sgx_rules.specs.declared.entries.Event.TheVariants.{Age, Kick, Bus}
+use Rattle.sgx_rules.specs.Rules.{EvictRule, FitsRule, FlatRule, NoneStale, NoPageTwice, RefusalRule, StaleRule}
+use Rattle.sgx_rules.specs.Fresh.{FreshRule}
 use Rattle.seal_record.specs.Sealing.{SealedRule}
 use Rattle.measure_log.specs.Rule.{MeasureRule}
 use Rattle.job_grammar.specs.Jobs.{JobView}

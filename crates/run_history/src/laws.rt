@@ -1,13 +1,13 @@
 //! Laws of the definitions. Each is the contract of a function without arguments, and so holds for every list of entries.
 
 ghost use Rattle.std.specs.Prelude.{ℕ, ◌≡◌, ◌≤◌, true, List, [], ◌∷◌, None, Some};
-ghost use Rattle.sgx_types.specs.declared.entries.Actor.{Actor};
-ghost use Rattle.sgx_types.specs.declared.entries.Entry.{Entry};
-ghost use Rattle.sgx_types.specs.declared.entries.Event.{Event};
-ghost use Rattle.sgx_types.specs.Rules.{Along, FlatRule};
-ghost use Rattle.sgx_types.specs.Fresh.{Out, last_out};
+ghost use Rattle.sgx_types.specs.declared.names.Actor.{Actor};
+ghost use Rattle.sgx_rules.specs.declared.entries.Entry.{Entry};
+ghost use Rattle.sgx_rules.specs.declared.entries.Event.{Event};
+ghost use Rattle.sgx_rules.specs.Rules.{Along, FlatRule};
+ghost use Rattle.sgx_rules.specs.Fresh.{Out, last_out};
 ghost use Rattle.sgx_types.specs.declared.names.Page.{Page};
-ghost use Rattle.sgx_types.specs.Enclaves.{EnclavesAreFlat};
+ghost use Rattle.sgx_rules.specs.Enclaves.{EnclavesAreFlat};
 ghost use Rattle.io_edges.specs.declared.plans.PlanLine.{PlanLine};
 ghost use Rattle.job_grammar.specs.Jobs.{JobView};
 ghost use Rattle.turn_rules.specs.Machines.{machine_of};

@@ -1,6 +1,6 @@
 -- How a run ended, by its entries, the newest first.
 use Rattle.std.specs.Prelude.{◌≡◌, Bool, true, false, List}
-use Rattle.sgx_types.specs.declared.entries.Entry.{Entry}
+use Rattle.sgx_rules.specs.declared.entries.Entry.{Entry}
 use Rattle.driver_rules.specs.Stops.{is_bus, is_spent, spends}
 use Rattle.run_book.specs.Lost.{AllCameBack}
 use Rattle.run_jobs.specs.declared.ends.End.{End}

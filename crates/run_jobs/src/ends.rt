@@ -4,8 +4,8 @@ ghost use Rattle.driver_rules.specs.Stops.{is_bus, spends};
 ghost use Rattle.run_jobs.specs.Ends.{IsEndOf};
 ghost use Rattle.std.specs.Prelude.{◌≡◌, reverse};
 
-use sgx_types::entries::{Entry, Event};
-use sgx_types::refusals::Refusal;
+use sgx_rules::entries::{Entry, Event};
+use sgx_rules::refusals::Refusal;
 
 /// How a run ended (this project's own).
 #[derive(Clone, Copy, Debug, PartialEq, Eq)]

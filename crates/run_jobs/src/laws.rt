@@ -6,7 +6,7 @@ ghost use Rattle.job_grammar.specs.Jobs.{JobView};
 ghost use Rattle.run_jobs.specs.Runs.{WholeRun};
 ghost use Rattle.run_jobs.specs.declared.ends.End.{End};
 ghost use Rattle.run_jobs.specs.declared.ends.End.TheVariants as ends;
-ghost use Rattle.sgx_types.specs.declared.entries.Entry.{Entry};
+ghost use Rattle.sgx_rules.specs.declared.entries.Entry.{Entry};
 ghost use Rattle.std.specs.Prelude.{◌≡◌, ◌≢◌, Some, List, [], count_by, length};
 
 /// A run of a job without plan lines over a planned store, which answers its calls by its rules and has one record for each put, ends no

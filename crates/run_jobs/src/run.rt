@@ -8,7 +8,7 @@ use backing_store::backing::Backing;
 use crew::run::{MachineBook, Parts, run_workers};
 use epoch_words::words::Words;
 use job_grammar::jobs::Job;
-use sgx_types::entries::Entry;
+use sgx_rules::entries::Entry;
 use sgx_types::names::Memory;
 use std::alloc::Global;
 use std::sync::Wait;

@@ -2,27 +2,28 @@
 use Rattle.std.proofs.Common.{◌≡◌, ℕ, ◌==◌, Bool, true, false, cond, if◌then◌else◌, refl, sym, ◌∙◌, ap, subst, List}
 use Rattle.std.proofs.Common.{[], ◌∷◌, Option, Some, None, MatchOption, ◌⊎◌, inl, inr, is_some}
 use Rattle.std.proofs.lemmas.Bool.{cond_both}
-use Rattle.sgx_types.specs.declared.entries.Action.{Action}
-use Rattle.sgx_types.specs.declared.entries.Action.TheVariants.{Create, Add, Init, Aex, Store, Xadd}
-use Rattle.sgx_types.specs.declared.entries.Actor.{Actor}
-use Rattle.sgx_types.specs.declared.entries.Actor.TheVariants as actors
-use Rattle.sgx_types.specs.declared.entries.Answer.{Answer}
-use Rattle.sgx_types.specs.declared.entries.Answer.TheVariants as answers
-use Rattle.sgx_types.specs.declared.entries.Entry.{Entry}
-use Rattle.sgx_types.specs.declared.entries.Event.{Event}
-use Rattle.sgx_types.specs.declared.entries.Event.TheVariants.{Did}
-use Rattle.sgx_types.specs.declared.entries.PageInit.{PageInit}
+use Rattle.sgx_rules.specs.declared.entries.Action.{Action}
+use Rattle.sgx_rules.specs.declared.entries.Action.TheVariants.{Create, Add, Init, Aex, Store, Xadd}
+use Rattle.sgx_types.specs.declared.names.Actor.{Actor}
+use Rattle.sgx_types.specs.declared.names.Actor.TheVariants as actors
+use Rattle.sgx_rules.specs.declared.entries.Answer.{Answer}
+use Rattle.sgx_rules.specs.declared.entries.Answer.TheVariants as answers
+use Rattle.sgx_rules.specs.declared.entries.Entry.{Entry}
+use Rattle.sgx_rules.specs.declared.entries.Event.{Event}
+use Rattle.sgx_rules.specs.declared.entries.Event.TheVariants.{Did}
+use Rattle.sgx_types.specs.declared.lawful.PageInit.{PageInit}
 use Rattle.sgx_types.specs.declared.names.Frame.{Frame}
 use Rattle.sgx_types.specs.declared.names.Kind.{Kind}
 use Rattle.sgx_types.specs.declared.names.Page.{Page}
 use Rattle.sgx_types.specs.declared.names.Perm.{Perm}
-use Rattle.sgx_types.specs.declared.refusals.Refusal.{Refusal}
-use Rattle.sgx_types.specs.declared.refusals.Refusal.TheVariants as why
-use Rattle.sgx_types.specs.Enclaves.{EnclavesAreFlat, created, created_by}
-use Rattle.sgx_types.specs.Flat.{FlatEnclave, FlatMemory, Inside, accepts, added_as, cpu_after, enclave_sight_of, event_after, first_words}
-use Rattle.sgx_types.specs.Flat.{flat, flat_build_row, marked, memory_after, open_frame, saved, stored, sum_of, word_seen}
-use Rattle.sgx_types.specs.Frames.{added, added_by, page_at, same_page}
-use Rattle.sgx_types.specs.Table.{add_row, create_row, first_of_row, init_row}
+use Rattle.sgx_rules.specs.declared.refusals.Refusal.{Refusal}
+use Rattle.sgx_rules.specs.declared.refusals.Refusal.TheVariants as why
+use Rattle.sgx_rules.specs.Enclaves.{EnclavesAreFlat, created, created_by}
+use Rattle.sgx_rules.specs.Flat.{FlatEnclave, FlatMemory, Inside, accepts, added_as, cpu_after, enclave_sight_of, event_after, first_words}
+use Rattle.sgx_rules.specs.Flat.{flat, flat_build_row, marked, memory_after, open_frame, saved, stored, sum_of, word_seen}
+use Rattle.sgx_types.specs.Pages.{page_at, same_page}
+use Rattle.sgx_rules.specs.Frames.{added, added_by}
+use Rattle.sgx_rules.specs.Table.{add_row, create_row, first_of_row, init_row}
 use Rattle.sgx_types.proofs.Pages.{same_page-swap}
 use Rattle.page_history.proofs.FlatLaws.{event_kinds}
 use Rattle.measure_log.specs.Rule.{IsExpected, IsOther}

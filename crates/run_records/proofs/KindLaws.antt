@@ -2,17 +2,18 @@
 use Rattle.std.proofs.Common.{◌≡◌, ℕ, ◌+◌, ◌≤◌, ◌==◌, Bool, true, false, cond, if◌then◌else◌, refl, sym}
 use Rattle.std.proofs.Common.{◌∙◌, ap, subst, List, [], ◌∷◌, Option, Some, None, is_some, arith}
 use Rattle.std.proofs.lemmas.Bool.{false≢true}
-use Rattle.sgx_types.specs.declared.entries.Action.TheVariants.{Epa, Create, Add, Ewb, EldStart, Eld}
-use Rattle.sgx_types.specs.declared.entries.Answer.TheVariants.{Moved}
-use Rattle.sgx_types.specs.declared.entries.Entry.{Entry}
-use Rattle.sgx_types.specs.declared.entries.Event.{Event}
-use Rattle.sgx_types.specs.declared.entries.Event.TheVariants.{Did, Refused}
+use Rattle.sgx_rules.specs.declared.entries.Action.TheVariants.{Epa, Create, Add, Ewb, EldStart, Eld}
+use Rattle.sgx_rules.specs.declared.entries.Answer.TheVariants.{Moved}
+use Rattle.sgx_rules.specs.declared.entries.Entry.{Entry}
+use Rattle.sgx_rules.specs.declared.entries.Event.{Event}
+use Rattle.sgx_rules.specs.declared.entries.Event.TheVariants.{Did, Refused}
 use Rattle.sgx_types.specs.declared.names.Kind.{Kind}
 use Rattle.sgx_types.specs.declared.names.Page.{Page}
 use Rattle.sgx_types.specs.declared.names.Perm.{Perm}
-use Rattle.sgx_types.specs.Flat.{FlatEnclave, FlatPage, added_as, flat, header_at, header_by}
-use Rattle.sgx_types.specs.Frames.{Content, Free, Holds, IsLoading, IsVa, SecsOf, added, added_by, content, held_after, made_before}
-use Rattle.sgx_types.specs.Frames.{page_at, put_by, reloaded, same_page, vas_made}
+use Rattle.sgx_rules.specs.Flat.{FlatEnclave, FlatPage, added_as, flat, header_at, header_by}
+use Rattle.sgx_rules.specs.Frames.{Content, Free, Holds, IsLoading, IsVa, SecsOf, added, added_by, content, held_after, made_before}
+use Rattle.sgx_types.specs.Pages.{page_at, same_page}
+use Rattle.sgx_rules.specs.Frames.{put_by, reloaded, vas_made}
 use Rattle.sgx_types.specs.Sealed.{header_of}
 use Rattle.sgx_types.proofs.Pages.{same_page-refl}
 use Rattle.driver_laws.specs.Counted.{pages_added, with_added}

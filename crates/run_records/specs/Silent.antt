@@ -1,6 +1,6 @@
 -- Entries that tell nothing of a record and build no enclave, and answers without an entry.
 use Rattle.std.specs.Prelude.{ℕ, ◌≡◌, false, List, Option}
-use Rattle.sgx_types.specs.declared.entries.Entry.{Entry}
+use Rattle.sgx_rules.specs.declared.entries.Entry.{Entry}
 use Rattle.sgx_types.specs.declared.names.Cpu.{Cpu}
 use Rattle.sgx_types.specs.declared.names.Page.{Page}
 use Rattle.sgx_types.specs.Sealed.{Sealed}

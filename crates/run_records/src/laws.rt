@@ -31,13 +31,13 @@ ghost use Rattle.run_book.specs.Turns.{OfEntry};
 ghost use Rattle.run_records.specs.Builds.{is_building};
 ghost use Rattle.run_records.specs.Silent.{HasNoEntry, MakesNoEntry, OfBus};
 ghost use Rattle.sgx_types.specs.Making.{Making};
-ghost use Rattle.sgx_types.specs.declared.entries.Action.{Action};
-ghost use Rattle.sgx_types.specs.declared.entries.Actor.{Actor};
-ghost use Rattle.sgx_types.specs.declared.entries.Entry.{Entry};
-ghost use Rattle.sgx_types.specs.declared.entries.Event.TheVariants.{Kick};
+ghost use Rattle.sgx_rules.specs.declared.entries.Action.{Action};
+ghost use Rattle.sgx_types.specs.declared.names.Actor.{Actor};
+ghost use Rattle.sgx_rules.specs.declared.entries.Entry.{Entry};
+ghost use Rattle.sgx_rules.specs.declared.entries.Event.TheVariants.{Kick};
 ghost use Rattle.sgx_types.specs.declared.names.Cpu.{Cpu};
 ghost use Rattle.sgx_types.specs.declared.names.Page.{Page};
-ghost use Rattle.sgx_types.specs.Enclaves.{EnclavesAreFlat};
+ghost use Rattle.sgx_rules.specs.Enclaves.{EnclavesAreFlat};
 ghost use Rattle.turn_rules.specs.Script.{action_of};
 ghost use Rattle.turn_tables.specs.declared.turns.Turns.{Turns};
 

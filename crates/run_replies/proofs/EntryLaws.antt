@@ -1,6 +1,6 @@
 -- What a walk over the entries, which stand oldest first, has gathered after so many of them.
 use Rattle.std.proofs.Common.{◌≡◌, ℕ, ◌+◌, ◌<◌, List, ◌∷◌, Option, get_or, length, reverse, subst, sym, take}
-use Rattle.sgx_types.specs.declared.entries.Entry.{Entry}
+use Rattle.sgx_rules.specs.declared.entries.Entry.{Entry}
 use Rattle.trace_text.proofs.EntryLaws.{newest_more}
 use Rattle.run_replies.specs.Gathered.{AreEndings, AreReplies}
 use Rattle.run_replies.specs.declared.replies.Ending.{Ending}

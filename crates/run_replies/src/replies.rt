@@ -1,8 +1,8 @@
 //! The text of the output.
 
 ghost use Rattle.std.specs.Prelude.{ℕ, ◌≡◌, ◌<◌, true, List, [], ◌∷◌, ◌++◌, length, reverse, flat_map, OnOk, IfOk};
-ghost use Rattle.sgx_types.specs.declared.entries.Entry.{Entry};
-ghost use Rattle.sgx_types.specs.Processors.{is_by};
+ghost use Rattle.sgx_rules.specs.declared.entries.Entry.{Entry};
+ghost use Rattle.sgx_rules.specs.Processors.{is_by};
 ghost use Rattle.turn_rules.specs.Script.{interrupted_after, numbers_from};
 ghost use Rattle.text_words.specs.Room.{HasRoom};
 ghost use Rattle.text_words.specs.Words.{Words, line_text};
@@ -10,9 +10,9 @@ ghost use Rattle.run_replies.specs.Gathered.{AreEndings, AreReplies, IsReplies, 
 ghost use Rattle.run_replies.specs.OutText.{done_reply, init_line, out_of, refused_reply, reply_words};
 
 use job_grammar::jobs::Job;
-use sgx_types::entries::{Action, Actor, Answer, Cause, Entry, Event};
-use sgx_types::names::Memory;
-use sgx_types::refusals::Refusal;
+use sgx_rules::entries::{Action, Answer, Cause, Entry, Event};
+use sgx_rules::refusals::Refusal;
+use sgx_types::names::{Actor, Memory};
 use std::alloc::Global;
 use text_words::words::Word::{Decimal, Enclave, Name};
 use text_words::words::{push_line, write_line};

@@ -1,6 +1,6 @@
 -- The holds behind an entry can be kept in the tables as they stand behind it.
 use Rattle.std.specs.Prelude.{◌≡◌, List}
-use Rattle.sgx_types.specs.declared.entries.Entry.{Entry}
+use Rattle.sgx_rules.specs.declared.entries.Entry.{Entry}
 use Rattle.cached_translations.specs.declared.processor.Mode.{Mode}
 use Rattle.job_grammar.specs.Jobs.{JobView}
 use Rattle.driver_tables.specs.declared.driver.Driver.{Driver}

@@ -5,7 +5,7 @@ use Rattle.std.specs.List.{sum_by}
 use Rattle.std.proofs.lemmas.List.Sums.{count_by_more_no, count_by_more_yes, sum_by_more}
 use Rattle.std.proofs.Math.Nat.{mod-add-mod}
 use Rattle.std.proofs.lemmas.List.{append-nil, append_assoc}
-use Rattle.sgx_types.specs.declared.entries.Entry.{Entry}
+use Rattle.sgx_rules.specs.declared.entries.Entry.{Entry}
 use Rattle.run_summary.specs.Summary.{is_xadd, loaded, xadds}
 
 pub sum_more : (entries : List Entry) (i : ℕ) (d : Entry) (sum : ℕ) → i < length entries → sum ≡ sum_by loaded (take i entries) % 2 ^ 64

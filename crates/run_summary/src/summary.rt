@@ -4,7 +4,7 @@ ghost use Rattle.run_summary.specs.Summary.{is_xadd, loaded, summary_of, xadds};
 ghost use Rattle.std.specs.List.{sum_by};
 ghost use Rattle.std.specs.Prelude.{◌≡◌, ◌≤◌, ◌%◌, ◌^◌, IfOk};
 
-use sgx_types::entries::{Action, Answer, Entry, Event};
+use sgx_rules::entries::{Action, Answer, Entry, Event};
 use sgx_types::names::Memory;
 use std::alloc::Global;
 use text_words::words::Word::{Decimal, Name};

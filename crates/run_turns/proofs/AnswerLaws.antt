@@ -1,9 +1,9 @@
 -- What a turn of the reclaimer answers.
 use Rattle.std.proofs.Common.{◌≡◌, ℕ, ◌≤◌, ◌+◌, ◌⊎◌, inl, inr, false, List, [], ◌∷◌, Option, None, Some}
 use Rattle.std.proofs.Common.{vec_len, vec_capacity, refl, sym, ap, subst, ◌∙◌, arith}
-use Rattle.sgx_types.specs.declared.entries.Actor.{Actor}
-use Rattle.sgx_types.specs.declared.entries.Actor.TheVariants as actors
-use Rattle.sgx_types.specs.declared.entries.Entry.{Entry}
+use Rattle.sgx_types.specs.declared.names.Actor.{Actor}
+use Rattle.sgx_types.specs.declared.names.Actor.TheVariants as actors
+use Rattle.sgx_rules.specs.declared.entries.Entry.{Entry}
 use Rattle.sgx_types.specs.Making.{Making}
 use Rattle.version_array.specs.Keeper.{Keeper}
 use Rattle.reclaim_worker.specs.Answers.{IsTurn, by_reclaimer}
@@ -33,7 +33,7 @@ use Rattle.run_turns.specs.Courses.{Grows, IsSame, KeepsCourse, past_of}
 use Rattle.run_turns.specs.Passing.{FollowsBy, HasKicks, HasOne, HasSealed, IsFollowed, IsOwnEntry, IsSealOf}
 use Rattle.run_turns.specs.Turns.{IsAtRest, IsReclaimerTurn, IsWaitBy, MakesMany, due_of}
 use Rattle.reclaim_worker.specs.After.{cpu_of, kicked_past}
-use Rattle.sgx_types.specs.declared.entries.Event.TheVariants.{Kick}
+use Rattle.sgx_rules.specs.declared.entries.Event.TheVariants.{Kick}
 use Rattle.run_turns.proofs.PassTurnLaws.{IsTurnEntry, TellsDue, spent_none}
 use Rattle.run_turns.proofs.StartLaws.{none_started}
 use Rattle.run_turns.proofs.FollowLaws.{IsStepped, course_ready, kicks_due, tells_of}

@@ -1,7 +1,7 @@
 -- The turns of the builder.
 use Rattle.std.proofs.Common.{Result, Ok, Err, IfOk, subst, ◌≡◌, refl, sym}
-use Rattle.sgx_types.specs.declared.entries.Action.{Action}
-use Rattle.sgx_types.specs.declared.entries.Actor.TheVariants as actors
+use Rattle.sgx_rules.specs.declared.entries.Action.{Action}
+use Rattle.sgx_types.specs.declared.names.Actor.TheVariants as actors
 use Rattle.sgx_types.specs.declared.names.Memory.{Memory}
 use Rattle.driver_rules.specs.Dues.{Makes}
 use Rattle.driver_rules.specs.Turns.{builder_due}

@@ -1,14 +1,14 @@
 -- Who was ended, behind an entry that refuses no load's end.
 use Rattle.std.proofs.Common.{◌≡◌, ℕ, Bool, true, false, if◌then◌else◌, List, ◌∷◌, Option, sym, ap}
 use Rattle.std.proofs.lemmas.Bool.{false≢true}
-use Rattle.sgx_types.specs.declared.entries.Action.TheVariants.{Eld, EldStart}
-use Rattle.sgx_types.specs.declared.entries.BusWhy.{BusWhy}
-use Rattle.sgx_types.specs.declared.entries.Entry.{Entry}
-use Rattle.sgx_types.specs.declared.entries.Event.{Event}
-use Rattle.sgx_types.specs.declared.entries.Event.TheVariants.{Bus, Did, Refused}
+use Rattle.sgx_rules.specs.declared.entries.Action.TheVariants.{Eld, EldStart}
+use Rattle.sgx_rules.specs.declared.entries.BusWhy.{BusWhy}
+use Rattle.sgx_rules.specs.declared.entries.Entry.{Entry}
+use Rattle.sgx_rules.specs.declared.entries.Event.{Event}
+use Rattle.sgx_rules.specs.declared.entries.Event.TheVariants.{Bus, Did, Refused}
 use Rattle.sgx_types.specs.declared.names.Page.{Page}
-use Rattle.sgx_types.specs.Processors.{is_by}
-use Rattle.sgx_types.specs.Starts.{Start, open_start}
+use Rattle.sgx_rules.specs.Processors.{is_by}
+use Rattle.sgx_rules.specs.Starts.{Start, open_start}
 use Rattle.driver_rules.specs.Turns.{Fails, Last, last_by, last_of}
 use Rattle.turn_tables.specs.Ending.{EndsAreTold, IsForRecord, NoneFails}
 use Rattle.turn_tables.proofs.EndLaws.{ends_go_on}

@@ -2,16 +2,16 @@
 use Rattle.std.proofs.Common.{◌≡◌, ℕ, ◌<◌, Bool, true, false, if◌then◌else◌, cond, List, ◌∷◌, Option, Some, None}
 use Rattle.std.proofs.Common.{IfSome, Result, Ok, Err, length, slice_set, refl, sym, ap, subst, ◌∙◌, inl, inr}
 use Rattle.std.proofs.lemmas.List.{get_or-set_same}
-use Rattle.sgx_types.specs.declared.entries.Action.TheVariants.{Eld, EldStart}
-use Rattle.sgx_types.specs.declared.entries.Actor.TheVariants as actors
-use Rattle.sgx_types.specs.declared.entries.BusWhy.{BusWhy}
-use Rattle.sgx_types.specs.declared.entries.Entry.{Entry}
-use Rattle.sgx_types.specs.declared.entries.Event.TheVariants.{Bus}
+use Rattle.sgx_rules.specs.declared.entries.Action.TheVariants.{Eld, EldStart}
+use Rattle.sgx_types.specs.declared.names.Actor.TheVariants as actors
+use Rattle.sgx_rules.specs.declared.entries.BusWhy.{BusWhy}
+use Rattle.sgx_rules.specs.declared.entries.Entry.{Entry}
+use Rattle.sgx_rules.specs.declared.entries.Event.TheVariants.{Bus}
 use Rattle.sgx_types.specs.declared.names.Cpu.{Cpu}
 use Rattle.sgx_types.specs.declared.names.Frame.{Frame}
 use Rattle.sgx_types.specs.declared.names.Page.{Page}
 use Rattle.sgx_types.specs.declared.names.SlotAt.{SlotAt}
-use Rattle.sgx_types.specs.Frames.{least_free}
+use Rattle.sgx_rules.specs.Frames.{least_free}
 use Rattle.sgx_types.specs.Sealed.{Sealed}
 use Rattle.job_grammar.specs.Jobs.{JobView}
 use Rattle.turn_rules.specs.Machines.{machine_of}
@@ -71,9 +71,9 @@ use Rattle.driver_rules.specs.Stops.{is_bus}
 use Rattle.run_history.specs.Honest.{IsHonest}
 use Rattle.run_history.specs.Stored.{StoreCalls}
 use Rattle.table_notes.proofs.EntryLaws.{IsEntryOf, entry_by}
-use Rattle.sgx_types.specs.declared.entries.Action.{Action}
-use Rattle.sgx_types.specs.declared.entries.Actor.{Actor}
-use Rattle.sgx_types.specs.Enclaves.{EnclavesAreFlat}
+use Rattle.sgx_rules.specs.declared.entries.Action.{Action}
+use Rattle.sgx_types.specs.declared.names.Actor.{Actor}
+use Rattle.sgx_rules.specs.Enclaves.{EnclavesAreFlat}
 use Rattle.paging_laws.specs.State.{State}
 use Rattle.paging_laws.specs.Steps.{IsStep}
 

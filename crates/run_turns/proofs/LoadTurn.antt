@@ -1,8 +1,8 @@
 -- A processor's turn that makes an instruction.
 use Rattle.std.proofs.Common.{◌≡◌, false, refl, subst, sym}
 use Rattle.std.specs.Prelude.{IfOk, OnErr, Result, Ok, Err}
-use Rattle.sgx_types.specs.declared.entries.Action.{Action}
-use Rattle.sgx_types.specs.declared.entries.Actor.TheVariants as actors
+use Rattle.sgx_rules.specs.declared.entries.Action.{Action}
+use Rattle.sgx_types.specs.declared.names.Actor.TheVariants as actors
 use Rattle.sgx_types.specs.declared.names.Cpu.{Cpu}
 use Rattle.sgx_types.specs.declared.names.Memory.{Memory}
 use Rattle.run_turns.specs.declared.course.Course.{Course}

@@ -2,13 +2,13 @@
 use Rattle.std.proofs.Common.{◌≡◌, ℕ, zero, suc, Bool, false, List, Option, Some, None, IfSome, is_some, Result, Ok, Err, IfOk}
 use Rattle.std.proofs.Common.{OnErr, reverse, refl, sym, ap, subst, ◌∙◌, inl, inr}
 use Rattle.std.specs.Option.{IsSomeAnd}
-use Rattle.sgx_types.specs.declared.entries.Actor.TheVariants as actors
+use Rattle.sgx_types.specs.declared.names.Actor.TheVariants as actors
 use Rattle.sgx_types.specs.declared.names.Cpu.{Cpu}
 use Rattle.sgx_types.specs.declared.names.Memory.{Memory}
 use Rattle.sgx_types.specs.declared.names.Page.{Page}
 use Rattle.sgx_types.specs.declared.names.SlotAt.{SlotAt}
 use Rattle.sgx_types.specs.Making.{Making}
-use Rattle.sgx_types.specs.Starts.{Start, open_start, BareStart, bare_start}
+use Rattle.sgx_rules.specs.Starts.{Start, open_start, BareStart, bare_start}
 use Rattle.io_edges.specs.declared.plans.PlanLine.{PlanLine}
 use Rattle.std.specs.Global.{Box}
 use Rattle.seal_record.specs.declared.unseal.UnsealWork.{UnsealWork}

@@ -2,16 +2,16 @@
 use Rattle.std.specs.Prelude.{IfSome, option_map}
 use Rattle.std.proofs.Common.{◌≡◌, ℕ, sym, ◌∙◌, ap, List, [], ◌∷◌, ◌++◌, Option, Some, None}
 use Rattle.std.proofs.lemmas.List.{append-nil, same_from_push}
-use Rattle.sgx_types.specs.declared.entries.Action.TheVariants.{Ewb}
-use Rattle.sgx_types.specs.declared.entries.Actor.{Actor}
-use Rattle.sgx_types.specs.declared.entries.Answer.TheVariants.{Moved}
-use Rattle.sgx_types.specs.declared.entries.Entry.{Entry}
-use Rattle.sgx_types.specs.declared.entries.Event.{Event}
-use Rattle.sgx_types.specs.declared.entries.Event.TheVariants.{Did}
+use Rattle.sgx_rules.specs.declared.entries.Action.TheVariants.{Ewb}
+use Rattle.sgx_types.specs.declared.names.Actor.{Actor}
+use Rattle.sgx_rules.specs.declared.entries.Answer.TheVariants.{Moved}
+use Rattle.sgx_rules.specs.declared.entries.Entry.{Entry}
+use Rattle.sgx_rules.specs.declared.entries.Event.{Event}
+use Rattle.sgx_rules.specs.declared.entries.Event.TheVariants.{Did}
 use Rattle.sgx_types.specs.declared.record.Header.{Header}
-use Rattle.sgx_types.specs.Flat.{flat, header_in, words_of}
+use Rattle.sgx_rules.specs.Flat.{flat, header_in, words_of}
 use Rattle.sgx_types.specs.Layouts.{bytes_of}
-use Rattle.sgx_types.specs.Rules.{Along}
+use Rattle.sgx_rules.specs.Rules.{Along}
 use Rattle.sgx_types.specs.Sealed.{Sealed}
 use Rattle.io_edges.specs.declared.plans.PlanLine.{PlanLine}
 use Rattle.job_grammar.specs.Jobs.{JobView}

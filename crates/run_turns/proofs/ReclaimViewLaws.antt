@@ -2,18 +2,18 @@
 use Rattle.std.proofs.Common.{◌≡◌, ℕ, zero, suc, ◌⊎◌, Bool, true, false, List, [], Option, Some, None, is_some, Result, Ok}
 use Rattle.std.proofs.Common.{Err, IfOk, OnErr, IfSome, reverse, slice_get, refl, sym, ap, subst, ◌∙◌, inl, inr}
 use Rattle.std.specs.Option.{IsSomeAnd}
-use Rattle.sgx_types.specs.declared.entries.Actor.TheVariants as actors
-use Rattle.sgx_types.specs.declared.entries.Entry.{Entry}
+use Rattle.sgx_types.specs.declared.names.Actor.TheVariants as actors
+use Rattle.sgx_rules.specs.declared.entries.Entry.{Entry}
 use Rattle.sgx_types.specs.declared.names.Memory.{Memory}
 use Rattle.sgx_types.specs.declared.names.Kind.{Kind}
 use Rattle.sgx_types.specs.declared.names.Page.{Page}
 use Rattle.sgx_types.specs.declared.names.Perm.{Perm}
-use Rattle.sgx_types.specs.Flat.{bytes_at, page_words}
-use Rattle.sgx_types.specs.Frames.{Holds, is_page}
+use Rattle.sgx_rules.specs.Flat.{bytes_at, page_words}
+use Rattle.sgx_rules.specs.Frames.{Holds, is_page}
 use Rattle.sgx_types.specs.Layouts.{bytes_of}
 use Rattle.sgx_types.specs.Making.{Making}
 use Rattle.sgx_types.proofs.Pages.{same_page-refl}
-use Rattle.sgx_types.specs.Starts.{BareStart}
+use Rattle.sgx_rules.specs.Starts.{BareStart}
 use Rattle.io_edges.specs.declared.plans.PlanLine.{PlanLine}
 use Rattle.seal_record.specs.declared.seal.SealWork.{SealWork}
 use Rattle.backing_store.specs.Calls.{Call}

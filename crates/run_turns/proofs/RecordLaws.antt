@@ -3,14 +3,14 @@ use Rattle.std.proofs.Common.{◌≡◌, ◌+◌, true, false, if◌then◌else�
 use Rattle.std.proofs.Common.{reverse, refl, sym, ap, subst, ◌∙◌, arith}
 use Rattle.std.proofs.lemmas.Bool.{eq-eqb, false≢true}
 use Rattle.std.proofs.lemmas.List.{length-append, length-reverse, reverse-append}
-use Rattle.sgx_types.specs.declared.entries.Action.{Action}
-use Rattle.sgx_types.specs.declared.entries.Action.TheVariants.{EldStart, EwbStart}
-use Rattle.sgx_types.specs.declared.entries.Actor.TheVariants as actors
-use Rattle.sgx_types.specs.declared.entries.Entry.{Entry}
-use Rattle.sgx_types.specs.declared.entries.Event.{Event}
-use Rattle.sgx_types.specs.declared.entries.Event.TheVariants.{Age, Bus, Did, Kick, Refused}
+use Rattle.sgx_rules.specs.declared.entries.Action.{Action}
+use Rattle.sgx_rules.specs.declared.entries.Action.TheVariants.{EldStart, EwbStart}
+use Rattle.sgx_types.specs.declared.names.Actor.TheVariants as actors
+use Rattle.sgx_rules.specs.declared.entries.Entry.{Entry}
+use Rattle.sgx_rules.specs.declared.entries.Event.{Event}
+use Rattle.sgx_rules.specs.declared.entries.Event.TheVariants.{Age, Bus, Did, Kick, Refused}
 use Rattle.sgx_types.specs.declared.names.Cpu.{Cpu}
-use Rattle.sgx_types.specs.Processors.{is_by}
+use Rattle.sgx_rules.specs.Processors.{is_by}
 use Rattle.turn_rules.specs.Script.{action_of}
 use Rattle.driver_rules.specs.Stops.{frame_started, is_frame, last_event, started}
 use Rattle.table_notes.specs.Plain.{is_plain}

@@ -1,9 +1,9 @@
 -- An entry of the reclaimer's turn can be taken in.
 use Rattle.std.proofs.Common.{◌≡◌, ℕ, ◌+◌, ◌*◌, ◌≤◌, if◌then◌else◌, ◌∷◌, List, Option, IfSome, count_by, vec_len, vec_capacity, refl, sym}
 use Rattle.std.proofs.Common.{subst, arith}
-use Rattle.sgx_types.specs.declared.entries.Actor.{Actor}
-use Rattle.sgx_types.specs.declared.entries.Entry.{Entry}
-use Rattle.sgx_types.specs.Enclaves.{EnclavesAreFlat}
+use Rattle.sgx_types.specs.declared.names.Actor.{Actor}
+use Rattle.sgx_rules.specs.declared.entries.Entry.{Entry}
+use Rattle.sgx_rules.specs.Enclaves.{EnclavesAreFlat}
 use Rattle.backing_store.specs.Calls.{Call}
 use Rattle.cached_translations.specs.declared.processor.Mode.TheVariants.{Outside}
 use Rattle.turn_rules.specs.Machines.{machine_of}

@@ -1,8 +1,8 @@
 -- How far a run is, and what holds of it between two turns.
 use Rattle.std.specs.Prelude.{ℕ, ◌≡◌, ◌+◌, ◌*◌, ◌≤◌, ◌++◌, All, Bool, true, false, if◌then◌else◌, List}
 use Rattle.std.specs.Prelude.{Option, count_by, length, reverse, vec_len, vec_capacity}
-use Rattle.sgx_types.specs.declared.entries.Actor.{Actor}
-use Rattle.sgx_types.specs.declared.entries.Entry.{Entry}
+use Rattle.sgx_types.specs.declared.names.Actor.{Actor}
+use Rattle.sgx_rules.specs.declared.entries.Entry.{Entry}
 use Rattle.turn_rules.specs.Machines.{machine_of}
 use Rattle.backing_store.specs.Calls.{Call}
 use Rattle.driver_rules.specs.Passes.{pass}

@@ -1,6 +1,6 @@
 -- The turn of kicks.
 use Rattle.std.specs.Prelude.{ℕ, ◌≡◌, ◌+◌, ◌≤◌, false, List, Option, vec_len, vec_capacity}
-use Rattle.sgx_types.specs.declared.entries.Event.TheVariants.{Kick}
+use Rattle.sgx_rules.specs.declared.entries.Event.TheVariants.{Kick}
 use Rattle.backing_store.specs.Calls.{Call}
 use Rattle.turn_rules.specs.Machines.{machine_of}
 use Rattle.driver_rules.specs.Dues.{KicksAll}

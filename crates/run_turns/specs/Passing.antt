@@ -1,8 +1,8 @@
 -- What is done with what a turn of the reclaimer made.
 use Rattle.std.specs.Prelude.{ℕ, ◌≡◌, zero, ◌+◌, ◌*◌, ◌≤◌, Bool, true, false, if◌then◌else◌, List, ◌∷◌}
 use Rattle.std.specs.Prelude.{Option, count_by, is_some, length, vec_len, vec_capacity}
-use Rattle.sgx_types.specs.declared.entries.Actor.TheVariants as actors
-use Rattle.sgx_types.specs.declared.entries.Entry.{Entry}
+use Rattle.sgx_types.specs.declared.names.Actor.TheVariants as actors
+use Rattle.sgx_rules.specs.declared.entries.Entry.{Entry}
 use Rattle.backing_store.specs.Calls.{Call}
 use Rattle.cached_translations.specs.declared.processor.Mode.TheVariants.{Outside}
 use Rattle.driver_rules.specs.Dues.{KicksAll}

@@ -1,6 +1,6 @@
 -- What is asked of an entry that is taken in, and what stands behind it.
 use Rattle.std.specs.Prelude.{◌≡◌, ◌+◌, ◌≤◌, List, ◌∷◌, Option, vec_len, vec_capacity}
-use Rattle.sgx_types.specs.declared.entries.Entry.{Entry}
+use Rattle.sgx_rules.specs.declared.entries.Entry.{Entry}
 use Rattle.turn_rules.specs.Machines.{machine_of}
 use Rattle.backing_store.specs.Calls.{Call}
 use Rattle.cached_translations.specs.declared.processor.Mode.{Mode}

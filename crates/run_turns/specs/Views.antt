@@ -2,15 +2,15 @@
 use Rattle.std.specs.Prelude.{ℕ, zero, suc, ◌≡◌, ◌<◌, ◌++◌, ◌⊎◌, All, Bool, true, false, if◌then◌else◌, List}
 use Rattle.std.specs.Prelude.{[], Option, None, Some, IfSome, length}
 use Rattle.std.specs.Option.{IsSomeAnd}
-use Rattle.sgx_types.specs.declared.entries.Actor.{Actor}
-use Rattle.sgx_types.specs.declared.entries.Actor.TheVariants as actors
-use Rattle.sgx_types.specs.declared.entries.Entry.{Entry}
+use Rattle.sgx_types.specs.declared.names.Actor.{Actor}
+use Rattle.sgx_types.specs.declared.names.Actor.TheVariants as actors
+use Rattle.sgx_rules.specs.declared.entries.Entry.{Entry}
 use Rattle.sgx_types.specs.declared.names.Cpu.{Cpu}
 use Rattle.sgx_types.specs.declared.names.Page.{Page}
-use Rattle.sgx_types.specs.Flat.{bytes_at, header_at}
-use Rattle.sgx_types.specs.Frames.{content, is_page}
-use Rattle.sgx_types.specs.Rules.{Along, EvictRule, Fits, RisingRule, Stale}
-use Rattle.sgx_types.specs.Starts.{Start, open_start}
+use Rattle.sgx_rules.specs.Flat.{bytes_at, header_at}
+use Rattle.sgx_rules.specs.Frames.{content, is_page}
+use Rattle.sgx_rules.specs.Rules.{Along, EvictRule, Fits, RisingRule, Stale}
+use Rattle.sgx_rules.specs.Starts.{Start, open_start}
 use Rattle.io_edges.specs.declared.plans.PlanLine.{PlanLine}
 use Rattle.job_grammar.specs.Jobs.{JobView}
 use Rattle.backing_store.specs.Calls.{Call}

@@ -10,7 +10,7 @@ use backing_store::backing::Backing;
 use job_grammar::jobs::Job;
 use seal_record::seal::SealedWork;
 use seal_record::unseal::UnsealedWork;
-use sgx_types::entries::Entry;
+use sgx_rules::entries::Entry;
 use sgx_types::names::{Cpu, Memory};
 use std::alloc::Global;
 use std::marker::Model;

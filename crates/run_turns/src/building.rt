@@ -8,8 +8,8 @@ ghost use Rattle.run_turns.specs.Turns.{CanInstruct, CanTurn, IsBuilderTurn};
 
 use crate::course::Course;
 use crate::turn::Turn;
-use sgx_types::entries::{Action, Actor};
-use sgx_types::names::Memory;
+use sgx_rules::entries::Action;
+use sgx_types::names::{Actor, Memory};
 use std::alloc::Global;
 use table_notes::notes::note_tables;
 use turn_tables::dues::BuilderDue;

@@ -10,7 +10,7 @@ use job_grammar::jobs::Job;
 use paging_machine::machine::Machine;
 use reclaim_worker::passes::Pass;
 use seal_record::seal::SealWork;
-use sgx_types::entries::Entry;
+use sgx_rules::entries::Entry;
 use sgx_types::names::Memory;
 use std::alloc::Global;
 use turn_tables::turns::Turns;

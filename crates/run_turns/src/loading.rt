@@ -19,8 +19,8 @@ use fault_handler::finishing::finish;
 use fault_handler::repeating::again;
 use fault_handler::resolving::resolve;
 use seal_record::unseal::UnsealedWork;
-use sgx_types::entries::{Actor, BusWhy, Entry, Event};
-use sgx_types::names::{Cpu, Memory, Page};
+use sgx_rules::entries::{BusWhy, Entry, Event};
+use sgx_types::names::{Actor, Cpu, Memory, Page};
 use std::alloc::Global;
 use turn_tables::dues::CpuDue;
 

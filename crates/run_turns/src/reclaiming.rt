@@ -9,7 +9,7 @@ ghost use Rattle.run_turns.specs.Courses.{Grows, IsSame, KeepsCourse, past_of};
 ghost use Rattle.run_turns.specs.Kicking.{CanKick, CanKickOne, HasKicked};
 ghost use Rattle.run_turns.specs.Passing.{CanFollow, CanTakeOwn, EndsNone, IsFollowed, IsSealOf, IsWaiting, is_building, is_left};
 ghost use Rattle.run_turns.specs.Turns.{CanTurn, EndsOut, IsReclaimerTurn, IsSealed};
-ghost use Rattle.sgx_types.specs.declared.entries.Actor.TheVariants as actors;
+ghost use Rattle.sgx_types.specs.declared.names.Actor.TheVariants as actors;
 
 use crate::building::ROOM;
 use crate::course::Course;
@@ -18,8 +18,8 @@ use backing_store::backing::Backing;
 use cached_translations::processor::Mode;
 use reclaim_worker::turns::{PassTurn, Phase};
 use seal_record::seal::{SealWork, SealedWork};
-use sgx_types::entries::{Actor, Entry, Event};
-use sgx_types::names::{Cpu, Memory};
+use sgx_rules::entries::{Entry, Event};
+use sgx_types::names::{Actor, Cpu, Memory};
 use std::alloc::Global;
 use turn_tables::dues::{BuilderDue, CpuDue};
 

@@ -9,7 +9,7 @@ ghost use Rattle.turn_tables.specs.Noting.{IsNoted};
 
 use crate::course::Course;
 use cached_translations::processor::Mode;
-use sgx_types::entries::Entry;
+use sgx_rules::entries::Entry;
 
 impl Course {
     /// Takes an entry in, before which its processor stood so: the holds and the tables of what is due follow it, it is kept, and it is

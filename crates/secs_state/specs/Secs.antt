@@ -3,7 +3,7 @@ use Rattle.std.specs.Prelude.{◌≡◌, ℕ, ◌/◌, Bool, true, false, List, 
 use Rattle.std.specs.Prelude.{slice_set}
 use Rattle.sgx_types.specs.declared.names.Kind.{Kind}
 use Rattle.sgx_types.specs.declared.names.Perm.{Perm}
-use Rattle.sgx_types.specs.Table.{is_lawful}
+use Rattle.sgx_types.specs.Lawful.{is_lawful}
 
 pub record SecsState : Type 0 where
   pub enclave : ℕ

@@ -1,5 +1,5 @@
 -- What the rows of the instruction table see of an enclave.
-use Rattle.sgx_types.specs.Table.{EnclaveSight}
+use Rattle.sgx_rules.specs.Table.{EnclaveSight}
 use Rattle.secs_state.specs.Secs.{SecsState}
 
 abbrev pub sight_of : SecsState → EnclaveSight

@@ -2,7 +2,7 @@
 
 ghost use Rattle.std.specs.Prelude.{◌≡◌, ◌≢◌, ◌+◌, ◌-◌, ◌*◌, ◌<◌, ◌^◌, true, false, None, IfOk, IsSome};
 ghost use Rattle.std.specs.Prelude.{OnSome};
-ghost use Rattle.sgx_types.specs.Table.{is_lawful};
+ghost use Rattle.sgx_types.specs.Lawful.{is_lawful};
 ghost use Rattle.secs_state.specs.Secs.{IsSecs, page_count, created, added_at, is_busy_at, with_init, with_page, with_busy, with_children};
 
 use sgx_types::names::{Kind, Memory, PAGE_BYTES, Perm};

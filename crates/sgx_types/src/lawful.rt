@@ -1,10 +1,17 @@
-//! What an enclave and its pages may be: the enclave's range, and a page's kind, permissions and place.
+//! What an enclave and its pages may be: the enclave's range and number, and a page's kind, permissions, first bytes and place.
 
 ghost use Rattle.std.specs.Prelude.{◌≡◌};
-ghost use Rattle.sgx_types.specs.Table.{is_addable, is_enclave, is_lawful, is_lawful_perm, is_within};
+ghost use Rattle.sgx_types.specs.Lawful.{is_addable, is_enclave, is_lawful, is_lawful_perm, is_within};
 
-use crate::entries::PageInit;
 use crate::names::{Kind, PAGE_BYTES, Perm};
+
+/// The bytes with which a page is added: every 8-byte word alike, or a thread control structure whose first state
+/// save frame is at page `ossa` and which has `nssa` of them.
+#[derive(Clone, Copy, Debug, PartialEq, Eq)]
+pub enum PageInit {
+    Words(u64),
+    Tcs { ossa: u32, nssa: u32 },
+}
 
 /// Whether an enclave may have this number: 1 to 8. This is the project's own.
 pub fn is_enclave(enclave: u16) -> bool

@@ -1,4 +1,4 @@
-//! Frames, processors, pages, permissions and slots by their names.
+//! Frames, processors, those who act, pages, permissions and slots by their names.
 
 use std::alloc::{AllocError, AllocFailed};
 
@@ -18,6 +18,14 @@ pub const LAST_EPOCH: u64 = (1 << 40) - 1;
 /// A logical processor, by its number from 0 to 15.
 #[derive(Clone, Copy, Debug, PartialEq, Eq)]
 pub struct Cpu(pub u8);
+
+/// Who acts on the EPC: the builder of enclaves, a processor, or the driver's reclaimer.
+#[derive(Clone, Copy, Debug, PartialEq, Eq)]
+pub enum Actor {
+    Builder,
+    Cpu(Cpu),
+    Reclaimer,
+}
 
 /// Memory was refused. The only answer of this project that may come at any call which names it.
 #[derive(Clone, Copy, Debug, PartialEq, Eq)]

@@ -2,26 +2,26 @@
 use Rattle.std.proofs.Common.{◌≡◌, ℕ, Bool, true, false, cond, List, ◌∷◌, Option, Some, None, inl, inr, length, refl, sym, ap}
 use Rattle.std.proofs.Common.{subst, ◌∙◌}
 use Rattle.std.proofs.lemmas.Bool.{false≢true}
-use Rattle.sgx_types.specs.declared.entries.Action.{Action}
-use Rattle.sgx_types.specs.declared.entries.Action.TheVariants as actions
-use Rattle.sgx_types.specs.declared.entries.Actor.{Actor}
-use Rattle.sgx_types.specs.declared.entries.Actor.TheVariants as actors
-use Rattle.sgx_types.specs.declared.entries.Answer.{Answer}
-use Rattle.sgx_types.specs.declared.entries.Entry.{Entry}
-use Rattle.sgx_types.specs.declared.entries.Event.{Event}
-use Rattle.sgx_types.specs.declared.entries.Event.TheVariants.{Did, Refused}
-use Rattle.sgx_types.specs.declared.entries.PageInit.{PageInit}
+use Rattle.sgx_rules.specs.declared.entries.Action.{Action}
+use Rattle.sgx_rules.specs.declared.entries.Action.TheVariants as actions
+use Rattle.sgx_types.specs.declared.names.Actor.{Actor}
+use Rattle.sgx_types.specs.declared.names.Actor.TheVariants as actors
+use Rattle.sgx_rules.specs.declared.entries.Answer.{Answer}
+use Rattle.sgx_rules.specs.declared.entries.Entry.{Entry}
+use Rattle.sgx_rules.specs.declared.entries.Event.{Event}
+use Rattle.sgx_rules.specs.declared.entries.Event.TheVariants.{Did, Refused}
+use Rattle.sgx_types.specs.declared.lawful.PageInit.{PageInit}
 use Rattle.sgx_types.specs.declared.names.Cpu.{Cpu}
 use Rattle.sgx_types.specs.declared.names.Frame.{Frame}
 use Rattle.sgx_types.specs.declared.names.Kind.{Kind}
 use Rattle.sgx_types.specs.declared.names.Page.{Page}
 use Rattle.sgx_types.specs.declared.names.Perm.{Perm}
 use Rattle.sgx_types.specs.declared.names.SlotAt.{SlotAt}
-use Rattle.sgx_types.specs.declared.refusals.Refusal.{Refusal}
-use Rattle.sgx_types.specs.Frames.{page_at, same_page}
+use Rattle.sgx_rules.specs.declared.refusals.Refusal.{Refusal}
+use Rattle.sgx_types.specs.Pages.{page_at, same_page}
 use Rattle.sgx_types.specs.Making.{Making}
-use Rattle.sgx_types.specs.Starts.{open_start}
-use Rattle.sgx_types.specs.Table.{first_of_row}
+use Rattle.sgx_rules.specs.Starts.{open_start}
+use Rattle.sgx_rules.specs.Table.{first_of_row}
 use Rattle.cached_translations.specs.declared.processor.Mode.{Mode}
 use Rattle.job_grammar.specs.Jobs.{JobView, va_pages}
 use Rattle.backing_store.specs.Calls.{Call}

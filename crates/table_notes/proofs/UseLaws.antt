@@ -1,24 +1,25 @@
 -- The pages that a processor uses by an instruction that it has done are those that the tables find, and each was added.
 use Rattle.std.proofs.Common.{◌≡◌, ◌≢◌, ℕ, ◌+◌, ◌-◌, ◌/◌, ◌%◌, ◌^◌, ◌<◌, ◌==◌, ◌||◌, Bool}
 use Rattle.std.proofs.Common.{true, List, Option, Some, None, is_some, refl, sym, ap, subst, ◌∙◌, arith}
-use Rattle.sgx_types.proofs.Rows.{none_holds}
+use Rattle.sgx_rules.proofs.Rows.{none_holds}
 use Rattle.sgx_types.proofs.Truths.{not_false}
-use Rattle.sgx_types.specs.declared.entries.Action.{Action}
-use Rattle.sgx_types.specs.declared.entries.Action.TheVariants as actions
-use Rattle.sgx_types.specs.declared.entries.Actor.TheVariants as actors
-use Rattle.sgx_types.specs.declared.entries.Entry.{Entry}
+use Rattle.sgx_rules.specs.declared.entries.Action.{Action}
+use Rattle.sgx_rules.specs.declared.entries.Action.TheVariants as actions
+use Rattle.sgx_types.specs.declared.names.Actor.TheVariants as actors
+use Rattle.sgx_rules.specs.declared.entries.Entry.{Entry}
 use Rattle.sgx_types.specs.declared.names.Cpu.{Cpu}
 use Rattle.sgx_types.specs.declared.names.Frame.{Frame}
 use Rattle.sgx_types.specs.declared.names.Page.{Page}
 use Rattle.sgx_types.specs.declared.names.Perm.{Perm}
-use Rattle.sgx_types.specs.declared.refusals.Refusal.TheVariants as why
-use Rattle.sgx_types.specs.Flat.{at_offset}
-use Rattle.sgx_types.specs.Frames.{content, is_page, page_at, same_page}
+use Rattle.sgx_rules.specs.declared.refusals.Refusal.TheVariants as why
+use Rattle.sgx_rules.specs.Flat.{at_offset}
+use Rattle.sgx_types.specs.Pages.{page_at, same_page}
+use Rattle.sgx_rules.specs.Frames.{content, is_page}
 use Rattle.sgx_types.specs.Making.{Making}
-use Rattle.sgx_types.specs.Processors.{Seat, Stay, stay}
-use Rattle.sgx_types.specs.Sights.{seat_of}
-use Rattle.sgx_types.specs.Table.{FrameSight, access_row, allows_read, allows_update, allows_write, fill_row, first_of_row, is_reg, is_tcs}
-use Rattle.sgx_types.specs.Table.{when}
+use Rattle.sgx_rules.specs.Processors.{Seat, Stay, stay}
+use Rattle.sgx_rules.specs.Sights.{seat_of}
+use Rattle.sgx_rules.specs.Table.{FrameSight, access_row, allows_read, allows_update, allows_write, fill_row, first_of_row, is_reg, is_tcs}
+use Rattle.sgx_rules.specs.Table.{when}
 use Rattle.cached_translations.specs.declared.processor.Mode.{Mode}
 use Rattle.cached_translations.specs.declared.processor.Mode.TheVariants.{Inside, Outside}
 use Rattle.cached_translations.specs.Modes.{enclave_inside}

@@ -1,9 +1,9 @@
 -- The instructions of the builder and of processors that move no page out or back.
 use Rattle.std.specs.Prelude.{Bool, true, false}
-use Rattle.sgx_types.specs.declared.entries.Action.{Action}
-use Rattle.sgx_types.specs.declared.entries.Action.TheVariants.{Block, Track, EwbStart, Ewb, EldStart, Eld}
-use Rattle.sgx_types.specs.declared.entries.Actor.{Actor}
-use Rattle.sgx_types.specs.declared.entries.Actor.TheVariants as actors
+use Rattle.sgx_rules.specs.declared.entries.Action.{Action}
+use Rattle.sgx_rules.specs.declared.entries.Action.TheVariants.{Block, Track, EwbStart, Ewb, EldStart, Eld}
+use Rattle.sgx_types.specs.declared.names.Actor.{Actor}
+use Rattle.sgx_types.specs.declared.names.Actor.TheVariants as actors
 
 abbrev pub is_plain : Action → Bool
 is_plain (Block f) = false

@@ -8,7 +8,7 @@ ghost use Rattle.turn_tables.specs.Holding.{page_inside_of};
 
 use cached_translations::processor::Mode;
 use driver_tables::driver::Driver;
-use sgx_types::entries::{Action, Entry, Event};
+use sgx_rules::entries::{Action, Entry, Event};
 use sgx_types::names::Page;
 use turn_tables::operations::page_of;
 use turn_tables::turns::Turns;

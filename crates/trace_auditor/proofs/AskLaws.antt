@@ -4,23 +4,23 @@ use Rattle.std.proofs.Common.{Option, Some, None, Ok, Err, IfOk, length}
 use Rattle.std.specs.Prelude.{Result, slice_get}
 use Rattle.std.proofs.lemmas.Bool.{false≢true}
 use Rattle.std.proofs.lemmas.Option.{none-some, same_Some}
-use Rattle.sgx_types.specs.declared.entries.Action.{Action}
-use Rattle.sgx_types.specs.declared.entries.Action.TheVariants.{Epa, Create, Add, Extend, Init, Enter, Resume, Exit, Aex, Fill, Load, Store}
-use Rattle.sgx_types.specs.declared.entries.Action.TheVariants.{Xadd, Set, Plus, Pf, OutLoad, OutStore, Block, Track, EwbStart, Ewb}
-use Rattle.sgx_types.specs.declared.entries.Action.TheVariants.{EldStart, Eld}
-use Rattle.sgx_types.specs.declared.entries.Actor.{Actor}
-use Rattle.sgx_types.specs.declared.entries.Actor.TheVariants as actors
-use Rattle.sgx_types.specs.declared.entries.Answer.TheVariants.{Moved}
-use Rattle.sgx_types.specs.declared.entries.Entry.{Entry}
-use Rattle.sgx_types.specs.declared.entries.Event.{Event}
-use Rattle.sgx_types.specs.declared.entries.Event.TheVariants.{Age, Bus, Did, Kick, Refused}
+use Rattle.sgx_rules.specs.declared.entries.Action.{Action}
+use Rattle.sgx_rules.specs.declared.entries.Action.TheVariants.{Epa, Create, Add, Extend, Init, Enter, Resume, Exit, Aex, Fill, Load, Store}
+use Rattle.sgx_rules.specs.declared.entries.Action.TheVariants.{Xadd, Set, Plus, Pf, OutLoad, OutStore, Block, Track, EwbStart, Ewb}
+use Rattle.sgx_rules.specs.declared.entries.Action.TheVariants.{EldStart, Eld}
+use Rattle.sgx_types.specs.declared.names.Actor.{Actor}
+use Rattle.sgx_types.specs.declared.names.Actor.TheVariants as actors
+use Rattle.sgx_rules.specs.declared.entries.Answer.TheVariants.{Moved}
+use Rattle.sgx_rules.specs.declared.entries.Entry.{Entry}
+use Rattle.sgx_rules.specs.declared.entries.Event.{Event}
+use Rattle.sgx_rules.specs.declared.entries.Event.TheVariants.{Age, Bus, Did, Kick, Refused}
 use Rattle.sgx_types.specs.declared.names.Frame.{Frame}
 use Rattle.sgx_types.specs.declared.names.Memory.{Memory}
 use Rattle.sgx_types.specs.declared.names.Page.{Page}
-use Rattle.sgx_types.specs.Ends.{IsBack, IsNotBack}
-use Rattle.sgx_types.specs.Rules.{RefusalRule}
-use Rattle.sgx_types.specs.Starts.{Start, open_start, BareStart, bare_start, without_place}
-use Rattle.sgx_types.proofs.Busy.{bare_of}
+use Rattle.sgx_rules.specs.Ends.{IsBack, IsNotBack}
+use Rattle.sgx_rules.specs.Rules.{RefusalRule}
+use Rattle.sgx_rules.specs.Starts.{Start, open_start, BareStart, bare_start, without_place}
+use Rattle.sgx_rules.proofs.Busy.{bare_of}
 use Rattle.seal_record.specs.Sealing.{made_by}
 use Rattle.seal_record.specs.declared.unseal.UnsealedWork.{UnsealedWork}
 use Rattle.job_grammar.specs.Jobs.{JobView}

@@ -1,6 +1,6 @@
 -- All stands for the trace with an entry that keeps each rule.
 use Rattle.std.proofs.Common.{◌≡◌, ℕ, ◌≤◌, refl, sym, subst, ◌∙◌, List, ◌∷◌, Option, length, count_by}
-use Rattle.sgx_types.specs.declared.entries.Entry.{Entry}
+use Rattle.sgx_rules.specs.declared.entries.Entry.{Entry}
 use Rattle.sgx_types.specs.declared.names.Page.{Page}
 use Rattle.cached_translations.specs.declared.processor.Mode.{Mode}
 use Rattle.job_grammar.specs.declared.jobs.Marks.{Marks}

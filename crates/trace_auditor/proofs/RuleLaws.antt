@@ -1,7 +1,7 @@
 -- What an auditor's answers are by the rules.
 use Rattle.std.proofs.Common.{◌≡◌, ℕ, refl, List, ◌∷◌, ◌++◌, Option, Some, None, length, arith}
-use Rattle.sgx_types.specs.declared.entries.Entry.{Entry}
-use Rattle.sgx_types.specs.Rules.{KeepsRules, NoPageTwice, NoneStale}
+use Rattle.sgx_rules.specs.declared.entries.Entry.{Entry}
+use Rattle.sgx_rules.specs.Rules.{KeepsRules, NoPageTwice, NoneStale}
 use Rattle.seal_record.specs.Records.{Made}
 use Rattle.job_grammar.specs.Jobs.{JobView}
 use Rattle.turn_rules.specs.Machines.{machine_of}

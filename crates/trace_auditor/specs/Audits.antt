@@ -1,9 +1,9 @@
 -- What an auditor keeps between two entries of a trace, and what it says of the next one.
 use Rattle.std.specs.Prelude.{◌≡◌, ◌<◌, ◌^◌, true, List, ◌∷◌, Option, None, Some, length}
-use Rattle.sgx_types.specs.declared.entries.Action.{Action}
-use Rattle.sgx_types.specs.declared.entries.Entry.{Entry}
+use Rattle.sgx_rules.specs.declared.entries.Action.{Action}
+use Rattle.sgx_rules.specs.declared.entries.Entry.{Entry}
 use Rattle.sgx_types.specs.declared.names.Frame.{Frame}
-use Rattle.sgx_types.specs.Starts.{bare_start, open_start}
+use Rattle.sgx_rules.specs.Starts.{bare_start, open_start}
 use Rattle.cached_translations.specs.declared.processor.Mode.{Mode}
 use Rattle.seal_record.specs.Sealing.{made_by}
 use Rattle.job_grammar.specs.Jobs.{JobView}

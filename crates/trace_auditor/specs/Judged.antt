@@ -1,6 +1,6 @@
 -- What a verdict on a trace says. Entries stand newest first.
 use Rattle.std.specs.Prelude.{List}
-use Rattle.sgx_types.specs.declared.entries.Entry.{Entry}
+use Rattle.sgx_rules.specs.declared.entries.Entry.{Entry}
 use Rattle.job_grammar.specs.Jobs.{JobView}
 use Rattle.run_history.specs.Histories.{FailsFirst, History}
 use Rattle.trace_auditor.specs.declared.verdict.Verdict.{Verdict}

@@ -1,7 +1,7 @@
 //! The machine is asked for an entry.
 
 ghost use Rattle.std.specs.Prelude.{◌≡◌, false, IfOk, Some};
-ghost use Rattle.sgx_types.specs.declared.entries.Action.TheVariants as actions;
+ghost use Rattle.sgx_rules.specs.declared.entries.Action.TheVariants as actions;
 ghost use Rattle.paging_laws.specs.Steps.{is_of_cpus};
 ghost use Rattle.turn_rules.specs.Script.{action_of};
 ghost use Rattle.trace_auditor.specs.Asking.{is_commit, is_cpu, page_loaded, page_moved};
@@ -14,8 +14,8 @@ use audit_machine::leaving::{Out, ask_out};
 use audit_machine::outside::broken_outside;
 use paging_machine::starts::Start;
 use run_history::rules::Rule;
-use sgx_types::entries::{Action, Actor, Answer, Entry, Event};
-use sgx_types::names::{Frame, Memory, Page};
+use sgx_rules::entries::{Action, Answer, Entry, Event};
+use sgx_types::names::{Actor, Frame, Memory, Page};
 use std::alloc::Global;
 use turn_tables::holding::action_of;
 

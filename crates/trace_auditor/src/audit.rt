@@ -8,7 +8,7 @@ use crate::auditing::Auditing;
 use crate::verdict::Verdict;
 use job_grammar::jobs::Job;
 use run_history::rules::Rule;
-use sgx_types::entries::Entry;
+use sgx_rules::entries::Entry;
 use sgx_types::names::Memory;
 use std::alloc::Global;
 

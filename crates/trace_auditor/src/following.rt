@@ -8,7 +8,7 @@ use audit_tables::following::follow;
 use cached_translations::processor::Mode;
 use job_grammar::jobs::Job;
 use paging_machine::starts::Start;
-use sgx_types::entries::Entry;
+use sgx_rules::entries::Entry;
 
 impl Auditing {
     /// Brings the tables to an entry that keeps each rule, with which the machine, the pass and the records have gone on. `before` is how

@@ -13,7 +13,7 @@ use audit_dues::script::keeps_script;
 use job_grammar::jobs::Job;
 use paging_machine::starts::Start;
 use run_history::rules::Rule;
-use sgx_types::entries::{Action, Entry, Event};
+use sgx_rules::entries::{Action, Entry, Event};
 use sgx_types::names::{Frame, Memory};
 use std::alloc::Global;
 use turn_tables::holding::mode_of;

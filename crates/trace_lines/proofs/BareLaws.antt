@@ -2,7 +2,7 @@
 use Rattle.std.proofs.Common.{◌≡◌, ℕ, Bool, true, false, List, [], ◌∷◌, Option, Some, IfSome, find, bytes_eq, sym, subst}
 use Rattle.std.proofs.Common.{rules, if◌then◌else◌}
 use Rattle.std.specs.List.{AllByRecursion}
-use Rattle.sgx_types.specs.declared.refusals.Refusal.{Refusal}
+use Rattle.sgx_rules.specs.declared.refusals.Refusal.{Refusal}
 use Rattle.trace_text.specs.Readable.{FitsRefusal}
 use Rattle.trace_words.specs.Names.{bare_of, bare_word, bares}
 

@@ -4,7 +4,7 @@ ghost use Rattle.std.specs.Prelude.{◌≡◌, IfSome};
 ghost use Rattle.trace_text.specs.Readable.{FitsAnswer, IsCssa, IsHash, IsMoved, IsPf, IsPlain, IsValue, IsVersion};
 ghost use Rattle.trace_lines.specs.Reading.{answer_of, cssa_of, hash_of, moved_of, pf_of, plain_of, texts, value_of, version_of};
 
-use sgx_types::entries::{Action, Answer};
+use sgx_rules::entries::{Action, Answer};
 use sgx_types::names::Page;
 use text_words::readers::{number, small};
 use trace_words::names::fault;

@@ -7,8 +7,8 @@ ghost use Rattle.trace_lines.specs.Reading.{age_of, bus_of, done_of, entry_of, e
 use crate::answers::answer;
 use crate::instructions::action;
 use crate::refusals::refusal;
-use sgx_types::entries::{Actor, Entry, Event};
-use sgx_types::names::{Memory, Page};
+use sgx_rules::entries::{Entry, Event};
+use sgx_types::names::{Actor, Memory, Page};
 use std::alloc::{AllocError, Global};
 use text_words::readers::small;
 use trace_words::names::{look, stop};

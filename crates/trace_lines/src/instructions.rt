@@ -7,7 +7,8 @@ ghost use Rattle.trace_lines.specs.Reading.{ewbstart_row, extend_row, fill_row, 
 ghost use Rattle.trace_lines.specs.Reading.{plus_row, resume_row, set_row, store_row, track_row, xadd_row, action_of, by_row, front_of};
 ghost use Rattle.trace_lines.specs.Reading.{page_init, texts};
 
-use sgx_types::entries::{Action, PageInit};
+use sgx_rules::entries::Action;
+use sgx_types::lawful::PageInit;
 use sgx_types::names::{Page, SlotAt};
 use text_words::readers::{number, small};
 use trace_words::names::{Row, access, cause, instruction, kind, perm};

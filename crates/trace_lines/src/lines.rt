@@ -1,12 +1,12 @@
 //! A line of an entry is read.
 
 ghost use Rattle.std.specs.Prelude.{◌≡◌, IfOk, IfSome, Some};
-ghost use Rattle.sgx_types.specs.declared.entries.Entry.{Entry};
+ghost use Rattle.sgx_rules.specs.declared.entries.Entry.{Entry};
 ghost use Rattle.trace_text.specs.Readable.{IsReadable};
 ghost use Rattle.trace_text.specs.TraceText.{spelling};
 
 use crate::entries::entry_in;
-use sgx_types::entries::Entry;
+use sgx_rules::entries::Entry;
 use sgx_types::names::Memory;
 use std::alloc::Global;
 use trace_text::room::SPELLING_ROOM;

@@ -4,7 +4,7 @@ ghost use Rattle.std.specs.Prelude.{◌≡◌, IfSome};
 ghost use Rattle.trace_text.specs.Readable.{FitsRefusal};
 ghost use Rattle.trace_lines.specs.Reading.{one_of, refusal_of, texts, three_of, two_of};
 
-use sgx_types::refusals::Refusal;
+use sgx_rules::refusals::Refusal;
 use text_words::readers::{number, small};
 use trace_words::names::bare;
 use trace_words::words::tag;

@@ -11,7 +11,7 @@ use crate::ungiven::Ungiven;
 use io_edges::faults::Failed;
 use io_edges::giving::give_all;
 use io_edges::sinks::Sink;
-use sgx_types::entries::Entry;
+use sgx_rules::entries::Entry;
 use std::alloc::Global;
 use trace_text::room::LONGEST_LINE;
 use trace_text::trace::{print_entry, print_first_line, print_last_line};

@@ -3,7 +3,8 @@
 use crate::pieces::{PIECE, give_trace};
 use crate::ungiven::Ungiven;
 use io_edges::mem_sink::MemSink;
-use sgx_types::entries::{Action, Actor, Answer, Entry, Event};
+use sgx_rules::entries::{Action, Answer, Entry, Event};
+use sgx_types::names::Actor;
 use std::test::Fail;
 use trace_text::trace::print_trace;
 

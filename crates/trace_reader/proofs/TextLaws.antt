@@ -4,7 +4,7 @@ use Rattle.std.proofs.Common.{◌++◌, length, map, reverse, append_assoc, refl
 use Rattle.std.specs.List.{AllByRecursion}
 use Rattle.std.proofs.lemmas.List.{map-append, reverse-append, reverse-reverse, length-reverse, append-nil}
 use Rattle.std.proofs.lemmas.List.Elements.{All-head, All-tail}
-use Rattle.sgx_types.specs.declared.entries.Entry.{Entry}
+use Rattle.sgx_rules.specs.declared.entries.Entry.{Entry}
 use Rattle.text_words.proofs.Splits.{IsApart}
 use Rattle.trace_text.specs.TraceText.{entries_text, entry_text, spelling, trace_of}
 use Rattle.trace_reader.specs.Faults.{text_of, whole_lines}

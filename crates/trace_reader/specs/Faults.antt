@@ -1,6 +1,6 @@
 -- Which texts begin a trace, which line is a text's first fault, and what a reader in pieces was fed.
 use Rattle.std.specs.Prelude.{ℕ, ◌≡◌, ◌<◌, ◌≤◌, ◌==◌, if◌then◌else◌, List, [], ◌∷◌, take, length, reverse}
-use Rattle.sgx_types.specs.declared.entries.Entry.{Entry}
+use Rattle.sgx_rules.specs.declared.entries.Entry.{Entry}
 use Rattle.trace_text.specs.Readable.{AreReadable}
 use Rattle.trace_text.specs.TraceText.{trace_of}
 

@@ -1,7 +1,7 @@
 -- The lines of a trace, and those that a reader has taken.
 use Rattle.std.specs.Prelude.{ℕ, ◌≡◌, ◌==◌, Bool, true, false, All, List, [], ◌∷◌, ◌++◌, codes, length, map}
 use Rattle.std.specs.Fmt.{decimal}
-use Rattle.sgx_types.specs.declared.entries.Entry.{Entry}
+use Rattle.sgx_rules.specs.declared.entries.Entry.{Entry}
 use Rattle.trace_text.specs.Readable.{AreReadable}
 use Rattle.trace_text.specs.TraceText.{spelling}
 use Rattle.trace_reader.specs.declared.lines.Stage.{Stage}

@@ -1,6 +1,6 @@
 -- What a reader of traces answers, and what it was fed then.
 use Rattle.std.specs.Prelude.{ℕ, ◌≡◌, List, ◌++◌, length, Result, Ok, Err}
-use Rattle.sgx_types.specs.declared.entries.Entry.{Entry}
+use Rattle.sgx_rules.specs.declared.entries.Entry.{Entry}
 use Rattle.trace_text.specs.Readable.{AreReadable}
 use Rattle.trace_reader.specs.declared.refusals.TraceRefusal.{TraceRefusal}
 use Rattle.trace_reader.specs.declared.refusals.TraceRefusal.TheVariants.{Fault, Memory}

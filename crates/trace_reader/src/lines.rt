@@ -4,7 +4,7 @@ ghost use Rattle.std.specs.Prelude.{◌≡◌, ◌++◌, [], ◌∷◌, false, l
 ghost use Rattle.trace_reader.specs.Lines.{CannotFollow, HasNoFeed, IsKept, IsRefused, IsTaken, is_last_stage, joined, last_line, taken};
 ghost use Rattle.trace_reader.specs.Faults.{IsFirstFault, text_of};
 
-use sgx_types::entries::Entry;
+use sgx_rules::entries::Entry;
 use sgx_types::names::Memory;
 use std::alloc::Global;
 use text_words::words::Word::{Decimal, Name};

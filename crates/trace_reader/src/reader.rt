@@ -2,7 +2,7 @@
 
 ghost use Rattle.std.specs.Prelude.{◌≡◌, ℕ, List, ◌++◌, ◌∷◌, [], length, take, IfOk, MatchBool, MatchOption, OnErr};
 ghost use Rattle.std.specs.Result.{result_map_both};
-ghost use Rattle.sgx_types.specs.declared.entries.Entry.{Entry};
+ghost use Rattle.sgx_rules.specs.declared.entries.Entry.{Entry};
 ghost use Rattle.trace_reader.specs.Faults.{IsFirstFault, Reading, text_of};
 ghost use Rattle.trace_reader.specs.Lines.{CannotFollow, HasNoFeed, IsKept, IsRefused, IsTaken, joined, taken};
 ghost use Rattle.trace_text.specs.Readable.{AreReadable};
@@ -10,7 +10,7 @@ ghost use Rattle.trace_reader.specs.Outcomes.{Feeds, Finishes, Tells};
 
 use crate::lines::{Lines, cut_line};
 use crate::refusals::TraceRefusal;
-use sgx_types::entries::Entry;
+use sgx_rules::entries::Entry;
 use sgx_types::names::Memory;
 use std::alloc::Global;
 use std::marker::Model;

@@ -5,7 +5,7 @@
 
 ghost use Rattle.std.specs.Prelude.{◌<◌};
 
-use sgx_types::entries::Entry;
+use sgx_rules::entries::Entry;
 use std::alloc::{AllocError, Global};
 use std::{env, fs, io};
 use trace_reader::reader::{TraceReader, read_trace};

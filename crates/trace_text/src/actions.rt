@@ -8,7 +8,8 @@ ghost use Rattle.trace_text.specs.TraceText.{action_words, init_words};
 
 use crate::names::{access_name, cause_name, kind_name, perms_name};
 use crate::room::ACTION_ROOM;
-use sgx_types::entries::{AccessOp, Action, Cause, PageInit};
+use sgx_rules::entries::{AccessOp, Action, Cause};
+use sgx_types::lawful::PageInit;
 use sgx_types::names::{Frame, Kind, Memory, Page, Perm, SlotAt};
 use text_words::words::Word::{Decimal, Digest, Enclave, Hexadecimal, Name};
 use text_words::words::{write_spaced, write_words};

@@ -5,9 +5,9 @@ ghost use Rattle.trace_text.specs.TraceText.{access_word, cause_word, fault_word
 ghost use Rattle.trace_text.specs.TraceText.{stop_word};
 
 use crate::room::LONGEST_NAME;
-use sgx_types::entries::{AccessOp, BusWhy, Cause, Look, PfWhy};
+use sgx_rules::entries::{AccessOp, BusWhy, Cause, Look, PfWhy};
+use sgx_rules::refusals::Refusal;
 use sgx_types::names::{Kind, Perm};
-use sgx_types::refusals::Refusal;
 
 pub(crate) fn kind_name(kind: Kind) -> &'static str
     ensures name { result.now ≡ kind_word kind }

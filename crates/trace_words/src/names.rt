@@ -3,9 +3,9 @@
 ghost use Rattle.std.specs.Prelude.{◌≡◌};
 ghost use Rattle.trace_words.specs.Names.{access_of, bare_of, cause_of, fault_of, kind_of, look_of, perm_of, row_of, stop_of};
 
-use sgx_types::entries::{AccessOp, BusWhy, Cause, Look, PfWhy};
+use sgx_rules::entries::{AccessOp, BusWhy, Cause, Look, PfWhy};
+use sgx_rules::refusals::Refusal;
 use sgx_types::names::{Kind, Perm};
-use sgx_types::refusals::Refusal;
 
 /// The instructions, by their names alone.
 #[derive(Clone, Copy)]

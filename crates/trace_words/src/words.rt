@@ -6,8 +6,7 @@ ghost use Rattle.text_words.specs.Reading.{digest_of};
 ghost use Rattle.trace_text.specs.Readable.{FitsActor, FitsExpect};
 ghost use Rattle.trace_words.specs.Reading.{actor_of, byte_of, cpu_of, enclave_of, expect_of, frame_of, short_of};
 
-use sgx_types::entries::Actor;
-use sgx_types::names::{Cpu, Frame};
+use sgx_types::names::{Actor, Cpu, Frame};
 use text_words::readers::{digest, letter, number, small};
 
 /// A number below 2^16.

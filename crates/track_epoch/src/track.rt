@@ -6,8 +6,8 @@ ghost use Rattle.std.specs.Prelude.{nat_le};
 ghost use Rattle.track_epoch.specs.Tracking.{starting_at, entered, left, tracked, track_answer, number_older, number_newer, number_up_to};
 ghost use Rattle.track_epoch.specs.Tracking.{IsDrained, IsTracking};
 
+use sgx_rules::refusals::Refusal;
 use sgx_types::names::{LAST_EPOCH, PROCESSORS};
-use sgx_types::refusals::Refusal;
 use std::marker::Model;
 
 /// The tracking of one enclave, which Intel SDM volume 3D leaves to the processor (ETRACK, EWB); this one, by epochs,

@@ -1,6 +1,6 @@
 //! Who is told of each turn.
 
-use sgx_types::entries::Actor;
+use sgx_types::names::Actor;
 
 /// Is told of each turn of a worker. Both calls are made outside the lock.
 pub trait Gate: Drop {

@@ -8,7 +8,7 @@ ghost use Rattle.turn_rules.specs.Cursor.{IsCursor, IsRun, left, run_left};
 
 use crate::steps::BuildStep;
 use job_grammar::jobs::{Job, PageLine};
-use sgx_types::entries::PageInit;
+use sgx_types::lawful::PageInit;
 use sgx_types::names::{Kind, Perm};
 
 /// How far the builder is in its job: what is left are `vas` version arrays, then the rest of the enclave that was created

@@ -3,7 +3,7 @@
 ghost use Rattle.std.specs.Prelude.{◌≡◌};
 ghost use Rattle.turn_rules.specs.Script.{is_reply, is_reply_action};
 
-use sgx_types::entries::{Action, Cause, Event};
+use sgx_rules::entries::{Action, Cause, Event};
 
 /// Whether an entry answers an operation of a script. A resumption answers one where the processor was not interrupted.
 pub fn is_reply(interrupted: bool, event: &Event) -> bool

@@ -1,6 +1,6 @@
 //! The steps of the builder.
 
-use sgx_types::entries::PageInit;
+use sgx_types::lawful::PageInit;
 use sgx_types::names::{Kind, Perm};
 
 /// A step of the builder, which is one instruction. Those that make a page (`Va`, `Create` and `Add`) take a free frame.

@@ -4,17 +4,18 @@ use Rattle.std.proofs.Common.{◌||◌, ◌++◌, not, Bool, true, false, if◌t
 use Rattle.std.proofs.Common.{is_some, length, drop, min, nat_le, slice_get, refl, sym, ap, ◌∙◌, arith}
 use Rattle.std.proofs.lemmas.Bool.{eqb-false, eqb-true, le-leb, leb-true}
 use Rattle.std.proofs.lemmas.List.{append-nil}
-use Rattle.sgx_types.specs.declared.entries.AccessOp.{AccessOp}
-use Rattle.sgx_types.specs.declared.entries.AccessOp.TheVariants as accesses
-use Rattle.sgx_types.specs.declared.entries.Action.TheVariants as actions
-use Rattle.sgx_types.specs.declared.entries.Entry.{Entry}
+use Rattle.sgx_rules.specs.declared.entries.AccessOp.{AccessOp}
+use Rattle.sgx_rules.specs.declared.entries.AccessOp.TheVariants as accesses
+use Rattle.sgx_rules.specs.declared.entries.Action.TheVariants as actions
+use Rattle.sgx_rules.specs.declared.entries.Entry.{Entry}
 use Rattle.sgx_types.specs.declared.names.Frame.{Frame}
 use Rattle.sgx_types.specs.declared.names.Page.{Page}
-use Rattle.sgx_types.specs.Flat.{at_offset}
-use Rattle.sgx_types.specs.Frames.{added, content, frame_of, least_free, page_at}
+use Rattle.sgx_rules.specs.Flat.{at_offset}
+use Rattle.sgx_types.specs.Pages.{page_at}
+use Rattle.sgx_rules.specs.Frames.{added, content, frame_of, least_free}
 use Rattle.sgx_types.specs.Making.{Making}
-use Rattle.sgx_types.specs.Processors.{Seat, Stay, holds_number, stay, translations}
-use Rattle.sgx_types.specs.Table.{is_lawful_access}
+use Rattle.sgx_rules.specs.Processors.{Seat, Stay, holds_number, stay, translations}
+use Rattle.sgx_rules.specs.Table.{is_lawful_access}
 use Rattle.cached_translations.specs.declared.processor.Mode.{Mode}
 use Rattle.cached_translations.specs.declared.processor.Mode.TheVariants.{Inside, Outside}
 use Rattle.cached_translations.specs.Modes.{is_inside}

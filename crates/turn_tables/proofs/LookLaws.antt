@@ -2,14 +2,14 @@
 use Rattle.std.proofs.Common.{◌≡◌, ℕ, ◌<◌, ◌≤◌, Bool, true, false, List, Option}
 use Rattle.std.proofs.Common.{length, map, slice_index, refl, sym, ap, subst, ◌∙◌, arith}
 use Rattle.std.proofs.lemmas.Bool.{false≢true, ltb-true, lt-ltb}
-use Rattle.sgx_types.specs.declared.entries.AccessOp.{AccessOp}
-use Rattle.sgx_types.specs.declared.entries.Entry.{Entry}
+use Rattle.sgx_rules.specs.declared.entries.AccessOp.{AccessOp}
+use Rattle.sgx_rules.specs.declared.entries.Entry.{Entry}
 use Rattle.sgx_types.specs.declared.names.Frame.{Frame}
 use Rattle.sgx_types.specs.declared.names.Page.{Page}
-use Rattle.sgx_types.specs.Frames.{added, content, frame_of, least_free}
+use Rattle.sgx_rules.specs.Frames.{added, content, frame_of, least_free}
 use Rattle.sgx_types.specs.Making.{Making}
-use Rattle.sgx_types.specs.Processors.{holds_number, stay, translations}
-use Rattle.sgx_types.specs.Table.{is_lawful_access}
+use Rattle.sgx_rules.specs.Processors.{holds_number, stay, translations}
+use Rattle.sgx_rules.specs.Table.{is_lawful_access}
 use Rattle.job_grammar.specs.Jobs.{JobView, lines_at, tcs_line}
 use Rattle.turn_rules.specs.Script.{is_initialised, saved}
 use Rattle.active_list.specs.Places.{IsPlaced}

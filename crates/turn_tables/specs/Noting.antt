@@ -1,19 +1,19 @@
 -- What an entry does to the tables.
 use Rattle.std.specs.Prelude.{ℕ, ◌≡◌, ◌<◌, ◌+◌, ◌^◌, Bool, true, false, if◌then◌else◌, List, Option, None, Some}
 use Rattle.std.specs.Prelude.{IfSome, drop, is_some, slice_set}
-use Rattle.sgx_types.specs.declared.entries.Action.TheVariants as actions
-use Rattle.sgx_types.specs.declared.entries.Actor.{Actor}
-use Rattle.sgx_types.specs.declared.entries.Actor.TheVariants as actors
-use Rattle.sgx_types.specs.declared.entries.BusWhy.TheVariants as reasons
-use Rattle.sgx_types.specs.declared.entries.Cause.{Cause}
-use Rattle.sgx_types.specs.declared.entries.Cause.TheVariants as causes
-use Rattle.sgx_types.specs.declared.entries.Entry.{Entry}
-use Rattle.sgx_types.specs.declared.entries.Event.{Event}
-use Rattle.sgx_types.specs.declared.entries.Event.TheVariants.{Did, Refused, Kick, Bus}
+use Rattle.sgx_rules.specs.declared.entries.Action.TheVariants as actions
+use Rattle.sgx_types.specs.declared.names.Actor.{Actor}
+use Rattle.sgx_types.specs.declared.names.Actor.TheVariants as actors
+use Rattle.sgx_rules.specs.declared.entries.BusWhy.TheVariants as reasons
+use Rattle.sgx_rules.specs.declared.entries.Cause.{Cause}
+use Rattle.sgx_rules.specs.declared.entries.Cause.TheVariants as causes
+use Rattle.sgx_rules.specs.declared.entries.Entry.{Entry}
+use Rattle.sgx_rules.specs.declared.entries.Event.{Event}
+use Rattle.sgx_rules.specs.declared.entries.Event.TheVariants.{Did, Refused, Kick, Bus}
 use Rattle.sgx_types.specs.declared.names.Page.{Page}
-use Rattle.sgx_types.specs.declared.refusals.Refusal.{Refusal}
-use Rattle.sgx_types.specs.declared.refusals.Refusal.TheVariants as why
-use Rattle.sgx_types.specs.Frames.{page_at}
+use Rattle.sgx_rules.specs.declared.refusals.Refusal.{Refusal}
+use Rattle.sgx_rules.specs.declared.refusals.Refusal.TheVariants as why
+use Rattle.sgx_types.specs.Pages.{page_at}
 use Rattle.cached_translations.specs.declared.processor.Mode.{Mode}
 use Rattle.cached_translations.specs.declared.processor.Mode.TheVariants.{Inside, Outside}
 use Rattle.job_grammar.specs.Jobs.{JobView}

@@ -1,8 +1,8 @@
 -- The tables say what the entries say.
 use Rattle.std.specs.Prelude.{ℕ, ◌≡◌, ◌<◌, ◌≤◌, false, ◌∷◌, List, [], Option, None, Some, drop, length, map}
 use Rattle.std.specs.Prelude.{slice_index_or}
-use Rattle.sgx_types.specs.declared.entries.Actor.{Actor}
-use Rattle.sgx_types.specs.declared.entries.Entry.{Entry}
+use Rattle.sgx_types.specs.declared.names.Actor.{Actor}
+use Rattle.sgx_rules.specs.declared.entries.Entry.{Entry}
 use Rattle.sgx_types.specs.declared.names.Page.{Page}
 use Rattle.job_grammar.specs.Jobs.{JobView, lines_at, tcs_line}
 use Rattle.job_grammar.specs.Valid.{IsValid}

@@ -2,7 +2,7 @@
 
 ghost use Rattle.std.specs.Prelude.{◌≡◌, ◌<◌, List, length, map};
 ghost use Rattle.sgx_types.specs.Making.{Making};
-ghost use Rattle.sgx_types.specs.declared.entries.Entry.{Entry};
+ghost use Rattle.sgx_rules.specs.declared.entries.Entry.{Entry};
 ghost use Rattle.driver_rules.specs.Turns.{cpu_due};
 ghost use Rattle.driver_steps.specs.Agrees.{Agrees};
 ghost use Rattle.turn_rules.specs.Cursor.{IsCursor};
@@ -25,8 +25,8 @@ use driver_rules::waits::Why;
 use driver_tables::driver::Driver;
 use job_grammar::jobs::{Job, Op};
 use paging_machine::machine::Machine;
-use sgx_types::entries::{Actor, Cause};
-use sgx_types::names::{Cpu, Page};
+use sgx_rules::entries::Cause;
+use sgx_types::names::{Actor, Cpu, Page};
 
 impl Turns {
     /// What a processor does next. Constant time.

@@ -2,7 +2,7 @@
 
 ghost use Rattle.std.specs.Prelude.{◌≡◌, List, is_some, length, map};
 ghost use Rattle.sgx_types.specs.Making.{Making};
-ghost use Rattle.sgx_types.specs.declared.entries.Entry.{Entry};
+ghost use Rattle.sgx_rules.specs.declared.entries.Entry.{Entry};
 ghost use Rattle.turn_rules.specs.Script.{step_action};
 ghost use Rattle.driver_rules.specs.Turns.{builder_due};
 ghost use Rattle.driver_steps.specs.Agrees.{Agrees};
@@ -17,7 +17,7 @@ use driver_rules::waits::Why;
 use driver_tables::driver::Driver;
 use job_grammar::jobs::Job;
 use paging_machine::machine::Machine;
-use sgx_types::entries::Action;
+use sgx_rules::entries::Action;
 use sgx_types::names::{Frame, Page};
 use turn_rules::steps::BuildStep;
 

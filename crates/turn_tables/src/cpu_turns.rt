@@ -3,7 +3,7 @@
 ghost use Rattle.std.specs.Prelude.{◌≡◌, ◌<◌, ◌^◌, length, replicate, slice_set, IfOk};
 ghost use Rattle.turn_tables.specs.CpuTurns.{first_turn, replying, turn_at};
 
-use sgx_types::entries::BusWhy;
+use sgx_rules::entries::BusWhy;
 use sgx_types::names::{Cpu, Frame, Memory, Page};
 use std::alloc::Global;
 use std::marker::Model;

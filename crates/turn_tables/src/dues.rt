@@ -2,7 +2,7 @@
 
 use crate::steps::CpuStep;
 use driver_rules::waits::Why;
-use sgx_types::entries::{Action, BusWhy};
+use sgx_rules::entries::{Action, BusWhy};
 use sgx_types::names::{Frame, Page};
 
 /// What is due to the builder.

@@ -20,8 +20,8 @@ use active_list::active::Active;
 use cached_translations::processor::Mode;
 use job_grammar::jobs::{Job, Op};
 use paging_machine::machine::Machine;
-use sgx_types::entries::{Action, Actor, Cause, Entry, Event};
-use sgx_types::names::{Cpu, Page};
+use sgx_rules::entries::{Action, Cause, Entry, Event};
+use sgx_types::names::{Actor, Cpu, Page};
 use turn_rules::replies::is_reply;
 use turn_rules::steps::BuildStep;
 

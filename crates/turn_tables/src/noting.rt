@@ -1,7 +1,7 @@
 //! What an entry does to the tables.
 
 ghost use Rattle.std.specs.Prelude.{ℕ, ◌≡◌, ◌<◌, ◌∷◌, ◌^◌, List, length, IfSome};
-ghost use Rattle.sgx_types.specs.declared.entries.Entry.{Entry};
+ghost use Rattle.sgx_rules.specs.declared.entries.Entry.{Entry};
 ghost use Rattle.sgx_types.specs.declared.names.Page.{Page};
 ghost use Rattle.turn_rules.specs.Cursor.{IsCursor};
 ghost use Rattle.turn_tables.specs.CpuTurns.{turn_at};
@@ -17,8 +17,8 @@ use crate::tcs_turns::TcsTurns;
 use crate::turns::Turns;
 use cached_translations::processor::Mode;
 use job_grammar::jobs::Job;
-use sgx_types::entries::{Action, Actor, Entry, Event};
-use sgx_types::names::Page;
+use sgx_rules::entries::{Action, Entry, Event};
+use sgx_types::names::{Actor, Page};
 use turn_rules::cursor::BuildCursor;
 
 impl Turns {

@@ -14,7 +14,7 @@ use cached_translations::processor::Mode;
 use driver_tables::driver::Driver;
 use job_grammar::jobs::Op;
 use paging_machine::machine::Machine;
-use sgx_types::entries::{AccessOp, Cause};
+use sgx_rules::entries::{AccessOp, Cause};
 use sgx_types::names::{Cpu, Frame, Page};
 
 // Who is turned away names this frame, and is refused whatever it holds.

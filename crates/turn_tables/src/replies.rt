@@ -6,9 +6,9 @@ ghost use Rattle.turn_tables.specs.Noting.{broken_after, broken_by, broken_in, e
 
 use crate::cpu_turns::{CpuTurn, Interruption, Last};
 use cached_translations::processor::Mode;
-use sgx_types::entries::{Action, BusWhy, Cause, Event};
+use sgx_rules::entries::{Action, BusWhy, Cause, Event};
+use sgx_rules::refusals::Refusal;
 use sgx_types::names::Page;
-use sgx_types::refusals::Refusal;
 use turn_rules::replies::is_reply;
 
 /// What stands of a processor behind an event of its own, before which it stood so.

@@ -3,7 +3,7 @@
 ghost use Rattle.std.specs.Prelude.{◌≡◌};
 ghost use Rattle.turn_tables.specs.Due.{made_by};
 
-use sgx_types::entries::{AccessOp, Action, Cause};
+use sgx_rules::entries::{AccessOp, Action, Cause};
 use sgx_types::names::Frame;
 
 /// An instruction of a processor, with its operands as `Action` has them: one of those that are no other actor's. It takes 24 bytes,

@@ -6,8 +6,7 @@ ghost use Rattle.turn_tables.specs.Shown.{ShowsTurns};
 use crate::cpu_turns::CpuTurns;
 use crate::tcs_turns::TcsTurns;
 use job_grammar::jobs::Job;
-use sgx_types::entries::Actor;
-use sgx_types::names::Memory;
+use sgx_types::names::{Actor, Memory};
 use std::alloc::Global;
 use turn_rules::cursor::BuildCursor;
 

@@ -3,7 +3,7 @@
 use crate::worlds::{World, made};
 use machine_book::book::Turn;
 use seal_record::unseal::unseal;
-use sgx_types::entries::{Action, Answer, Event};
+use sgx_rules::entries::{Action, Answer, Event};
 use std::test::Fail;
 
 #[test]

@@ -8,7 +8,7 @@ use job_text::reader::read_job;
 use machine_book::book::{MachineBook, Turn};
 use seal_record::seal::{SealWork, SealedWork, seal};
 use seal_record::unseal::{UnsealWork, UnsealedWork};
-use sgx_types::entries::Entry;
+use sgx_rules::entries::Entry;
 use sgx_types::names::{Cpu, Memory};
 use std::alloc::Global;
 use std::process::Abort;

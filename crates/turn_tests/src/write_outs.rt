@@ -3,7 +3,8 @@
 use crate::worlds::{World, made};
 use machine_book::book::Turn;
 use seal_record::seal::seal;
-use sgx_types::entries::{Action, Actor, Entry, Event};
+use sgx_rules::entries::{Action, Entry, Event};
+use sgx_types::names::Actor;
 use std::test::Fail;
 
 // What an entry is.

@@ -3,9 +3,9 @@ use Rattle.std.proofs.Common.{Some, None, refl, replicate, arith}
 use lib.Count.{ones}
 use Rattle.sgx_types.specs.Counts.{any_below, count_below}
 use Rattle.sgx_types.specs.declared.names.Kind.TheVariants as kinds
-use Rattle.sgx_types.specs.Rules.{Along, EvictRule, RefusalRule}
-use Rattle.sgx_types.specs.Starts.{Start}
-use Rattle.sgx_types.specs.declared.entries.Actor.TheVariants.{Reclaimer}
+use Rattle.sgx_rules.specs.Rules.{Along, EvictRule, RefusalRule}
+use Rattle.sgx_rules.specs.Starts.{Start}
+use Rattle.sgx_types.specs.declared.names.Actor.TheVariants.{Reclaimer}
 use Rattle.turn_rules.specs.Machines.{machine_of}
 use Rattle.worked_traces.specs.Evictions.{came_back, first_slot, sevens}
 use Rattle.worked_traces.specs.Traces.{first_job, first_trace, rw_perm}

@@ -5,11 +5,12 @@ use Rattle.std.specs.Int.{is_power_of_two}
 use Rattle.std.proofs.lemmas.Bool.{eqb-true}
 use Rattle.std.proofs.lemmas.List.Elements.{All-head}
 use lib.Count.{ones}
-use Rattle.sgx_types.specs.declared.entries.Entry.{Entry}
+use Rattle.sgx_rules.specs.declared.entries.Entry.{Entry}
 use Rattle.sgx_types.specs.declared.names.Page.{Page}
-use Rattle.sgx_types.specs.Frames.{Content, Put, content, held_after, is_page, is_sealing, made_before, page_at, put_by, same_page}
-use Rattle.sgx_types.specs.Processors.{BareTranslation}
-use Rattle.sgx_types.specs.Rules.{Along, AtEachPlace, FlatRule, NoPageTwice, NoneStale, IsCurrent}
+use Rattle.sgx_types.specs.Pages.{page_at, same_page}
+use Rattle.sgx_rules.specs.Frames.{Content, Put, content, held_after, is_page, is_sealing, made_before, put_by}
+use Rattle.sgx_rules.specs.Processors.{BareTranslation}
+use Rattle.sgx_rules.specs.Rules.{Along, AtEachPlace, FlatRule, NoPageTwice, NoneStale, IsCurrent}
 use Rattle.worked_traces.specs.Traces.{first_trace, first_build, fill, enter, frame_beyond, frame_twice, page_twice, adds_exchanged}
 use Rattle.worked_traces.specs.Traces.{epa_by_reclaimer, no_fill, fill_from_other_frame}
 

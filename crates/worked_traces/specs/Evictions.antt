@@ -1,12 +1,12 @@
 -- The page of the small job goes out and comes back, and traces that are wrong in one place of it. Entries stand newest first.
 use Rattle.std.specs.Prelude.{ℕ, List, ◌∷◌, replicate}
-use Rattle.sgx_types.specs.declared.entries.Action.TheVariants as actions
-use Rattle.sgx_types.specs.declared.entries.Actor.TheVariants.{Reclaimer}
-use Rattle.sgx_types.specs.declared.entries.Answer.TheVariants as answers
-use Rattle.sgx_types.specs.declared.entries.Entry.{Entry}
+use Rattle.sgx_rules.specs.declared.entries.Action.TheVariants as actions
+use Rattle.sgx_types.specs.declared.names.Actor.TheVariants.{Reclaimer}
+use Rattle.sgx_rules.specs.declared.entries.Answer.TheVariants as answers
+use Rattle.sgx_rules.specs.declared.entries.Entry.{Entry}
 use Rattle.sgx_types.specs.declared.names.Page.{Page}
 use Rattle.sgx_types.specs.declared.names.SlotAt.{SlotAt}
-use Rattle.sgx_types.specs.Frames.{page_at}
+use Rattle.sgx_types.specs.Pages.{page_at}
 use Rattle.turn_rules.specs.Script.{frame_at}
 use Rattle.worked_traces.specs.Traces.{did, first_build, first_trace}
 

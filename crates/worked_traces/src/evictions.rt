@@ -1,9 +1,9 @@
 //! A page goes out and comes back: the rules that the trace keeps, and those that traces which are wrong in one place of it break.
 
 ghost use Rattle.std.specs.Prelude.{◌≡◌, ◌∷◌};
-ghost use Rattle.sgx_types.specs.Frames.{IsLoading, Free, content};
-ghost use Rattle.sgx_types.specs.Fresh.{FreshRule};
-ghost use Rattle.sgx_types.specs.Rules.{Along, EvictRule, FitsRule, FlatRule, RefusalRule};
+ghost use Rattle.sgx_rules.specs.Frames.{IsLoading, Free, content};
+ghost use Rattle.sgx_rules.specs.Fresh.{FreshRule};
+ghost use Rattle.sgx_rules.specs.Rules.{Along, EvictRule, FitsRule, FlatRule, RefusalRule};
 ghost use Rattle.turn_rules.specs.Machines.{machine_of};
 ghost use Rattle.worked_traces.specs.Evictions.{came_back, enter_by_reclaimer, gone_out, no_track, other_page_in, other_version_in};
 ghost use Rattle.worked_traces.specs.Evictions.{other_version_out, second_start, sevens, start_in};

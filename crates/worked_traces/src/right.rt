@@ -1,6 +1,6 @@
 //! The right trace of a small job: it keeps every rule.
 
-ghost use Rattle.sgx_types.specs.Rules.{Along, Fits, FlatRule, KeepsRules, RefusalRule, Stale};
+ghost use Rattle.sgx_rules.specs.Rules.{Along, Fits, FlatRule, KeepsRules, RefusalRule, Stale};
 ghost use Rattle.turn_rules.specs.Machines.{machine_of};
 ghost use Rattle.driver_rules.specs.Scripts.{Script};
 ghost use Rattle.worked_traces.specs.Traces.{first_job, first_trace};

@@ -1,6 +1,6 @@
 //! Traces that are wrong in the build: the rules that each breaks, and rules that it keeps.
 
-ghost use Rattle.sgx_types.specs.Rules.{Along, AtEachPlace, FitsRule, FlatRule, KeepsRules, NoPageTwice, RefusalRule};
+ghost use Rattle.sgx_rules.specs.Rules.{Along, AtEachPlace, FitsRule, FlatRule, KeepsRules, NoPageTwice, RefusalRule};
 ghost use Rattle.turn_rules.specs.Machines.{machine_of};
 ghost use Rattle.driver_rules.specs.Scripts.{ScriptRule};
 ghost use Rattle.worked_traces.specs.Traces.{adds_exchanged, epa_by_reclaimer, first_job, frame_beyond, frame_twice, page_twice};

@@ -1,6 +1,6 @@
 //! Traces that are wrong in the script of a processor: the rules that each breaks, and rules that it keeps.
 
-ghost use Rattle.sgx_types.specs.Rules.{Along, AtEachPlace, Fits, FitsRule, FlatRule, KeepsRules, NoneStale, RefusalRule, StaleRule};
+ghost use Rattle.sgx_rules.specs.Rules.{Along, AtEachPlace, Fits, FitsRule, FlatRule, KeepsRules, NoneStale, RefusalRule, StaleRule};
 ghost use Rattle.turn_rules.specs.Machines.{machine_of};
 ghost use Rattle.driver_rules.specs.Scripts.{IsEnded, Script, ScriptRule};
 ghost use Rattle.worked_traces.specs.Traces.{enter_before_init, fill_from_other_frame, first_job, load_by_builder, load_by_other_cpu};

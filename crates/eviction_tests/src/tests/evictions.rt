@@ -9,8 +9,8 @@ use self::rows::Told::{Done, Forged, Is, Left, Number, Refused};
 use self::world::play;
 use super::perms::READ_WRITE;
 use epcm_entry::entry_view::EntryView;
+use sgx_rules::refusals::Refusal;
 use sgx_types::names::{Kind, Page};
-use sgx_types::refusals::Refusal;
 use std::test::Fail;
 
 // The bytes 1 to 8, low byte first.

@@ -9,8 +9,8 @@ use self::rows::Row::{self, AddEach, Bytes, NoBytes, Step};
 use self::rows::{BUILDER, FIRST, PLAIN, READ, READ_WRITE, SECOND};
 use self::world::play;
 use flat_machine::reply::FlatReply::{Did, Refused};
-use sgx_types::entries::{AccessOp, Answer, PfWhy};
-use sgx_types::refusals::Refusal;
+use sgx_rules::entries::{AccessOp, Answer, PfWhy};
+use sgx_rules::refusals::Refusal;
 use std::test::Fail;
 
 const SMALL_JOB: &[Row] = &[

@@ -9,8 +9,8 @@ use self::rows::Told::{self, Done, Number, Refused};
 use self::world::play;
 use super::perms::{EXECUTE, NONE, READ, READ_WRITE};
 use cached_translations::cache::Translation;
+use sgx_rules::refusals::Refusal;
 use sgx_types::names::{Frame, Kind};
-use sgx_types::refusals::Refusal;
 use std::test::Fail;
 
 // Eight frames: 0 is free, 1 is being loaded, 2 holds page 0 of enclave 1, a TCS, and the next its pages 1 (r), 2 (rw),

@@ -9,9 +9,9 @@ use self::rows::Told::{self, Created, Digest, Done, Is, Number, Refused};
 use self::world::play;
 use super::perms::{NONE, READ, READ_WRITE, WRITE};
 use epcm_entry::entry_view::EntryView;
-use sgx_types::entries::PageInit;
+use sgx_rules::refusals::Refusal;
+use sgx_types::lawful::PageInit;
 use sgx_types::names::{Kind, Page};
-use sgx_types::refusals::Refusal;
 use std::test::Fail;
 
 // Of five frames 0 is being loaded, 1 holds the SECS of an enclave of 16 pages, and the others are free.

@@ -8,7 +8,7 @@ use self::rows::Told::{Done, Number, Refused};
 use self::rows::{Row, Way};
 use self::world::play;
 use super::perms::{READ, READ_WRITE};
-use sgx_types::refusals::Refusal;
+use sgx_rules::refusals::Refusal;
 use std::test::Fail;
 
 const STACK: &[Row] = &[

@@ -5,9 +5,9 @@ use super::instructions::Instruction::*;
 use super::rows::Row::{self, Step};
 use super::rows::{BUILDER, DONE, NONE, READ, WRITE};
 use super::world::play;
-use sgx_types::entries::Answer;
+use sgx_rules::entries::Answer;
+use sgx_rules::refusals::Refusal;
 use sgx_types::names::Kind;
-use sgx_types::refusals::Refusal;
 use std::test::Fail;
 
 const REFUSALS: &[Row] = &[

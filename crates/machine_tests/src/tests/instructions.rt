@@ -1,7 +1,8 @@
 //! Instructions by what tells them apart in these tests.
 
 use super::rows::{NONE, READ_WRITE};
-use sgx_types::entries::{AccessOp, Action, Cause, PageInit};
+use sgx_rules::entries::{AccessOp, Action, Cause};
+use sgx_types::lawful::PageInit;
 use sgx_types::names::{Frame, Kind, Page, Perm, SlotAt};
 
 // An instruction by what tells it from the others of these tests, in the order of its fields. Where no enclave is named it is

@@ -7,9 +7,9 @@ use super::rows::Row::{self, EndIn, EndOut, EndOutOther, Kick, Step, Tells};
 use super::rows::Told::Count;
 use super::rows::{BUILDER, DONE, FIRST, RECLAIMER};
 use super::world::play;
-use sgx_types::entries::{Answer, Cause};
+use sgx_rules::entries::{Answer, Cause};
+use sgx_rules::refusals::Refusal;
 use sgx_types::names::Page;
-use sgx_types::refusals::Refusal;
 use std::test::Fail;
 
 // Python's hashlib: the tag of page 2 of 512 words 7 under the zero key and version 1.

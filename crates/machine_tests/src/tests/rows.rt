@@ -2,10 +2,10 @@
 
 use super::instructions::Instruction;
 use cached_translations::processor::Mode;
-use sgx_types::entries::{AccessOp, Actor, Answer};
+use sgx_rules::entries::{AccessOp, Answer};
+use sgx_rules::refusals::Refusal;
 use sgx_types::layouts::TcsFields;
-use sgx_types::names::{Cpu, Frame, Perm};
-use sgx_types::refusals::Refusal;
+use sgx_types::names::{Actor, Cpu, Frame, Perm};
 
 pub const BUILDER: Actor = Actor::Builder;
 

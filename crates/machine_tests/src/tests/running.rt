@@ -7,9 +7,9 @@ use super::rows::Row::{self, AddEach, Step, Tells, TouchEach};
 use super::rows::Told::Is;
 use super::rows::{BUILDER, DONE, FIRST, READ, SECOND};
 use super::world::play;
-use sgx_types::entries::{AccessOp, Action, Answer, Cause, PfWhy};
+use sgx_rules::entries::{AccessOp, Action, Answer, Cause, PfWhy};
+use sgx_rules::refusals::Refusal;
 use sgx_types::names::{Frame, Kind};
-use sgx_types::refusals::Refusal;
 use std::test::Fail;
 
 const STACK: &[Row] = &[

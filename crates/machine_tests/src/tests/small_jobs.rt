@@ -8,10 +8,11 @@ use super::rows::Told::{self, Count, Free, Is};
 use super::rows::{BUILDER, DONE, FIRST, NONE, READ, READ_EXECUTE, SECOND};
 use super::world::play;
 use cached_translations::processor::Mode;
-use sgx_types::entries::{AccessOp, Action, Answer, PageInit};
+use sgx_rules::entries::{AccessOp, Action, Answer};
+use sgx_rules::refusals::Refusal;
+use sgx_types::lawful::PageInit;
 use sgx_types::layouts::TcsFields;
 use sgx_types::names::{Frame, Kind};
-use sgx_types::refusals::Refusal;
 use std::test::Fail;
 
 const TCS: TcsFields = TcsFields {

@@ -2,8 +2,8 @@
 
 use epcm_entry::entry_view::EntryView;
 use epcm_entry::epc::Epc;
+use sgx_rules::refusals::Refusal;
 use sgx_types::names::{Frame, Kind, Page, Perm};
-use sgx_types::refusals::Refusal;
 use std::process::Abort;
 use std::test::Fail;
 

@@ -4,8 +4,8 @@ ghost use Rattle.std.specs.Prelude.{◌≡◌, true, IfOk};
 ghost use Rattle.version_array.specs.Slots.{IsSlot};
 ghost use Rattle.version_array.specs.Keeper.{is_out};
 
+use sgx_rules::refusals::Refusal;
 use sgx_types::names::{Frame, SlotAt};
-use sgx_types::refusals::Refusal;
 use std::process::Abort;
 use std::test::Fail;
 use version_array::slot_keeper::SlotKeeper;

@@ -4,8 +4,7 @@ ghost use Rattle.std.specs.Prelude.{◌≡◌, ◌∷◌, []};
 ghost use Rattle.active_list.specs.Active.{new_active};
 
 use active_list::active::Active;
-use sgx_types::entries::Actor;
-use sgx_types::names::{Cpu, Page};
+use sgx_types::names::{Actor, Cpu, Page};
 use std::process::Abort;
 use std::test::Fail;
 

@@ -2,8 +2,9 @@
 
 use super::rows::Row::{self, Did};
 use super::rows::{DIGEST, FIRST, NONE, PLAIN, READ_WRITE};
-use sgx_types::entries::{Action, Actor, Answer, PageInit};
-use sgx_types::names::{Frame, Kind, Perm};
+use sgx_rules::entries::{Action, Answer};
+use sgx_types::lawful::PageInit;
+use sgx_types::names::{Actor, Frame, Kind, Perm};
 
 // An enclave of three pages is built, and a processor loads one word of it.
 pub const WHOLE: &[Row] = &[

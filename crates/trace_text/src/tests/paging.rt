@@ -2,9 +2,9 @@
 
 use super::rows::Row::{self, Did, Other, Refused};
 use super::rows::{DIGEST, FIRST, PLAIN};
-use sgx_types::entries::{Action, Actor, Answer, BusWhy, Event, Look};
-use sgx_types::names::{Cpu, Frame, Page, SlotAt};
-use sgx_types::refusals::Refusal;
+use sgx_rules::entries::{Action, Answer, BusWhy, Event, Look};
+use sgx_rules::refusals::Refusal;
+use sgx_types::names::{Actor, Cpu, Frame, Page, SlotAt};
 
 const OUTSIDE: Page = Page {
     enclave: 1,

@@ -1,8 +1,8 @@
 //! What a row's entry is made of.
 
-use sgx_types::entries::{Action, Actor, Answer, Entry, Event};
-use sgx_types::names::{Cpu, Perm};
-use sgx_types::refusals::Refusal;
+use sgx_rules::entries::{Action, Answer, Entry, Event};
+use sgx_rules::refusals::Refusal;
+use sgx_types::names::{Actor, Cpu, Perm};
 
 pub const FIRST: Actor = Actor::Cpu(Cpu(0));
 

@@ -2,8 +2,8 @@
 
 use super::rows::Row::{self, Did};
 use super::rows::{PLAIN, SECOND};
-use sgx_types::entries::{AccessOp, Action, Actor, Answer, Cause, PfWhy};
-use sgx_types::names::{Cpu, Frame};
+use sgx_rules::entries::{AccessOp, Action, Answer, Cause, PfWhy};
+use sgx_types::names::{Actor, Cpu, Frame};
 
 // What processors do, inside and outside.
 pub const PROCESSORS: &[Row] = &[

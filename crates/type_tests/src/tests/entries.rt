@@ -1,8 +1,8 @@
 //! Entries, as a failed test shows them.
 
-use sgx_types::entries::{Action, Actor, Answer, BusWhy, Entry, Event, Look};
-use sgx_types::names::{Cpu, Frame, Page};
-use sgx_types::refusals::Refusal;
+use sgx_rules::entries::{Action, Answer, BusWhy, Entry, Event, Look};
+use sgx_rules::refusals::Refusal;
+use sgx_types::names::{Actor, Cpu, Frame, Page};
 use std::test::Fail;
 
 fn entry(actor: Actor, event: Event) -> Entry {

@@ -1,6 +1,6 @@
 //! Refusals and their numbers.
 
-use sgx_types::refusals::{Refusal, code};
+use sgx_rules::refusals::{Refusal, code};
 
 // The refusals in the order of their numbers.
 const LISTED: [Refusal; 32] = [

@@ -1,6 +1,6 @@
 //! Epochs of enclaves and of the processors inside.
 
-use sgx_types::refusals::Refusal;
+use sgx_rules::refusals::Refusal;
 use track_epoch::track::Track;
 use track_epoch::tracks::Tracks;
 

@@ -1,5 +1,5 @@
 use Rattle.std.proofs.Common.{IfOk, sym, subst, ◌∙◌}
-use Rattle.sgx_types.specs.declared.entries.Entry.{Entry}
+use Rattle.sgx_rules.specs.declared.entries.Entry.{Entry}
 use Rattle.paging_machine.specs.Parts.{state_of}
 use Rattle.audit_machine.specs.Asked.{TakesBack}
 use Rattle.audit_machine.proofs.ComeLaws.{none_comes, refused_entry}

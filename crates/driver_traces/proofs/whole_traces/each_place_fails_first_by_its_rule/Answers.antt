@@ -1,6 +1,6 @@
 use Rattle.std.proofs.Common.{refl}
 use lib.Count.{ones}
-use Rattle.sgx_types.specs.declared.entries.Actor.TheVariants.{Builder, Reclaimer}
+use Rattle.sgx_types.specs.declared.names.Actor.TheVariants.{Builder, Reclaimer}
 use Rattle.sgx_types.specs.Counts.{any_below, count_below}
 use Rattle.run_history.specs.declared.rules.Rule.TheVariants as rules
 use Rattle.driver_traces.specs.Faults.{first_of}

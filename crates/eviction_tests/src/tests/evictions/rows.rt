@@ -1,8 +1,8 @@
 //! What a table's row asks of the instructions that move pages, and what it tells.
 
 use epcm_entry::entry_view::EntryView;
+use sgx_rules::refusals::Refusal;
 use sgx_types::names::{Kind, Page};
-use sgx_types::refusals::Refusal;
 
 // A step, and what it tells.
 pub type Row = (Step, Told);

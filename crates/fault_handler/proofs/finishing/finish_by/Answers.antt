@@ -1,5 +1,5 @@
 use Rattle.std.proofs.Common.{sym, subst, ◌∙◌, rules}
-use Rattle.sgx_types.specs.declared.entries.Actor.TheVariants as actors
+use Rattle.sgx_types.specs.declared.names.Actor.TheVariants as actors
 use Rattle.paging_machine.specs.Parts.{state_of}
 use Rattle.paging_laws.specs.Steps.{IsReloaded}
 use Rattle.fault_handler.specs.Finishing.{CarriesLoad}

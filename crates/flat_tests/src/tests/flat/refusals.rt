@@ -5,9 +5,9 @@ use super::rows::Row::{self, Step};
 use super::rows::{BUILDER, FIRST, NONE, PLAIN, READ, READ_WRITE, SECOND, WRITE};
 use super::world::play;
 use flat_machine::reply::FlatReply::{Did, Refused};
-use sgx_types::entries::{AccessOp, Answer};
+use sgx_rules::entries::{AccessOp, Answer};
+use sgx_rules::refusals::Refusal;
 use sgx_types::names::Kind;
-use sgx_types::refusals::Refusal;
 use std::test::Fail;
 
 const BUILDS: &[Row] = &[

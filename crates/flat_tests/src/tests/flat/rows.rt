@@ -1,8 +1,9 @@
 //! What a table's row asks of flat memory.
 
 use flat_machine::reply::FlatReply::{self, Did};
-use sgx_types::entries::{AccessOp, Action, Actor, Answer, Cause, PageInit};
-use sgx_types::names::{Cpu, Frame, Kind, Perm};
+use sgx_rules::entries::{AccessOp, Action, Answer, Cause};
+use sgx_types::lawful::PageInit;
+use sgx_types::names::{Actor, Cpu, Frame, Kind, Perm};
 
 pub const BUILDER: Actor = Actor::Builder;
 

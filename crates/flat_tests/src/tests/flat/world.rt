@@ -1,15 +1,15 @@
 //! How a table is played on flat memory.
 
 ghost use Rattle.std.specs.Prelude.{◌≡◌, IsTrue, true};
-ghost use Rattle.sgx_types.specs.Flat.{is_visible};
+ghost use Rattle.sgx_rules.specs.Flat.{is_visible};
 ghost use Rattle.flat_machine.specs.Step.{IsItsActor};
 
 use super::rows::{BUILDER, Instruction, PLAIN, READ_WRITE, Row};
 use flat_machine::flat::Flat;
 use flat_machine::reply::FlatReply;
 use job_text::reader::read_job;
-use sgx_types::entries::{Action, Actor};
-use sgx_types::names::{Memory, PROCESSORS, Page};
+use sgx_rules::entries::Action;
+use sgx_types::names::{Actor, Memory, PROCESSORS, Page};
 use std::alloc::Global;
 use std::process::Abort;
 use std::test::Fail;

@@ -1,8 +1,8 @@
 //! What a table's row asks of accesses, and what it tells.
 
 use cached_translations::cache::Translation;
+use sgx_rules::refusals::Refusal;
 use sgx_types::names::{Kind, Perm};
-use sgx_types::refusals::Refusal;
 
 // A step, and what it tells.
 pub type Row = (Step, Told);

@@ -1,9 +1,9 @@
 //! What a table's row asks of a build, and what it tells.
 
 use epcm_entry::entry_view::EntryView;
-use sgx_types::entries::PageInit;
+use sgx_rules::refusals::Refusal;
+use sgx_types::lawful::PageInit;
 use sgx_types::names::{Kind, Perm};
-use sgx_types::refusals::Refusal;
 
 // A step, and what it tells.
 pub type Row = (Step, Told);

@@ -1,7 +1,7 @@
 //! An EPC and an enclave, and how a table is played on them.
 
 ghost use Rattle.std.specs.Prelude.{◌≡◌, IsTrue, IfSome};
-ghost use Rattle.sgx_types.specs.Frames.{enclave_in};
+ghost use Rattle.sgx_rules.specs.Frames.{enclave_in};
 ghost use Rattle.epcm_entry.specs.Sights.{sight_in};
 
 use super::rows::{Row, Step, Told};

@@ -1,7 +1,7 @@
 //! What a table's row asks of a processor that enters and leaves, and what it tells.
 
+use sgx_rules::refusals::Refusal;
 use sgx_types::names::Perm;
-use sgx_types::refusals::Refusal;
 
 // A step, and what it tells.
 pub type Row = (Step, Told);

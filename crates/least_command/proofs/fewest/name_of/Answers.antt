@@ -2,7 +2,7 @@ use Rattle.std.proofs.Common.{◌≡◌, ◌+◌, ℕ, Option, Some, None, cond,
 use Rattle.std.specs.HashMap.{get, hash_map_len}
 use Rattle.std.specs.Option.{is_some}
 use Rattle.sgx_types.specs.declared.names.Page.{Page}
-use Rattle.sgx_types.specs.Frames.{same_page}
+use Rattle.sgx_types.specs.Pages.{same_page}
 use Rattle.least_command.specs.Kept.{page_of, same_access}
 use Rattle.least_command.specs.Naming.{AreNamed, access_of, name}
 use Rattle.least_command.proofs.NamingLaws.{found_named, new_named}

@@ -2,7 +2,7 @@ use Rattle.page_commands.proofs.CommandLaws.{demo-by}
 use Rattle.std.proofs.Common.{List}
 use Rattle.io_edges.specs.Sinks.{GivesPart}
 use Rattle.run_summary.specs.Summary.{summary_of}
-use Rattle.sgx_types.specs.declared.entries.Entry.{Entry}
+use Rattle.sgx_rules.specs.declared.entries.Entry.{Entry}
 use Rattle.page_commands.proofs.making.demo_command.Goals as goal
 
 pub returns-in-Ok-run_job-clause-broke : goal.returns-in-Ok-run_job-clause-broke

@@ -1,6 +1,6 @@
 use Rattle.std.proofs.Common.{List, reverse, inr}
 use Rattle.job_grammar.specs.Jobs.{JobView}
-use Rattle.sgx_types.specs.declared.entries.Entry.{Entry}
+use Rattle.sgx_rules.specs.declared.entries.Entry.{Entry}
 use Rattle.page_commands.specs.Runs.{HalfGiven}
 use Rattle.page_commands.proofs.CommandLaws.{ran-by}
 use Rattle.page_commands.proofs.running.run_command.Goals as goal

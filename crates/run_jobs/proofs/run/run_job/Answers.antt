@@ -2,7 +2,7 @@ use Rattle.std.proofs.Common.{subst, reverse}
 use Rattle.std.specs.Prelude.{List}
 use Rattle.run_jobs.proofs.RunLaws.{whole_of}
 use Rattle.run_jobs.specs.Ends.{IsEndOf}
-use Rattle.sgx_types.specs.declared.entries.Entry.{Entry}
+use Rattle.sgx_rules.specs.declared.entries.Entry.{Entry}
 use Rattle.run_jobs.proofs.run.run_job.Goals as goal
 
 pub returns-clause-run : goal.returns-clause-run

@@ -1,6 +1,6 @@
 use Rattle.std.proofs.Common.{◌≡◌, ◌-◌, ◌∷◌, ap, subst, sym, ◌∙◌, refl, set}
-use Rattle.sgx_types.specs.declared.entries.Event.TheVariants.{Did}
-use Rattle.sgx_types.specs.Processors.{Enters, Keeps, Leaves, Seat}
+use Rattle.sgx_rules.specs.declared.entries.Event.TheVariants.{Did}
+use Rattle.sgx_rules.specs.Processors.{Enters, Keeps, Leaves, Seat}
 use Rattle.epoch_words.specs.Known.{Known}
 use Rattle.epoch_words.specs.Seen.{HasRoom, tracked}
 use Rattle.epoch_words.specs.Seen as words

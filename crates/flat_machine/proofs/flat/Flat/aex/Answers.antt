@@ -1,5 +1,5 @@
 use Rattle.std.proofs.Common.{ap, sym, ◌∙◌}
-use Rattle.sgx_types.specs.Flat.{FlatMemory}
+use Rattle.sgx_rules.specs.Flat.{FlatMemory}
 use Rattle.flat_machine.specs.Parts.{inside_of}
 use Rattle.flat_machine.proofs.flat.Flat.aex.Goals as goal
 

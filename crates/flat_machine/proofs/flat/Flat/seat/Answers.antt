@@ -1,6 +1,6 @@
 use Rattle.std.proofs.Common.{ap, ◌∙◌, is_some}
-use Rattle.sgx_types.specs.Flat.{FlatMemory}
-use Rattle.sgx_types.specs.Frames.{page_at}
+use Rattle.sgx_rules.specs.Flat.{FlatMemory}
+use Rattle.sgx_types.specs.Pages.{page_at}
 use Rattle.flat_machine.proofs.flat.Flat.seat.Goals as goal
 
 pub set_busy-requires : goal.set_busy-requires

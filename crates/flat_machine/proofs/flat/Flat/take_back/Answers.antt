@@ -1,7 +1,7 @@
 use Rattle.std.proofs.Common.{ap, ◌∙◌, ◌≡◌, ◌+◌, ◌-◌, ◌/◌, is_some, get_or}
-use Rattle.sgx_types.specs.Flat.{FlatMemory, with_words, with_cssa, fields_in, entered, words_of, resumed_word}
-use Rattle.sgx_types.specs.Frames.{page_at}
-use Rattle.sgx_types.specs.Table.{TcsSight}
+use Rattle.sgx_rules.specs.Flat.{FlatMemory, with_words, with_cssa, fields_in, entered, words_of, resumed_word}
+use Rattle.sgx_types.specs.Pages.{page_at}
+use Rattle.sgx_rules.specs.Table.{TcsSight}
 use Rattle.flat_machine.specs.Parts.{memory_of}
 use Rattle.flat_machine.proofs.Rows.{still_there}
 use Rattle.flat_machine.proofs.flat.Flat.take_back.Goals as goal

@@ -1,5 +1,5 @@
 use Rattle.std.proofs.Common.{◌<◌}
-use Rattle.sgx_types.specs.declared.entries.Actor.TheVariants as actors
+use Rattle.sgx_types.specs.declared.names.Actor.TheVariants as actors
 use Rattle.machine_book.proofs.GrownLaws.{can_take, fits, kept, reclaim_made}
 use Rattle.machine_book.proofs.book.MachineBook.reclaim_turn.Goals as goal
 

@@ -1,5 +1,5 @@
 use Rattle.std.proofs.Common.{◌≡◌, ◌∙◌, sym, ap, Some, length, length-set}
-use Rattle.sgx_types.specs.Frames.{page_at}
+use Rattle.sgx_types.specs.Pages.{page_at}
 use Rattle.secs_state.specs.Table.{enclave_at}
 use Rattle.enclave_build.specs.Build.{with_added}
 use Rattle.enclave_build.proofs.Columns.{length-with_added}

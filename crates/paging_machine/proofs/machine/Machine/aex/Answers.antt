@@ -8,9 +8,9 @@ use Rattle.paging_laws.specs.State.{row_of, after_aex}
 use Rattle.paging_machine.proofs.ProcessorBridge.{cpu_there}
 use Rattle.paging_machine.proofs.EntryBridge.{inside_at, inside_allowed, its_enclave, its_tcs, its_count, its_frames, aex_leaves}
 use Rattle.paging_machine.proofs.WholeMachines.{whole, done_step, by_view}
-use Rattle.sgx_types.specs.declared.entries.Actor.TheVariants as actors
-use Rattle.sgx_types.specs.declared.entries.Action.TheVariants.{Aex}
-use Rattle.sgx_types.specs.Table.{first_of_row}
+use Rattle.sgx_types.specs.declared.names.Actor.TheVariants as actors
+use Rattle.sgx_rules.specs.declared.entries.Action.TheVariants.{Aex}
+use Rattle.sgx_rules.specs.Table.{first_of_row}
 use Rattle.paging_machine.proofs.machine.Machine.aex.Goals as goal
 
 pub aex-requires-clause-enclave : goal.aex-requires-clause-enclave

@@ -1,6 +1,6 @@
 use Rattle.std.proofs.Common.{◌∙◌, sym, ap}
-use Rattle.sgx_types.specs.declared.entries.Action.TheVariants.{EwbStart}
-use Rattle.sgx_types.specs.declared.entries.Answer.TheVariants.{Version}
+use Rattle.sgx_rules.specs.declared.entries.Action.TheVariants.{EwbStart}
+use Rattle.sgx_rules.specs.declared.entries.Answer.TheVariants.{Version}
 use Rattle.paging_laws.specs.Steps.{did_by}
 use Rattle.paging_machine.specs.Whole.{parts_of}
 use Rattle.paging_machine.specs.Parts.{state_of}

@@ -2,7 +2,7 @@ use Rattle.std.proofs.Common.{◌≡◌, ◌∙◌, refl, sym, ap, Some, length-
 use Rattle.epcm_entry.specs.Epc.{entry_at}
 use Rattle.epcm_entry.specs.Sights.{held}
 use Rattle.secs_state.specs.Table.{enclave_at}
-use Rattle.sgx_types.specs.Frames.{page_of}
+use Rattle.sgx_rules.specs.Frames.{page_of}
 use Rattle.paging_machine.specs.Whole.{parts_of}
 use Rattle.paging_machine.specs.Parts.{state_of}
 use Rattle.paging_laws.specs.State.{after_extend}

@@ -1,5 +1,5 @@
 use Rattle.std.proofs.Common.{◌≡◌, sym, ap, Some}
-use Rattle.sgx_types.specs.Frames.{Holds}
+use Rattle.sgx_rules.specs.Frames.{Holds}
 use Rattle.secs_state.specs.Table.{enclave_at}
 use Rattle.epcm_entry.specs.declared.entry_view.EntryView.TheVariants as views
 use Rattle.epcm_entry.specs.Epc.{entry_at}

@@ -5,10 +5,10 @@ use Rattle.paging_laws.specs.State.{with_acc}
 use Rattle.paging_machine.proofs.ProcessorBridge.{cpu_there}
 use Rattle.paging_machine.proofs.AccessBridge.{inside_only, acc_leaves}
 use Rattle.paging_machine.proofs.WholeMachines.{whole, done_step}
-use Rattle.sgx_types.specs.Flat.{sum_of}
-use Rattle.sgx_types.specs.declared.entries.Actor.TheVariants as actors
-use Rattle.sgx_types.specs.declared.entries.Action.TheVariants.{Plus}
-use Rattle.sgx_types.specs.declared.entries.Answer.TheVariants.{Value}
+use Rattle.sgx_rules.specs.Flat.{sum_of}
+use Rattle.sgx_types.specs.declared.names.Actor.TheVariants as actors
+use Rattle.sgx_rules.specs.declared.entries.Action.TheVariants.{Plus}
+use Rattle.sgx_rules.specs.declared.entries.Answer.TheVariants.{Value}
 use Rattle.cached_translations.specs.declared.processor.Processor.{Processor}
 use Rattle.paging_laws.specs.Steps.{did_by}
 use Rattle.cached_translations.specs.Modes.{is_inside}

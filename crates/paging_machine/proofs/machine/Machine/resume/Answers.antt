@@ -1,8 +1,8 @@
 use Rattle.std.proofs.Common.{◌≡◌, ◌<◌, ◌∙◌, sym, ap, Some, length}
-use Rattle.sgx_types.specs.declared.entries.Actor.TheVariants as actors
-use Rattle.sgx_types.specs.declared.entries.Action.TheVariants.{Resume}
-use Rattle.sgx_types.specs.declared.entries.Answer.TheVariants.{Value}
-use Rattle.sgx_types.specs.Sights.{seat_of}
+use Rattle.sgx_types.specs.declared.names.Actor.TheVariants as actors
+use Rattle.sgx_rules.specs.declared.entries.Action.TheVariants.{Resume}
+use Rattle.sgx_rules.specs.declared.entries.Answer.TheVariants.{Value}
+use Rattle.sgx_rules.specs.Sights.{seat_of}
 use Rattle.secs_state.specs.Table.{enclave_at}
 use Rattle.cached_translations.specs.declared.processor.Processor.{Processor}
 use Rattle.cached_translations.specs.Modes.{is_inside}

@@ -1,5 +1,5 @@
 use Rattle.std.proofs.Common.{sym, subst}
-use Rattle.sgx_types.specs.declared.entries.Action.{Action}
+use Rattle.sgx_rules.specs.declared.entries.Action.{Action}
 use Rattle.paging_laws.specs.Steps.{IsStep}
 use Rattle.paging_machine.specs.Parts.{state_of}
 use Rattle.paging_machine.proofs.machine.Machine.row.Goals as goal

@@ -5,9 +5,9 @@ use Rattle.paging_laws.specs.State.{row_of, after_store}
 use Rattle.paging_machine.proofs.ProcessorBridge.{cpu_there}
 use Rattle.paging_machine.proofs.AccessBridge.{access_row_at, through, store_leaves}
 use Rattle.paging_machine.proofs.WholeMachines.{whole, whole_same, done_step, refused_step, by_view}
-use Rattle.sgx_types.specs.declared.entries.Actor.TheVariants as actors
-use Rattle.sgx_types.specs.declared.entries.Action.TheVariants.{Store}
-use Rattle.sgx_types.specs.Table.{first_of_row, allows_write}
+use Rattle.sgx_types.specs.declared.names.Actor.TheVariants as actors
+use Rattle.sgx_rules.specs.declared.entries.Action.TheVariants.{Store}
+use Rattle.sgx_rules.specs.Table.{first_of_row, allows_write}
 use Rattle.paging_machine.proofs.machine.Machine.store.Goals.{in-Ok, in-Err}
 use Rattle.paging_machine.proofs.machine.Machine.store.Goals as goal
 

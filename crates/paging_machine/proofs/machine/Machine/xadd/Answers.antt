@@ -5,13 +5,13 @@ use Rattle.paging_laws.specs.State.{row_of, word_at, after_xadd}
 use Rattle.paging_machine.proofs.ProcessorBridge.{cpu_there}
 use Rattle.paging_machine.proofs.AccessBridge.{access_row_at, through, store_leaves, word_seen}
 use Rattle.paging_machine.proofs.WholeMachines.{whole, whole_same, done_step, refused_step, by_view}
-use Rattle.sgx_types.specs.declared.entries.Actor.TheVariants as actors
-use Rattle.sgx_types.specs.declared.entries.Action.TheVariants.{Xadd}
-use Rattle.sgx_types.specs.Flat.{sum_of}
+use Rattle.sgx_types.specs.declared.names.Actor.TheVariants as actors
+use Rattle.sgx_rules.specs.declared.entries.Action.TheVariants.{Xadd}
+use Rattle.sgx_rules.specs.Flat.{sum_of}
 use Rattle.enclave_access.specs.Access.{with_stored}
-use Rattle.sgx_types.specs.declared.entries.Answer.TheVariants.{Value}
+use Rattle.sgx_rules.specs.declared.entries.Answer.TheVariants.{Value}
 use Rattle.paging_laws.specs.Steps.{did_by}
-use Rattle.sgx_types.specs.Table.{first_of_row, allows_update}
+use Rattle.sgx_rules.specs.Table.{first_of_row, allows_update}
 use Rattle.paging_machine.proofs.machine.Machine.xadd.Goals.{in-Ok, in-Err}
 use Rattle.paging_machine.proofs.machine.Machine.xadd.Goals as goal
 

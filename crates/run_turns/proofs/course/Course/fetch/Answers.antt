@@ -6,8 +6,8 @@ use Rattle.run_turns.proofs.LoadFetch.{start_can, start_turns, told_takes, told_
 use Rattle.run_turns.proofs.RecordLaws.{longer_apart, newest, none_started_by}
 use Rattle.driver_calls.specs.Comes.{bus_of}
 use Rattle.driver_rules.specs.Stops.{started}
-use Rattle.sgx_types.specs.declared.entries.Actor.TheVariants as actors
-use Rattle.sgx_types.specs.declared.entries.Entry.{Entry}
+use Rattle.sgx_types.specs.declared.names.Actor.TheVariants as actors
+use Rattle.sgx_rules.specs.declared.entries.Entry.{Entry}
 use Rattle.run_turns.proofs.SameLaws.{same_keeps}
 use Rattle.run_turns.proofs.course.Course.fetch.Goals as goal
 

@@ -1,5 +1,5 @@
 use Rattle.std.proofs.Common.{ap, ◌∙◌}
-use Rattle.sgx_types.specs.Frames.{page_at}
+use Rattle.sgx_types.specs.Pages.{page_at}
 use Rattle.turn_tables.specs.Asked.{frame_seen, last_save_of, resumes_by}
 use Rattle.turn_tables.specs.TcsTurns.{tcs_at}
 use Rattle.turn_tables.proofs.turns.Turns.resumption.Goals as goal

@@ -1,12 +1,12 @@
 -- The same questions as by places, answered by the epochs that were noted at entries and at blocks, as a processor can answer
 -- them. The law is that both answers agree.
 use Rattle.std.specs.Prelude.{ℕ, ◌≡◌, ◌==◌, ◌&&◌, Bool, false, List, Option, Some, None, nat_lt, nat_le}
-use Rattle.sgx_types.specs.declared.entries.Entry.{Entry}
+use Rattle.sgx_rules.specs.declared.entries.Entry.{Entry}
 use Rattle.sgx_types.specs.Counts.{count_below}
-use Rattle.sgx_types.specs.Frames.{content, enclave_in}
-use Rattle.sgx_types.specs.Processors.{Stay, stay}
-use Rattle.sgx_types.specs.Epochs.{epoch, noted, block_epoch, older_at}
-use Rattle.sgx_types.specs.Eviction.{block_place, track_behind, kept_back, is_drained}
+use Rattle.sgx_rules.specs.Frames.{content, enclave_in}
+use Rattle.sgx_rules.specs.Processors.{Stay, stay}
+use Rattle.sgx_rules.specs.Epochs.{epoch, noted, block_epoch, older_at}
+use Rattle.sgx_rules.specs.Eviction.{block_place, track_behind, kept_back, is_drained}
 
 -- inside the enclave, having noted an epoch that passes
 abbrev pub notes : ℕ → (ℕ → Bool) → ℕ → Option Stay → Bool

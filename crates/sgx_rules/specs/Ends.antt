@@ -1,16 +1,16 @@
 -- The ends of starts, by the entries before a place: which page a done commit names, and when a load may be refused.
 use Rattle.std.specs.Prelude.{ℕ, ◌≡◌, List, Some, None}
-use Rattle.sgx_types.specs.declared.entries.Answer.{Answer}
-use Rattle.sgx_types.specs.declared.entries.Answer.TheVariants as answers
-use Rattle.sgx_types.specs.declared.entries.Entry.{Entry}
+use Rattle.sgx_rules.specs.declared.entries.Answer.{Answer}
+use Rattle.sgx_rules.specs.declared.entries.Answer.TheVariants as answers
+use Rattle.sgx_rules.specs.declared.entries.Entry.{Entry}
 use Rattle.sgx_types.specs.declared.names.Kind.{Kind}
 use Rattle.sgx_types.specs.declared.names.Page.{Page}
 use Rattle.sgx_types.specs.declared.names.Perm.{Perm}
-use Rattle.sgx_types.specs.declared.refusals.Refusal.{Refusal}
-use Rattle.sgx_types.specs.declared.refusals.Refusal.TheVariants as why
-use Rattle.sgx_types.specs.Flat.{header_at}
-use Rattle.sgx_types.specs.Frames.{Holds, content}
-use Rattle.sgx_types.specs.Starts.{Start, open_start}
+use Rattle.sgx_rules.specs.declared.refusals.Refusal.{Refusal}
+use Rattle.sgx_rules.specs.declared.refusals.Refusal.TheVariants as why
+use Rattle.sgx_rules.specs.Flat.{header_at}
+use Rattle.sgx_rules.specs.Frames.{Holds, content}
+use Rattle.sgx_rules.specs.Starts.{Start, open_start}
 
 -- a done `ewb` ends the start of the page that its frame holds, and names that page
 pub record EndsOut (past : List Entry) (n : ℕ) (answer : Answer) : Type 0 where

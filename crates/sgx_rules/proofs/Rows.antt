@@ -1,6 +1,6 @@
 -- Facts on the cases of a row of the instruction table.
 use Rattle.std.proofs.Common.{◌≡◌, Bool, true, false, cond, refl, Some, None, List, [], ◌∷◌}
-use Rattle.sgx_types.specs.Table.{Case, first_of_row}
+use Rattle.sgx_rules.specs.Table.{Case, first_of_row}
 
 -- no case of a row holds
 abbrev pub NoneHolds : List Case → Type 0

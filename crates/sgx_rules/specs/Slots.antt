@@ -1,17 +1,15 @@
 -- The slots of version array pages by the entries before a place: which open starts name them, and which version each holds.
-use Rattle.std.specs.Prelude.{ℕ, ◌≡◌, ◌==◌, ◌+◌, ◌&&◌, Bool, true, false, if◌then◌else◌, List, [], ◌∷◌}
+use Rattle.std.specs.Prelude.{ℕ, ◌≡◌, ◌+◌, Bool, true, false, if◌then◌else◌, List, [], ◌∷◌}
 use Rattle.std.specs.Prelude.{Option, Some, None}
-use Rattle.sgx_types.specs.declared.entries.Entry.{Entry}
-use Rattle.sgx_types.specs.declared.entries.Event.{Event}
-use Rattle.sgx_types.specs.declared.entries.Event.TheVariants.{Did}
-use Rattle.sgx_types.specs.declared.entries.Action.TheVariants.{EwbStart, Ewb, Eld}
-use Rattle.sgx_types.specs.declared.entries.Answer.TheVariants.{Moved}
+use Rattle.sgx_rules.specs.declared.entries.Entry.{Entry}
+use Rattle.sgx_rules.specs.declared.entries.Event.{Event}
+use Rattle.sgx_rules.specs.declared.entries.Event.TheVariants.{Did}
+use Rattle.sgx_rules.specs.declared.entries.Action.TheVariants.{EwbStart, Ewb, Eld}
+use Rattle.sgx_rules.specs.declared.entries.Answer.TheVariants.{Moved}
 use Rattle.sgx_types.specs.declared.names.SlotAt.{SlotAt}
+use Rattle.sgx_types.specs.Pages.{same_slot}
 use Rattle.sgx_types.specs.Counts.{any_below}
-use Rattle.sgx_types.specs.Starts.{Start, open_start}
-
-abbrev pub same_slot : SlotAt → SlotAt → Bool
-same_slot a b = (a.frame.0 == b.frame.0) && (a.index == b.index)
+use Rattle.sgx_rules.specs.Starts.{Start, open_start}
 
 -- the slot that a start named
 abbrev pub slot_of : Option Start → Option SlotAt

@@ -4,8 +4,8 @@ use Rattle.std.specs.Prelude.{is_some}
 use Rattle.sgx_types.specs.declared.names.Kind.{Kind}
 use Rattle.sgx_types.specs.declared.names.Page.{Page}
 use Rattle.sgx_types.specs.declared.names.Perm.{Perm}
-use Rattle.sgx_types.specs.Frames.{Content, Free, IsVa, SecsOf, Holds, IsLoading, enclave_in, is_free, is_page}
-use Rattle.sgx_types.specs.Table.{is_loading, is_secs, is_va, is_valid}
+use Rattle.sgx_rules.specs.Frames.{Content, Free, IsVa, SecsOf, Holds, IsLoading, enclave_in, is_free, is_page}
+use Rattle.sgx_rules.specs.Table.{is_loading, is_secs, is_va, is_valid}
 use Rattle.sgx_types.proofs.Pages.{same_pages}
 
 -- ---- a page

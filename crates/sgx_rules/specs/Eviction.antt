@@ -2,11 +2,11 @@
 -- number of entries before it.
 use Rattle.std.specs.Prelude.{ℕ, ◌==◌, ◌&&◌, Bool, false, if◌then◌else◌, List, [], ◌∷◌, Option, Some, None, length}
 use Rattle.std.specs.Prelude.{nat_lt, is_some}
-use Rattle.sgx_types.specs.declared.entries.Entry.{Entry}
+use Rattle.sgx_rules.specs.declared.entries.Entry.{Entry}
 use Rattle.sgx_types.specs.Counts.{count_below}
-use Rattle.sgx_types.specs.Frames.{put_by, made_before, content, enclave_in, is_put, is_block}
-use Rattle.sgx_types.specs.Processors.{Stay, stay}
-use Rattle.sgx_types.specs.Epochs.{is_track, is_in}
+use Rattle.sgx_rules.specs.Frames.{put_by, made_before, content, enclave_in, is_put, is_block}
+use Rattle.sgx_rules.specs.Processors.{Stay, stay}
+use Rattle.sgx_rules.specs.Epochs.{is_track, is_in}
 
 -- the place of the last block of a frame since its content was put
 abbrev pub block_place : List Entry → ℕ → Option ℕ

@@ -1,10 +1,10 @@
 -- What may start to go out of a frame: a page that is drained.
 use Rattle.std.proofs.Common.{◌≡◌, ℕ, true, refl, sym, ap, ◌∙◌, None, List}
 use Rattle.std.proofs.lemmas.Bool.{false≢true}
-use Rattle.sgx_types.specs.declared.entries.Entry.{Entry}
-use Rattle.sgx_types.specs.Eviction.{block_place, is_drained, is_drained_from}
-use Rattle.sgx_types.specs.Frames.{Content, Free, IsVa, SecsOf, Holds, IsLoading, content, enclave_in}
-use Rattle.sgx_types.specs.Rules.{GoesOut}
+use Rattle.sgx_rules.specs.declared.entries.Entry.{Entry}
+use Rattle.sgx_rules.specs.Eviction.{block_place, is_drained, is_drained_from}
+use Rattle.sgx_rules.specs.Frames.{Content, Free, IsVa, SecsOf, Holds, IsLoading, content, enclave_in}
+use Rattle.sgx_rules.specs.Rules.{GoesOut}
 
 -- what is drained is a TCS or REG page
 pub goes_out : (past : List Entry) (n : ℕ) → is_drained past n ≡ true → GoesOut past n (content past n)

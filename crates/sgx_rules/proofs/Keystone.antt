@@ -2,19 +2,19 @@
 use Rattle.std.proofs.Common.{◌≡◌, ℕ, ◌+◌, ◌<◌, ◌≤◌, ◌==◌, ◌&&◌, Bool, true, false, cond, ltb, leb, refl, sym}
 use Rattle.std.proofs.Common.{◌∙◌, arith, ◌⊎◌, inl, inr, Option, Some, None, IfSome, is_some, List, [], ◌∷◌, length}
 use Rattle.std.proofs.lemmas.Bool.{ltb-true, ltb-false, lt-ltb, le-ltb, lt-leb, le-leb, false≢true, eqb-true, cases_lt}
-use Rattle.sgx_types.specs.declared.entries.Entry.{Entry}
-use Rattle.sgx_types.specs.declared.entries.Event.{Event}
-use Rattle.sgx_types.specs.declared.entries.Event.TheVariants.{Did}
-use Rattle.sgx_types.specs.declared.entries.Action.TheVariants.{Track, Block}
+use Rattle.sgx_rules.specs.declared.entries.Entry.{Entry}
+use Rattle.sgx_rules.specs.declared.entries.Event.{Event}
+use Rattle.sgx_rules.specs.declared.entries.Event.TheVariants.{Did}
+use Rattle.sgx_rules.specs.declared.entries.Action.TheVariants.{Track, Block}
 use Rattle.sgx_types.specs.Counts.{count_below}
-use Rattle.sgx_types.specs.Frames.{Before, Content, Put, put_by, made_before, content, enclave_in, held_after, is_put, is_block}
-use Rattle.sgx_types.specs.Processors.{Move, Enters, Leaves, Keeps, Stay, move_by, is_by, stay, stay_after}
-use Rattle.sgx_types.specs.Epochs.{epoch, noted, noted_after, is_track, block_epoch, epoch_in, last_track, is_before, is_in_before}
-use Rattle.sgx_types.specs.Epochs.{older_at}
-use Rattle.sgx_types.specs.Eviction.{block_place, earlier_or, track_behind, keeps_back, number_kept_back, kept_back, kept_back_from}
-use Rattle.sgx_types.specs.Eviction.{is_drained, is_drained_from}
-use Rattle.sgx_types.specs.ByEpochs.{notes, number_up_to, number_noting, up_to_block, kept_back_by_epochs, passed_block}
-use Rattle.sgx_types.specs.ByEpochs.{is_drained_by_epochs, IsTrackedBlock, EpochsTellPlaces}
+use Rattle.sgx_rules.specs.Frames.{Before, Content, Put, put_by, made_before, content, enclave_in, held_after, is_put, is_block}
+use Rattle.sgx_rules.specs.Processors.{Move, Enters, Leaves, Keeps, Stay, move_by, is_by, stay, stay_after}
+use Rattle.sgx_rules.specs.Epochs.{epoch, noted, noted_after, is_track, block_epoch, epoch_in, last_track, is_before, is_in_before}
+use Rattle.sgx_rules.specs.Epochs.{older_at}
+use Rattle.sgx_rules.specs.Eviction.{block_place, earlier_or, track_behind, keeps_back, number_kept_back, kept_back, kept_back_from}
+use Rattle.sgx_rules.specs.Eviction.{is_drained, is_drained_from}
+use Rattle.sgx_rules.specs.ByEpochs.{notes, number_up_to, number_noting, up_to_block, kept_back_by_epochs, passed_block}
+use Rattle.sgx_rules.specs.ByEpochs.{is_drained_by_epochs, IsTrackedBlock, EpochsTellPlaces}
 use Rattle.sgx_types.proofs.CountLaws.{count_below-agrees}
 
 -- how many tracks of an enclave stand behind a place

@@ -2,31 +2,32 @@
 -- of the entry; a rule on every place is a fact of the entries before the place, and is asked at the end too.
 use Rattle.std.specs.Prelude.{ℕ, ◌≡◌, ◌<◌, ◌/◌, Bool, true, false, List, [], ◌∷◌, Option, Some, None, IfSome}
 use Rattle.std.specs.List.{All}
-use Rattle.sgx_types.specs.declared.entries.Entry.{Entry}
-use Rattle.sgx_types.specs.declared.entries.Event.{Event}
-use Rattle.sgx_types.specs.declared.entries.Event.TheVariants.{Did, Refused, Age, Kick, Bus}
-use Rattle.sgx_types.specs.declared.entries.Actor.{Actor}
-use Rattle.sgx_types.specs.declared.entries.Actor.TheVariants as actors
-use Rattle.sgx_types.specs.declared.entries.Action.{Action}
-use Rattle.sgx_types.specs.declared.entries.Action.TheVariants.{Epa, Create, Add, Extend, Init, Enter, Resume, Exit, Aex, Fill, Load, Store}
-use Rattle.sgx_types.specs.declared.entries.Action.TheVariants.{Xadd, Set, Plus, Pf, OutLoad, OutStore, Block, Track, EwbStart, Ewb}
-use Rattle.sgx_types.specs.declared.entries.Action.TheVariants.{EldStart, Eld}
-use Rattle.sgx_types.specs.declared.entries.Answer.{Answer}
-use Rattle.sgx_types.specs.declared.entries.Answer.TheVariants as answers
-use Rattle.sgx_types.specs.declared.entries.PfWhy.{PfWhy}
+use Rattle.sgx_rules.specs.declared.entries.Entry.{Entry}
+use Rattle.sgx_rules.specs.declared.entries.Event.{Event}
+use Rattle.sgx_rules.specs.declared.entries.Event.TheVariants.{Did, Refused, Age, Kick, Bus}
+use Rattle.sgx_types.specs.declared.names.Actor.{Actor}
+use Rattle.sgx_types.specs.declared.names.Actor.TheVariants as actors
+use Rattle.sgx_rules.specs.declared.entries.Action.{Action}
+use Rattle.sgx_rules.specs.declared.entries.Action.TheVariants.{Epa, Create, Add, Extend, Init, Enter, Resume, Exit, Aex, Fill, Load, Store}
+use Rattle.sgx_rules.specs.declared.entries.Action.TheVariants.{Xadd, Set, Plus, Pf, OutLoad, OutStore, Block, Track, EwbStart, Ewb}
+use Rattle.sgx_rules.specs.declared.entries.Action.TheVariants.{EldStart, Eld}
+use Rattle.sgx_rules.specs.declared.entries.Answer.{Answer}
+use Rattle.sgx_rules.specs.declared.entries.Answer.TheVariants as answers
+use Rattle.sgx_rules.specs.declared.entries.PfWhy.{PfWhy}
 use Rattle.sgx_types.specs.declared.names.Page.{Page}
-use Rattle.sgx_types.specs.declared.refusals.Refusal.{Refusal}
-use Rattle.sgx_types.specs.declared.refusals.Refusal.TheVariants as why
-use Rattle.sgx_types.specs.Ends.{EndsOut, IsBack, IsNotBack}
-use Rattle.sgx_types.specs.Frames.{Content, Free, IsVa, SecsOf, Holds, IsLoading, content, is_sealing, is_page, page_at}
+use Rattle.sgx_rules.specs.declared.refusals.Refusal.{Refusal}
+use Rattle.sgx_rules.specs.declared.refusals.Refusal.TheVariants as why
+use Rattle.sgx_rules.specs.Ends.{EndsOut, IsBack, IsNotBack}
+use Rattle.sgx_types.specs.Pages.{page_at}
+use Rattle.sgx_rules.specs.Frames.{Content, Free, IsVa, SecsOf, Holds, IsLoading, content, is_sealing, is_page}
 use Rattle.sgx_types.specs.Making.{Making}
-use Rattle.sgx_types.specs.Processors.{Stay, stay, BareTranslation, holds_number, translations}
-use Rattle.sgx_types.specs.Table.{first_of_row}
-use Rattle.sgx_types.specs.Eviction.{is_drained}
-use Rattle.sgx_types.specs.Slots.{next_version, version_in}
-use Rattle.sgx_types.specs.Starts.{Start, open_start, is_load_of}
-use Rattle.sgx_types.specs.Flat.{FlatMemory, flat, accepts, flat_answer, is_visible}
-use Rattle.sgx_types.specs.Sights.{row_at}
+use Rattle.sgx_rules.specs.Processors.{Stay, stay, BareTranslation, holds_number, translations}
+use Rattle.sgx_rules.specs.Table.{first_of_row}
+use Rattle.sgx_rules.specs.Eviction.{is_drained}
+use Rattle.sgx_rules.specs.Slots.{next_version, version_in}
+use Rattle.sgx_rules.specs.Starts.{Start, open_start, is_load_of}
+use Rattle.sgx_rules.specs.Flat.{FlatMemory, flat, accepts, flat_answer, is_visible}
+use Rattle.sgx_rules.specs.Sights.{row_at}
 
 -- a rule on entries holds at each of them
 abbrev pub Along : (List Entry → Entry → Type 0) → List Entry → Type 0

@@ -3,29 +3,30 @@
 use Rattle.std.specs.Prelude.{ℕ, ◌==◌, ◌+◌, ◌-◌, ◌*◌, ◌/◌, ◌%◌, ◌^◌, ◌&&◌, Bool, true, false}
 use Rattle.std.specs.Prelude.{if◌then◌else◌, List, [], ◌∷◌, Option, Some, None, replicate, slice_index, slice_set, nat_lt}
 use Rattle.std.specs.Prelude.{is_some, is_none}
-use Rattle.sgx_types.specs.declared.entries.Entry.{Entry}
-use Rattle.sgx_types.specs.declared.entries.Event.{Event}
-use Rattle.sgx_types.specs.declared.entries.Event.TheVariants.{Did}
-use Rattle.sgx_types.specs.declared.entries.Actor.{Actor}
-use Rattle.sgx_types.specs.declared.entries.Actor.TheVariants as actors
-use Rattle.sgx_types.specs.declared.entries.Action.{Action}
-use Rattle.sgx_types.specs.declared.entries.Action.TheVariants.{Create, Add, Extend, Init, Enter, Resume, Exit, Aex, Load, Store, Xadd, Set}
-use Rattle.sgx_types.specs.declared.entries.Action.TheVariants.{Plus, Pf, OutLoad, OutStore}
-use Rattle.sgx_types.specs.declared.entries.Answer.{Answer}
-use Rattle.sgx_types.specs.declared.entries.Answer.TheVariants as answers
-use Rattle.sgx_types.specs.declared.entries.PageInit.{PageInit}
-use Rattle.sgx_types.specs.declared.entries.PageInit.TheVariants as inits
+use Rattle.sgx_rules.specs.declared.entries.Entry.{Entry}
+use Rattle.sgx_rules.specs.declared.entries.Event.{Event}
+use Rattle.sgx_rules.specs.declared.entries.Event.TheVariants.{Did}
+use Rattle.sgx_types.specs.declared.names.Actor.{Actor}
+use Rattle.sgx_types.specs.declared.names.Actor.TheVariants as actors
+use Rattle.sgx_rules.specs.declared.entries.Action.{Action}
+use Rattle.sgx_rules.specs.declared.entries.Action.TheVariants.{Create, Add, Extend, Init, Enter, Resume, Exit, Aex, Load, Store, Xadd, Set}
+use Rattle.sgx_rules.specs.declared.entries.Action.TheVariants.{Plus, Pf, OutLoad, OutStore}
+use Rattle.sgx_rules.specs.declared.entries.Answer.{Answer}
+use Rattle.sgx_rules.specs.declared.entries.Answer.TheVariants as answers
+use Rattle.sgx_types.specs.declared.lawful.PageInit.{PageInit}
+use Rattle.sgx_types.specs.declared.lawful.PageInit.TheVariants as inits
 use Rattle.sgx_types.specs.declared.names.Page.{Page}
 use Rattle.sgx_types.specs.declared.names.Kind.{Kind}
 use Rattle.sgx_types.specs.declared.names.Kind.TheVariants as kinds
 use Rattle.sgx_types.specs.declared.names.Perm.{Perm}
 use Rattle.sgx_types.specs.declared.record.Header.{Header}
-use Rattle.sgx_types.specs.Frames.{Content, Free, Holds, same_page, page_at}
+use Rattle.sgx_types.specs.Pages.{same_page, page_at}
+use Rattle.sgx_rules.specs.Frames.{Content, Free, Holds}
 use Rattle.sgx_types.specs.Layouts.{bytes_of}
 use Rattle.sgx_types.specs.Sealed.{header_of}
-use Rattle.sgx_types.specs.Table.{Case, allowed, first_of_row, FrameSight, EnclaveSight, EnterSight, TcsSight, fault_of, create_row}
-use Rattle.sgx_types.specs.Table.{add_row, extend_row, init_row, enter_row, resume_row, exit_row, aex_row, load_row, store_row, xadd_row}
-use Rattle.sgx_types.specs.Table.{set_row, plus_row, pf_row, outload_row, outstore_row}
+use Rattle.sgx_rules.specs.Table.{Case, allowed, first_of_row, FrameSight, EnclaveSight, EnterSight, TcsSight, fault_of, create_row}
+use Rattle.sgx_rules.specs.Table.{add_row, extend_row, init_row, enter_row, resume_row, exit_row, aex_row, load_row, store_row, xadd_row}
+use Rattle.sgx_rules.specs.Table.{set_row, plus_row, pf_row, outload_row, outstore_row}
 
 -- ---- the memory
 

@@ -1,21 +1,21 @@
 -- The instruction table: for each instruction the refusals in their order, as a function of what it looks at. The
 -- machine reads what an instruction looks at from its own state, the rule on refusals from the entries, and flat memory
 -- from itself, so that no row can mean two things.
-use Rattle.std.specs.Prelude.{ℕ, ◌==◌, ◌+◌, ◌-◌, ◌/◌, ◌%◌, ◌^◌, ◌&&◌, ◌||◌, Bool, true, false}
-use Rattle.std.specs.Prelude.{if◌then◌else◌, Option, Some, None, Result, Ok, Err, List, [], ◌∷◌, nat_le, nat_lt, not, is_none}
-use Rattle.std.specs.Int.{is_power_of_two}
-use Rattle.sgx_types.specs.declared.refusals.Refusal.{Refusal}
-use Rattle.sgx_types.specs.declared.refusals.Refusal.TheVariants as why
+use Rattle.std.specs.Prelude.{ℕ, ◌==◌, ◌+◌, ◌-◌, ◌%◌, ◌&&◌, ◌||◌, Bool, true, false}
+use Rattle.std.specs.Prelude.{if◌then◌else◌, Option, Some, None, Result, Ok, Err, List, [], ◌∷◌, nat_lt, not, is_none}
+use Rattle.sgx_rules.specs.declared.refusals.Refusal.{Refusal}
+use Rattle.sgx_rules.specs.declared.refusals.Refusal.TheVariants as why
 use Rattle.sgx_types.specs.declared.names.Kind.{Kind}
 use Rattle.sgx_types.specs.declared.names.Kind.TheVariants as kinds
 use Rattle.sgx_types.specs.declared.names.Perm.{Perm}
-use Rattle.sgx_types.specs.declared.entries.PageInit.{PageInit}
-use Rattle.sgx_types.specs.declared.entries.PageInit.TheVariants as inits
-use Rattle.sgx_types.specs.declared.entries.AccessOp.{AccessOp}
-use Rattle.sgx_types.specs.declared.entries.AccessOp.TheVariants as accesses
-use Rattle.sgx_types.specs.declared.entries.PfWhy.{PfWhy}
-use Rattle.sgx_types.specs.declared.entries.PfWhy.TheVariants as faults
-use Rattle.sgx_types.specs.Frames.{Content, Free, IsVa, SecsOf, Holds, IsLoading, is_page, is_free, page_at}
+use Rattle.sgx_types.specs.declared.lawful.PageInit.{PageInit}
+use Rattle.sgx_types.specs.Lawful.{is_addable, is_enclave, is_lawful, is_lawful_perm, is_within}
+use Rattle.sgx_rules.specs.declared.entries.AccessOp.{AccessOp}
+use Rattle.sgx_rules.specs.declared.entries.AccessOp.TheVariants as accesses
+use Rattle.sgx_rules.specs.declared.entries.PfWhy.{PfWhy}
+use Rattle.sgx_rules.specs.declared.entries.PfWhy.TheVariants as faults
+use Rattle.sgx_types.specs.Pages.{page_at}
+use Rattle.sgx_rules.specs.Frames.{Content, Free, IsVa, SecsOf, Holds, IsLoading, is_page, is_free}
 
 -- ---- rows
 
@@ -100,17 +100,6 @@ is_busy s = s.is_sealing || is_loading s.content
 
 -- ---- building an enclave
 
--- a size is a power of two from two pages to 4096 pages, in bytes
-abbrev pub is_lawful_size : ℕ → Bool
-is_lawful_size size = is_power_of_two size && nat_le 8192 size && nat_le size (2 ^ 24)
-
--- a base is a multiple of the size
-abbrev pub is_lawful : ℕ → ℕ → Bool
-is_lawful base size = is_lawful_size size && (base % size == 0)
-
-abbrev pub is_enclave : ℕ → Bool
-is_enclave enclave = nat_le 1 enclave && nat_le enclave 8
-
 abbrev pub epa_row : FrameSight → List Case
 epa_row s =
     when s.is_beyond why.BadRange
@@ -125,25 +114,6 @@ create_row enclave base size is_created s =
     otherwise when (is_busy s) why.Conflict
     otherwise when (is_valid s.content) why.FrameBusy
     otherwise allowed
-
--- a kind that can be added, with the first bytes of that kind
-abbrev pub is_addable : Kind → PageInit → Bool
-is_addable kinds.Tcs (inits.Tcs ossa nssa) = true
-is_addable kinds.Reg (inits.Words value) = true
-is_addable _ _ = false
-
-abbrev pub has_no_perm : Perm → Bool
-has_no_perm perm = not perm.r && not perm.w && not perm.x
-
--- W without R never, and a TCS has no permission
-abbrev pub is_lawful_perm : Kind → Perm → Bool
-is_lawful_perm kinds.Tcs perm = has_no_perm perm
-is_lawful_perm _ perm = perm.r || not perm.w
-
--- the page, and a TCS's state save frames, of which there is one, lie in the enclave
-abbrev pub is_within : ℕ → ℕ → PageInit → Bool
-is_within size number (inits.Words value) = nat_lt number (size / 4096)
-is_within size number (inits.Tcs ossa nssa) = nat_lt number (size / 4096) && nat_le (ossa + nssa) (size / 4096) && not (nssa == 0)
 
 -- what is known of an enclave that was created
 pub record EnclaveSight : Type 0 where

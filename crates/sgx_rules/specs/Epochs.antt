@@ -2,13 +2,13 @@
 -- and how many processors inside are older than the enclave's last track. A place is the number of entries before it.
 use Rattle.std.specs.Prelude.{ℕ, ◌==◌, ◌+◌, ◌&&◌, Bool, false, not, if◌then◌else◌, List, [], ◌∷◌, Option, Some}
 use Rattle.std.specs.Prelude.{None, length, nat_lt}
-use Rattle.sgx_types.specs.declared.entries.Entry.{Entry}
-use Rattle.sgx_types.specs.declared.entries.Event.{Event}
-use Rattle.sgx_types.specs.declared.entries.Event.TheVariants.{Did}
-use Rattle.sgx_types.specs.declared.entries.Action.TheVariants.{Track}
+use Rattle.sgx_rules.specs.declared.entries.Entry.{Entry}
+use Rattle.sgx_rules.specs.declared.entries.Event.{Event}
+use Rattle.sgx_rules.specs.declared.entries.Event.TheVariants.{Did}
+use Rattle.sgx_rules.specs.declared.entries.Action.TheVariants.{Track}
 use Rattle.sgx_types.specs.Counts.{count_below}
-use Rattle.sgx_types.specs.Frames.{put_by, made_before, content, enclave_in, is_put, is_block}
-use Rattle.sgx_types.specs.Processors.{Move, Enters, move_by, is_by, Stay, stay}
+use Rattle.sgx_rules.specs.Frames.{put_by, made_before, content, enclave_in, is_put, is_block}
+use Rattle.sgx_rules.specs.Processors.{Move, Enters, move_by, is_by, Stay, stay}
 
 abbrev pub is_track : Event → ℕ → Bool
 is_track (Did (Track enclave) answer) n = enclave == n

@@ -1,15 +1,8 @@
 //! The entries of a trace: who did what, and the answer.
 
-use crate::names::{Cpu, Frame, Kind, Page, Perm, SlotAt};
 use crate::refusals::Refusal;
-
-/// Who made an entry: the builder of enclaves, a processor, or the driver's reclaimer.
-#[derive(Clone, Copy, Debug, PartialEq, Eq)]
-pub enum Actor {
-    Builder,
-    Cpu(Cpu),
-    Reclaimer,
-}
+use sgx_types::lawful::PageInit;
+use sgx_types::names::{Actor, Cpu, Frame, Kind, Page, Perm, SlotAt};
 
 /// Why a processor left its enclave asynchronously: its script's timer, a page that was away, a kick of the
 /// reclaimer, or the script's end.
@@ -54,14 +47,6 @@ pub enum BusWhy {
     PutFailed,
     Mac,
     Header,
-}
-
-/// The bytes with which a page is added: every 8-byte word alike, or a thread control structure whose first state
-/// save frame is at page `ossa` and which has `nssa` of them.
-#[derive(Clone, Copy, Debug, PartialEq, Eq)]
-pub enum PageInit {
-    Words(u64),
-    Tcs { ossa: u32, nssa: u32 },
 }
 
 /// One instruction with its operands. Offsets and addresses are in bytes, page numbers in pages of 4096 bytes.

@@ -1,27 +1,28 @@
 -- Blocks, tracks and slots at a small machine: page 2 of enclave 1 is in frame 4, and processor 0 is inside with a translation
 -- of it.
 use Rattle.std.proofs.Common.{◌≡◌, ℕ, Bool, true, false, List, [], ◌∷◌, Some, None, refl}
-use Rattle.sgx_types.specs.declared.entries.Entry.{Entry}
-use Rattle.sgx_types.specs.declared.entries.Event.TheVariants.{Did, Refused}
-use Rattle.sgx_types.specs.declared.entries.Actor.{Actor}
-use Rattle.sgx_types.specs.declared.entries.Actor.TheVariants.{Builder, Cpu, Reclaimer}
-use Rattle.sgx_types.specs.declared.entries.Action.{Action}
-use Rattle.sgx_types.specs.declared.entries.Action.TheVariants as actions
-use Rattle.sgx_types.specs.declared.entries.Answer.{Answer}
-use Rattle.sgx_types.specs.declared.entries.Answer.TheVariants as answers
-use Rattle.sgx_types.specs.declared.entries.Cause.TheVariants as causes
-use Rattle.sgx_types.specs.declared.entries.PageInit.TheVariants as inits
-use Rattle.sgx_types.specs.declared.refusals.Refusal.TheVariants as why
+use Rattle.sgx_rules.specs.declared.entries.Entry.{Entry}
+use Rattle.sgx_rules.specs.declared.entries.Event.TheVariants.{Did, Refused}
+use Rattle.sgx_types.specs.declared.names.Actor.{Actor}
+use Rattle.sgx_types.specs.declared.names.Actor.TheVariants.{Builder, Cpu, Reclaimer}
+use Rattle.sgx_rules.specs.declared.entries.Action.{Action}
+use Rattle.sgx_rules.specs.declared.entries.Action.TheVariants as actions
+use Rattle.sgx_rules.specs.declared.entries.Answer.{Answer}
+use Rattle.sgx_rules.specs.declared.entries.Answer.TheVariants as answers
+use Rattle.sgx_rules.specs.declared.entries.Cause.TheVariants as causes
+use Rattle.sgx_types.specs.declared.lawful.PageInit.TheVariants as inits
+use Rattle.sgx_rules.specs.declared.refusals.Refusal.TheVariants as why
 use Rattle.sgx_types.specs.declared.names.Frame.{Frame}
 use Rattle.sgx_types.specs.declared.names.Kind.TheVariants as kinds
 use Rattle.sgx_types.specs.declared.names.Perm.{Perm}
 use Rattle.sgx_types.specs.declared.names.SlotAt.{SlotAt}
 use Rattle.sgx_types.specs.Counts.{any_below, count_below}
-use Rattle.sgx_types.specs.Frames.{Free, IsVa, IsLoading, Holds, content, is_sealing, page_at}
-use Rattle.sgx_types.specs.Epochs.{epoch, older_at, newer_at, block_epoch}
-use Rattle.sgx_types.specs.Eviction.{is_drained, kept_back}
-use Rattle.sgx_types.specs.Slots.{version_in, is_slot_busy, next_version}
-use Rattle.sgx_types.specs.Starts.{open_start}
+use Rattle.sgx_types.specs.Pages.{page_at}
+use Rattle.sgx_rules.specs.Frames.{Free, IsVa, IsLoading, Holds, content, is_sealing}
+use Rattle.sgx_rules.specs.Epochs.{epoch, older_at, newer_at, block_epoch}
+use Rattle.sgx_rules.specs.Eviction.{is_drained, kept_back}
+use Rattle.sgx_rules.specs.Slots.{version_in, is_slot_busy, next_version}
+use Rattle.sgx_rules.specs.Starts.{open_start}
 
 abbrev frame : ℕ → Frame
 frame n = record { 0 = n }

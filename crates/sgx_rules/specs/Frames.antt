@@ -1,14 +1,15 @@
 -- What the entries before a place say of the EPC's frames. Entries stand newest first: `past` is what was done before.
 use Rattle.std.specs.Prelude.{ℕ, zero, suc, ◌+◌, ◌==◌, ◌&&◌, ◌||◌, not, Bool, true, false, if◌then◌else◌, List, []}
 use Rattle.std.specs.Prelude.{◌∷◌, Option, Some, None}
-use Rattle.sgx_types.specs.declared.entries.Entry.{Entry}
-use Rattle.sgx_types.specs.declared.entries.Event.{Event}
-use Rattle.sgx_types.specs.declared.entries.Event.TheVariants.{Did, Refused}
-use Rattle.sgx_types.specs.declared.entries.Action.TheVariants.{Epa, Create, Add, Block, EwbStart, Ewb, EldStart, Eld}
-use Rattle.sgx_types.specs.declared.entries.Answer.TheVariants.{Moved}
+use Rattle.sgx_rules.specs.declared.entries.Entry.{Entry}
+use Rattle.sgx_rules.specs.declared.entries.Event.{Event}
+use Rattle.sgx_rules.specs.declared.entries.Event.TheVariants.{Did, Refused}
+use Rattle.sgx_rules.specs.declared.entries.Action.TheVariants.{Epa, Create, Add, Block, EwbStart, Ewb, EldStart, Eld}
+use Rattle.sgx_rules.specs.declared.entries.Answer.TheVariants.{Moved}
 use Rattle.sgx_types.specs.declared.names.Page.{Page}
 use Rattle.sgx_types.specs.declared.names.Kind.{Kind}
 use Rattle.sgx_types.specs.declared.names.Perm.{Perm}
+use Rattle.sgx_types.specs.Pages.{same_page, page_at}
 
 -- what a frame holds: nothing, a version array page by its number (the first one made has 0), an enclave's SECS, a TCS or REG page
 -- as it was added, or nothing yet but the page that it waits for
@@ -18,16 +19,6 @@ pub data Content : Type 0 where
   SecsOf : (enclave : ℕ) → Content
   Holds : (page : Page) → (kind : Kind) → (perm : Perm) → Content
   IsLoading : (page : Page) → Content
-
--- no permission, which a TCS, SECS or VA page has
-abbrev pub no_perm : Perm
-no_perm = record { r = false; w = false; x = false }
-
-abbrev pub same_page : Page → Page → Bool
-same_page a b = (a.enclave == b.enclave) && (a.number == b.number)
-
-abbrev pub page_at : ℕ → ℕ → Page
-page_at enclave number = record { enclave = enclave; number = number }
 
 abbrev pub added_by : Event → Page → Option (Kind × Perm) → Option (Kind × Perm)
 added_by (Did (Add enclave number frame kind perm init) answer) g before =

@@ -2,14 +2,15 @@
 -- that flat memory has them.
 use Rattle.std.specs.Prelude.{ℕ, ◌≡◌, ◌==◌, false, if◌then◌else◌, List, [], ◌∷◌, Option, Some, None}
 use Rattle.std.specs.Option.{IsSomeAnd}
-use Rattle.sgx_types.specs.declared.entries.Entry.{Entry}
-use Rattle.sgx_types.specs.declared.entries.Event.{Event}
-use Rattle.sgx_types.specs.declared.entries.Event.TheVariants.{Did}
-use Rattle.sgx_types.specs.declared.entries.Action.TheVariants.{Create, Init}
+use Rattle.sgx_rules.specs.declared.entries.Entry.{Entry}
+use Rattle.sgx_rules.specs.declared.entries.Event.{Event}
+use Rattle.sgx_rules.specs.declared.entries.Event.TheVariants.{Did}
+use Rattle.sgx_rules.specs.declared.entries.Action.TheVariants.{Create, Init}
 use Rattle.sgx_types.specs.declared.names.Page.{Page}
-use Rattle.sgx_types.specs.Flat.{FlatEnclave, added_as, flat, marked}
-use Rattle.sgx_types.specs.Frames.{added, page_at}
-use Rattle.sgx_types.specs.Processors.{stay}
+use Rattle.sgx_rules.specs.Flat.{FlatEnclave, added_as, flat, marked}
+use Rattle.sgx_types.specs.Pages.{page_at}
+use Rattle.sgx_rules.specs.Frames.{added}
+use Rattle.sgx_rules.specs.Processors.{stay}
 
 abbrev pub created_by : Event → ℕ → Option FlatEnclave → Option FlatEnclave
 created_by (Did (Create enclave f base size) answer) n before =

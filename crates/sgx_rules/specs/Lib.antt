@@ -1,0 +1,15 @@
+pub mod Refusal
+pub mod Frames
+pub mod Processors
+pub mod Table
+pub mod Flat
+pub mod Sights
+pub mod Rules
+pub mod Epochs
+pub mod Eviction
+pub mod Slots
+pub mod ByEpochs
+pub mod Starts
+pub mod Enclaves
+pub mod Ends
+pub mod Fresh
